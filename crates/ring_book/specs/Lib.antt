@@ -1,0 +1,7 @@
+pub mod EventsView
+pub mod IdleWorks
+pub mod GrantCounts
+pub mod GrantsView
+pub mod TallyView
+pub mod BookView
+pub mod Repairs

@@ -1,0 +1,84 @@
+ghost use Rattle.std.specs.Prelude.{◌≡◌, ◌≤◌, length};
+ghost use Rattle.ring_model.specs.Ring.{bound};
+ghost use Rattle.ring_model.specs.History.{opening};
+ghost use Rattle.ring_model.specs.HistoryLaws.{Settlement};
+ghost use Rattle.ring_model.specs.Surveys.{survey_at};
+ghost use Rattle.ring_model.specs.Logs.{calls_of};
+ghost use Rattle.ring_book.specs.GrantsView.{IsGrantsOf};
+ghost use Rattle.ring_book.specs.BookView.{IsBook};
+
+use crate::books::Book;
+use crate::grants::GrantBook;
+use crate::resources::Resource;
+use ring_model::{Event, Survey};
+use ring_settle::rest;
+use ring_state::RingState;
+
+// No reader takes memory.
+impl<R: Resource + Drop> Book<R> {
+    /// The state of the ring.
+    pub fn state(&self) -> &RingState
+        ensures is { result.now ≡ self.now.now.ring }
+        ensures book { IsBook R.works R.first self.now }
+    {
+        &self.ring
+    }
+
+    /// The state that the book started with.
+    pub fn start(&self) -> &RingState
+        ensures is { result.now ≡ self.now.start }
+        ensures book { IsBook R.works R.first self.now }
+    {
+        &self.start
+    }
+
+    /// The resource.
+    pub fn resource(&self) -> &R
+        ensures is { result.now ≡ self.now.now.content }
+        ensures book { IsBook R.works R.first self.now }
+    {
+        &self.resource
+    }
+
+    /// The events, in order.
+    pub fn history(&self) -> &[Event]
+        ensures is { result.now ≡ self.now.history }
+        ensures book { IsBook R.works R.first self.now }
+        ensures settlement { Settlement R.works (opening self.now.start R.first) self.now.history }
+    {
+        self.events.as_slice()
+    }
+
+    /// What a reader learns of the ring behind all events.
+    pub fn survey(&self) -> Survey
+        ensures is { result ≡ survey_at R.works (opening self.now.start R.first) self.now.history (length self.now.history) }
+        ensures book { IsBook R.works R.first self.now }
+        ensures settlement { Settlement R.works (opening self.now.start R.first) self.now.history }
+        ensures calm { bound (length self.now.start.values) ≤ result.calm → (result.privileged ≡ 1) × (result.rest ≡ 0) }
+    {
+        Survey {
+            position: self.events.as_slice().len() as u64,
+            privileged: self.ring.privileged(),
+            first: self.ring.first(),
+            calm: self.tally.calm(),
+            rest: rest(&self.ring),
+        }
+    }
+
+    /// The granted passes of the history.
+    pub fn grants(&self) -> &GrantBook
+        ensures is { IsGrantsOf R.works (opening self.now.start R.first) self.now.history (length self.now.start.values) result.now }
+        ensures book { IsBook R.works R.first self.now }
+    {
+        self.tally.grants()
+    }
+
+    /// How many events of the history are calls of `seat`, which is at most 9.
+    pub fn calls_of(&self, seat: u32) -> u64
+        requires { seat ≤ 9 }
+        ensures is { result ≡ length (calls_of seat self.now.history) }
+        ensures book { IsBook R.works R.first self.now }
+    {
+        self.tally.calls_of(seat)
+    }
+}

@@ -1,0 +1,18 @@
+//! A ring on one thread, with its history: each call is one event, and every number that the book reports
+//! is a function of its events.
+#![tactic(auto)]
+
+mod books;
+mod events;
+mod grants;
+mod resources;
+mod tallies;
+
+pub use books::{Book, NotMade};
+pub use events::BookError;
+pub use grants::GrantBook;
+pub use resources::{Idle, Resource, Till};
+pub use ring_model::{Entry, Event, Op, Receipt, Reply, Survey};
+
+#[cfg(test)]
+mod tests;

@@ -1,0 +1,13 @@
+pub mod Measuring
+pub mod Booleans
+pub mod Steps
+pub mod Scans
+pub mod Walk
+pub mod EventLines
+pub mod Replaying
+pub mod SurveyLines
+pub mod Blocks
+pub mod BlockLines
+pub mod Totals
+pub mod Meanings
+pub mod WrittenTexts

@@ -1,0 +1,135 @@
+-- The plain loops over a ring's values.
+use Rattle.std.proofs.Common.{◌≡◌, ℕ, zero, suc, ◌+◌, ◌-◌, ◌*◌, ◌%◌, ◌<◌, ◌≤◌, ◌≢◌, Bool, true, false, not, List, length, get_or, set, refl, sym, ◌∙◌, ap, inl, inr, arith, get_or-set_same, get_or-set_other}
+use Rattle.std.specs.Prelude.{replicate}
+use Rattle.std.proofs.lemmas.List.{get_or-replicate, length-set, length-replicate}
+use Rattle.std.proofs.Math.ListN.{get_or-eq_default}
+use Rattle.std.proofs.lemmas.Bool.{cases_eq, cases_lt, cases_Bool, both_ways, cond-true, cond-false, false_from_ne_true}
+use Rattle.ring_model.specs.Numbers.{sum_below, bit, count_below, least}
+use Rattle.ring_model.specs.Ring.{IsRing, is_privileged, first_privileged, weight_at, weight, is_absent, is_settled, first_value_is_prefix, lead, rest}
+use Rattle.ring_model.proofs.Below.{least_le, least_passes, least_from}
+use Rattle.ring_model.proofs.Bound.{lead_le}
+use Rattle.ring_model.proofs.Settled.{first_is}
+use Rattle.ring_model.proofs.Weight.{pull_true, pull_false}
+use Rattle.ring_model.proofs.Lead.{absent_from, absent_true, front_from, front_true}
+
+-- a running count and a running sum
+pub count_more : (p : ℕ → Bool) (i : ℕ) → count_below p (i + 1) ≡ count_below p i + bit (p i)
+count_more p i = let e : i + 1 ≡ suc i = omega arith in ap (count_below p) e
+
+pub sum_more : (f : ℕ → ℕ) (i : ℕ) → sum_below f (i + 1) ≡ sum_below f i + f i
+sum_more f i = let e : i + 1 ≡ suc i = omega arith in ap (sum_below f) e
+
+-- the weight of a machine past machine 0
+pub weight_on : (s : List ℕ) (i : ℕ) → 1 ≤ i → is_privileged s i ≡ true → weight_at s i ≡ length s - i
+weight_on s zero l e = absurd (omega arith)
+weight_on s (suc i) l e = pull_true s i e
+
+pub weight_off : (s : List ℕ) (i : ℕ) → is_privileged s i ≡ false → weight_at s i ≡ 0
+weight_off s zero e = refl
+weight_off s (suc i) e = pull_false s i e
+
+-- the first privileged machine
+pub first_at : (s : List ℕ) (i : ℕ) → i < length s → is_privileged s i ≡ true → ((k : ℕ) → k < i → is_privileged s k ≡ false) → i ≡ first_privileged s
+first_at s i l e h =
+    let le : first_privileged s ≤ i = least_le (is_privileged s) 0 (length s) i (omega arith) e in
+    let on : is_privileged s (first_privileged s) ≡ true = least_passes (is_privileged s) 0 (length s) (omega arith) in
+    let ge : first_privileged s < i → ⊥ = λ q. both_ways (is_privileged s (first_privileged s)) (h (first_privileged s) q) on in
+    omega arith
+
+pub some_first : (s : List ℕ) → 1 ≤ length s → ((k : ℕ) → k < length s → is_privileged s k ≡ false) → ⊥
+some_first s one h = let f = first_is s one in both_ways (is_privileged s (first_privileged s)) (h (first_privileged s) f.0) f.1
+
+-- the values past machine 0, and the prefix with its value
+present_at : (s : List ℕ) (v i : ℕ) → 1 ≤ i → i < length s → get_or s i 0 ≡ v → is_absent s v ≡ false
+present_at s v zero o l e = absurd (omega arith)
+present_at s v (suc i) o l e = false_from_ne_true (is_absent s v) (λ q. absent_true s v q i l e)
+
+pub prefix_past : (s : List ℕ) → ((k : ℕ) → suc k < length s → get_or s (suc k) 0 ≡ get_or s 0 0 → get_or s k 0 ≡ get_or s 0 0) → true ≡ first_value_is_prefix s
+prefix_past s h = sym (front_from s h)
+
+pub prefix_not : (s : List ℕ) (i : ℕ) → 1 ≤ i → i < length s → get_or s (i - 1) 0 ≢ get_or s 0 0 → get_or s i 0 ≡ get_or s 0 0 → false ≡ first_value_is_prefix s
+prefix_not s zero o l ne e = absurd (omega arith)
+prefix_not s (suc i) o l ne e =
+    sym (false_from_ne_true (first_value_is_prefix s) (λ q. ne (let at : suc i - 1 ≡ i = omega arith in ap (λ x. get_or s x 0) at ∙ front_true s q i l e)))
+
+-- the flags of the values that the machines from 1 to i - 1 have
+pub record AreFlags (K : ℕ) (s : List ℕ) (i : ℕ) (held : List Bool) : Type 0 where
+  pub long : length held ≡ K
+  pub only : (v : ℕ) → get_or held v false ≡ true → (j : ℕ) × (1 ≤ j) × (j < i) × (get_or s j 0 ≡ v)
+  pub all : (j : ℕ) → 1 ≤ j → j < i → get_or held (get_or s j 0) false ≡ true
+
+none_set : (K v : ℕ) → get_or (replicate K false) v false ≡ false
+none_set K v = elim (cases_lt v K) [
+  | inl l ↦ get_or-replicate K v false false l
+  | inr g ↦ get_or-eq_default (replicate K false) false (let n = length-replicate K false in omega arith)
+]
+
+pub flags_none : (K : ℕ) (s : List ℕ) (held : List Bool) → held ≡ replicate K false → AreFlags K s 1 held
+flags_none K s held e = record {
+  long = ap (λ (x : List Bool). length x) e ∙ length-replicate K false;
+  only = λ v q. absurd (both_ways (get_or held v false) (ap (λ (x : List Bool). get_or x v false) e ∙ none_set K v) q);
+  all = λ j o l. absurd (omega arith);
+}
+
+pub flags_more : (K : ℕ) (s : List ℕ) (i : ℕ) (held new : List Bool) → IsRing K s → 1 ≤ i → i < length s → new ≡ set held (get_or s i 0) true →
+    AreFlags K s i held → AreFlags K s (i + 1) new
+flags_more K s i held new ring o l e h =
+    let within : get_or s i 0 < length held = let b = ring.below i l in let n = h.long in omega arith in
+    let on : get_or new (get_or s i 0) false ≡ true =
+    ap (λ (x : List Bool). get_or x (get_or s i 0) false) e ∙ get_or-set_same held (get_or s i 0) true false within in
+    let off : (v : ℕ) → v ≢ get_or s i 0 → get_or new v false ≡ get_or held v false =
+    λ v ne. ap (λ (x : List Bool). get_or x v false) e ∙ get_or-set_other held (get_or s i 0) v true false ne in
+    record {
+      long = ap (λ (x : List Bool). length x) e ∙ length-set held (get_or s i 0) true ∙ h.long;
+      only = λ v q. elim (cases_eq v (get_or s i 0)) [
+        | inl same ↦ (i, o, omega arith, sym same)
+        | inr ne ↦ let w = h.only v (sym (off v ne) ∙ q) in let lt = w.2 in (w.0, w.1, omega arith, w.3)
+      ];
+      all = λ j o lj. elim (cases_eq (get_or s j 0) (get_or s i 0)) [
+        | inl same ↦ ap (λ (x : ℕ). get_or new x false) same ∙ on
+        | inr ne ↦ off (get_or s j 0) ne ∙ h.all j o (elim (cases_lt j i) [ inl lt ↦ lt | inr ge ↦ let at : j ≡ i = omega arith in absurd (ne (ap (λ (x : ℕ). get_or s x 0) at)) ])
+      ];
+    }
+
+-- with all machines seen, they tell which values are absent
+pub flags_tell : (K : ℕ) (s : List ℕ) (i : ℕ) (held : List Bool) → length s ≤ i → i ≤ length s → AreFlags K s i held → (v : ℕ) → v < K →
+    is_absent s v ≡ not (get_or held v false)
+flags_tell K s i held g l h v lv = elim (cases_Bool (get_or held v false)) [
+  | inl t ↦
+      let w = h.only v t in
+      let lt = w.2 in
+      present_at s v w.0 w.1 (omega arith) w.3 ∙ sym (ap (λ (x : Bool). not x) t)
+  | inr f ↦
+      absent_from s v (λ k lk same.
+      both_ways (get_or held v false) f (ap (λ (x : ℕ). get_or held x false) (sym same) ∙ h.all (suc k) (omega arith) (omega arith)))
+      ∙ sym (ap (λ (x : Bool). not x) f)
+]
+
+-- the lead
+pub lead_prefix : (K : ℕ) (s : List ℕ) → first_value_is_prefix s ≡ true → 0 ≡ lead K s
+lead_prefix K s f = sym (cond-true (first_value_is_prefix s) 0 (least (λ j. is_absent s ((get_or s 0 0 + j) % K)) 1 K) f)
+
+pub lead_at : (K : ℕ) (s : List ℕ) (j : ℕ) → first_value_is_prefix s ≡ false → 1 ≤ j → is_absent s ((get_or s 0 0 + j) % K) ≡ true → j ≤ K →
+    ((i : ℕ) → 1 ≤ i → i < j → is_absent s ((get_or s 0 0 + i) % K) ≡ false) → j ≡ lead K s
+lead_at K s j f one e le h =
+    let p : ℕ → Bool = λ i. is_absent s ((get_or s 0 0 + i) % K) in
+    let a : lead K s ≡ least p 1 K = cond-false (first_value_is_prefix s) 0 (least p 1 K) f in
+    let top : least p 1 K ≤ j = least_le p 1 K j one e in
+    let low : 1 ≤ least p 1 K = least_from p 1 K in
+    let on : p (least p 1 K) ≡ true = least_passes p 1 K (omega arith) in
+    let ge : least p 1 K < j → ⊥ = λ q. both_ways (p (least p 1 K)) (h (least p 1 K) low q) on in
+    omega arith
+
+pub some_lead : (K : ℕ) (s : List ℕ) → IsRing K s → first_value_is_prefix s ≡ false →
+    ((i : ℕ) → 1 ≤ i → i < K → is_absent s ((get_or s 0 0 + i) % K) ≡ false) → ⊥
+some_lead K s r f h =
+    let p : ℕ → Bool = λ i. is_absent s ((get_or s 0 0 + i) % K) in
+    let enough = r.enough in
+    let a : lead K s ≡ least p 1 K = cond-false (first_value_is_prefix s) 0 (least p 1 K) f in
+    let small : lead K s + 1 ≤ length s = lead_le K s r in
+    let low : 1 ≤ least p 1 K = least_from p 1 K in
+    let on : p (least p 1 K) ≡ true = least_passes p 1 K (omega arith) in
+    both_ways (p (least p 1 K)) (h (least p 1 K) low (omega arith)) on
+
+pub rest_open : (K : ℕ) (s : List ℕ) → is_settled s ≡ false → rest K s ≡ weight s + length s * lead K s
+rest_open K s u = cond-false (is_settled s) 0 (weight s + length s * lead K s) u

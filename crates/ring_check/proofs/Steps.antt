@@ -1,0 +1,143 @@
+-- An event without a fault is a step of the ring, and a step keeps the ring.
+use Rattle.std.proofs.Common.{◌≡◌, ℕ, ◌+◌, ◌<◌, ◌≤◌, List, length, get_or, set, true, false, Bool, cond, refl, ap, subst, inl, inr, arith, ◌∙◌, ◌++◌, ◌∷◌, [], get_or-set_same, get_or-set_other, sym, eqb}
+use Rattle.std.specs.Prelude.{nat_lt, nat_le, Some, None}
+use Rattle.std.proofs.lemmas.Bool.{cases_Bool, cases_eq}
+use Rattle.std.proofs.lemmas.List.{length-set}
+use Rattle.ring_model.specs.Ring.{IsRing, is_privileged}
+use Rattle.ring_model.proofs.Settled.{move_ring}
+use Rattle.ring_model.proofs.Histories.{calm_next, after-push, StepOf-reply}
+use Rattle.ring_model.specs.declared.events.Op.{Op}
+use Rattle.ring_model.specs.declared.events.Op.TheVariants.{Pass, Corrupt}
+use Rattle.ring_model.specs.declared.events.Reply.{Reply}
+use Rattle.ring_model.specs.declared.events.Reply.TheVariants.{Granted, NotPrivileged, Corrupted}
+use Rattle.ring_model.specs.declared.events.Event.{Event}
+use Rattle.ring_model.specs.History.{State, Step, StepOf, next, reply, after}
+use Rattle.ring_model.specs.Resources.{till}
+use Rattle.ring_check.specs.declared.answers.Kind.TheVariants.{Range, Reply as ReplyKind}
+use Rattle.ring_check.specs.Table.{first_state, same_reply, is_replied, op_in_range, in_range, event_fault}
+use Rattle.ring_check.proofs.Booleans.{both, joined, same, below, at_most, eq_true, lt_true, le_true}
+
+same_is : (r q : Reply) → same_reply r q ≡ true → r ≡ q
+same_is (Granted a b) (Granted c d) e = let p = both (eqb a c) (eqb b d) e in let x : a ≡ c = same a c p.0 in let y : b ≡ d = same b d p.1 in rw (x, y) refl
+same_is (Granted a b) NotPrivileged e = absurd (cc)
+same_is (Granted a b) (Corrupted d) e = absurd (cc)
+same_is NotPrivileged (Granted c d) e = absurd (cc)
+same_is NotPrivileged NotPrivileged e = refl
+same_is NotPrivileged (Corrupted d) e = absurd (cc)
+same_is (Corrupted a) (Granted c d) e = absurd (cc)
+same_is (Corrupted a) NotPrivileged e = absurd (cc)
+same_is (Corrupted a) (Corrupted b) e = let x : a ≡ b = same a b e in rw x refl
+
+same_self : (r : Reply) → same_reply r r ≡ true
+same_self (Granted a b) = joined (eqb a a) (eqb b b) (eq_true a a refl) (eq_true b b refl)
+same_self NotPrivileged = refl
+same_self (Corrupted a) = eq_true a a refl
+
+-- no fault: in range, and the reply is the ring's
+event_right : (n : ℕ) (a : State ℕ) (e : Event) → event_fault n a e ≡ None → (in_range n a.ring.k e ≡ true) × (e.reply ≡ reply till a e.op)
+event_right n a e h = go (in_range n a.ring.k e) (is_replied a e) refl refl h
+  where
+    go : (x y : Bool) → in_range n a.ring.k e ≡ x → is_replied a e ≡ y → cond x (cond y None (Some ReplyKind)) (Some Range) ≡ None →
+        (in_range n a.ring.k e ≡ true) × (e.reply ≡ reply till a e.op)
+    go true true p q h = (p, same_is e.reply (reply till a e.op) q)
+    go true false p q h = absurd (cc)
+    go false y p q h = absurd (cc)
+
+step_right : (a : State ℕ) (o : Op) (r : Reply) → op_in_range (length a.ring.values) a.ring.k o ≡ true → r ≡ reply till a o → StepOf till a o r (next till a o)
+step_right a (Pass machine order) r i e =
+    let l : machine < length a.ring.values = below machine (length a.ring.values) i in
+    elim (cases_Bool (is_privileged a.ring.values machine)) [
+      | inl t ↦ rw (e, t) (l, t, refl, refl, refl)
+      | inr f ↦ rw (e, f) (l, f, refl)
+    ]
+step_right a (Corrupt machine value) r i e =
+    let p = both (nat_lt machine (length a.ring.values)) (nat_lt value a.ring.k) i in
+    rw e (below machine (length a.ring.values) p.0, below value a.ring.k p.1, refl, refl)
+
+step_range : (a : State ℕ) (o : Op) (r : Reply) → StepOf till a o r (next till a o) → op_in_range (length a.ring.values) a.ring.k o ≡ true
+step_range a (Pass i order) (Granted number result) h = lt_true i (length a.ring.values) h.0
+step_range a (Pass i order) NotPrivileged h = lt_true i (length a.ring.values) h.0
+step_range a (Pass i order) (Corrupted old) h = absurd h
+step_range a (Corrupt i v) (Granted number result) h = absurd h
+step_range a (Corrupt i v) NotPrivileged h = absurd h
+step_range a (Corrupt i v) (Corrupted old) h =
+    joined (nat_lt i (length a.ring.values)) (nat_lt v a.ring.k) (lt_true i (length a.ring.values) h.0) (lt_true v a.ring.k h.1)
+
+-- an event has no fault exactly where it is a step by one of the seats
+pub event_means : (n : ℕ) (a : State ℕ) (e : Event) → length a.ring.values ≡ n → event_fault n a e ≡ None → (e.seat ≤ 9) × Step till a e (next till a e.op)
+event_means n a e l h =
+    let p = event_right n a e h in
+    let q = both (nat_le e.seat 9) (op_in_range n a.ring.k e.op) p.0 in
+    (at_most e.seat 9 q.0, step_right a e.op e.reply (ap (λ (x : ℕ). op_in_range x a.ring.k e.op) l ∙ q.1) p.1)
+
+pub event_fine : (n : ℕ) (a : State ℕ) (e : Event) → length a.ring.values ≡ n → e.seat ≤ 9 → Step till a e (next till a e.op) → event_fault n a e ≡ None
+event_fine n a e l seat step =
+    let p = step_range a e.op e.reply step in
+    let said : e.reply ≡ reply till a e.op = StepOf-reply till a e.op e.reply (next till a e.op) step in
+    let i : in_range n a.ring.k e ≡ true = joined (nat_le e.seat 9) (op_in_range n a.ring.k e.op) (le_true e.seat 9 seat) (ap (λ (x : ℕ). op_in_range x a.ring.k e.op) (sym l) ∙ p) in
+    let r : is_replied a e ≡ true = ap (λ (x : Reply). same_reply x (reply till a e.op)) said ∙ same_self (reply till a e.op) in
+    rw (i, r) refl
+
+-- a ring with one value written
+set_ring : (K : ℕ) (s : List ℕ) (i v : ℕ) → IsRing K s → i < length s → v < K → IsRing K (set s i v)
+set_ring K s i v r l small =
+    let two = r.two in
+    let enough = r.enough in
+    let n : length (set s i v) ≡ length s = length-set s i v in
+    record {
+      two = omega arith;
+      enough = omega arith;
+      below = λ k lk. elim (cases_eq k i) [
+        | inl e ↦ let a : get_or (set s i v) k 0 ≡ v = ap (λ (x : ℕ). get_or (set s i v) x 0) e ∙ get_or-set_same s i v 0 l in omega arith
+        | inr ne ↦
+            let a : get_or (set s i v) k 0 ≡ get_or s k 0 = get_or-set_other s i k v 0 ne in
+            let b : get_or s k 0 < K = r.below k (omega arith) in
+            omega arith
+      ];
+    }
+
+-- what a step keeps
+pub record IsKept (a b : State ℕ) : Type 0 where
+  pub ring : IsRing b.ring.k b.ring.values
+  pub long : length b.ring.values ≡ length a.ring.values
+  pub same_k : b.ring.k ≡ a.ring.k
+  pub grants : b.grants ≤ a.grants + 1
+
+pub step_keeps : (a : State ℕ) (o : Op) (r : Reply) → IsRing a.ring.k a.ring.values → StepOf till a o r (next till a o) → IsKept a (next till a o)
+step_keeps a (Pass i order) (Granted number result) ring h = rw h.1 (record {
+  ring = move_ring a.ring.k a.ring.values i ring h.0;
+  long = length-set a.ring.values i _;
+  same_k = refl;
+  grants = omega arith;
+})
+step_keeps a (Pass i order) NotPrivileged ring h = rw h.1 (record { ring = ring; long = refl; same_k = refl; grants = omega arith })
+step_keeps a (Pass i order) (Corrupted old) ring h = absurd h
+step_keeps a (Corrupt i v) (Granted number result) ring h = absurd h
+step_keeps a (Corrupt i v) NotPrivileged ring h = absurd h
+step_keeps a (Corrupt i v) (Corrupted old) ring h = record {
+  ring = set_ring a.ring.k a.ring.values i v ring h.0 h.1;
+  long = length-set a.ring.values i v;
+  same_k = refl;
+  grants = omega arith;
+}
+
+pub calm_next_le : (c : ℕ) (r : Reply) → calm_next c r ≤ c + 1
+calm_next_le c (Granted number result) = omega arith
+calm_next_le c NotPrivileged = omega arith
+calm_next_le c (Corrupted old) = omega arith
+
+-- a ring of as many machines as the start, where a history has led
+pub record IsWell (k : ℕ) (start : List ℕ) (h : List Event) : Type 0 where
+  pub ring : IsRing (after till (first_state k start) h).ring.k (after till (first_state k start) h).ring.values
+  pub long : length (after till (first_state k start) h).ring.values ≡ length start
+
+pub well_push : (k : ℕ) (start : List ℕ) (h : List Event) (e : Event) → IsWell k start h →
+    Step till (after till (first_state k start) h) e (next till (after till (first_state k start) h) e.op) → IsWell k start (h ++ e ∷ [])
+well_push k start h e w step =
+    let a = after till (first_state k start) h in
+    let kept = step_keeps a e.op e.reply w.ring step in
+    let on = after-push till (first_state k start) h e in
+    record {
+      ring = subst (λ (x : State ℕ). IsRing x.ring.k x.ring.values) (sym on) kept.ring;
+      long = ap (λ (x : State ℕ). length x.ring.values) on ∙ kept.long ∙ w.long;
+    }

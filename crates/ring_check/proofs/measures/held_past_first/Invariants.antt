@@ -1,0 +1,5 @@
+use Rattle.ring_check.proofs.Measuring.{AreFlags}
+use Rattle.ring_check.proofs.measures.held_past_first.Given as goal
+
+abbrev pub invariant-loop-i : goal.invariant-loop-i
+invariant-loop-i l = AreFlags l.k l.values l.i l.held.items

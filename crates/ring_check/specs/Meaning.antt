@@ -1,0 +1,62 @@
+-- Legal texts in the subject's words: what a text tells of (this project's own).
+use Rattle.std.specs.Prelude.{◌≡◌, ℕ, ◌+◌, ◌<◌, ◌≤◌, List, [], ◌∷◌, length, ◌⊎◌}
+use Rattle.std.specs.List.{All}
+use Rattle.ring_model.specs.declared.events.Event.{Event}
+use Rattle.ring_model.specs.declared.events.Survey.{Survey}
+use Rattle.ring_model.specs.History.{IsLegal}
+use Rattle.ring_model.specs.Resources.{till}
+use Rattle.ring_model.specs.Logs.{IsSurvey}
+use Rattle.ring_text.specs.declared.saved.SavedSurvey.{SavedSurvey}
+use Rattle.ring_text.specs.Content.{Content, Block}
+use Rattle.ring_check.specs.Table.{first_state}
+use Rattle.ring_check.specs.Legal.{IsLegalText, history}
+
+-- the survey that a survey line tells of
+abbrev pub survey_of : SavedSurvey → Survey
+survey_of s = record { position = s.position; privileged = s.privileged; first = s.first; calm = s.calm; rest = s.rest }
+
+-- none goes back behind the one before: each is of a later seat, or of the same and at no lower position
+abbrev pub AreOnward : ℕ → ℕ → List SavedSurvey → Type 0
+AreOnward seat position [] = Unit {0}
+AreOnward seat position (s ∷ ss) = ((seat < s.seat) ⊎ ((seat ≡ s.seat) × (position ≤ s.position))) × AreOnward s.seat s.position ss
+
+-- the surveys stand seat by seat, and each seat's in the order of the history
+abbrev pub AreInOrder : List SavedSurvey → Type 0
+AreInOrder [] = Unit {0}
+AreInOrder (s ∷ ss) = AreOnward s.seat s.position ss
+
+-- a survey by one of the seats, which is the one-thread ring's at its place of the history
+pub record IsRightSurvey (b : Block) (s : SavedSurvey) : Type 0 where
+  pub seat : s.seat ≤ 9
+  pub right : IsSurvey till (first_state b.k b.start) (history b) (survey_of s)
+
+-- the block tells of a ring, of one legal history of it on one thread over the till, and of surveys of that history
+pub record IsRightBlock (place : ℕ) (b : Block) : Type 0 where
+  pub index : b.index ≡ place
+  pub two : 2 ≤ b.n
+  pub enough : b.n ≤ b.k
+  pub most : b.k ≤ 256
+  pub below : All (λ v. v < b.k) b.start
+  pub seats : All (λ (e : Event). e.seat ≤ 9) (history b)
+  pub legal : IsLegal till (first_state b.k b.start) (history b)
+  pub events_said : b.events_said ≡ length b.events
+  pub surveys : All (IsRightSurvey b) b.surveys
+  pub order : AreInOrder b.surveys
+
+-- each block does, at its place
+abbrev pub AreRightBlocks : ℕ → List Block → Type 0
+AreRightBlocks place [] = Unit {0}
+AreRightBlocks place (b ∷ bs) = IsRightBlock place b × AreRightBlocks (place + 1) bs
+
+-- each block does, and their number is right
+pub record IsRightText (s : Content) : Type 0 where
+  pub blocks : AreRightBlocks 0 s.rings
+  pub rings_said : s.rings_said ≡ length s.rings
+
+-- each start has n values, as in every text of the grammar
+abbrev pub IsWhole : Content → Type 0
+IsWhole s = All (λ (b : Block). length b.start ≡ b.n) s.rings
+
+-- a text is legal by the table exactly where it is right in these words
+abbrev pub LegalMeans : Type 0
+LegalMeans = (s : Content) → IsWhole s → (IsLegalText s → IsRightText s) × (IsRightText s → IsLegalText s)

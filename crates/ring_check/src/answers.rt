@@ -1,0 +1,52 @@
+//! What the checker answers.
+
+use std::fmt;
+use thiserror::Error;
+
+/// What is wrong with a line. Where two things are, the one that stands first here is answered.
+#[derive(Clone, Copy, Debug, PartialEq, Eq)]
+pub enum Kind {
+    /// There is no ring with these numbers of machines and values.
+    Parameter,
+    /// A seat, a machine or a value is too large.
+    Range,
+    /// The reply is not the one-thread ring's at this point.
+    Reply,
+    /// A count of the text, or the place of a ring in it, is wrong.
+    Count,
+    /// The survey is not the ring's at its place, has no place, or goes back behind the one before it.
+    Survey,
+}
+
+impl fmt::Display for Kind {
+    fn fmt<W: fmt::Write>(&self, f: &mut fmt::Formatter<W>) -> fmt::Result {
+        f.write_str(match self {
+            Kind::Parameter => "parameter",
+            Kind::Range => "range",
+            Kind::Reply => "reply",
+            Kind::Count => "count",
+            Kind::Survey => "survey",
+        })
+    }
+}
+
+/// The sums of a legal text over all its rings.
+#[derive(Clone, Copy, Debug, PartialEq, Eq)]
+pub struct Summary {
+    pub rings: u32,
+    pub events: u64,
+    /// The passes that were granted.
+    pub granted: u64,
+    pub corrupted: u64,
+    pub surveys: u64,
+}
+
+/// Why a text is not legal, or could not be checked.
+#[derive(Clone, Copy, Debug, PartialEq, Eq, Error)]
+pub enum CheckError {
+    /// The first bad line, counted from 1, and what is wrong with it.
+    #[error("line {line}: {kind}")]
+    Bad { line: u64, kind: Kind },
+    #[error("out of memory")]
+    OutOfMemory,
+}

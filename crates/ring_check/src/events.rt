@@ -1,0 +1,42 @@
+//! The event lines of a block.
+
+ghost use Rattle.std.specs.Prelude.{◌≡◌, ℕ, ◌+◌, ◌<◌, ◌^◌, [], length, map, IfOk};
+ghost use Rattle.ring_model.specs.Ring.{IsRing};
+ghost use Rattle.ring_model.specs.History.{IsLegal};
+ghost use Rattle.ring_model.specs.Resources.{till};
+ghost use Rattle.ring_check.specs.Lines.{EventLine};
+ghost use Rattle.ring_check.specs.Table.{event_of, first_state};
+ghost use Rattle.ring_check.specs.Scan.{first_fault, Finds, in_block};
+
+use crate::answers::CheckError;
+use crate::replay::Replay;
+use ring_text::SavedEvent;
+use std::alloc::Global;
+
+/// Finds the first event with a fault; `line` is the number of lines before the events.
+pub(crate) fn check_events(
+    alloc: Global,
+    k: u32,
+    start: &[u32],
+    events: &[SavedEvent],
+    line: u64,
+) -> Result<(), CheckError>
+    requires ring { IsRing k start.now }
+    requires room { line + length events.now + 1 < 2 ^ 64 }
+    ensures finds { (rings : ℕ) → Finds (first_fault (in_block line rings (length start.now) k start.now []) (map EventLine events.now)) result }
+    ensures legal { IfOk result (λ u. IsLegal till (first_state k start.now) (map event_of events.now)) }
+{
+    let Ok(mut replay) = Replay::begin(alloc, k, start) else {
+        return Err(CheckError::OutOfMemory);
+    };
+    for (i, event) in events.iter().enumerate() {
+        if let Some(kind) = replay.fault_of(event) {
+            return Err(CheckError::Bad {
+                line: line + i as u64 + 1,
+                kind,
+            });
+        }
+        replay.apply(event);
+    }
+    Ok(())
+}

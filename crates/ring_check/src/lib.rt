@@ -1,0 +1,20 @@
+//! The separate checker of saved histories: a plain replay of each ring of a saved text, which trusts nothing that the text says.
+//!
+//! It shares the definitions of `ring_model` with the crates that run a ring, and none of their code.
+#![tactic(auto)]
+
+mod answers;
+mod check;
+mod events;
+mod laws;
+mod measures;
+mod replay;
+mod rings;
+mod sums;
+mod surveys;
+#[cfg(test)]
+mod tests;
+
+pub use answers::{CheckError, Kind, Summary};
+pub use check::check_saved;
+pub use laws::{answers_are_apart, legal_law, written_law};

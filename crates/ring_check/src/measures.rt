@@ -1,0 +1,119 @@
+//! What is told of a ring's values, by plain loops over them.
+
+ghost use Rattle.std.specs.Prelude.{◌≡◌, ℕ, ◌<◌, ◌≤◌, length, not, IfOk, vec_len, slice_index_or, false};
+ghost use Rattle.ring_model.specs.Ring.{IsRing, is_privileged, privileged_count, first_privileged, is_settled, weight, is_absent, first_value_is_prefix, lead, rest};
+
+use std::alloc::{AllocError, Global};
+
+/// Whether machine i is privileged.
+pub(crate) fn is_privileged(values: &[u32], i: usize) -> bool
+    requires { i < length values.now }
+    ensures { result ≡ is_privileged values.now i }
+{
+    if i == 0 {
+        values[values.len() - 1] == values[0]
+    } else {
+        values[i - 1] != values[i]
+    }
+}
+
+/// How many machines are privileged.
+pub(crate) fn privileged_count(values: &[u32]) -> usize
+    requires { 2 ≤ length values.now }
+    ensures value { result ≡ privileged_count values.now }
+    ensures within { result ≤ length values.now }
+{
+    let mut count: usize = 0;
+    for i in 0..values.len() {
+        if is_privileged(values, i) {
+            count += 1;
+        }
+    }
+    count
+}
+
+/// The least privileged machine.
+pub(crate) fn first_privileged(values: &[u32]) -> usize
+    requires { 2 ≤ length values.now }
+    ensures value { result ≡ first_privileged values.now }
+    ensures within { result ≤ length values.now }
+{
+    for i in 0..values.len() {
+        if is_privileged(values, i) {
+            return i;
+        }
+    }
+    values.len()
+}
+
+/// Each privileged machine but machine 0 counts with its distance to the end of the ring.
+fn weight(values: &[u32]) -> u64
+    requires two { 2 ≤ length values.now }
+    requires short { length values.now ≤ 65536 }
+    ensures { result ≡ weight values.now }
+{
+    let mut sum: u64 = 0;
+    for i in 1..values.len() {
+        if is_privileged(values, i) {
+            sum += (values.len() - i) as u64;
+        }
+    }
+    sum
+}
+
+/// Whether the machines with the value of machine 0 are a prefix of the ring.
+fn first_value_is_prefix(values: &[u32]) -> bool
+    requires { 2 ≤ length values.now }
+    ensures { result ≡ first_value_is_prefix values.now }
+{
+    for i in 1..values.len() {
+        if values[i - 1] != values[0] && values[i] == values[0] {
+            return false;
+        }
+    }
+    true
+}
+
+/// A flag for each value below K: whether some machine but machine 0 has it.
+fn held_past_first(alloc: Global, values: &[u32], k: u32) -> Result<Vec<bool>, AllocError>
+    requires { IsRing k values.now }
+    ensures len { IfOk result (λ held. vec_len held ≡ k) }
+    ensures flags { IfOk result (λ held. (v : ℕ) → v < k → is_absent values.now v ≡ not (slice_index_or held.items v false)) }
+{
+    let mut held = Vec::from_elem(alloc, false, k as usize)?;
+    for i in 1..values.len() {
+        held[values[i] as usize] = true;
+    }
+    Ok(held)
+}
+
+/// How far machine 0 has to step until no other machine has its value, and 0 where these values are a prefix.
+fn lead(alloc: Global, values: &[u32], k: u32) -> Result<u32, AllocError>
+    requires ring { IsRing k values.now }
+    requires small { k ≤ 65536 }
+    ensures { IfOk result (λ l. l ≡ lead k values.now) }
+{
+    if first_value_is_prefix(values) {
+        return Ok(0);
+    }
+    let held = held_past_first(alloc, values, k)?;
+    for step in 1..k {
+        if !held[((values[0] + step) % k) as usize] {
+            return Ok(step);
+        }
+    }
+    Ok(k)
+}
+
+/// An upper bound of the granted passes that are left until the ring is settled.
+pub(crate) fn rest(alloc: Global, values: &[u32], k: u32) -> Result<u64, AllocError>
+    requires ring { IsRing k values.now }
+    requires small { k ≤ 65536 }
+    ensures { IfOk result (λ r. r ≡ rest k values.now) }
+{
+    if privileged_count(values) == 1 {
+        return Ok(0);
+    }
+    let lead = lead(alloc, values, k)?;
+    Ok(weight(values) + values.len() as u64 * lead as u64)
+}

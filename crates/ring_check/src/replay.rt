@@ -1,0 +1,172 @@
+//! A ring, replayed event by event.
+
+ghost use Rattle.std.specs.Prelude.{◌≡◌, ◌+◌, ◌<◌, ◌≤◌, ◌^◌, length, map, true, IfOk};
+ghost use Rattle.ring_model.specs.Ring.{IsRing};
+ghost use Rattle.ring_model.specs.History.{Step, next, IsLegal};
+ghost use Rattle.ring_model.specs.Resources.{till};
+ghost use Rattle.ring_model.proofs.Histories.{calm_next};
+ghost use Rattle.ring_check.specs.Table.{event_of, in_range, is_replied, event_fault, first_state};
+ghost use Rattle.ring_check.specs.Replays.{state_of, survey_where, StandsAt};
+
+use crate::answers::Kind;
+use crate::measures::{first_privileged, is_privileged, privileged_count, rest};
+use ring_model::Survey;
+use ring_text::SavedEvent;
+use std::alloc::{AllocError, Global};
+
+/// The greatest seat number.
+pub(crate) const LAST_SEAT: u32 = 9;
+
+/// A ring over a till as some events of a block leave it.
+#[derive(Drop)]
+pub(crate) struct Replay {
+    pub(crate) k: u32,
+    pub(crate) values: Vec<u32>,
+    /// The till's amount.
+    pub(crate) amount: u64,
+    /// How many passes were granted.
+    pub(crate) grants: u64,
+    /// The granted passes since the last corruption.
+    pub(crate) calm: u64,
+}
+
+impl Replay {
+    /// The ring before any event.
+    pub(crate) fn begin(alloc: Global, k: u32, start: &[u32]) -> Result<Replay, AllocError>
+        ensures { IfOk result (λ r. (r.k ≡ k) × (r.values.items ≡ start.now) × (r.amount ≡ 0) × (r.grants ≡ 0) × (r.calm ≡ 0)) }
+    {
+        Ok(Replay {
+            k,
+            values: Vec::from_slice(alloc, start)?,
+            amount: 0,
+            grants: 0,
+            calm: 0,
+        })
+    }
+
+    /// Whether an event is a call of this ring by one of the seats.
+    fn is_in_range(&self, event: &SavedEvent) -> bool
+        ensures { result ≡ in_range (length self.now.values.items) self.now.k (event_of event.now) }
+    {
+        match *event {
+            SavedEvent::Granted { seat, machine, .. } | SavedEvent::Refused { seat, machine, .. } =>
+                { seat <= LAST_SEAT && (machine as usize) < self.values.len() }
+            SavedEvent::Corrupted {
+                seat,
+                machine,
+                value,
+                ..
+            } => seat <= LAST_SEAT && (machine as usize) < self.values.len() && value < self.k,
+        }
+    }
+
+    /// Whether the reply of an event is the ring's at this point.
+    fn is_replied(&self, event: &SavedEvent) -> bool
+        requires call { in_range (length self.now.values.items) self.now.k (event_of event.now) ≡ true }
+        requires room { self.now.grants + 1 < 2 ^ 64 }
+        ensures { result ≡ is_replied (state_of self.now) (event_of event.now) }
+    {
+        match *event {
+            SavedEvent::Granted {
+                machine,
+                order,
+                number,
+                result,
+                ..
+            } => {
+                is_privileged(&self.values, machine as usize)
+                    && number == self.grants + 1
+                    && result == self.amount.saturating_add(order)
+            }
+            SavedEvent::Refused { machine, .. } => !is_privileged(&self.values, machine as usize),
+            SavedEvent::Corrupted { machine, old, .. } => old == self.values[machine as usize],
+        }
+    }
+
+    /// What is wrong with an event at this point.
+    pub(crate) fn fault_of(&self, event: &SavedEvent) -> Option<Kind>
+        requires room { self.now.grants + 1 < 2 ^ 64 }
+        ensures { result ≡ event_fault (length self.now.values.items) (state_of self.now) (event_of event.now) }
+    {
+        if !self.is_in_range(event) {
+            Some(Kind::Range)
+        } else if !self.is_replied(event) {
+            Some(Kind::Reply)
+        } else {
+            None
+        }
+    }
+
+    /// Does what an event without a fault says.
+    pub(crate) fn apply(&mut self, event: &SavedEvent)
+        requires ring { IsRing self.old.k self.old.values.items }
+        requires step { Step till (state_of self.old) (event_of event.now) (next till (state_of self.old) (event_of event.now).op) }
+        requires room { (self.old.grants + 1 < 2 ^ 64) × (self.old.calm + 1 < 2 ^ 64) }
+        ensures state { state_of self.new ≡ next till (state_of self.old) (event_of event.now).op }
+        ensures calm { self.new.calm ≡ calm_next self.old.calm (event_of event.now).reply }
+    {
+        match *event {
+            SavedEvent::Granted { machine, order, .. } => {
+                let i = machine as usize;
+                self.values[i] = if i == 0 {
+                    (self.values[0] + 1) % self.k
+                } else {
+                    self.values[i - 1]
+                };
+                self.amount = self.amount.saturating_add(order);
+                self.grants += 1;
+                self.calm += 1;
+            }
+            SavedEvent::Refused { .. } => {}
+            SavedEvent::Corrupted { machine, value, .. } => {
+                self.values[machine as usize] = value;
+                self.calm = 0;
+            }
+        }
+    }
+
+    /// Goes from behind the first `from` events of a block to behind its first `to` events,
+    /// and where that is no way forward, from the start again.
+    pub(crate) fn go_to(
+        &mut self,
+        alloc: Global,
+        start: &[u32],
+        events: &[SavedEvent],
+        from: usize,
+        to: usize,
+    ) -> Result<(), AllocError>
+        requires ring { IsRing self.old.k start.now }
+        requires stands { StandsAt self.old.k start.now events.now from self.old }
+        requires within { to ≤ length events.now }
+        requires room { length events.now + 1 < 2 ^ 64 }
+        requires legal { IsLegal till (first_state self.old.k start.now) (map event_of events.now) }
+        ensures { IfOk result (λ u. StandsAt self.old.k start.now events.now to self.new) }
+    {
+        let first = if to < from {
+            *self = Replay::begin(alloc, self.k, start)?;
+            0
+        } else {
+            from
+        };
+        for i in first..to {
+            self.apply(&events[i]);
+        }
+        Ok(())
+    }
+
+    /// What a survey of the ring says at this point.
+    pub(crate) fn survey(&self, alloc: Global, position: u64) -> Result<Survey, AllocError>
+        requires ring { IsRing self.now.k self.now.values.items }
+        requires small { self.now.k ≤ 65536 }
+        ensures { IfOk result (λ s. s ≡ survey_where self.now position) }
+    {
+        let rest = rest(alloc, &self.values, self.k)?;
+        Ok(Survey {
+            position,
+            privileged: privileged_count(&self.values) as u32,
+            first: first_privileged(&self.values) as u32,
+            calm: self.calm,
+            rest,
+        })
+    }
+}

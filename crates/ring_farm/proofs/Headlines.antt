@@ -1,0 +1,128 @@
+-- From what a run of one ring leaves to what is promised of it.
+use Rattle.std.proofs.Common.{◌≡◌, ℕ, suc, ◌+◌, ◌<◌, ◌≤◌, Bool, true, false, cond, List, [], ◌∷◌, length, map, take, Some, slice_get, get_or, ap, sym, ◌∙◌, refl, subst, arith, eqb, ⊎_elim}
+use Rattle.std.specs.Prelude.{filter, All, unwrap_or, IfOk, Option, None, Result, Ok}
+use Rattle.std.proofs.lemmas.Bool.Decides.{nat_tests}
+use Rattle.std.proofs.lemmas.Option.{slice_get_within, get_or_from_slice_get, slice_get_cases}
+use Rattle.ring_model.specs.Ring.{bound, is_settled, privileged_count}
+use Rattle.ring_model.specs.History.{Ring, opening, IsLegal}
+use Rattle.ring_model.specs.HistoryLaws.{between, NoCorruption, values_at, Settlement}
+use Rattle.ring_model.specs.Surveys.{calm}
+use Rattle.ring_model.specs.Logs.{Fits, calls_of, receipts_of}
+use Rattle.ring_model.specs.Resources.{till}
+use Rattle.ring_model.specs.declared.events.Op.{Op}
+use Rattle.ring_model.specs.declared.events.Op.TheVariants as op
+use Rattle.ring_model.specs.declared.events.Event.{Event}
+use Rattle.ring_model.specs.declared.events.Entry.{Entry}
+use Rattle.ring_model.specs.declared.events.Entry.TheVariants as entry
+use Rattle.ring_book.specs.BookView.{BookView}
+use Rattle.ring_settings.specs.declared.actions.Action.{Action}
+use Rattle.ring_settings.specs.declared.actions.Action.TheVariants as action
+use Rattle.ring_settings.specs.declared.actions.Plan.{Plan}
+use Rattle.ring_settings.specs.Contents.{SettingsData, RingData, ring_at, plan_of}
+use Rattle.ring_settings.specs.Views.{plan_actions}
+use Rattle.ring_shared.specs.declared.seats.Log.{Log}
+use Rattle.ring_shared.specs.Holding.{AreOfSeats}
+use Rattle.ring_farm.specs.declared.outcomes.Outcome.{Outcome}
+use Rattle.ring_farm.specs.declared.outcomes.RingOutcome.{RingOutcome}
+use Rattle.ring_farm.proofs.Refusals.{ok_at}
+use Rattle.ring_farm.specs.Plans.{Pairs, actions_of, part, calls_read, action_of_op, is_call}
+use Rattle.ring_farm.specs.Runs.{IsRun, IsLogged, ring_of_data}
+use Rattle.ring_farm.specs.Headline.{EachRing, IsOneHistory, HoldsCalls, HasLogs, AreRight, IsRepaired, TakesTurns}
+
+-- the run of a ring of the settings
+abbrev pub RunOf : List Plan → ℕ → RingData → RingOutcome → Type 0
+RunOf plans ring d r = IsRun plans ring (ring_of_data d) r.book r.logs.items
+
+pub one_history : (plans : List Plan) (ring : ℕ) (d : RingData) (r : RingOutcome) → RunOf plans ring d r → IsOneHistory ring d r
+one_history plans ring d r run = (run.begins, subst (λ (s : Ring). IsLegal till (opening s 0) r.book.history) run.begins run.book.legal)
+
+op_is_call : (ring : ℕ) (o : Op) → is_call (action_of_op ring o) ≡ true
+op_is_call ring (op.Pass machine order) = refl
+op_is_call ring (op.Corrupt machine value) = refl
+
+-- the receipts of a log, read as actions, are the calls among the log's actions
+pub calls_read-receipts_of : (ring : ℕ) (log : List Entry) → calls_read ring (receipts_of log) ≡ filter is_call (actions_of ring log)
+calls_read-receipts_of ring [] = refl
+calls_read-receipts_of ring (entry.Receipt r ∷ log) =
+    ap (λ (xs : List Action). action_of_op ring r.event.op ∷ xs) (calls_read-receipts_of ring log)
+    ∙ sym (ap (λ (b : Bool). cond b (action_of_op ring r.event.op ∷ filter is_call (actions_of ring log)) (filter is_call (actions_of ring log))) (op_is_call ring r.event.op))
+calls_read-receipts_of ring (entry.Survey s ∷ log) = calls_read-receipts_of ring log
+
+-- the log at a place of a run, with what is known of it
+log_at : (plans : List Plan) (ring : ℕ) (d : RingData) (r : RingOutcome) (seat : ℕ) → RunOf plans ring d r → seat < length plans →
+    (p : Plan) × (l : Log) × (slice_get plans seat ≡ Some p) × (slice_get r.logs.items seat ≡ Some l)
+log_at plans ring d r seat run within =
+    let count = run.count in
+    ⊎_elim
+    (λ (t : (p : Plan) × (seat < length plans) × (slice_get plans seat ≡ Some p) × (get_or plans seat p ≡ p)).
+    ⊎_elim
+    (λ (u : (l : Log) × (seat < length r.logs.items) × (slice_get r.logs.items seat ≡ Some l) × (get_or r.logs.items seat l ≡ l)). (t.0, u.0, t.2, u.2))
+    (λ (u : (length r.logs.items ≤ seat) × (slice_get r.logs.items seat ≡ None)). let v = u.0 in absurd (omega arith))
+    (slice_get_cases r.logs.items seat).1)
+    (λ (t : (length plans ≤ seat) × (slice_get plans seat ≡ None)). let u = t.0 in absurd (omega arith))
+    (slice_get_cases plans seat).1
+
+-- each plan is its seat's
+abbrev pub ArePlansOf : SettingsData → List Plan → Type 0
+ArePlansOf settings plans = (seat : ℕ) (d : Plan) → seat < length plans → plan_actions (get_or plans seat d) ≡ plan_of settings seat
+
+plan_is : (settings : SettingsData) (plans : List Plan) (seat : ℕ) (p : Plan) → ArePlansOf settings plans → slice_get plans seat ≡ Some p → p.actions.items ≡ plan_of settings seat
+plan_is settings plans seat p are at =
+    sym (ap plan_actions (get_or_from_slice_get plans seat p p at)) ∙ are seat p (slice_get_within plans seat p at)
+
+-- a seat's calls in the history are the calls of its plan's part
+calls_of_plan : (settings : SettingsData) (plans : List Plan) (ring : ℕ) (d : RingData) (r : RingOutcome) (seat : ℕ) (p : Plan) (l : Log) → RunOf plans ring d r → ArePlansOf settings plans →
+    slice_get plans seat ≡ Some p → slice_get r.logs.items seat ≡ Some l →
+    calls_read ring (calls_of seat r.book.history) ≡ filter is_call (part ring (plan_of settings seat))
+calls_of_plan settings plans ring d r seat p l run are at_p at_l =
+    let logged = run.logged seat p l at_p at_l in
+    let fits : Fits till (opening (ring_of_data d) 0) r.book.history l.seat l.entries.items =
+    subst (λ (x : Log). Fits till (opening (ring_of_data d) 0) r.book.history x.seat x.entries.items) (get_or_from_slice_get r.logs.items seat l l at_l)
+    (run.fits seat l (slice_get_within r.logs.items seat l at_l)) in
+    ap (λ (k : ℕ). calls_read ring (calls_of k r.book.history)) (sym logged.0)
+    ∙ ap (calls_read ring) (sym fits.calls)
+    ∙ calls_read-receipts_of ring l.entries.items
+    ∙ ap (filter is_call) logged.1
+    ∙ ap (λ (xs : List Action). filter is_call (part ring xs)) (plan_is settings plans seat p are at_p)
+
+pub holds_calls : (settings : SettingsData) (plans : List Plan) (ring : ℕ) (d : RingData) (r : RingOutcome) → RunOf plans ring d r → ArePlansOf settings plans → length plans ≡ length settings.seats →
+    HoldsCalls settings ring d r
+holds_calls settings plans ring d r run are count = (
+  subst (λ (k : ℕ). AreOfSeats k r.book.history) count run.of_seats,
+  λ seat within. let found = log_at plans ring d r seat run (omega arith) in calls_of_plan settings plans ring d r seat found.0 found.1 run are found.2 found.3,
+)
+
+pub has_logs : (settings : SettingsData) (plans : List Plan) (ring : ℕ) (d : RingData) (r : RingOutcome) → RunOf plans ring d r → ArePlansOf settings plans → length plans ≡ length settings.seats →
+    HasLogs settings ring r
+has_logs settings plans ring d r run are count = record {
+  count = run.count ∙ count;
+  each = λ seat l at.
+      let long = run.count in
+      let within = slice_get_within r.logs.items seat l at in
+      let found = log_at plans ring d r seat run (omega arith) in
+      let logged = run.logged seat found.0 l found.2 at in
+      (logged.0, logged.1 ∙ ap (part ring) (plan_is settings plans seat found.0 are found.2));
+}
+
+pub are_right : (plans : List Plan) (ring : ℕ) (d : RingData) (r : RingOutcome) → RunOf plans ring d r → AreRight d r
+are_right plans ring d r run = run.fits
+
+one_is : (n : ℕ) → eqb n 1 ≡ true → n ≡ 1
+one_is n e = grind (arith, nat_tests)
+
+pub is_repaired : (plans : List Plan) (ring : ℕ) (d : RingData) (r : RingOutcome) → RunOf plans ring d r → IsRepaired d r
+is_repaired plans ring d r run q within calm = one_is _ (run.settlement.calm_settles q within calm)
+
+pub takes_turns : (plans : List Plan) (ring : ℕ) (d : RingData) (r : RingOutcome) → RunOf plans ring d r → TakesTurns d r
+takes_turns plans ring d r run p q order within quiet calm =
+    (run.settlement.stays_round p q order within quiet (run.settlement.calm_settles p (omega arith) calm)).1
+
+-- each ring of the settings has its run
+pub runs_each : {E : Type 0} (plans : List Plan) (settings : SettingsData) (results : List (Result RingOutcome E)) (o : Outcome) →
+    ((i : ℕ) (d : Result RingOutcome E) → i < length settings.rings → IfOk (get_or results i d) (λ (r : RingOutcome). IsRun plans i (ring_of_data (ring_at settings i)) r.book r.logs.items)) →
+    results ≡ map (λ r. Ok r) o.rings.items → EachRing (RunOf plans) settings o
+runs_each plans settings results o each is i d r at_d at_r =
+    let within = slice_get_within settings.rings i d at_d in
+    let run = ok_at (λ (r : RingOutcome). IsRun plans i (ring_of_data (ring_at settings i)) r.book r.logs.items) results o.rings.items i r is at_r (λ x. each i x within) in
+    let there : ring_at settings i ≡ d = ap (λ (x : Option RingData). unwrap_or x (record { size = record { n = 0; k = 0 }; start = [] })) at_d in
+    subst (λ (x : RingData). IsRun plans i (ring_of_data x) r.book r.logs.items) there run

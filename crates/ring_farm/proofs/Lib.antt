@@ -1,0 +1,4 @@
+pub mod Pairing
+pub mod Refusals
+pub mod Possible
+pub mod Headlines

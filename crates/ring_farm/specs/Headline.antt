@@ -1,0 +1,50 @@
+-- What a farm promises of each of its rings, clause by clause.
+use Rattle.std.specs.Prelude.{◌≡◌, ℕ, ◌<◌, ◌≤◌, All, length, take, filter, Some, slice_get}
+use Rattle.ring_model.specs.Ring.{privileged_count, bound}
+use Rattle.ring_model.specs.Runs.{GoesRound}
+use Rattle.ring_model.specs.History.{opening, IsLegal}
+use Rattle.ring_model.specs.HistoryLaws.{between, NoCorruption, values_at}
+use Rattle.ring_model.specs.Surveys.{calm}
+use Rattle.ring_model.specs.Grants.{granted_machines}
+use Rattle.ring_model.specs.Logs.{Fits, calls_of}
+use Rattle.ring_model.specs.Resources.{till}
+use Rattle.ring_settings.specs.Contents.{SettingsData, RingData, plan_of}
+use Rattle.ring_shared.specs.Holding.{AreOfSeats}
+use Rattle.ring_shared.specs.declared.seats.Log.{Log}
+use Rattle.ring_farm.specs.declared.outcomes.Outcome.{Outcome}
+use Rattle.ring_farm.specs.declared.outcomes.RingOutcome.{RingOutcome}
+use Rattle.ring_farm.specs.Plans.{Pairs, part, actions_of, calls_read, is_call}
+use Rattle.ring_farm.specs.Runs.{ring_of_data}
+
+-- of each ring of the settings and its outcome
+abbrev pub EachRing : (ℕ → RingData → RingOutcome → Type 0) → SettingsData → Outcome → Type 0
+EachRing rel settings o = Pairs rel settings.rings o.rings.items
+
+-- the ring's passes and corruptions form one history of the one-thread ring, from the start that the settings say and the amount 0
+abbrev pub IsOneHistory : ℕ → RingData → RingOutcome → Type 0
+IsOneHistory ring d r = (r.book.start ≡ ring_of_data d) × IsLegal till (opening (ring_of_data d) 0) r.book.history
+
+-- it holds each client's calls on that ring once, in the order of the client's plan, and no other events
+abbrev pub HoldsCalls : SettingsData → ℕ → RingData → RingOutcome → Type 0
+HoldsCalls settings ring d r =
+    AreOfSeats (length settings.seats) r.book.history
+    × ((seat : ℕ) → seat < length settings.seats → calls_read ring (calls_of seat r.book.history) ≡ filter is_call (part ring (plan_of settings seat)))
+
+-- the seats' logs stand by number; read as actions, each is the part of its plan that concerns the ring, in order
+pub record HasLogs (settings : SettingsData) (ring : ℕ) (r : RingOutcome) : Type 0 where
+  pub count : length r.logs.items ≡ length settings.seats
+  pub each : (seat : ℕ) (l : Log) → slice_get r.logs.items seat ≡ Some l → (l.seat ≡ seat) × (actions_of ring l.entries.items ≡ part ring (plan_of settings seat))
+
+-- each receipt and each survey in the logs is the ring's at its position, and none stands before what its client had seen
+abbrev pub AreRight : RingData → RingOutcome → Type 0
+AreRight d r = All (λ (l : Log). Fits till (opening (ring_of_data d) 0) r.book.history l.seat l.entries.items) r.logs.items
+
+-- wherever as many granted passes as the bound have followed the last corruption, exactly one machine is privileged
+abbrev pub IsRepaired : RingData → RingOutcome → Type 0
+IsRepaired d r = (q : ℕ) → q ≤ length r.book.history → bound (length d.start) ≤ calm (take q r.book.history) →
+    privileged_count (values_at till (opening (ring_of_data d) 0) r.book.history q) ≡ 1
+
+-- and from there until the next corruption grants go round the ring
+abbrev pub TakesTurns : RingData → RingOutcome → Type 0
+TakesTurns d r = (p q : ℕ) → p ≤ q → q ≤ length r.book.history → NoCorruption r.book.history p q → bound (length d.start) ≤ calm (take p r.book.history) →
+    GoesRound (length d.start) (granted_machines (between r.book.history p q))

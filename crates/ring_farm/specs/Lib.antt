@@ -1,0 +1,4 @@
+pub mod Plans
+pub mod Promises
+pub mod Runs
+pub mod Headline

@@ -1,0 +1,19 @@
+-- What the threads of a ring promise, and what they hand back.
+use Rattle.std.specs.Prelude.{◌≡◌, ℕ}
+use Rattle.ring_settings.specs.declared.actions.Plan.{Plan}
+use Rattle.ring_shared.specs.Client.{Client}
+use Rattle.ring_shared.specs.declared.seats.Log.{Log}
+use Rattle.ring_farm.specs.declared.threads.Does.{Does}
+use Rattle.ring_farm.specs.Plans.{actions_of, part}
+
+-- the promise is that of the seat with this number, for this plan
+abbrev pub IsPromised : ℕ → ℕ → Plan → Does → Type 0
+IsPromised ring i p d = (d.ring ≡ ring) × (d.number ≡ i) × (d.plan.value ≡ p)
+
+-- the seat keeps the promise
+abbrev pub IsKept : ℕ → Does → Client → Type 0
+IsKept i d s = (s.number ≡ d.number) × (actions_of d.ring s.log ≡ part d.ring d.plan.value.actions.items)
+
+-- the seat has this number, and its log is the plan's part
+abbrev pub IsDone : ℕ → ℕ → Plan → Client → Type 0
+IsDone ring i p s = (s.number ≡ i) × (actions_of ring s.log ≡ part ring p.actions.items)

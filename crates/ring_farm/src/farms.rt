@@ -1,0 +1,140 @@
+//! All rings of the settings.
+ghost use Rattle.std.specs.Prelude.{◌≡◌, ℕ, ◌<◌, ◌≤◌, [], All, Some, map, length, slice_index_or, vec_len, vec_capacity, IfOk, IfErr};
+ghost use Rattle.ring_state.specs.Sizes.{size_of};
+ghost use Rattle.ring_settings.specs.Actions.{IsActionFor, size_at};
+ghost use Rattle.ring_settings.specs.Contents.{ring_at, sizes_of, plan_of, plans_of};
+ghost use Rattle.ring_settings.specs.Views.{plan_actions};
+ghost use Rattle.ring_farm.specs.Runs.{IsRun, ring_of_data, first_refusal};
+ghost use Rattle.ring_farm.specs.Headline.{EachRing, IsOneHistory, HoldsCalls, HasLogs, AreRight, IsRepaired, TakesTurns};
+
+use crate::faults::FarmError;
+use crate::gates::Gate;
+use crate::outcomes::{Outcome, RingOutcome};
+use crate::rings::run_ring;
+use ring_book::{Book, Till};
+use ring_settings::{Plan, Settings, plans};
+use ring_state::RingState;
+use std::alloc::{AllocError, Global};
+use std::sync::Wait;
+use std::thread;
+use std::thread::Threads;
+
+/// A book over the start of this ring of the settings, and an empty till.
+fn book_of(alloc: Global, settings: &Settings, ring: usize) -> Result<Book<Till>, FarmError>
+    requires { ring < length settings.now.rings }
+    ensures start { IfOk result (λ b. b.start ≡ ring_of_data (ring_at settings.now ring)) }
+    ensures size { IfOk result (λ b. size_of b.start ≡ size_at (sizes_of settings.now.rings) ring) }
+    ensures empty { IfOk result (λ b. b.history ≡ []) }
+{
+    let params = settings.params(ring);
+    let Ok(state) = RingState::from_values(alloc, &params, settings.start(ring)) else {
+        return Err(FarmError::OutOfMemory);
+    };
+    match Book::new(alloc, state, Till::new()) {
+        Ok(book) => Ok(book),
+        Err(_) => Err(FarmError::OutOfMemory),
+    }
+}
+
+/// Runs one ring of the settings.
+fn run_at<G: Gate + Sync, W: Threads + Wait + Sync>(
+    rt: &W,
+    alloc: Global,
+    gate: &G,
+    ring: usize,
+    settings: &Settings,
+    plans: &Vec<Plan>,
+) -> Result<RingOutcome, FarmError>
+    requires within { ring < length settings.now.rings }
+    requires most { length settings.now.rings ≤ 16 }
+    requires some { 1 ≤ vec_len plans.now }
+    requires count { vec_len plans.now ≤ 10 }
+    requires few { All (λ p. length p.actions.items ≤ 1000000) plans.now.items }
+    requires fits { All (λ p. All (IsActionFor (sizes_of settings.now.rings)) p.actions.items) plans.now.items }
+    ensures { IfOk result (λ o. IsRun plans.now.items ring (ring_of_data (ring_at settings.now ring)) o.book o.logs.items) }
+{
+    let book = book_of(alloc, settings, ring)?;
+    run_ring(rt, alloc, gate, ring as u32, plans, book)
+}
+
+/// All outcomes, or the refusal of the least ring that met one.
+fn collect(
+    results: Vec<Result<RingOutcome, FarmError>>,
+    mut rings: Vec<RingOutcome>,
+) -> Result<Outcome, FarmError>
+    requires room { vec_len results ≤ vec_capacity rings }
+    requires empty { rings.items ≡ [] }
+    ensures ok { IfOk result (λ o. results.items ≡ map (λ r. Ok r) o.rings.items) }
+    ensures err { IfErr result (λ e. first_refusal results.items ≡ Some e) }
+{
+    for result in results {
+        match result {
+            Ok(ring) => rings.push_reserved(ring),
+            Err(fault) => return Err(fault),
+        }
+    }
+    Ok(Outcome { rings })
+}
+
+/// Runs each ring, several at once where threads can be had. The results stand in the order of the rings.
+fn run_each<G: Gate + Sync, W: Threads + Wait + Sync>(
+    rt: &W,
+    alloc: Global,
+    gate: &G,
+    settings: &Settings,
+    plans: &Vec<Plan>,
+) -> Result<Vec<Result<RingOutcome, FarmError>>, AllocError>
+    requires some { 1 ≤ vec_len plans.now }
+    requires count { vec_len plans.now ≤ 10 }
+    requires few { All (λ p. length p.actions.items ≤ 1000000) plans.now.items }
+    requires fits { All (λ p. All (IsActionFor (sizes_of settings.now.rings)) p.actions.items) plans.now.items }
+    ensures len { IfOk result (λ v. vec_len v ≡ length settings.now.rings) }
+    ensures each { IfOk result (λ v. (i : ℕ) (d : _) → i < length settings.now.rings → IfOk (slice_index_or v.items i d) (λ o. IsRun plans.now.items i (ring_of_data (ring_at settings.now i)) o.book o.logs.items)) }
+{
+    let rings = settings.ring_count();
+    let run = |ring: usize| -> Result<RingOutcome, FarmError>
+        requires { (ring < length settings.now.rings) × (length settings.now.rings ≤ 16) × (1 ≤ vec_len plans.now) × (vec_len plans.now ≤ 10) × All (λ p. length p.actions.items ≤ 1000000) plans.now.items × All (λ p. All (IsActionFor (sizes_of settings.now.rings)) p.actions.items) plans.now.items }
+        ensures { IfOk result (λ o. IsRun plans.entry.now.items ring (ring_of_data (ring_at settings.entry.now ring)) o.book o.logs.items) }
+    { run_at(rt, alloc, gate, ring, settings, plans) };
+    thread::map_indices(rt, alloc, rings, &run)
+}
+
+/// Runs the rings of the settings, each driven by one thread for each plan, and hands out their histories.
+///
+/// For every number n of machines from 2, every K from n, every start and every plan, each ring's passes and
+/// corruptions form one history of a one-thread ring, which holds each client's calls once, in its order;
+/// every reply and survey is that ring's at its point; and wherever 3n(n-1)/2 granted passes have followed
+/// the last corruption, exactly one machine is privileged, and grants go round the ring until the next one.
+/// The clauses below say it part by part, of each ring of the settings.
+///
+/// # Errors
+///
+/// Want of memory for the plans and the lists of the farm comes first, then the refusal of the least ring
+/// that met one: in the order of time, want of memory for opening, `Spawn`, the refusal of the least seat
+/// (`GateShut`, `HistoryFull`, `OutOfMemory`), and that of closing (`Mismatch`, `OutOfMemory`). A worker that
+/// meets a refusal stops, the others go on to their ends; all are joined. Nothing of a refused run is kept.
+pub fn run_farm<G: Gate + Sync, W: Threads + Wait + Sync>(
+    rt: &W,
+    alloc: Global,
+    settings: &Settings,
+    gate: &G,
+) -> Result<Outcome, FarmError>
+    ensures count { IfOk result (λ o. vec_len o.rings ≡ length settings.now.rings) }
+    ensures one_history { IfOk result (λ o. EachRing IsOneHistory settings.now o) }
+    ensures calls { IfOk result (λ o. EachRing (HoldsCalls settings.now) settings.now o) }
+    ensures logs { IfOk result (λ o. EachRing (λ i _ r. HasLogs settings.now i r) settings.now o) }
+    ensures right { IfOk result (λ o. EachRing (λ _ d r. AreRight d r) settings.now o) }
+    ensures repaired { IfOk result (λ o. EachRing (λ _ d r. IsRepaired d r) settings.now o) }
+    ensures turns { IfOk result (λ o. EachRing (λ _ d r. TakesTurns d r) settings.now o) }
+{
+    let Ok(plans) = plans(alloc, settings) else {
+        return Err(FarmError::OutOfMemory);
+    };
+    let Ok(rings) = Vec::with_capacity(alloc, settings.ring_count()) else {
+        return Err(FarmError::OutOfMemory);
+    };
+    let Ok(results) = run_each(rt, alloc, gate, settings, &plans) else {
+        return Err(FarmError::OutOfMemory);
+    };
+    collect(results, rings)
+}

@@ -1,0 +1,34 @@
+//! What a farm refuses.
+
+ghost use Rattle.std.specs.Prelude.{◌≡◌, None};
+
+use thiserror::Error;
+
+/// Why a farm was refused. Nothing of a refused run is kept.
+#[derive(Clone, Copy, Debug, Drop, Error, PartialEq, Eq)]
+pub enum FarmError {
+    /// A plan's thread could not be started.
+    #[error("a thread could not be started")]
+    Spawn,
+    /// The gate did not let a worker on.
+    #[error("the gate was shut")]
+    GateShut,
+    /// A ring's history has as many events as it may have.
+    #[error("a history is full")]
+    HistoryFull,
+    /// A seat's log does not fit its ring's history.
+    #[error("logs and history differ")]
+    Mismatch,
+    #[error("out of memory")]
+    OutOfMemory,
+}
+
+/// The first of two faults.
+pub(crate) fn first_fault(fault: Option<FarmError>, found: Option<FarmError>) -> Option<FarmError>
+    ensures { result ≡ None → (fault ≡ None) × (found ≡ None) }
+{
+    match fault {
+        Some(fault) => Some(fault),
+        None => found,
+    }
+}

@@ -1,0 +1,18 @@
+//! A farm: several rings at once, each driven by one thread for each plan of the settings.
+#![tactic(auto)]
+
+mod farms;
+mod faults;
+mod gates;
+mod outcomes;
+mod rings;
+mod threads;
+mod workers;
+
+pub use farms::run_farm;
+pub use faults::FarmError;
+pub use gates::{Gate, Open};
+pub use outcomes::{Outcome, RingOutcome};
+
+#[cfg(test)]
+mod tests;

@@ -1,0 +1,89 @@
+//! One ring from its opening to its closing.
+ghost use Rattle.std.specs.Prelude.{◌≡◌, ◌≤◌, [], All, length, vec_len, IfOk};
+ghost use Rattle.ring_model.specs.History.{opening};
+ghost use Rattle.ring_shared.specs.Holding.{MeansLegal};
+ghost use Rattle.ring_farm.specs.Plans.{AreActionsOn};
+ghost use Rattle.ring_farm.specs.Runs.{IsRun};
+
+use crate::faults::FarmError;
+use crate::gates::Gate;
+use crate::outcomes::RingOutcome;
+use crate::threads::run_threads;
+use ring_book::{Book, Resource, Till};
+use ring_settings::Plan;
+use ring_shared::{CloseReason, Closed, Draft, Name, Ring};
+use std::alloc::Global;
+use std::marker::Brand;
+use std::sync::Wait;
+use std::thread::Threads;
+
+/// Opens a ring of name `N` over the draft, runs the plans on it, and closes it.
+fn run_named<N: Name + Send + Sync, G: Gate + Sync, W: Threads + Wait + Sync>(
+    rt: &W,
+    alloc: Global,
+    gate: &G,
+    number: u32,
+    plans: &Vec<Plan>,
+    draft: Draft<Till>,
+) -> Result<RingOutcome, FarmError>
+    requires start { draft.book.start ≡ N.start }
+    requires seats { draft.seats ≡ N.seats }
+    requires legal { MeansLegal ⟦<Till as Resource>⟧.works ⟦<Till as Resource>⟧.first N.start N.legal }
+    requires count { draft.seats ≡ vec_len plans.now }
+    requires few { All (λ p. length p.actions.items ≤ 1000000) plans.now.items }
+    requires possible { All (λ p. AreActionsOn number N.start p.actions.items) plans.now.items }
+    ensures { IfOk result (λ o. IsRun plans.now.items number draft.book.start o.book o.logs.items) }
+{
+    let (ring, seats) = match Ring::<N, Till>::open(alloc, draft) {
+        Ok(opened) => opened,
+        Err(_) => return Err(FarmError::OutOfMemory),
+    };
+    let seats = match run_threads(rt, alloc, &ring, gate, number, plans, seats) {
+        Ok(seats) => seats,
+        Err(fault) => {
+            end(ring, rt, alloc);
+            return Err(fault);
+        }
+    };
+    match ring.close(rt, alloc, seats) {
+        Ok(Closed { book, logs }) => Ok(RingOutcome { book, logs }),
+        Err(fault) => Err(match fault.reason {
+            CloseReason::OutOfMemory => FarmError::OutOfMemory,
+            CloseReason::SeatsMissing | CloseReason::Mismatch => FarmError::Mismatch,
+        }),
+    }
+}
+
+/// Ends a ring whose run was refused; nothing of it is kept.
+fn end<N: Name, W>(ring: Ring<N, Till>, rt: &W, alloc: Global) {
+    let _ = ring.close(rt, alloc, Vec::new(alloc));
+}
+
+/// Runs the plans' parts for the ring of this number, over a book with no events.
+///
+/// # Errors
+///
+/// In the order of time: want of memory for opening, `Spawn`, the refusal of the least seat that met one,
+/// and the refusal of closing.
+pub(crate) fn run_ring<G: Gate + Sync, W: Threads + Wait + Sync>(
+    rt: &W,
+    alloc: Global,
+    gate: &G,
+    number: u32,
+    plans: &Vec<Plan>,
+    book: Book<Till>,
+) -> Result<RingOutcome, FarmError>
+    requires empty { book.history ≡ [] }
+    requires some { 1 ≤ vec_len plans.now }
+    requires count { vec_len plans.now ≤ 10 }
+    requires few { All (λ p. length p.actions.items ≤ 1000000) plans.now.items }
+    requires possible { All (λ p. AreActionsOn number book.start p.actions.items) plans.now.items }
+    ensures { IfOk result (λ o. IsRun plans.now.items number book.start o.book o.logs.items) }
+{
+    let seats = plans.len() as u32;
+    let draft = match Draft::new(book, seats) {
+        Ok(draft) => draft,
+        Err(_) => return Err(FarmError::OutOfMemory),
+    };
+    run_named::<Brand, G, W>(rt, alloc, gate, number, plans, draft)
+}

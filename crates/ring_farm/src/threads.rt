@@ -1,0 +1,164 @@
+//! The threads of one ring: one for each plan, all joined.
+ghost use Rattle.std.specs.Prelude.{◌≡◌, ℕ, ◌<◌, ◌≤◌, [], None, All, Some, map, slice_get, length, vec_len, vec_capacity, IfOk, IsTrue};
+ghost use Rattle.ring_farm.specs.Plans.{Pairs, actions_of, part, AreActionsOn};
+ghost use Rattle.ring_farm.specs.Promises.{IsPromised, IsKept, IsDone};
+ghost use Rattle.ring_settings.specs.declared.actions.Plan.{Plan};
+
+use crate::faults::{FarmError, first_fault};
+use crate::gates::Gate;
+use crate::workers::{Work, run_plan};
+use ring_book::Resource;
+use ring_settings::Plan;
+use ring_shared::{Name, Ring, Seat};
+use std::alloc::Global;
+use std::snapshot::Snapshot;
+use std::sync::Wait;
+use std::thread;
+use std::thread::{Promise, PromisedHandle, Scope, Threads};
+
+/// What a thread promises: to hand back the seat of this number, with its plan's part for this ring.
+#[derive(Drop)]
+pub(crate) struct Does {
+    ring: u32,
+    number: u32,
+    plan: Snapshot<Plan>,
+}
+
+impl<N: Name> Promise<Work<N>> for Does {
+    ghost use Rattle.std.specs.Prelude.{◌≡◌, None};
+    ghost use Rattle.ring_farm.specs.Plans.{actions_of, part};
+
+    ghost kept_by = { λ p w. (w.seat.number ≡ p.number) × (w.fault ≡ None → actions_of p.ring w.seat.log ≡ part p.ring p.plan.value.actions.items) };
+}
+
+/// Starts a thread for each seat, with the plan of its number. False where one could not be started; the
+/// others go on.
+fn spawn_all<
+    's,
+    E: 's,
+    N: Name + Send + Sync + 's,
+    R: Resource + Drop + Send + 's,
+    G: Gate + Sync + 's,
+    W: Threads + Wait + Sync + 's,
+>(
+    scope: &Scope<'s, E>,
+    rt: &'s W,
+    ring: &'s Ring<N, R>,
+    gate: &'s G,
+    number: u32,
+    plans: &'s Vec<Plan>,
+    seats: Vec<Seat<N>>,
+    mut handles: Vec<PromisedHandle<Work<N>, Does>>,
+) -> (Vec<PromisedHandle<Work<N>, Does>>, bool)
+    requires count { vec_len seats ≡ vec_len plans.now }
+    requires room { vec_len seats ≤ vec_capacity handles }
+    requires empty { handles.items ≡ [] }
+    requires few { All (λ p. length p.actions.items ≤ 1000000) plans.now.items }
+    requires possible { All (λ p. AreActionsOn number N.start p.actions.items) plans.now.items }
+    requires each { (i : ℕ) → i < vec_len plans.now → slice_get seats.items i ≡ Some (record { number = i; log = [] }) }
+    ensures room { vec_len result.0 ≤ vec_len plans.entry.now }
+    ensures all { IsTrue result.1 → vec_len result.0 ≡ vec_len plans.entry.now }
+    ensures promises { IsTrue result.1 → Pairs (IsPromised number) plans.entry.now.items (map (λ h. h.promise) result.0.items) }
+{
+    let mut all = true;
+    let mut i = 0;
+    for seat in seats {
+        let plan = &plans[i];
+        let promise = Does {
+            ring: number,
+            number: seat.number(),
+            plan: Snapshot::of(plan),
+        };
+        let job = move || -> Work<N>
+            requires { (length plan.now.actions.items ≤ 1000000) × AreActionsOn number N.start plan.now.actions.items × (seat.log ≡ []) }
+            ensures number { result.seat.number ≡ seat.number }
+            ensures log { result.fault ≡ None → actions_of number result.seat.log ≡ part number plan.entry.now.actions.items }
+        { run_plan(rt, ring, gate, number, plan, seat) };
+        match scope.spawn_with(promise, job) {
+            Ok(handle) => handles.push_reserved(handle),
+            Err(_) => all = false,
+        }
+        i += 1;
+    }
+    (handles, all)
+}
+
+/// Joins all threads, also where one met a refusal: their seats, or the refusal of the least seat.
+fn join_all<N: Name + Send, W: Threads>(
+    rt: &W,
+    handles: Vec<PromisedHandle<Work<N>, Does>>,
+    mut seats: Vec<Seat<N>>,
+) -> Result<Vec<Seat<N>>, FarmError>
+    requires room { vec_len handles ≤ vec_capacity seats }
+    requires empty { seats.items ≡ [] }
+    ensures count { IfOk result (λ v. vec_len v ≡ vec_len handles) }
+    ensures kept { IfOk result (λ v. Pairs IsKept (map (λ h. h.promise) handles.items) v.items) }
+{
+    let mut fault = None;
+    for handle in handles {
+        let Work { seat, fault: found } = handle.join(rt);
+        fault = first_fault(fault, found);
+        seats.push_reserved(seat);
+    }
+    match fault {
+        Some(fault) => Err(fault),
+        None => Ok(seats),
+    }
+}
+
+/// Runs each plan's part for the ring of this number on a thread of its own, and hands back the seats.
+///
+/// # Errors
+///
+/// `Spawn` where a thread could not be started, else the refusal of the least seat that met one. Want of
+/// memory for the lists of threads and seats comes before any thread is started. All threads are joined.
+pub(crate) fn run_threads<
+    N: Name + Send + Sync,
+    R: Resource + Drop + Send,
+    G: Gate + Sync,
+    W: Threads + Wait + Sync,
+>(
+    rt: &W,
+    alloc: Global,
+    ring: &Ring<N, R>,
+    gate: &G,
+    number: u32,
+    plans: &Vec<Plan>,
+    seats: Vec<Seat<N>>,
+) -> Result<Vec<Seat<N>>, FarmError>
+    requires count { vec_len seats ≡ vec_len plans.now }
+    requires few { All (λ p. length p.actions.items ≤ 1000000) plans.now.items }
+    requires possible { All (λ p. AreActionsOn number N.start p.actions.items) plans.now.items }
+    requires each { (i : ℕ) → i < vec_len plans.now → slice_get seats.items i ≡ Some (record { number = i; log = [] }) }
+    ensures count { IfOk result (λ v. vec_len v ≡ vec_len plans.now) }
+    ensures each { IfOk result (λ v. Pairs (IsDone number) plans.now.items v.items) }
+{
+    let Ok(handles) = Vec::with_capacity(alloc, plans.len()) else {
+        return Err(FarmError::OutOfMemory);
+    };
+    let Ok(back) = Vec::with_capacity(alloc, plans.len()) else {
+        return Err(FarmError::OutOfMemory);
+    };
+    thread::scope(
+        thread::scope_env(),
+        rt,
+        |scope| -> Result<Vec<Seat<N>>, FarmError>
+            requires { (vec_len seats ≡ vec_len plans.now)
+                × (vec_len seats ≤ vec_capacity handles)
+                × (vec_len seats ≤ vec_capacity back)
+                × (handles.items ≡ [])
+                × (back.items ≡ [])
+                × All (λ p. length p.actions.items ≤ 1000000) plans.now.items
+                × All (λ p. AreActionsOn number N.start p.actions.items) plans.now.items
+                × ((i : ℕ) → i < vec_len plans.now → slice_get seats.items i ≡ Some (record { number = i; log = [] })) }
+            ensures { IfOk result (λ v. (vec_len v ≡ vec_len plans.entry.now) × Pairs (IsDone number) plans.entry.now.items v.items) }
+        {
+            let (handles, all) = spawn_all(scope, rt, ring, gate, number, plans, seats, handles);
+            let joined = join_all(rt, handles, back);
+            if !all {
+                return Err(FarmError::Spawn);
+            }
+            joined
+        },
+    )
+}

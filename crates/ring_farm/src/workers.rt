@@ -1,0 +1,120 @@
+//! A worker: the actions of one plan on one ring, in order.
+ghost use Rattle.std.specs.Prelude.{◌≡◌, ◌==◌, ◌≤◌, ◌<◌, ◌++◌, ◌∷◌, ◌+◌, [], None, length, vec_len};
+ghost use Rattle.ring_farm.specs.Plans.{ring_of, part, actions_of, IsActionOn, AreActionsOn};
+
+use crate::faults::FarmError;
+use crate::gates::Gate;
+use ring_book::{BookError, Resource};
+use ring_settings::{Action, Plan};
+use ring_shared::{Name, Ring, Seat};
+use std::sync::Wait;
+
+/// The seat that a worker hands back, and the refusal that it met.
+#[derive(Drop)]
+pub(crate) struct Work<N: Name> {
+    pub(crate) seat: Seat<N>,
+    pub(crate) fault: Option<FarmError>,
+}
+
+/// Makes one action on the ring, and answers the refusal that it met.
+fn act<N: Name, R: Resource + Drop, W: Wait>(
+    rt: &W,
+    ring: &Ring<N, R>,
+    action: Action,
+    seat: &mut Seat<N>,
+) -> Option<FarmError>
+    requires { IsActionOn N.start action }
+    ensures number { seat.new.number ≡ seat.old.number }
+    ensures log { result ≡ None → actions_of (ring_of action) seat.new.log ≡ actions_of (ring_of action) seat.old.log ++ action ∷ [] }
+    ensures one { result ≡ None → length seat.new.log ≡ length seat.old.log + 1 }
+{
+    match action {
+        Action::Pass {
+            ring: _,
+            machine,
+            order,
+        } => match ring.pass(rt, seat, machine, order) {
+            Ok(_) => None,
+            Err(error) => Some(fault_of(error)),
+        },
+        Action::Corrupt {
+            ring: _,
+            machine,
+            value,
+        } => match ring.corrupt(rt, seat, machine, value) {
+            Ok(_) => None,
+            Err(error) => Some(fault_of(error)),
+        },
+        Action::Survey { ring: _ } => match ring.survey(rt, seat) {
+            Ok(_) => None,
+            Err(_) => Some(FarmError::OutOfMemory),
+        },
+    }
+}
+
+/// The farm's refusal for one of a book.
+fn fault_of(error: BookError) -> FarmError {
+    match error {
+        BookError::HistoryFull => FarmError::HistoryFull,
+        BookError::OutOfMemory => FarmError::OutOfMemory,
+    }
+}
+
+/// Whether an action is for the ring of this number.
+fn is_on(action: &Action, number: u32) -> bool
+    ensures { result ≡ (ring_of action.now == number) }
+{
+    let ring = match action {
+        Action::Pass { ring, .. } | Action::Corrupt { ring, .. } | Action::Survey { ring } => *ring,
+    };
+    ring == number
+}
+
+/// Whether the gate lets the worker on. The call has the number of the answers that the worker has: call c
+/// comes just before action c, and the last one after the last answer.
+fn comes<N: Name, G: Gate>(gate: &G, number: u32, seat: &Seat<N>) -> bool
+    requires { length seat.now.log ≤ 1000000 }
+{
+    gate.arrive(number, seat.number(), seat.log().len() as u32)
+}
+
+/// Makes the part of a plan that is for the ring of this number, in order, until a refusal is met.
+pub(crate) fn run_plan<N: Name, R: Resource + Drop, G: Gate, W: Wait>(
+    rt: &W,
+    ring: &Ring<N, R>,
+    gate: &G,
+    number: u32,
+    plan: &Plan,
+    seat: Seat<N>,
+) -> Work<N>
+    requires few { length plan.now.actions.items ≤ 1000000 }
+    requires possible { AreActionsOn number N.start plan.now.actions.items }
+    requires new { seat.log ≡ [] }
+    ensures number { result.seat.number ≡ seat.number }
+    ensures log { result.fault ≡ None → actions_of number result.seat.log ≡ part number plan.now.actions.items }
+{
+    let mut seat = seat;
+    for action in &plan.actions {
+        if is_on(action, number) {
+            if !comes(gate, number, &seat) {
+                return Work {
+                    seat,
+                    fault: Some(FarmError::GateShut),
+                };
+            }
+            if let Some(fault) = act(rt, ring, *action, &mut seat) {
+                return Work {
+                    seat,
+                    fault: Some(fault),
+                };
+            }
+        }
+    }
+    if !comes(gate, number, &seat) {
+        return Work {
+            seat,
+            fault: Some(FarmError::GateShut),
+        };
+    }
+    Work { seat, fault: None }
+}

@@ -1,0 +1,7 @@
+pub mod Blocks
+pub mod Words
+pub mod Weights
+pub mod Meaning
+pub mod Greatest
+pub mod Joined
+pub mod Returning

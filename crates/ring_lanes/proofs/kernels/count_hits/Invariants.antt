@@ -1,0 +1,15 @@
+use Rattle.std.proofs.Common.{◌-◌, ◌≡◌, ◌≤◌}
+use Rattle.ring_lanes.specs.Hits.{count_from}
+use Rattle.ring_lanes.proofs.kernels.count_hits.Given as goal
+
+abbrev pub invariant-loop-i : goal.invariant-loop-i
+invariant-loop-i g l = record { low : 1 ≤ l.i; high : l.i ≤ l.n; counted : l.count ≡ count_from (g.P.Probe.hit l.p) 0 l.i }
+
+abbrev pub decreases-loop-i : goal.decreases-loop-i
+decreases-loop-i g l = l.n - l.i
+
+abbrev pub invariant-loop-i-2 : goal.invariant-loop-i-2
+invariant-loop-i-2 g l = record { low : 1 ≤ l.i; high : l.i ≤ l.n; counted : l.count ≡ count_from (g.P.Probe.hit l.p) 0 l.i }
+
+abbrev pub decreases-loop-i-2 : goal.decreases-loop-i-2
+decreases-loop-i-2 g l = l.n - l.i

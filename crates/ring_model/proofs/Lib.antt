@@ -1,0 +1,19 @@
+pub mod Below
+pub mod Moves
+pub mod Weight
+pub mod Lead
+pub mod Descent
+pub mod Bound
+pub mod Settled
+pub mod Runs
+pub mod Meaning
+pub mod OtherLead
+pub mod PlainLoops
+mod Rows
+pub mod Histories
+pub mod Statewise
+pub mod QuietRuns
+pub mod Places
+pub mod Fairness
+pub mod HistoryLaws
+pub mod Suffixes

@@ -1,0 +1,14 @@
+pub mod Numbers
+pub mod Ring
+pub mod Runs
+pub mod History
+pub mod Laws
+pub mod OtherLead
+pub mod HistoryLaws
+pub mod Suffixes
+pub mod Replay
+pub mod Statewise
+pub mod Surveys
+pub mod Grants
+pub mod Logs
+pub mod Resources

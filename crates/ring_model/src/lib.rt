@@ -1,0 +1,12 @@
+//! The definitions that every crate cites, of rings, moves, histories, surveys and logs, and the laws of
+//! settlement over them.
+#![tactic(auto)]
+
+mod events;
+pub mod legal_histories;
+pub mod meanings;
+pub mod plain;
+pub mod replay;
+pub mod settlement;
+
+pub use events::{Entry, Event, Op, Receipt, Reply, Survey};

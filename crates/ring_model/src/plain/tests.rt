@@ -1,0 +1,111 @@
+//! Worked values, found by hand from the rule.
+
+use super::*;
+
+#[test]
+fn steps_and_copies(rt: HostRuntime) {
+    let mut ring = [0, 2, 0];
+    assert!(rt; is_ring(3, &ring));
+    assert_eq!(rt; privileged_count(&ring), 3);
+    assert_eq!(rt; first_privileged(&ring), 0);
+    move_machine(3, &mut ring, 0);
+    assert_eq!(rt; ring, [1, 2, 0]);
+    move_machine(3, &mut ring, 1);
+    assert_eq!(rt; ring, [1, 1, 0]);
+    assert!(rt; is_settled(&ring));
+    assert_eq!(rt; first_privileged(&ring), 2);
+    move_machine(3, &mut ring, 2);
+    assert_eq!(rt; ring, [1, 1, 1]);
+
+    let mut at_the_top = [2, 2, 2];
+    move_machine(3, &mut at_the_top, 0);
+    assert_eq!(rt; at_the_top, [0, 2, 2]);
+}
+
+#[test]
+fn follows_choices(rt: HostRuntime) {
+    let mut ring = [0, 2, 0];
+    assert_eq!(rt; follow(3, &mut ring, &[0, 0, 2]), 2);
+    assert_eq!(rt; ring, [1, 2, 2]);
+
+    let mut two = [0, 0];
+    assert_eq!(rt; follow(2, &mut two, &[0, 1, 0, 1]), 4);
+    assert_eq!(rt; two, [0, 0]);
+}
+
+#[test]
+fn knows_rings(rt: HostRuntime) {
+    assert!(rt; is_ring(2, &[1, 0]));
+    assert!(rt; !is_ring(2, &[1]));
+    assert!(rt; !is_ring(2, &[1, 0, 1]));
+    assert!(rt; !is_ring(3, &[0, 3, 1]));
+    assert!(rt; !is_ring(0, &[]));
+}
+
+#[test]
+fn answers_the_potential(rt: HostRuntime) {
+    // Three machines with three values: values, weight, lead, rest.
+    for (ring, weight_wanted, lead_wanted, rest_wanted) in [
+        ([0, 2, 0], 3, 1, 6),
+        ([1, 2, 0], 3, 0, 3),
+        ([1, 1, 0], 1, 0, 0),
+    ] {
+        assert_eq!(rt; weight(&ring), weight_wanted, "at {ring:?}");
+        assert_eq!(rt; lead(3, &ring), lead_wanted, "at {ring:?}");
+        assert_eq!(rt; rest(3, &ring), rest_wanted, "at {ring:?}");
+    }
+
+    // Four machines with four values.
+    for (ring, weight_wanted, lead_wanted, rest_wanted) in [
+        ([0, 2, 1, 0], 6, 3, 18),
+        ([1, 2, 1, 0], 6, 2, 14),
+        ([1, 1, 1, 0], 1, 0, 0),
+        ([3, 3, 1, 0], 3, 0, 3),
+        ([1, 0, 1, 1], 5, 1, 9),
+    ] {
+        assert_eq!(rt; weight(&ring), weight_wanted, "at {ring:?}");
+        assert_eq!(rt; lead(4, &ring), lead_wanted, "at {ring:?}");
+        assert_eq!(rt; rest(4, &ring), rest_wanted, "at {ring:?}");
+    }
+}
+
+#[test]
+fn tells_the_two_questions_of_the_lead(rt: HostRuntime) {
+    assert!(rt; first_value_is_prefix(&[3, 3, 1, 0]));
+    assert!(rt; !first_value_is_prefix(&[1, 0, 1, 1]));
+    assert!(rt; first_value_is_prefix(&[2, 2, 2]));
+    assert!(rt; is_absent(&[3, 2, 1, 0], 3));
+    assert!(rt; !is_absent(&[3, 3, 1, 0], 3));
+    // No ring: each of its two values is held, and the steps come round without an answer.
+    assert_eq!(rt; lead(2, &[0, 1, 0]), 3);
+}
+
+#[test]
+fn bounds_the_rest(rt: HostRuntime) {
+    for (n, wanted) in [
+        (0, 0),
+        (1, 0),
+        (2, 3),
+        (3, 9),
+        (4, 18),
+        (256, 97_920),
+        (65_536, 6_442_352_640),
+    ] {
+        assert_eq!(rt; bound(n), wanted, "at {n}");
+    }
+}
+
+#[test]
+fn answers_for_the_largest_ring(rt: HostRuntime) {
+    let mut ring = [0u32; 256];
+    for machine in 0..256 {
+        ring[machine] = machine as u32;
+    }
+    assert!(rt; is_ring(256, &ring));
+    // Each machine but machine 0 differs from its left neighbour: 255 + 254 + .. + 1.
+    assert_eq!(rt; privileged_count(&ring), 255);
+    assert_eq!(rt; first_privileged(&ring), 1);
+    assert_eq!(rt; weight(&ring), 32_640);
+    assert_eq!(rt; lead(256, &ring), 0);
+    assert_eq!(rt; rest(256, &ring), 32_640);
+}

@@ -1,0 +1,90 @@
+ghost use Rattle.std.specs.Prelude.{◌≡◌, length};
+
+use crate::{bound, follow, is_settled, lead, rest};
+use ring_state::{Params, RingState};
+use std::alloc::Global;
+use std::process::Abort;
+use std::test::Fail;
+
+/// A state; where there was no memory for it, it is asked for a second time.
+fn state_of(rt: &impl Abort, alloc: Global, n: u32, k: u32, values: &[u32]) -> RingState {
+    let size = Params::new(n, k).expect(rt, "a size within the limits");
+    match RingState::from_values(alloc, &size, values) {
+        Ok(state) => state,
+        Err(_) => RingState::from_values(alloc, &size, values).expect(rt, "values of this size"),
+    }
+}
+
+#[test]
+fn bounds(rt: HostRuntime) {
+    for (n, most) in [
+        (2, 3),
+        (3, 9),
+        (4, 18),
+        (5, 30),
+        (256, 97_920),
+        (65_536, 6_442_352_640),
+    ] {
+        assert!(rt; n >= 2 && n <= 65_536);
+        assert_eq!(rt; bound(n), most, "of {n} machines");
+    }
+}
+
+#[test]
+fn leads_and_rests_of_three_machines(rt: HostRuntime) {
+    for (values, lead_now, rest_now) in [
+        ([0, 2, 0], 1, 6),
+        ([1, 2, 0], 0, 3),
+        ([1, 1, 0], 0, 0),
+        ([0, 0, 0], 0, 0),
+    ] {
+        let state = state_of(&rt, rt.alloc(), 3, 3, &values);
+        assert_eq!(rt; (lead(&state), rest(&state)), (lead_now, rest_now));
+        assert_eq!(rt; is_settled(&state), rest_now == 0);
+    }
+}
+
+#[test]
+fn leads_and_rests_of_four_machines(rt: HostRuntime) {
+    for (values, lead_now, rest_now) in [
+        ([0, 2, 1, 0], 3, 18),
+        ([1, 2, 1, 0], 2, 14),
+        ([3, 3, 1, 0], 0, 3),
+        ([3, 2, 1, 0], 0, 6),
+        ([1, 0, 1, 1], 1, 9),
+        ([1, 1, 1, 0], 0, 0),
+    ] {
+        let state = state_of(&rt, rt.alloc(), 4, 4, &values);
+        assert_eq!(rt; (lead(&state), rest(&state)), (lead_now, rest_now));
+        assert_eq!(rt; is_settled(&state), rest_now == 0);
+    }
+}
+
+#[test]
+fn the_largest_ring_of_different_values(rt: HostRuntime) {
+    let mut values = [0u32; 256];
+    for i in 0..256usize {
+        values[i] = i as u32;
+    }
+    let state = state_of(&rt, rt.alloc(), 256, 256, &values);
+    assert_eq!(rt; (state.privileged(), state.first()), (255, 1));
+    assert_eq!(rt; (lead(&state), rest(&state)), (0, 32_640));
+    assert!(rt; !is_settled(&state));
+}
+
+/// The values of a state of three machines.
+fn three(rt: &impl Abort, state: &RingState) -> (u32, u32, u32) {
+    assert_eq!(rt; state.params().n(), 3);
+    (state.get(0), state.get(1), state.get(2))
+}
+
+#[test]
+fn follows_choices(rt: HostRuntime) {
+    let mut state = state_of(&rt, rt.alloc(), 3, 3, &[0, 2, 0]);
+    assert_eq!(rt; state.params().n(), 3);
+    assert_eq!(rt; follow(&mut state, &[0, 0, 2]), 2);
+    assert_eq!(rt; three(&rt, &state), (1, 2, 2));
+    assert_eq!(rt; state.params().n(), 3);
+    assert_eq!(rt; follow(&mut state, &[]), 0);
+    assert_eq!(rt; three(&rt, &state), (1, 2, 2));
+}

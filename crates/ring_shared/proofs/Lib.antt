@@ -1,0 +1,4 @@
+pub mod Replaying
+pub mod Following
+pub mod Orders
+pub mod Numbers

@@ -1,0 +1,6 @@
+pub mod Client
+pub mod Fronts
+pub mod Holding
+pub mod Opening
+pub mod Replays
+pub mod Closing

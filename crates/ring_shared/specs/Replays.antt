@@ -1,0 +1,24 @@
+-- How a history is played again: what each event does to the ring and to the calm, whatever the resource.
+use Rattle.std.specs.Prelude.{ℕ, ◌+◌, ◌<◌, cond, length}
+use Rattle.ring_model.specs.Ring.{is_privileged}
+use Rattle.ring_model.specs.History.{Ring, moved_ring, written_ring}
+use Rattle.ring_model.specs.declared.events.Op.{Op}
+use Rattle.ring_model.specs.declared.events.Op.TheVariants.{Pass, Corrupt}
+use Rattle.ring_model.specs.declared.events.Reply.{Reply}
+use Rattle.ring_model.specs.declared.events.Reply.TheVariants.{Granted, NotPrivileged, Corrupted}
+
+-- the call names a machine of the ring, and a value below K
+abbrev pub IsCallOf : Ring → Op → Type 0
+IsCallOf r (Pass i order) = i < length r.values
+IsCallOf r (Corrupt i v) = (i < length r.values) × (v < r.k)
+
+-- the ring after a call
+abbrev pub called : Ring → Op → Ring
+called r (Pass i order) = cond (is_privileged r.values i) (moved_ring r i) r
+called r (Corrupt i v) = written_ring r i v
+
+-- the calm after a reply
+abbrev pub calm_after : ℕ → Reply → ℕ
+calm_after calm (Granted number result) = calm + 1
+calm_after calm NotPrivileged = calm
+calm_after calm (Corrupted old) = 0

@@ -1,0 +1,166 @@
+//! The end of a ring: its history and the logs of its seats, where they fit each other.
+ghost use Rattle.std.specs.Prelude.{◌≡◌, ◌<◌, ◌≤◌, ◌↔◌, [], All, map, eqb, length, vec_len, vec_capacity, IsTrue, IfOk, IfErr, MatchResult};
+ghost use Rattle.std.specs.List.{IsDistinct};
+ghost use Rattle.std.specs.List.Sorted.{IsPermutation, IsNonDecreasingBy};
+ghost use Rattle.ring_model.specs.History.{IsLegal, opening};
+ghost use Rattle.ring_model.specs.HistoryLaws.{Settlement};
+ghost use Rattle.ring_model.specs.Logs.{Fits, calls_of, receipts_of};
+ghost use Rattle.ring_book.specs.BookView.{IsBook};
+ghost use Rattle.ring_shared.specs.Closing.{HasLog, AreNumbered, AreLogsOf};
+ghost use Rattle.ring_shared.specs.Holding.{AreOfSeats};
+
+use crate::judge::fits;
+use crate::names::Name;
+use crate::rings::Ring;
+use crate::seats::{Log, Seat};
+use ring_book::{Book, Resource};
+use std::alloc::{AllocError, Global};
+
+/// A ring that is closed: its book, and its seats' logs by number.
+#[derive(Drop)]
+pub struct Closed<R: Resource + Drop> {
+    pub book: Book<R>,
+    pub logs: Vec<Log>,
+}
+
+/// Why a ring was not closed well.
+#[derive(Clone, Copy, Debug, PartialEq, Eq)]
+pub enum CloseReason {
+    /// Fewer seats were given than the ring has.
+    SeatsMissing,
+    /// Some seat's log doesn't fit the history.
+    Mismatch,
+    OutOfMemory,
+}
+
+/// A ring that was not closed well: why, its book, and the seats as they were given.
+#[derive(Drop)]
+pub struct CloseFault<N: Name, R: Resource + Drop> {
+    pub reason: CloseReason,
+    pub book: Book<R>,
+    pub seats: Vec<Seat<N>>,
+}
+
+impl<N: Name, R: Resource + Drop> Ring<N, R> {
+    /// Ends the ring: its book, and the logs of its seats, each of which was compared with the history. The
+    /// seats are given back all, in any order; no two have one number.
+    ///
+    /// # Errors
+    ///
+    /// `SeatsMissing` where seats are fewer than the ring has; `Mismatch`, only where some log doesn't fit
+    /// the history; want of memory. The book and the seats are handed back, the seats as they were.
+    pub fn close<W>(
+        self,
+        _rt: &W,
+        alloc: Global,
+        mut seats: Vec<Seat<N>>,
+    ) -> Result<Closed<R>, CloseFault<N, R>>
+        requires { IsDistinct eqb (map (λ s. s.number) seats.items) }
+
+        // The history is one of the one-thread ring, which settles as the laws say.
+        ensures start { IfOk result (λ c. c.book.start ≡ N.start) }
+        ensures book { IfOk result (λ c. IsBook R.works R.first c.book) }
+        ensures legal { IfOk result (λ c. IsLegal R.works (opening N.start R.first) c.book.history) }
+        ensures settlement { IfOk result (λ c. Settlement R.works (opening N.start R.first) c.book.history) }
+
+        // It holds each client's calls, and no others; each reply and survey is right where it stands.
+        ensures logs { IfOk result (λ c. (vec_len c.logs ≡ N.seats) × AreNumbered c.logs.items × All (HasLog c.logs.items) seats.items) }
+        ensures of_seats { IfOk result (λ c. AreOfSeats N.seats c.book.history) }
+        ensures fits { IfOk result (λ c. All (λ l. Fits R.works (opening N.start R.first) c.book.history l.seat l.entries.items) c.logs.items) }
+        ensures calls { IfOk result (λ c. All (λ l. length (calls_of l.seat c.book.history) ≡ length (receipts_of l.entries.items)) c.logs.items) }
+
+        // Each refusal has its reason, and hands back what was given.
+        ensures missing { MatchResult result (λ _. ⊥) (λ f. f.reason ≡ CloseReason.SeatsMissing) ↔ vec_len seats < N.seats }
+        ensures mismatch { IfErr result (λ f. f.reason ≡ CloseReason.Mismatch → All (λ s. Fits R.works (opening N.start R.first) f.book.history s.number s.log) seats.items → ⊥) }
+        ensures fault { IfErr result (λ f. (f.book.start ≡ N.start) × IsBook R.works R.first f.book × AreOfSeats N.seats f.book.history × (f.seats.items ≡ seats.items)) }
+    {
+        let Ring {
+            shared,
+            seats: count,
+        } = self;
+        let book = shared.into_inner().into_book();
+        if seats.len() < count as usize {
+            return Err(CloseFault {
+                reason: CloseReason::SeatsMissing,
+                book,
+                seats,
+            });
+        }
+        let Ok(logs) = Vec::with_capacity(alloc, seats.len()) else {
+            return Err(CloseFault {
+                reason: CloseReason::OutOfMemory,
+                book,
+                seats,
+            });
+        };
+        let Ok(fit) = all_fit(alloc, &book, seats.as_slice()) else {
+            return Err(CloseFault {
+                reason: CloseReason::OutOfMemory,
+                book,
+                seats,
+            });
+        };
+        if !fit {
+            return Err(CloseFault {
+                reason: CloseReason::Mismatch,
+                book,
+                seats,
+            });
+        }
+        all_given(seats.as_slice());
+        sort(&mut seats);
+        Ok(Closed {
+            book,
+            logs: into_logs(seats, logs),
+        })
+    }
+}
+
+/// Whether each seat's log fits the history of the book.
+///
+/// # Errors
+///
+/// Want of memory for playing the history again.
+fn all_fit<N: Name, R: Resource + Drop>(
+    alloc: Global,
+    book: &Book<R>,
+    seats: &[Seat<N>],
+) -> Result<bool, AllocError>
+    ensures { IfOk result (λ b. IsTrue b ↔ All (λ s. Fits R.works (opening book.now.start R.first) book.now.history s.number s.log) seats.now) }
+{
+    for seat in seats {
+        if !fits(alloc, book, seat.number(), seat.log())? {
+            return Ok(false);
+        }
+    }
+    Ok(true)
+}
+
+/// What the type of the seats says of them all.
+fn all_given<N: Name>(seats: &[Seat<N>])
+    ensures { All (λ s. s.number < N.seats) seats.now }
+{
+    for seat in seats {
+        seat.number();
+    }
+}
+
+/// Puts the seats in the order of their numbers.
+fn sort<N: Name>(seats: &mut Vec<Seat<N>>)
+    ensures permutation { IsPermutation seats.old.items seats.new.items }
+    ensures sorted { IsNonDecreasingBy (λ s. s.number) seats.new.items }
+{
+    seats.sort_unstable_by_key(|seat| seat.number());
+}
+
+/// The logs of the seats, in their order.
+fn into_logs<N: Name>(seats: Vec<Seat<N>>, mut logs: Vec<Log>) -> Vec<Log>
+    requires room { vec_len seats ≤ vec_capacity logs }
+    requires empty { logs.items ≡ [] }
+    ensures { AreLogsOf seats.items result.items }
+{
+    for seat in seats {
+        logs.push_reserved(seat.into_log());
+    }
+    logs
+}

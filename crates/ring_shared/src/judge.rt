@@ -1,0 +1,202 @@
+//! Whether a seat's log fits the history of its ring.
+ghost use Rattle.std.specs.Prelude.{◌≡◌, ◌≤◌, ◌+◌, ◌<◌, ◌↔◌, [], ◌∷◌, length, take, slice_get, Some, true, IsTrue, IfOk};
+ghost use Rattle.ring_model.specs.History.{after, opening};
+ghost use Rattle.ring_model.specs.Logs.{Fits};
+ghost use Rattle.ring_model.specs.Surveys.{calm as calm_of, survey_at};
+ghost use Rattle.ring_shared.specs.Fronts.{front_of, receipt_count as receipts_in, IsReceiptFrom, IsSurveyFrom, IsEntryFrom};
+ghost use Rattle.ring_shared.specs.Replays.{IsCallOf, called, calm_after};
+
+use ring_book::{Book, Resource};
+use ring_model::{Entry, Event, Op, Receipt, Reply, Survey};
+use ring_settle::rest;
+use ring_state::RingState;
+use std::alloc::{AllocError, Global};
+
+/// A place of a book's history, with the ring and the calm there: the book is played again up to this place.
+#[derive(Drop)]
+struct Replay<'a, R: Resource + Drop> {
+    book: &'a Book<R>,
+    place: usize,
+    ring: RingState,
+    calm: u64,
+    ghost within: { place ≤ length book.now.history },
+    ghost ring_is: { ring ≡ (after R.works (opening book.now.start R.first) (take place book.now.history)).ring },
+    ghost calm_is: { calm ≡ calm_of (take place book.now.history) },
+    ghost few: { calm ≤ place },
+}
+
+/// Plays a call.
+fn play(ring: &mut RingState, op: Op)
+    requires { IsCallOf ring.old op }
+    ensures { ring.new ≡ called ring.old op }
+{
+    match op {
+        Op::Pass { machine, order: _ } => {
+            if ring.is_privileged(machine) {
+                ring.move_machine(machine);
+            }
+        }
+        Op::Corrupt { machine, value } => {
+            ring.write(machine, value);
+        }
+    }
+}
+
+fn is_same_event(one: Event, other: Event) -> bool
+    ensures { IsTrue result ↔ one ≡ other }
+{
+    one == other
+}
+
+fn is_same_survey(one: Survey, other: Survey) -> bool
+    ensures { IsTrue result ↔ one ≡ other }
+{
+    one == other
+}
+
+/// The calm behind a reply.
+fn calm_behind(calm: u64, reply: Reply) -> u64
+    requires { calm ≤ 1000000 }
+    ensures is { result ≡ calm_after calm reply }
+    ensures few { result ≤ calm + 1 }
+{
+    match reply {
+        Reply::Granted { .. } => calm + 1,
+        Reply::NotPrivileged => calm,
+        Reply::Corrupted { .. } => 0,
+    }
+}
+
+impl<'a, R: Resource + Drop> Replay<'a, R> {
+    /// At the start.
+    fn new(alloc: Global, book: &'a Book<R>) -> Result<Replay<'a, R>, AllocError>
+        ensures { IfOk result (λ r. (r.book.now ≡ book.now) × (r.place ≡ 0)) }
+    {
+        let ring = book.start().try_copy(alloc)?;
+        Ok(Replay {
+            book,
+            place: 0,
+            ring,
+            calm: 0,
+        })
+    }
+
+    /// Plays the next event.
+    fn step(&mut self)
+        requires { self.old.place < length self.old.book.now.history }
+        ensures book { self.new.book.now ≡ self.old.book.now }
+        ensures place { self.new.place ≡ self.old.place + 1 }
+    {
+        let event = self.book.history()[self.place];
+        play(&mut self.ring, event.op);
+        self.calm = calm_behind(self.calm, event.reply);
+        self.place += 1;
+    }
+
+    /// Plays on to a place, and answers whether it stands ahead in the history.
+    fn advance(&mut self, place: u64) -> bool
+        ensures book { self.new.book.now ≡ self.old.book.now }
+        ensures ahead { IsTrue result ↔ (self.old.place ≤ place) × (place ≤ length self.old.book.now.history) }
+        ensures there { IsTrue result → self.new.place ≡ place }
+    {
+        if place < self.place as u64 || place > self.book.history().len() as u64 {
+            return false;
+        }
+        for _ in self.place..place as usize {
+            self.step();
+        }
+        true
+    }
+
+    /// The survey here.
+    fn survey(&self) -> Survey
+        ensures { result ≡ survey_at R.works (opening self.now.book.now.start R.first) self.now.book.now.history self.now.place }
+    {
+        Survey {
+            position: self.place as u64,
+            privileged: self.ring.privileged(),
+            first: self.ring.first(),
+            calm: self.calm,
+            rest: rest(&self.ring),
+        }
+    }
+
+    /// Whether this event is the next one.
+    fn is_next(&self, event: Event) -> bool
+        ensures { IsTrue result ↔ slice_get self.now.book.now.history self.now.place ≡ Some event }
+    {
+        match self.book.history().get(self.place) {
+            Some(next) => is_same_event(*next, event),
+            None => false,
+        }
+    }
+
+    /// Plays past the event of a receipt, and answers whether it stands ahead, where the receipt says, and is this seat's.
+    fn pass_receipt(&mut self, seat: u32, receipt: Receipt) -> bool
+        ensures book { self.new.book.now ≡ self.old.book.now }
+        ensures front { IsTrue result → self.new.place ≡ receipt.position + 1 }
+        ensures right { IsTrue result ↔ IsReceiptFrom self.old.book.now.history seat self.old.place receipt }
+    {
+        if !self.advance(receipt.position)
+            || !self.is_next(receipt.event)
+            || receipt.event.seat != seat
+        {
+            return false;
+        }
+        self.step();
+        true
+    }
+
+    /// Plays on to the place of a survey, and answers whether it stands ahead and the survey is right there.
+    fn pass_survey(&mut self, survey: Survey) -> bool
+        ensures book { self.new.book.now ≡ self.old.book.now }
+        ensures front { IsTrue result → self.new.place ≡ survey.position }
+        ensures right { IsTrue result ↔ IsSurveyFrom R.works (opening self.old.book.now.start R.first) self.old.book.now.history self.old.place survey }
+    {
+        self.advance(survey.position) && is_same_survey(survey, self.survey())
+    }
+
+    /// Plays on to the front of an entry of this seat, and answers whether the entry is right.
+    fn pass_entry(&mut self, seat: u32, entry: Entry) -> bool
+        ensures book { self.new.book.now ≡ self.old.book.now }
+        ensures front { IsTrue result → self.new.place ≡ front_of entry }
+        ensures right { IsTrue result ↔ IsEntryFrom R.works (opening self.old.book.now.start R.first) self.old.book.now.history seat self.old.place entry }
+    {
+        match entry {
+            Entry::Receipt(receipt) => self.pass_receipt(seat, receipt),
+            Entry::Survey(survey) => self.pass_survey(survey),
+        }
+    }
+}
+
+/// How many entries of a log are receipts.
+fn receipt_count(log: &[Entry]) -> u64
+    ensures { result ≡ receipts_in log.now }
+{
+    log.iter()
+        .filter(|entry| matches!(entry, Entry::Receipt(_)))
+        .count() as u64
+}
+
+/// Whether a seat's log fits the history of the book.
+///
+/// # Errors
+///
+/// Want of memory for playing the history again.
+pub(crate) fn fits<R: Resource + Drop>(
+    alloc: Global,
+    book: &Book<R>,
+    seat: u32,
+    log: &[Entry],
+) -> Result<bool, AllocError>
+    requires { seat ≤ 9 }
+    ensures { IfOk result (λ b. IsTrue b ↔ Fits R.works (opening book.now.start R.first) book.now.history seat log.now) }
+{
+    let mut replay = Replay::new(alloc, book)?;
+    for entry in log {
+        if !replay.pass_entry(seat, *entry) {
+            return Ok(false);
+        }
+    }
+    Ok(receipt_count(log) == book.calls_of(seat))
+}

@@ -1,0 +1,12 @@
+use Rattle.std.proofs.Common.{◌≡◌, length, map}
+use Rattle.ring_text.specs.Content.{block_of}
+use Rattle.ring_text.specs.Spelling.{HeadFits}
+use Rattle.ring_text.specs.Lines.{rings_at}
+use Rattle.ring_text.proofs.Loops.{with_blocks}
+use Rattle.ring_text.proofs.blocks.rings.Given as goal
+
+abbrev pub invariant-loop-found : goal.invariant-loop-found
+invariant-loop-found l = (with_blocks (map block_of l.found.items) (rings_at l.head l.rest) ≡ rings_at l.fn.first l.bytes) × HeadFits l.head
+
+abbrev pub decreases-loop-found : goal.decreases-loop-found
+decreases-loop-found l = length l.rest

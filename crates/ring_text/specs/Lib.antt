@@ -1,0 +1,4 @@
+pub mod Content
+pub mod Spelling
+pub mod Lines
+pub mod Meaning

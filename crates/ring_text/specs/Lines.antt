@@ -1,0 +1,152 @@
+-- The readers of the lines, blocks and texts as functions on lists. None of those below `text_at` knows the text's first line.
+use Rattle.std.specs.Prelude.{ℕ, ◌^◌, List, [], ◌∷◌, ◌++◌, codes, map, Option, Some, None}
+use Rattle.text_lines.specs.Reading.{Reader, Either, this, that, number_at, positive_at, row_at, after_at, nothing_at, then_at, as_at, either_at, or_at, many_at}
+use Rattle.ring_text.specs.declared.saved.SavedEvent.{SavedEvent}
+use Rattle.ring_text.specs.declared.saved.SavedEvent.TheVariants.{Granted, Refused, Corrupted}
+use Rattle.ring_text.specs.declared.saved.SavedSurvey.{SavedSurvey}
+use Rattle.ring_text.specs.declared.saved.Head.{Head}
+use Rattle.ring_text.specs.declared.lines.EventOrEnd.{EventOrEnd}
+use Rattle.ring_text.specs.declared.lines.EventOrEnd.TheVariants as items
+use Rattle.ring_text.specs.declared.lines.Next.{Next}
+use Rattle.ring_text.specs.declared.lines.Next.TheVariants as nexts
+use Rattle.ring_text.specs.declared.lines.SurveyOrNext.{SurveyOrNext}
+use Rattle.ring_text.specs.declared.lines.SurveyOrNext.TheVariants as follows
+use Rattle.ring_text.specs.Content.{Block, Content}
+
+-- ---- numbers: below 2 ^ 32 or 2 ^ 64, with a space behind them or at the end of the line
+
+abbrev pub small : Reader ℕ
+small = number_at (2 ^ 32) 32
+
+abbrev pub last_small : Reader ℕ
+last_small = number_at (2 ^ 32) 10
+
+abbrev pub large : Reader ℕ
+large = number_at (2 ^ 64) 32
+
+abbrev pub last_large : Reader ℕ
+last_large = number_at (2 ^ 64) 10
+
+-- one after the other
+infixr 20 ◌then◌
+abbrev pub ◌then◌ : {A B : Type 0} → Reader A → Reader B → Reader (A × B)
+first then second = then_at first (λ _. second)
+
+-- ---- events
+
+-- the number and the answer of a grant, or none
+abbrev pub reply_of : Either (ℕ × ℕ) (Unit {0}) → Option (ℕ × ℕ)
+reply_of (this p) = Some p
+reply_of (that u) = None
+
+unfoldable pub reply_at : Reader (Option (ℕ × ℕ))
+reply_at = as_at reply_of (either_at 103 (after_at (codes "g ") (large then last_large)) (after_at (codes "n\n") nothing_at))
+
+abbrev pub pass_of : ℕ × (ℕ × (ℕ × Option (ℕ × ℕ))) → SavedEvent
+pass_of (seat, (machine, (order, Some (number, answer)))) = Granted seat machine order number answer
+pass_of (seat, (machine, (order, None))) = Refused seat machine order
+
+unfoldable pub pass_at : Reader SavedEvent
+pass_at = as_at pass_of (after_at (codes "p ") (small then small then large then reply_at))
+
+abbrev pub corruption_of : ℕ × (ℕ × (ℕ × ℕ)) → SavedEvent
+corruption_of (seat, (machine, (value, old))) = Corrupted seat machine value old
+
+unfoldable pub corruption_at : Reader SavedEvent
+corruption_at = as_at corruption_of (after_at (codes "c ") (small then small then small then last_small))
+
+unfoldable pub end_at : Reader ℕ
+end_at = after_at (codes "end ") last_large
+
+-- an event's line, or the line that ends them: alternatives by the first byte, one for each kind of line
+unfoldable pub event_or_end_at : Reader (Either SavedEvent ℕ)
+event_or_end_at = or_at 112 (as_at this pass_at) (or_at 99 (as_at this corruption_at) (as_at that end_at))
+
+unfoldable pub events_at : Reader (List SavedEvent × ℕ)
+events_at = many_at {S = Unit {0}} (λ _. event_or_end_at) (λ _. tt) tt
+
+-- ---- a ring's first line, and the last line
+
+abbrev pub head_from : ℕ × (ℕ × ℕ) → Head
+head_from (index, (n, k)) = record { index = index; n = n; k = k }
+
+unfoldable pub head_at : Reader Head
+head_at = as_at head_from (after_at (codes "ring ") (small then positive_at (2 ^ 32) 32 then last_small))
+
+unfoldable pub done_at : Reader ℕ
+done_at = after_at (codes "done ") last_small
+
+-- ---- surveys, up to the next ring's first line or the last line
+
+abbrev pub survey_of : ℕ × (ℕ × (ℕ × (ℕ × (ℕ × ℕ)))) → SavedSurvey
+survey_of (seat, (position, (privileged, (first, (calm, rest))))) = record { seat = seat; position = position; privileged = privileged; first = first; calm = calm; rest = rest }
+
+unfoldable pub survey_at : Reader SavedSurvey
+survey_at = as_at survey_of (after_at (codes "s ") (small then large then small then small then large then last_large))
+
+unfoldable pub survey_or_next_at : Reader (Either SavedSurvey (Either Head ℕ))
+survey_or_next_at = either_at 115 survey_at (either_at 114 head_at done_at)
+
+unfoldable pub surveys_at : Reader (List SavedSurvey × Either Head ℕ)
+surveys_at = many_at {S = Unit {0}} (λ _. survey_or_next_at) (λ _. tt) tt
+
+-- ---- a ring below its first line, and the line behind it
+
+abbrev pub Part : Type 0
+Part = List ℕ × ((List SavedEvent × ℕ) × (List SavedSurvey × Either Head ℕ))
+
+unfoldable pub part_at : ℕ → Reader Part
+part_at n = after_at (codes "start ") (row_at (2 ^ 32) n then events_at then surveys_at)
+
+abbrev pub block_with : Head → List ℕ → List SavedEvent → ℕ → List SavedSurvey → Block
+block_with h start events said surveys = record { index = h.index; n = h.n; k = h.k; start = start; events = events; events_said = said; surveys = surveys }
+
+abbrev pub with_next : Block → Either Head ℕ → Either (Block × Head) (Block × ℕ)
+with_next b (this h) = this (b, h)
+with_next b (that n) = that (b, n)
+
+abbrev pub ring_from : Head → Part → Either (Block × Head) (Block × ℕ)
+ring_from h p = with_next (block_with h p.0 p.1.0.0 p.1.0.1 p.1.1.0) p.1.1.1
+
+unfoldable pub ring_at : Head → Reader (Either (Block × Head) (Block × ℕ))
+ring_at h = as_at (ring_from h) (part_at h.n)
+
+-- ---- the rings: each with the first line of the one behind it, the last with the last line
+
+abbrev pub Rings : Type 0
+Rings = List (Block × Head) × (Block × ℕ)
+
+unfoldable pub linked_rings_at : Head → Reader Rings
+linked_rings_at h = many_at ring_at (λ p. p.1) h
+
+abbrev pub blocks : Rings → List Block
+blocks r = map (λ p. p.0) r.0 ++ r.1.0 ∷ []
+
+unfoldable pub rings_at : Head → Reader (List Block × ℕ)
+rings_at h = as_at (λ (r : Rings). (blocks r, r.1.1)) (linked_rings_at h)
+
+-- ---- the text
+
+abbrev pub content_with : Head × (List Block × ℕ) → Content
+content_with p = record { rings = p.1.0; rings_said = p.1.1 }
+
+-- what stands below the text's first line
+unfoldable pub body_at : Reader Content
+body_at = as_at content_with (then_at head_at rings_at)
+
+unfoldable pub text_at : Reader Content
+text_at = after_at (codes "ringfarm 1\n") body_at
+
+-- ---- what the program's own types say
+
+abbrev pub item_of : EventOrEnd → Either SavedEvent ℕ
+item_of (items.Event e) = this e
+item_of (items.End n) = that n
+
+abbrev pub next_of : Next → Either Head ℕ
+next_of (nexts.Ring h) = this h
+next_of (nexts.Done n) = that n
+
+abbrev pub follow_of : SurveyOrNext → Either SavedSurvey (Either Head ℕ)
+follow_of (follows.Survey v) = this v
+follow_of (follows.Next n) = that (next_of n)

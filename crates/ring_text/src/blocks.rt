@@ -1,0 +1,107 @@
+//! The readers of blocks and of the whole text.
+
+ghost use Rattle.std.specs.Prelude.{◌≡◌, ◌<◌, map};
+ghost use Rattle.text_lines.specs.Reading.{Gives, whole_at};
+ghost use Rattle.ring_text.specs.Content.{block_of, content};
+ghost use Rattle.ring_text.specs.Spelling.{HeadFits};
+ghost use Rattle.ring_text.specs.Lines.{events_at, surveys_at, ring_at, rings_at, body_at, text_at, next_of, with_next};
+
+use crate::lines::{EventOrEnd, Next, SurveyOrNext, event_or_end, head, survey_or_next};
+use crate::saved::{Head, Saved, SavedEvent, SavedRing, SavedSurvey};
+use std::alloc::Global;
+use text_lines::{Stop, nothing_more, row32, word};
+
+/// The events, the number of them that the text says, and what stands behind.
+fn events(alloc: Global, bytes: &[u8]) -> Result<(Vec<SavedEvent>, u64, &[u8]), Stop>
+    ensures { Gives (λ x. ((x.0.items, x.1), x.2.now)) result (events_at bytes.now) }
+{
+    let mut found = Vec::new(alloc);
+    let mut rest = bytes;
+    loop {
+        let (item, after) = event_or_end(rest)?;
+        match item {
+            EventOrEnd::Event(event) => found.push(event)?,
+            EventOrEnd::End(said) => return Ok((found, said, after)),
+        }
+        rest = after;
+    }
+}
+
+/// The surveys, and the line behind them.
+fn surveys(alloc: Global, bytes: &[u8]) -> Result<(Vec<SavedSurvey>, Next, &[u8]), Stop>
+    ensures { Gives (λ x. ((x.0.items, next_of x.1), x.2.now)) result (surveys_at bytes.now) }
+{
+    let mut found = Vec::new(alloc);
+    let mut rest = bytes;
+    loop {
+        let (item, after) = survey_or_next(rest)?;
+        match item {
+            SurveyOrNext::Survey(survey) => found.push(survey)?,
+            SurveyOrNext::Next(next) => return Ok((found, next, after)),
+        }
+        rest = after;
+    }
+}
+
+/// A block below its first line, and the line behind it.
+#[tactic(auto, unfolding(crate::specs::Lines::ring_at, crate::specs::Lines::part_at))]
+fn ring(alloc: Global, head: Head, bytes: &[u8]) -> Result<(SavedRing, Next, &[u8]), Stop>
+    requires { 0 < head.n }
+    ensures { Gives (λ x. (with_next (block_of x.0) (next_of x.1), x.2.now)) result (ring_at head bytes.now) }
+{
+    let rest = word(bytes, b"start ")?;
+    let (start, rest) = row32(alloc, head.n, rest)?;
+    let (events, events_said, rest) = events(alloc, rest)?;
+    let (surveys, next, rest) = surveys(alloc, rest)?;
+    let Head { index, n, k } = head;
+    let ring = SavedRing {
+        index,
+        n,
+        k,
+        start,
+        events,
+        events_said,
+        surveys,
+    };
+    Ok((ring, next, rest))
+}
+
+/// The blocks, of which the first has this first line, and the number of them that the text says.
+fn rings(alloc: Global, first: Head, bytes: &[u8]) -> Result<(Vec<SavedRing>, u32, &[u8]), Stop>
+    requires { HeadFits first }
+    ensures { Gives (λ x. ((map block_of x.0.items, x.1), x.2.now)) result (rings_at first bytes.now) }
+{
+    let mut found = Vec::new(alloc);
+    let mut head = first;
+    let mut rest = bytes;
+    loop {
+        let (one, next, after) = ring(alloc, head, rest)?;
+        found.push(one)?;
+        rest = after;
+        match next {
+            Next::Ring(behind) => head = behind,
+            Next::Done(said) => return Ok((found, said, rest)),
+        }
+    }
+}
+
+/// What stands below the text's first line.
+#[tactic(auto, unfolding(crate::specs::Lines::body_at))]
+fn body(alloc: Global, bytes: &[u8]) -> Result<(Saved, &[u8]), Stop>
+    ensures { Gives (λ x. (content x.0, x.1.now)) result (body_at bytes.now) }
+{
+    let (first, rest) = head(bytes)?;
+    let (rings, rings_said, rest) = rings(alloc, first, rest)?;
+    Ok((Saved { rings, rings_said }, rest))
+}
+
+/// A whole text, behind which nothing stands.
+#[tactic(auto, unfolding(crate::specs::Lines::text_at, text_lines::specs::Reading::whole_at))]
+pub fn whole(alloc: Global, bytes: &[u8]) -> Result<Saved, Stop>
+    ensures { Gives content result (whole_at text_at bytes.now) }
+{
+    let rest = word(bytes, b"ringfarm 1\n")?;
+    let (saved, rest) = body(alloc, rest)?;
+    nothing_more(rest)?;
+    Ok(saved)
+}

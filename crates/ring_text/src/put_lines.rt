@@ -1,0 +1,163 @@
+//! The writers of single lines. Each writes just the line's text, and takes no memory.
+
+ghost use Rattle.std.specs.Prelude.{◌≡◌};
+ghost use Rattle.text_lines.specs.Writing.{Writes};
+ghost use Rattle.ring_text.specs.declared.saved.SavedEvent.TheVariants.{Granted, Refused, Corrupted};
+ghost use Rattle.ring_text.specs.Spelling.{first_line, ring_line, start_line, event_line, end_line, survey_line, done_line};
+
+use crate::saved::{SavedEvent, SavedSurvey};
+use itoa::Buffer;
+use std::io::Write;
+use text_lines::{WriteFault, put, put_all, put_row};
+
+/// Writes the text's first line.
+pub fn put_first_line<W: Write>(out: &mut W) -> Result<(), WriteFault>
+    ensures { Writes (W.contents out.old) (W.contents out.new) result first_line }
+{
+    put(out, b"ringfarm 1\n")
+}
+
+/// Writes the first line of a ring: its place, its number of machines and its number of values.
+pub fn put_ring_line<W: Write>(out: &mut W, index: u32, n: u32, k: u32) -> Result<(), WriteFault>
+    ensures { Writes (W.contents out.old) (W.contents out.new) result (ring_line index n k) }
+{
+    let mut buffers = (Buffer::new(), Buffer::new(), Buffer::new());
+    let index = buffers.0.format(index).as_bytes();
+    let n = buffers.1.format(n).as_bytes();
+    let k = buffers.2.format(k).as_bytes();
+    put_all(out, &[b"ring ", index, b" ", n, b" ", k, b"\n"])
+}
+
+/// Writes the line of the values that a ring started from.
+#[tactic(auto, using(text_lines::proofs::Writing::writes_then))]
+pub fn put_start_line<W: Write>(out: &mut W, values: &[u32]) -> Result<(), WriteFault>
+    ensures { Writes (W.contents out.old) (W.contents out.new) result (start_line values.now) }
+{
+    match put(out, b"start ") {
+        Ok(()) => put_row(out, values),
+        Err(fault) => Err(fault),
+    }
+}
+
+fn put_granted<W: Write>(
+    out: &mut W,
+    seat: u32,
+    machine: u32,
+    order: u64,
+    number: u64,
+    answer: u64,
+) -> Result<(), WriteFault>
+    ensures { Writes (W.contents out.old) (W.contents out.new) result (event_line (Granted seat machine order number answer)) }
+{
+    let mut buffers = (
+        Buffer::new(),
+        Buffer::new(),
+        Buffer::new(),
+        Buffer::new(),
+        Buffer::new(),
+    );
+    let seat = buffers.0.format(seat).as_bytes();
+    let machine = buffers.1.format(machine).as_bytes();
+    let order = buffers.2.format(order).as_bytes();
+    let number = buffers.3.format(number).as_bytes();
+    let answer = buffers.4.format(answer).as_bytes();
+    put_all(
+        out,
+        &[
+            b"p ", seat, b" ", machine, b" ", order, b" g ", number, b" ", answer, b"\n",
+        ],
+    )
+}
+
+fn put_refused<W: Write>(out: &mut W, seat: u32, machine: u32, order: u64) -> Result<(), WriteFault>
+    ensures { Writes (W.contents out.old) (W.contents out.new) result (event_line (Refused seat machine order)) }
+{
+    let mut buffers = (Buffer::new(), Buffer::new(), Buffer::new());
+    let seat = buffers.0.format(seat).as_bytes();
+    let machine = buffers.1.format(machine).as_bytes();
+    let order = buffers.2.format(order).as_bytes();
+    put_all(out, &[b"p ", seat, b" ", machine, b" ", order, b" n\n"])
+}
+
+fn put_corrupted<W: Write>(
+    out: &mut W,
+    seat: u32,
+    machine: u32,
+    value: u32,
+    old: u32,
+) -> Result<(), WriteFault>
+    ensures { Writes (W.contents out.old) (W.contents out.new) result (event_line (Corrupted seat machine value old)) }
+{
+    let mut buffers = (Buffer::new(), Buffer::new(), Buffer::new(), Buffer::new());
+    let seat = buffers.0.format(seat).as_bytes();
+    let machine = buffers.1.format(machine).as_bytes();
+    let value = buffers.2.format(value).as_bytes();
+    let old = buffers.3.format(old).as_bytes();
+    put_all(
+        out,
+        &[b"c ", seat, b" ", machine, b" ", value, b" ", old, b"\n"],
+    )
+}
+
+/// Writes the line of an event.
+pub fn put_event_line<W: Write>(out: &mut W, event: SavedEvent) -> Result<(), WriteFault>
+    ensures { Writes (W.contents out.old) (W.contents out.new) result (event_line event) }
+{
+    match event {
+        SavedEvent::Granted {
+            seat,
+            machine,
+            order,
+            number,
+            result: answer,
+        } => put_granted(out, seat, machine, order, number, answer),
+        SavedEvent::Refused {
+            seat,
+            machine,
+            order,
+        } => put_refused(out, seat, machine, order),
+        SavedEvent::Corrupted {
+            seat,
+            machine,
+            value,
+            old,
+        } => put_corrupted(out, seat, machine, value, old),
+    }
+}
+
+/// Writes the line that ends the events and says how many they are.
+pub fn put_end_line<W: Write>(out: &mut W, events: u64) -> Result<(), WriteFault>
+    ensures { Writes (W.contents out.old) (W.contents out.new) result (end_line events) }
+{
+    let mut buffer = Buffer::new();
+    put_all(out, &[b"end ", buffer.format(events).as_bytes(), b"\n"])
+}
+
+/// Writes the line of a survey.
+pub fn put_survey_line<W: Write>(out: &mut W, survey: SavedSurvey) -> Result<(), WriteFault>
+    ensures { Writes (W.contents out.old) (W.contents out.new) result (survey_line survey) }
+{
+    let mut fronts = (Buffer::new(), Buffer::new(), Buffer::new());
+    let mut backs = (Buffer::new(), Buffer::new(), Buffer::new());
+    let seat = fronts.0.format(survey.seat).as_bytes();
+    let position = fronts.1.format(survey.position).as_bytes();
+    let privileged = fronts.2.format(survey.privileged).as_bytes();
+    let first = backs.0.format(survey.first).as_bytes();
+    let calm = backs.1.format(survey.calm).as_bytes();
+    let rest = backs.2.format(survey.rest).as_bytes();
+    put_all(
+        out,
+        &[
+            b"s ", seat, b" ", position, b" ", privileged, b" ", first, b" ", calm, b" ", rest,
+            b"\n",
+        ],
+    )
+}
+
+/// Writes the last line, which says how many rings there are.
+pub fn put_done_line<W: Write>(out: &mut W, rings: u32) -> Result<(), WriteFault>
+    ensures { Writes (W.contents out.old) (W.contents out.new) result (done_line rings) }
+{
+    let mut buffer = Buffer::new();
+    put_all(out, &[b"done ", buffer.format(rings).as_bytes(), b"\n"])
+}

@@ -1,0 +1,225 @@
+//! Reading texts, texts that are cut, and texts with a byte of another value.
+
+use super::judge::judge;
+use super::texts::{PASSES, TWO_RINGS, write};
+use crate::{ReadError, Saved, SavedEvent, SavedSurvey, read_saved};
+use std::test::Fail;
+
+/// What was read, without its value.
+fn answer(read: Result<Saved, ReadError>) -> Result<(), ReadError> {
+    match read {
+        Ok(_) => Ok(()),
+        Err(refusal) => Err(refusal),
+    }
+}
+
+#[test]
+fn the_passes_are_read(rt: HostRuntime) -> Result<(), Fail> {
+    assert_eq!(rt; PASSES.len(), 99);
+    let saved = read_saved(rt.alloc(), PASSES)?;
+    assert_eq!(rt; saved.rings_said, 1);
+    assert_eq!(rt; saved.rings.len(), 1);
+    let ring = &saved.rings[0];
+    assert_eq!(rt; (ring.index, ring.n, ring.k), (0, 3, 3));
+    assert_eq!(rt; ring.start.as_slice(), [0, 2, 0].as_slice());
+    let events = [
+        SavedEvent::Granted {
+            seat: 0,
+            machine: 0,
+            order: 5,
+            number: 1,
+            result: 5,
+        },
+        SavedEvent::Refused {
+            seat: 0,
+            machine: 0,
+            order: 1,
+        },
+        SavedEvent::Granted {
+            seat: 0,
+            machine: 2,
+            order: 4,
+            number: 2,
+            result: 9,
+        },
+    ];
+    assert_eq!(rt; ring.events.as_slice(), events.as_slice());
+    assert_eq!(rt; ring.events_said, 3);
+    let survey = SavedSurvey {
+        seat: 0,
+        position: 3,
+        privileged: 1,
+        first: 1,
+        calm: 2,
+        rest: 0,
+    };
+    assert_eq!(rt; ring.surveys.as_slice(), [survey].as_slice());
+    Ok(())
+}
+
+#[test]
+fn the_two_rings_are_read(rt: HostRuntime) -> Result<(), Fail> {
+    let saved = read_saved(rt.alloc(), TWO_RINGS)?;
+    assert_eq!(rt; saved.rings_said, 2);
+    assert_eq!(rt; saved.rings.len(), 2);
+    let ring = &saved.rings[0];
+    assert_eq!(rt; (ring.index, ring.n, ring.k), (0, 3, 3));
+    assert_eq!(rt; ring.start.as_slice(), [0, 0, 0].as_slice());
+    let events = [
+        SavedEvent::Corrupted {
+            seat: 0,
+            machine: 1,
+            value: 2,
+            old: 0,
+        },
+        SavedEvent::Corrupted {
+            seat: 0,
+            machine: 1,
+            value: 2,
+            old: 2,
+        },
+    ];
+    assert_eq!(rt; ring.events.as_slice(), events.as_slice());
+    assert_eq!(rt; ring.events_said, 2);
+    let survey = SavedSurvey {
+        seat: 0,
+        position: 2,
+        privileged: 3,
+        first: 0,
+        calm: 0,
+        rest: 6,
+    };
+    assert_eq!(rt; ring.surveys.as_slice(), [survey].as_slice());
+    let ring = &saved.rings[1];
+    assert_eq!(rt; (ring.index, ring.n, ring.k), (1, 1, 1));
+    assert_eq!(rt; ring.start.as_slice(), [4_294_967_295].as_slice());
+    assert!(rt; ring.events.is_empty());
+    assert_eq!(rt; ring.events_said, 0);
+    assert!(rt; ring.surveys.is_empty());
+    Ok(())
+}
+
+#[test]
+fn each_cut_text_is_truncated(rt: HostRuntime) -> Result<(), Fail> {
+    for text in [PASSES, TWO_RINGS] {
+        for k in 0..text.len() {
+            let cut = answer(read_saved(rt.alloc(), &text[..k]));
+            assert_eq!(rt; cut, Err(ReadError::Truncated), "after {k} bytes");
+            assert_eq!(rt; judge(rt.alloc(), &text[..k])?, cut, "after {k} bytes");
+        }
+    }
+    Ok(())
+}
+
+#[test]
+fn each_other_byte_is_judged_alike(rt: HostRuntime) -> Result<(), Fail> {
+    for text in [PASSES, TWO_RINGS] {
+        for place in 0..text.len() {
+            for byte in 0..=255u8 {
+                let mut bytes = Vec::from_slice(rt.alloc(), &text[..place])?;
+                bytes.push(byte)?;
+                bytes.extend_from_slice(&text[place + 1..])?;
+                let want = judge(rt.alloc(), &bytes)?;
+                match read_saved(rt.alloc(), &bytes) {
+                    Ok(saved) => {
+                        assert_eq!(rt; want, Ok(()), "{byte} at {place}");
+                        let mut again = Vec::new(rt.alloc());
+                        assert!(rt; write(&mut again, &saved).is_ok());
+                        assert_eq!(rt; again, bytes, "{byte} at {place}");
+                    }
+                    Err(refusal) => assert_eq!(rt; Err(refusal), want, "{byte} at {place}"),
+                }
+            }
+        }
+    }
+    Ok(())
+}
+
+#[test]
+fn the_last_bytes(rt: HostRuntime) -> Result<(), Fail> {
+    let front = &PASSES[..97];
+    let cases: [(&[u8], Result<(), ReadError>); 4] = [
+        (b"17", Err(ReadError::Truncated)),
+        (b"1 ", Err(ReadError::Syntax(9))),
+        (b"0\n", Ok(())),
+        (b"1\n\n", Err(ReadError::Syntax(10))),
+    ];
+    for (end, want) in cases {
+        let mut bytes = Vec::from_slice(rt.alloc(), front)?;
+        bytes.extend_from_slice(end)?;
+        assert_eq!(rt; answer(read_saved(rt.alloc(), &bytes)), want, "{end:?}");
+        assert_eq!(rt; judge(rt.alloc(), &bytes)?, want, "{end:?}");
+    }
+    Ok(())
+}
+
+#[test]
+fn refusals(rt: HostRuntime) -> Result<(), Fail> {
+    let cases: [(&[u8], Result<(), ReadError>); 21] = [
+        (b"", Err(ReadError::Truncated)),
+        (b"ringfarm 1\nring 0 03 3\n", Err(ReadError::Syntax(2))),
+        (b"ringfarm 1\nring 0  3 3\n", Err(ReadError::Syntax(2))),
+        (
+            b"ringfarm 1\nring 0 3 3\nstart 0 2\n",
+            Err(ReadError::Syntax(3)),
+        ),
+        (
+            b"ringfarm 1\nring 0 3 3\nstart 0 2 0 0\n",
+            Err(ReadError::Syntax(3)),
+        ),
+        (b"ringfarm 1\ndone 0\n", Err(ReadError::Syntax(2))),
+        (b"ringfarm 1\r\nring 0 3 3\n", Err(ReadError::Syntax(1))),
+        (b"ringfarm 2\nring 0 3 3\n", Err(ReadError::Syntax(1))),
+        (b"ringfarm 1\nring 0 0 3\n", Err(ReadError::Syntax(2))),
+        (
+            b"ringfarm 1\nring 0 4294967296 3\n",
+            Err(ReadError::Syntax(2)),
+        ),
+        (
+            b"ringfarm 1\nring 0 4294967295 3\nstart 0 2 0\n",
+            Err(ReadError::Syntax(3)),
+        ),
+        (
+            b"ringfarm 1\nring 0 4294967295 3\nstart 0 2 0",
+            Err(ReadError::Truncated),
+        ),
+        (
+            b"ringfarm 1\nring 0 3 3\nstart 0 2 0\np 0 0 5 g 1\n",
+            Err(ReadError::Syntax(4)),
+        ),
+        (
+            b"ringfarm 1\nring 0 3 3\nstart 0 2 0\np 0 0 5 x 1\n",
+            Err(ReadError::Syntax(4)),
+        ),
+        (
+            b"ringfarm 1\nring 0 3 3\nstart 0 2 0\nm 0 0 5 1 1 5\n",
+            Err(ReadError::Syntax(4)),
+        ),
+        (
+            b"ringfarm 1\nring 0 3 3\nstart 0 2 0\ns 0 0 1 1 2 0\nend 0\n",
+            Err(ReadError::Syntax(4)),
+        ),
+        (
+            b"ringfarm 1\nring 0 3 3\nstart 0 2 0\np 0 0 5 g 1 5\np 0 0 1 n\np 0 2 4 g 2 9\nend 18446744073709551616\n",
+            Err(ReadError::Syntax(7)),
+        ),
+        (
+            b"ringfarm 1\nring 0 3 3\nstart 0 2 0\np 0 0 5 g 1 5\np 0 0 1 n\np 0 2 4 g 2 9\nend 18446744073709551615\n",
+            Err(ReadError::Truncated),
+        ),
+        (b"ringfarm 1\nring 0 1 1\nstart 0\nend 0\ndone 1\n", Ok(())),
+        (
+            b"ringfarm 1\nring 7 2 9\nstart 9 9\nend 5\ndone 4294967295\n",
+            Ok(()),
+        ),
+        (
+            b"ringfarm 1\nring 0 1 1\nstart 0\nend 0\ndone 4294967296\n",
+            Err(ReadError::Syntax(5)),
+        ),
+    ];
+    for (bytes, want) in cases {
+        assert_eq!(rt; answer(read_saved(rt.alloc(), bytes)), want, "{bytes:?}");
+        assert_eq!(rt; judge(rt.alloc(), bytes)?, want, "{bytes:?}");
+    }
+    Ok(())
+}

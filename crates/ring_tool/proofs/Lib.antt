@@ -1,0 +1,3 @@
+pub mod FirstFaults
+pub mod Joins
+pub mod StepLemmas

@@ -1,0 +1,79 @@
+-- What `step` refuses.
+use Rattle.std.specs.Prelude.{◌≡◌, ℕ, ◌<◌, cond, ◌==◌, nat_lt, nat_le, List, length, Option, None, Some}
+use Rattle.std.specs.List.{position}
+use Rattle.std.specs.Option.{option_map, option_or}
+use Rattle.ring_state.specs.declared.sizes.ParamsError.{ParamsError}
+use Rattle.ring_state.specs.declared.states.StateError.{StateError}
+use Rattle.ring_book.specs.EventsView.{event_limit}
+use Rattle.ring_book.specs.declared.events.BookError.{BookError}
+use Rattle.ring_tool.specs.declared.faults.ToolError.{ToolError}
+use Rattle.ring_state.specs.declared.sizes.ParamsError.TheVariants as params
+use Rattle.ring_state.specs.declared.states.StateError.TheVariants as state
+use Rattle.ring_book.specs.declared.events.BookError.TheVariants as book
+use Rattle.ring_tool.specs.declared.faults.ToolError.TheVariants as tool
+
+-- the exit status after a refusal: 2 where a list cannot be read, as after other words that cannot be, else 1
+abbrev pub status_of : ToolError → ℕ
+status_of tool.BadList = 2
+status_of e = 1
+
+-- the program's name for each refusal of a library
+abbrev pub fault_of_params : ParamsError → ToolError
+fault_of_params params.TooFew = tool.TooFew
+fault_of_params params.TooMany = tool.TooMany
+fault_of_params params.FewValues = tool.FewValues
+fault_of_params params.ManyValues = tool.ManyValues
+
+abbrev pub fault_of_state : StateError → ToolError
+fault_of_state state.Length = tool.Length
+fault_of_state (state.Value i) = tool.Value i
+fault_of_state state.OutOfMemory = tool.OutOfMemory
+
+abbrev pub fault_of_book : BookError → ToolError
+fault_of_book book.HistoryFull = tool.HistoryFull
+fault_of_book book.OutOfMemory = tool.OutOfMemory
+
+-- the first that is wrong with the numbers of machines and of values
+abbrev pub size_fault : ℕ → ℕ → Option ToolError
+size_fault n k =
+    cond (nat_lt n 2) (Some tool.TooFew)
+    (cond (nat_lt 256 n) (Some tool.TooMany)
+    (cond (nat_lt k n) (Some tool.FewValues)
+    (cond (nat_lt 256 k) (Some tool.ManyValues)
+    None)))
+
+-- the first that is wrong with the start values
+abbrev pub values_fault : ℕ → ℕ → List ℕ → Option ToolError
+values_fault n k states =
+    cond (length states == n)
+    (option_map (λ i. tool.Value i) (position (λ v. nat_le k v) states))
+    (Some tool.Length)
+
+-- the first choice that is no machine
+abbrev pub choice_fault : ℕ → List ℕ → Option ToolError
+choice_fault n choices = option_map (λ i. tool.Choice i) (position (λ c. nat_le n c) choices)
+
+-- what is wrong with the ring that is to begin
+abbrev pub start_fault : ℕ → ℕ → List ℕ → Option ToolError
+start_fault n k states = option_or (size_fault n k) (values_fault n k states)
+
+-- the first that is wrong with what `step` was given, in the order in which it is tested
+abbrev pub fault_of : ℕ → ℕ → List ℕ → List ℕ → Option ToolError
+fault_of n k states choices = option_or (start_fault n k states) (choice_fault n choices)
+
+-- a refusal of what has this first fault: that fault, or, where there is none, want of memory
+abbrev pub IsRefusalOver : Option ToolError → ToolError → Type 0
+IsRefusalOver fault tool.OutOfMemory = fault ≡ None
+IsRefusalOver fault e = fault ≡ Some e
+
+-- Which refusals a ring that is to begin may meet: the first fault, or, where the size and the start values have none, want of memory.
+abbrev pub IsOpeningRefusal : ℕ → ℕ → List ℕ → List ℕ → ToolError → Type 0
+IsOpeningRefusal n k states choices tool.OutOfMemory = start_fault n k states ≡ None
+IsOpeningRefusal n k states choices e = fault_of n k states choices ≡ Some e
+
+-- Which refusals `step` may meet: those, and, where there is no fault, the writer's or that of a history that has no room for the choices.
+abbrev pub IsStepRefusal : ℕ → ℕ → List ℕ → List ℕ → ToolError → Type 0
+IsStepRefusal n k states choices tool.OutOfMemory = start_fault n k states ≡ None
+IsStepRefusal n k states choices tool.Write = fault_of n k states choices ≡ None
+IsStepRefusal n k states choices tool.HistoryFull = (fault_of n k states choices ≡ None) × (event_limit < length choices)
+IsStepRefusal n k states choices e = fault_of n k states choices ≡ Some e

@@ -1,0 +1,3 @@
+//! What each command does once its words are read.
+
+pub mod step;

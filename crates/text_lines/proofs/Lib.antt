@@ -1,0 +1,9 @@
+pub mod Basics
+pub mod Sequences
+pub mod Choices
+pub mod Repetitions
+pub mod Decimals
+pub mod Rows
+pub mod Steps
+pub mod Answering
+pub mod Writing

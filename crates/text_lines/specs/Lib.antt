@@ -1,0 +1,5 @@
+pub mod Reading
+pub mod Spelling
+pub mod Grammar
+pub mod Texts
+pub mod Writing

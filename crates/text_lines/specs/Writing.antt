@@ -1,0 +1,13 @@
+-- How far a writer got with a text.
+use Rattle.std.specs.Prelude.{◌≡◌, ℕ, ◌<◌, length, List, ◌++◌, Option, Result, Ok, Err}
+use Rattle.std.specs.Io.KnownBytes.{Appends}
+use Rattle.text_lines.specs.declared.write.WriteFault.{WriteFault}
+
+-- What the writer holds grew by the front of a text, of which this is left.
+abbrev pub Wrote : Option (List ℕ) → Option (List ℕ) → List ℕ → List ℕ → Type 0
+Wrote old new text left = (front : List ℕ) × (text ≡ front ++ left) × Appends old new front
+
+-- The writer holds all of the text behind what it held, or after a fault a beginning of it, which lacks a byte at least.
+abbrev pub Writes : Option (List ℕ) → Option (List ℕ) → Result (Unit {0}) WriteFault → List ℕ → Type 0
+Writes old new (Ok u) text = Appends old new text
+Writes old new (Err e) text = (left : List ℕ) × (0 < length left) × Wrote old new text left

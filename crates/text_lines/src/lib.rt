@@ -1,0 +1,29 @@
+//! Reading and writing of line-based ASCII text.
+//!
+//! A reader takes a value from the front of some bytes, and says otherwise whether the bytes end
+//! too early or which byte is the first that no spelling goes on with. `Rattle.text_lines.specs`
+//! has, for each reader, a function on lists that it answers like, the combinators that make a
+//! grammar of such functions, and the law that ties a function to a spelling. The lemmas of
+//! `proofs/` carry that law through each combinator, so that a whole grammar has it.
+//!
+//! A writer takes pieces of a text, one after the other, until all are written or the first fault.
+#![tactic(auto)]
+
+mod answer;
+mod fault;
+mod number;
+mod row;
+mod words;
+mod write;
+
+pub use answer::{
+    ReadError, answers_are_apart, line_at, nothing_more, readers_answer_right, refusal,
+};
+pub use fault::{Fault, Stop};
+pub use number::{number32, number64, positive32};
+pub use row::{put_row, row32};
+pub use words::word;
+pub use write::{WriteFault, put, put_all};
+
+#[cfg(test)]
+mod tests;

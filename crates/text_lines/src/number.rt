@@ -1,0 +1,85 @@
+//! Canonical decimals: `0`, or digits of which the first is not 0.
+
+ghost use Rattle.std.specs.Prelude.{◌≡◌, ◌+◌, ◌<◌, ◌≤◌, ◌^◌, length, IfOk};
+ghost use Rattle.text_lines.specs.Reading.{Gives, number_at, positive_at, digits_at};
+
+use crate::fault::{Fault, Stop};
+
+/// The rest of a number of which `first` was read, and what stands behind the byte that ends it.
+fn digits(first: u64, max: u64, stop: u8, bytes: &[u8]) -> Result<(u64, &[u8]), Stop>
+    requires { (9 ≤ max) × (first ≤ 9) }
+    ensures gives { Gives (λ x. (x.0, x.1.now)) result (digits_at (max + 1) stop first bytes.now) }
+    ensures below { IfOk result (λ x. x.0 ≤ max) }
+{
+    let mut value = first;
+    for (i, b) in bytes.iter().enumerate() {
+        if *b == stop {
+            return Ok((value, &bytes[i + 1..]));
+        }
+        if value == 0 || *b < b'0' || b'9' < *b {
+            return Err(Stop::Fault(Fault::Bad(bytes.len() - i)));
+        }
+        let digit = (*b - b'0') as u64;
+        // The number would pass the limit; computed without passing it.
+        if (max - digit) / 10 < value {
+            return Err(Stop::Fault(Fault::Bad(bytes.len() - i)));
+        }
+        value = value * 10 + digit;
+    }
+    Err(Stop::Fault(Fault::Short))
+}
+
+/// A number of at most `max`, and what stands behind the byte that ends it.
+#[tactic(auto, unfolding(crate::specs::Reading::number_at))]
+fn number(bytes: &[u8], max: u64, stop: u8) -> Result<(u64, &[u8]), Stop>
+    requires { 9 ≤ max }
+    ensures gives { Gives (λ x. (x.0, x.1.now)) result (number_at (max + 1) stop bytes.now) }
+    ensures below { IfOk result (λ x. x.0 ≤ max) }
+{
+    match bytes {
+        [] => Err(Stop::Fault(Fault::Short)),
+        [b @ b'0'..=b'9', after @ ..] => digits((*b - b'0') as u64, max, stop, after),
+        [_, ..] => Err(Stop::Fault(Fault::Bad(bytes.len()))),
+    }
+}
+
+/// A canonical decimal below 2 to the power 32, and what stands behind the byte `stop` that ends it.
+///
+/// # Errors
+///
+/// `Bad` at the byte with which no such number goes on: one that is neither a digit nor `stop`, a
+/// digit behind a leading 0, or the digit that passes the limit. `Short` where the bytes end first.
+/// Takes no memory.
+pub fn number32(bytes: &[u8], stop: u8) -> Result<(u32, &[u8]), Stop>
+    ensures { Gives (λ x. (x.0, x.1.now)) result (number_at (2 ^ 32) stop bytes.now) }
+{
+    let (value, rest) = number(bytes, u32::MAX as u64, stop)?;
+    Ok((value as u32, rest))
+}
+
+/// A canonical decimal below 2 to the power 64, and what stands behind the byte `stop` that ends it.
+///
+/// # Errors
+///
+/// As [`number32`], at its own limit.
+pub fn number64(bytes: &[u8], stop: u8) -> Result<(u64, &[u8]), Stop>
+    ensures { Gives (λ x. (x.0, x.1.now)) result (number_at (2 ^ 64) stop bytes.now) }
+{
+    number(bytes, u64::MAX, stop)
+}
+
+/// A number as [`number32`] reads it, of 1 or more.
+///
+/// # Errors
+///
+/// As [`number32`], and `Bad` at a `0` with which the number begins.
+#[tactic(auto, unfolding(crate::specs::Reading::positive_at))]
+pub fn positive32(bytes: &[u8], stop: u8) -> Result<(u32, &[u8]), Stop>
+    ensures { Gives (λ x. (x.0, x.1.now)) result (positive_at (2 ^ 32) stop bytes.now) }
+{
+    match bytes {
+        [] => Err(Stop::Fault(Fault::Short)),
+        [b'0', ..] => Err(Stop::Fault(Fault::Bad(bytes.len()))),
+        [_, ..] => number32(bytes, stop),
+    }
+}

@@ -1,0 +1,67 @@
+//! A line of numbers.
+
+ghost use Rattle.std.specs.Prelude.{◌≡◌, ◌^◌, vec_len, IfOk};
+ghost use Rattle.text_lines.specs.Reading.{Gives, row_at, stop_of};
+ghost use Rattle.text_lines.specs.Spelling.{row};
+ghost use Rattle.text_lines.specs.Writing.{Writes};
+
+use crate::fault::Stop;
+use crate::number::number32;
+use crate::write::{WriteFault, put_all};
+use itoa::Buffer;
+use std::alloc::Global;
+use std::io::Write;
+
+/// The byte that ends a number with so many behind it on the line.
+fn stop_byte(left: usize) -> u8
+    ensures { result ≡ stop_of left }
+{
+    match left {
+        0 => b'\n',
+        _ => b' ',
+    }
+}
+
+/// So many numbers below 2 to the power 32, one space between two of them and an LF behind the
+/// last, and what stands behind that LF. For `n` of 0 it reads nothing.
+///
+/// Room is asked for as the numbers are read, never for `n` of them at once.
+///
+/// # Errors
+///
+/// As [`number32`] for each number, and `Memory` where there was no room.
+pub fn row32(alloc: Global, n: u32, bytes: &[u8]) -> Result<(Vec<u32>, &[u8]), Stop>
+    ensures gives { Gives (λ x. (x.0.items, x.1.now)) result (row_at (2 ^ 32) n bytes.now) }
+    ensures len { IfOk result (λ x. vec_len x.0 ≡ n) }
+{
+    let mut found = Vec::new(alloc);
+    let mut rest = bytes;
+    for i in 0..n {
+        let stop = stop_byte((n - i - 1) as usize);
+        let (value, after) = number32(rest, stop)?;
+        found.push(value)?;
+        rest = after;
+    }
+    Ok((found, rest))
+}
+
+/// Writes the numbers, one space between two of them and an LF behind the last; nothing where there
+/// is none. It takes no memory.
+///
+/// # Errors
+///
+/// As [`put_all`](crate::put_all).
+pub fn put_row<W: Write>(out: &mut W, values: &[u32]) -> Result<(), WriteFault>
+    ensures { Writes (W.contents out.old) (W.contents out.new) result (row values.now) }
+{
+    for (i, value) in values.iter().enumerate() {
+        let mut buffer = Buffer::new();
+        let digits = buffer.format(*value).as_bytes();
+        let stop = stop_byte(values.len() - i - 1);
+        match put_all(out, &[digits, &[stop]]) {
+            Ok(()) => {}
+            Err(fault) => return Err(fault),
+        }
+    }
+    Ok(())
+}

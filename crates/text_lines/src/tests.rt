@@ -1,0 +1,6 @@
+//! A toy grammar, read, judged and written.
+
+mod judge;
+mod reading;
+mod toy;
+mod writing;
