@@ -11,3 +11,4 @@ pub mod BlockLines
 pub mod Totals
 pub mod Meanings
 pub mod WrittenTexts
+pub mod Promised

@@ -2,7 +2,7 @@ pub mod Lines
 pub mod Table
 pub mod Legal
 pub mod Meaning
-pub mod SavedOf
 pub mod Written
 pub mod Scan
 pub mod Replays
+pub mod Names

@@ -1,5 +1,8 @@
 //! What the checker answers.
 
+ghost use Rattle.std.specs.Prelude.{Some};
+ghost use Rattle.ring_check.specs.Names.{kind_name};
+
 use std::fmt;
 use thiserror::Error;
 
@@ -19,6 +22,8 @@ pub enum Kind {
 }
 
 impl fmt::Display for Kind {
+    ghost output = { λ k. Some (kind_name k) };
+
     fn fmt<W: fmt::Write>(&self, f: &mut fmt::Formatter<W>) -> fmt::Result {
         f.write_str(match self {
             Kind::Parameter => "parameter",

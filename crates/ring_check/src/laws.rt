@@ -2,7 +2,7 @@
 
 ghost use Rattle.ring_check.specs.Legal.{AtMostOneIsRight};
 ghost use Rattle.ring_check.specs.Meaning.{LegalMeans};
-ghost use Rattle.ring_check.specs.Written.{WrittenIsLegal};
+ghost use Rattle.ring_check.specs.Written.{WrittenIsLegal, WrittenIsRight, OutcomeIsLegal, OutcomeIsRight};
 
 /// A text is legal by the table of what is refused exactly where its blocks tell of legal histories of one-thread rings,
 /// and of surveys of them.
@@ -16,7 +16,18 @@ pub fn answers_are_apart()
     ensures { AtMostOneIsRight }
 {}
 
-/// The saved text of rings whose histories are legal, and whose at most ten logs fit them, is legal.
+/// The saved text of an outcome is legal, where each ring's history is legal from its start over the till with the amount 0,
+/// K is at most 256, each event's seat is that of a log, and its logs, at most ten, stand by number and fit the history.
+/// It needs neither a limit of the rings nor one of the events. The second clause says the same in the subject's words.
 pub fn written_law()
-    ensures { WrittenIsLegal }
+    ensures legal { WrittenIsLegal }
+    ensures right { WrittenIsRight }
+{}
+
+/// Where an outcome has what `run_farm` promises, its saved text is legal. The premises are the clauses of that call on the
+/// number of rings, the histories, the calls in them, the logs and what stands in them, and what is true of all settings.
+/// The second clause says the same in the subject's words.
+pub fn outcome_law()
+    ensures legal { OutcomeIsLegal }
+    ensures right { OutcomeIsRight }
 {}

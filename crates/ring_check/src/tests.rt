@@ -1,109 +1,12 @@
 //! Texts with answers that were worked out by hand.
 
-ghost use Rattle.std.specs.Prelude.{◌≤◌, length, IfOk};
+mod texts;
 
-use crate::{CheckError, Kind, Summary, check_saved};
-use ring_text::{Saved, SavedEvent, SavedRing, SavedSurvey};
+use self::texts::{Block, bad, check, corrupted, granted, refused, survey};
+use crate::{CheckError, Kind, Summary};
+use ring_text::{SavedEvent, SavedSurvey};
 use std::alloc::{AllocError, Global};
-use std::process::Abort;
 use std::test::Fail;
-
-type Answer = Result<Summary, CheckError>;
-
-/// What the lines of a block say; N is the number of start values.
-#[derive(Clone, Copy)]
-struct Block<'a> {
-    index: u32,
-    k: u32,
-    start: &'a [u32],
-    events: &'a [SavedEvent],
-    events_said: u64,
-    surveys: &'a [SavedSurvey],
-}
-
-impl Block<'_> {
-    fn build(&self, rt: &impl Abort, alloc: Global) -> Result<SavedRing, AllocError>
-        ensures { IfOk result (λ r. (length r.events.items ≤ 1000000) × (length r.surveys.items ≤ 1000000)) }
-    {
-        assert!(rt; !self.start.is_empty() && self.start.len() <= 1_000_000);
-        assert!(rt; self.events.len() <= 1_000_000 && self.surveys.len() <= 1_000_000);
-        Ok(SavedRing {
-            index: self.index,
-            n: self.start.len() as u32,
-            k: self.k,
-            start: Vec::from_slice(alloc, self.start)?,
-            events: Vec::from_slice(alloc, self.events)?,
-            events_said: self.events_said,
-            surveys: Vec::from_slice(alloc, self.surveys)?,
-        })
-    }
-}
-
-/// The checker's answer on a text of these blocks.
-fn check(
-    rt: &impl Abort,
-    alloc: Global,
-    blocks: &[Block],
-    rings_said: u32,
-) -> Result<Answer, AllocError> {
-    assert!(rt; blocks.len() <= 16);
-    let mut rings = Vec::new(alloc);
-    for block in blocks {
-        let ring = block.build(rt, alloc)?;
-        rings.push(ring)?;
-    }
-    let saved = Saved { rings, rings_said };
-    Ok(check_saved(alloc, &saved))
-}
-
-fn granted(seat: u32, machine: u32, order: u64, number: u64, amount: u64) -> SavedEvent {
-    SavedEvent::Granted {
-        seat,
-        machine,
-        order,
-        number,
-        result: amount,
-    }
-}
-
-fn refused(seat: u32, machine: u32, order: u64) -> SavedEvent {
-    SavedEvent::Refused {
-        seat,
-        machine,
-        order,
-    }
-}
-
-fn corrupted(seat: u32, machine: u32, value: u32, old: u32) -> SavedEvent {
-    SavedEvent::Corrupted {
-        seat,
-        machine,
-        value,
-        old,
-    }
-}
-
-fn survey(
-    seat: u32,
-    position: u64,
-    privileged: u32,
-    first: u32,
-    calm: u64,
-    rest: u64,
-) -> SavedSurvey {
-    SavedSurvey {
-        seat,
-        position,
-        privileged,
-        first,
-        calm,
-        rest,
-    }
-}
-
-fn bad(line: u64, kind: Kind) -> Answer {
-    Err(CheckError::Bad { line, kind })
-}
 
 /// The events of the first text: p 0 0 5 g 1 5, p 0 0 1 n, p 0 2 4 g 2 9.
 fn first_events() -> [SavedEvent; 3] {
@@ -409,6 +312,26 @@ fn surveys_of_unsettled_rings(rt: HostRuntime) -> Result<(), Fail> {
     Ok(())
 }
 
+/// As many corruptions that change nothing.
+fn many_events(alloc: Global, many: u64) -> Result<Vec<SavedEvent>, AllocError> {
+    let mut events = Vec::new(alloc);
+    for _ in 0..many {
+        events.push(corrupted(0, 5, 5, 5))?;
+    }
+    Ok(events)
+}
+
+/// A survey of the largest rest by each seat at each place behind an event.
+fn many_surveys(alloc: Global, many: u64) -> Result<Vec<SavedSurvey>, AllocError> {
+    let mut surveys = Vec::new(alloc);
+    for seat in 0..10 {
+        for position in 1..=many {
+            surveys.push(survey(seat, position, 256, 0, 0, 97_920))?;
+        }
+    }
+    Ok(surveys)
+}
+
 /// Each of 256 machines is privileged, and the rest is as large as any: 32,640 for the weight, and 256 times a lead of 255.
 #[test]
 fn many_surveys_of_the_largest_rest(rt: HostRuntime) -> Result<(), Fail> {
@@ -418,16 +341,14 @@ fn many_surveys_of_the_largest_rest(rt: HostRuntime) -> Result<(), Fail> {
     for i in 0..255 {
         start[i] = i as u32;
     }
-    let mut events = Vec::new(alloc);
-    for _ in 0..many {
-        events.push(corrupted(0, 5, 5, 5))?;
-    }
-    let mut surveys = Vec::new(alloc);
-    for seat in 0..10 {
-        for position in 1..=many {
-            surveys.push(survey(seat, position, 256, 0, 0, 97_920))?;
-        }
-    }
+    let events = match many_events(alloc, many) {
+        Ok(events) => events,
+        Err(_) => many_events(alloc, many)?,
+    };
+    let surveys = match many_surveys(alloc, many) {
+        Ok(surveys) => surveys,
+        Err(_) => many_surveys(alloc, many)?,
+    };
     let block = Block {
         index: 0,
         k: 256,
@@ -447,6 +368,14 @@ fn many_surveys_of_the_largest_rest(rt: HostRuntime) -> Result<(), Fail> {
     Ok(())
 }
 
+/// The words of an error, asked for a second time where a request for memory is refused.
+fn told(alloc: Global, error: CheckError) -> Result<String, AllocError> {
+    match error.to_string(alloc) {
+        Ok(text) => Ok(text),
+        Err(_) => Ok(error.to_string(alloc)?),
+    }
+}
+
 #[test]
 fn what_the_answers_are_called(rt: HostRuntime) -> Result<(), Fail> {
     let names = [
@@ -457,10 +386,10 @@ fn what_the_answers_are_called(rt: HostRuntime) -> Result<(), Fail> {
         (Kind::Survey, "line 12: survey"),
     ];
     for (kind, name) in names {
-        let text = format!(in rt.alloc(); "{}", CheckError::Bad { line: 12, kind })?;
+        let text = told(rt.alloc(), CheckError::Bad { line: 12, kind })?;
         assert_eq!(rt; text.as_str(), name);
     }
-    let text = format!(in rt.alloc(); "{}", CheckError::OutOfMemory)?;
+    let text = told(rt.alloc(), CheckError::OutOfMemory)?;
     assert_eq!(rt; text.as_str(), "out of memory");
     Ok(())
 }

@@ -3,7 +3,7 @@ mod gates;
 use crate::{FarmError, Open, Outcome, run_farm};
 use gates::{Counting, Crossed, ShutOn, Together};
 use ring_model::{Op, Reply, Survey};
-use ring_settings::{Settings, plans, read_settings};
+use ring_settings::{Settings, SettingsError, plans, read_settings};
 use ring_shared::Entry;
 use std::alloc::Global;
 use std::process::Abort;
@@ -53,11 +53,8 @@ fn refusal(rt: &impl Abort, ran: Result<Outcome, FarmError>) -> FarmError {
     }
 }
 
-#[test]
-fn a_script_is_followed(rt: HostRuntime) {
-    let alloc = rt.alloc();
-    let ran = run_farm(&rt, alloc, &settings(&rt, alloc, SCRIPT), &Open);
-    let outcome = outcome(&rt, ran, 1);
+/// The outcome is that of the script.
+fn follows_the_script(rt: &impl Abort, outcome: &Outcome) {
     assert_eq!(rt; outcome.rings.len(), 1);
     let ring = &outcome.rings[0];
     let events = ring.book.history();
@@ -109,6 +106,30 @@ fn a_script_is_followed(rt: HostRuntime) {
         rest: 0,
     };
     assert_eq!(rt; entries[3], Entry::Survey(survey));
+}
+
+#[test]
+fn a_script_is_followed(rt: HostRuntime) {
+    let alloc = rt.alloc();
+    let ran = run_farm(&rt, alloc, &settings(&rt, alloc, SCRIPT), &Open);
+    follows_the_script(&rt, &outcome(&rt, ran, 1));
+}
+
+// Passes too where any one request for memory is refused, as `bench/refused_memory.sh` has it.
+#[test]
+fn want_of_memory_is_told_as_such(rt: HostRuntime) {
+    let alloc = rt.alloc();
+    let settings = match read_settings(alloc, SCRIPT) {
+        Ok(settings) => settings,
+        Err(error) => {
+            assert_eq!(rt; error, SettingsError::OutOfMemory);
+            return;
+        }
+    };
+    match run_farm(&rt, alloc, &settings, &Open) {
+        Ok(outcome) => follows_the_script(&rt, &outcome),
+        Err(fault) => assert!(rt; matches!(fault, FarmError::OutOfMemory | FarmError::Spawn)),
+    }
 }
 
 #[test]

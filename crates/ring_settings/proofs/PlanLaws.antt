@@ -101,9 +101,13 @@ seat_plan-few : (sizes : List Size) (seat : ℕ) (s : SeatData) → IsSeatFor si
 seat_plan-few sizes seat (script actions) is = is.0
 seat_plan-few sizes seat (drawing role seed actions) is = omega (arith, is, drawn-length role sizes actions (seat_stream seed seat))
 
--- no plan has more than a million actions
+-- no seat's plan has more than a million actions
+pub plan_of-few : (settings : SettingsData) (seat : ℕ) → IsSettings settings → seat < length settings.seats → length (plan_of settings seat) ≤ 1000000
+plan_of-few settings seat is there = seat_plan-few (sizes_of settings.rings) seat (seat_at settings seat) (seat_at-fits settings seat is there)
+
+-- nor has any plan
 pub plans_of-few : (settings : SettingsData) (plans : List Plan) → IsSettings settings → map plan_actions plans ≡ plans_of settings →
     All (λ (p : Plan). length (plan_actions p) ≤ 1000000) plans
 plans_of-few settings plans of_settings is seat d there =
     let within : seat < length settings.seats = omega (arith, plans_of-count settings plans is) in
-    rw (plans_of-plan settings plans is seat d there) (seat_plan-few (sizes_of settings.rings) seat (seat_at settings seat) (seat_at-fits settings seat of_settings within))
+    rw (plans_of-plan settings plans is seat d there) (plan_of-few settings seat of_settings within)

@@ -1,7 +1,8 @@
-ghost use Rattle.std.specs.Prelude.{◌≡◌, ◌≢◌, ◌<◌, ◌∷◌, [], eqb, length, map};
+ghost use Rattle.std.specs.Prelude.{◌≡◌, ◌≢◌, ◌<◌, ◌≤◌, ◌∷◌, [], eqb, length, map, vec_capacity};
 ghost use Rattle.std.specs.List.{IsDistinct};
 ghost use Rattle.ring_model.specs.Resources.{till};
 ghost use Rattle.ring_shared.specs.Holding.{MeansLegal};
+ghost use Rattle.ring_shared.specs.Opening.{AreFresh};
 
 use crate::{CloseReason, Draft, Entry, Name, Ring, Seat};
 use ring_book::{Book, BookError, Till};
@@ -29,13 +30,20 @@ fn small_book(rt: &impl Abort, alloc: Global) -> Book<Till>
     let Ok(params) = Params::new(2, 2) else {
         panic!(rt; "the size is allowed");
     };
-    let Ok(state) = RingState::from_values(alloc, &params, &[0, 0]) else {
-        panic!(rt; "the values are allowed");
+    let state = match RingState::from_values(alloc, &params, &[0, 0]) {
+        Ok(state) => state,
+        Err(_) => RingState::from_values(alloc, &params, &[0, 0]).expect(
+            rt,
+            "the values are allowed",
+        ),
     };
-    let Ok(book) = Book::new(alloc, state, Till::new()) else {
-        panic!(rt; "there is memory");
-    };
-    book
+    match Book::new(alloc, state, Till::new()) {
+        Ok(book) => book,
+        Err(refused) => match Book::new(alloc, refused.state, refused.resource) {
+            Ok(book) => book,
+            Err(_) => panic!(rt; "memory is refused twice"),
+        },
+    }
 }
 
 fn run<W: Threads + Wait + Abort + Sync>(rt: &W, alloc: Global, script: Script) {
@@ -43,6 +51,31 @@ fn run<W: Threads + Wait + Abort + Sync>(rt: &W, alloc: Global, script: Script) 
         panic!(rt; "a draft takes no memory");
     };
     run_named::<Brand, W>(rt, alloc, draft, script)
+}
+
+/// The ring of a draft and its seats; where there was no memory, by the book that was handed back.
+fn opened<N: Name>(
+    rt: &impl Abort,
+    alloc: Global,
+    draft: Draft<Till>,
+) -> (Ring<N, Till>, Vec<Seat<N>>)
+    requires start { draft.book.start ≡ N.start }
+    requires seats { draft.seats ≡ N.seats }
+    requires legal { MeansLegal till 0 N.start N.legal }
+    requires two { N.seats ≡ 2 }
+    ensures { AreFresh N.seats result.1.items }
+{
+    let fault = match Ring::<N, Till>::open(alloc, draft) {
+        Ok(opened) => return opened,
+        Err(fault) => fault,
+    };
+    let Ok(draft) = Draft::new(fault.book, 2) else {
+        panic!(rt; "a draft takes no memory");
+    };
+    match Ring::<N, Till>::open(alloc, draft) {
+        Ok(opened) => opened,
+        Err(_) => panic!(rt; "memory is refused twice"),
+    }
 }
 
 fn run_named<N: Name + Send + Sync, W: Threads + Wait + Abort + Sync>(
@@ -57,10 +90,7 @@ fn run_named<N: Name + Send + Sync, W: Threads + Wait + Abort + Sync>(
     requires small { N.start ≡ record { k = 2; values = 0 ∷ 0 ∷ [] } }
     requires two { N.seats ≡ 2 }
 {
-    let (ring, mut seats) = match Ring::<N, Till>::open(alloc, draft) {
-        Ok(opened) => opened,
-        Err(_) => panic!(rt; "there is memory"),
-    };
+    let (ring, mut seats) = opened::<N>(rt, alloc, draft);
     let (Some(second), Some(first)) = (seats.pop(), seats.pop()) else {
         panic!(rt; "there are two seats");
     };
@@ -76,14 +106,25 @@ fn run_named<N: Name + Send + Sync, W: Threads + Wait + Abort + Sync>(
     }
 }
 
+/// Room for two seats; where there was no memory, it is asked for again.
+fn room_for_two<N: Name>(rt: &impl Abort, alloc: Global) -> Vec<Seat<N>>
+    ensures room { 2 ≤ vec_capacity result }
+    ensures empty { result.items ≡ [] }
+{
+    match Vec::with_capacity(alloc, 2) {
+        Ok(seats) => seats,
+        Err(_) => Vec::with_capacity(alloc, 2).expect(rt, "memory the second time"),
+    }
+}
+
 /// Two seats, to be given back.
 fn both<N: Name>(rt: &impl Abort, alloc: Global, one: Seat<N>, other: Seat<N>) -> Vec<Seat<N>>
     requires { one.number ≢ other.number }
     ensures { IsDistinct eqb (map (λ s. s.number) result.items) }
 {
-    let Ok(seats) = vec![in alloc; one, other] else {
-        panic!(rt; "there is memory");
-    };
+    let mut seats = room_for_two(rt, alloc);
+    seats.push_reserved(one);
+    seats.push_reserved(other);
     seats
 }
 
@@ -108,6 +149,67 @@ fn granted(seat: u32, machine: u32, order: u64, number: u64, answer: u64) -> Eve
     }
 }
 
+/// A pass; where there was no memory for it nothing has changed, and it is made again.
+fn passed_by<N: Name, W: Wait + Abort>(
+    rt: &W,
+    ring: &Ring<N, Till>,
+    seat: &mut Seat<N>,
+    machine: u32,
+    order: u64,
+) -> Receipt
+    requires { machine < length N.start.values }
+    ensures { seat.new.number ≡ seat.old.number }
+{
+    let before = seat.log().len();
+    match ring.pass(rt, seat, machine, order) {
+        Ok(receipt) => receipt,
+        Err(error) => {
+            assert_eq!(rt; error, BookError::OutOfMemory);
+            assert_eq!(rt; seat.log().len(), before);
+            ring.pass(rt, seat, machine, order).expect(rt, "a pass")
+        }
+    }
+}
+
+/// A corruption, in the same way.
+fn corrupted_by<N: Name, W: Wait + Abort>(
+    rt: &W,
+    ring: &Ring<N, Till>,
+    seat: &mut Seat<N>,
+    machine: u32,
+    value: u32,
+) -> Receipt
+    requires machine { machine < length N.start.values }
+    requires value { value < N.start.k }
+    ensures { seat.new.number ≡ seat.old.number }
+{
+    let before = seat.log().len();
+    match ring.corrupt(rt, seat, machine, value) {
+        Ok(receipt) => receipt,
+        Err(error) => {
+            assert_eq!(rt; error, BookError::OutOfMemory);
+            assert_eq!(rt; seat.log().len(), before);
+            ring.corrupt(rt, seat, machine, value)
+                .expect(rt, "a corruption")
+        }
+    }
+}
+
+/// A survey, in the same way.
+fn surveyed_by<N: Name, W: Wait + Abort>(rt: &W, ring: &Ring<N, Till>, seat: &mut Seat<N>) -> Survey
+    ensures { seat.new.number ≡ seat.old.number }
+{
+    let before = seat.log().len();
+    match ring.survey(rt, seat) {
+        Ok(survey) => survey,
+        Err(_) => {
+            assert_eq!(rt; seat.log().len(), before);
+            ring.survey(rt, seat).expect(rt, "a survey")
+        }
+    }
+}
+
+// The first example passes too where any one request for memory is refused, as `bench/refused_memory.sh` has it.
 fn call_in_turn<N: Name, W: Wait + Abort>(
     rt: &W,
     alloc: Global,
@@ -141,14 +243,10 @@ fn call_in_turn<N: Name, W: Wait + Abort>(
             reply: Reply::Corrupted { old: 1 },
         },
     };
-    let passed = ring.pass(rt, &mut first, 0, 3);
-    assert_eq!(rt; passed, Ok(pass));
-    let surveyed = ring.survey(rt, &mut first);
-    assert_eq!(rt; surveyed, Ok(survey));
-    let surveyed = ring.survey(rt, &mut second);
-    assert_eq!(rt; surveyed, Ok(survey));
-    let corrupted = ring.corrupt(rt, &mut second, 0, 0);
-    assert_eq!(rt; corrupted, Ok(corruption));
+    assert_eq!(rt; passed_by(rt, &ring, &mut first, 0, 3), pass);
+    assert_eq!(rt; surveyed_by(rt, &ring, &mut first), survey);
+    assert_eq!(rt; surveyed_by(rt, &ring, &mut second), survey);
+    assert_eq!(rt; corrupted_by(rt, &ring, &mut second, 0, 0), corruption);
     let seats = both(rt, alloc, second, first);
     match ring.close(rt, alloc, seats) {
         Ok(closed) => {
@@ -168,7 +266,23 @@ fn call_in_turn<N: Name, W: Wait + Abort>(
                 [Entry::Survey(survey), Entry::Receipt(corruption)].as_slice()
             );
         }
-        Err(fault) => panic!(rt; "{:?}", fault.reason),
+        Err(fault) => {
+            assert_eq!(rt; fault.reason, CloseReason::OutOfMemory);
+            assert_eq!(rt;
+                fault.book.history(),
+                [pass.event, corruption.event].as_slice()
+            );
+            assert_eq!(rt; fault.seats.len(), 2);
+            assert_eq!(rt; fault.seats[0].number(), 1);
+            assert_eq!(rt;
+                fault.seats[0].log(),
+                [Entry::Survey(survey), Entry::Receipt(corruption)].as_slice()
+            );
+            assert_eq!(rt;
+                fault.seats[1].log(),
+                [Entry::Receipt(pass), Entry::Survey(survey)].as_slice()
+            );
+        }
     }
 }
 

@@ -1,3 +1,9 @@
 pub mod LineLaws
 pub mod TextLaws
 pub mod Loops
+pub mod Passing
+pub mod SavedParts
+pub mod TextParts
+pub mod Sums
+pub mod BookEnds
+pub mod RingLines

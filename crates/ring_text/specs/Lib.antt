@@ -1,4 +1,6 @@
 pub mod Content
 pub mod Spelling
 pub mod Lines
+pub mod SavedOf
 pub mod Meaning
+pub mod Report

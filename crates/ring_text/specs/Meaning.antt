@@ -1,10 +1,13 @@
 -- What a saved text is, and what the right answer of its reader is.
-use Rattle.std.specs.Prelude.{◌≡◌, ℕ, List, [], ◌++◌, Result}
+use Rattle.std.specs.Prelude.{◌≡◌, ℕ, List, [], ◌++◌, Result, Ok, Err}
 use Rattle.text_lines.specs.declared.answer.ReadError.{ReadError}
+use Rattle.text_lines.specs.declared.answer.ReadError.TheVariants.{Syntax, Truncated, OutOfMemory}
 use Rattle.text_lines.specs.Texts.{Spells, IsRightAnswer, AnswersAreApart}
+use Rattle.ring_farm.specs.declared.outcomes.Outcome.{Outcome}
 use Rattle.ring_text.specs.declared.saved.Saved.{Saved}
 use Rattle.ring_text.specs.Content.{Content, content}
 use Rattle.ring_text.specs.Spelling.{Fits, text}
+use Rattle.ring_text.specs.SavedOf.{saved_of}
 
 -- the bytes are the text of a content that fits
 abbrev pub IsText : List ℕ → Type 0
@@ -21,3 +24,14 @@ TextsAreApart = (a b : Content) (more : List ℕ) → Fits a → Fits b → text
 -- at most one kind of answer to some bytes is right, and at most one line
 abbrev pub OneAnswerIsRight : Type 0
 OneAnswerIsRight = (bytes : List ℕ) → AnswersAreApart IsText bytes
+
+-- the reader's answer is a value that says just this, or want of memory
+abbrev pub IsReadAs : Content → Result Saved ReadError → Type 0
+IsReadAs c (Ok saved) = content saved ≡ c
+IsReadAs c (Err OutOfMemory) = Unit {0}
+IsReadAs c (Err Truncated) = ⊥
+IsReadAs c (Err (Syntax line)) = ⊥
+
+-- What was written of an outcome reads back as what it says: no other answer to its saved text is right.
+abbrev pub OutcomesReadBack : Type 0
+OutcomesReadBack = (o : Outcome) (answer : Result Saved ReadError) → Fits (saved_of o) → IsRightRead (text (saved_of o)) answer → IsReadAs (saved_of o) answer

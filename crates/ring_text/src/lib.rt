@@ -1,21 +1,27 @@
-//! Saved histories: the values that a saved text holds, its reader, and the writers of its lines.
+//! Saved histories: the values that a saved text holds, its reader, the writers of its lines, and the
+//! writers of what a farm hands out: its saved text, and the report on it.
 //!
 //! A saved text has a first line, a block for each ring, and a last line. `specs/Spelling.antt`
 //! spells it line by line as a plain function of the value; that, and what fits, is all that a
-//! reader of the contracts has to know.
+//! reader of the contracts has to know. `specs/Report.antt` spells the report.
 #![tactic(auto)]
 
 mod blocks;
+mod counts;
 mod lines;
+mod outcomes;
 mod put_lines;
 mod read;
+mod report;
 mod saved;
 
+pub use outcomes::write_outcome;
 pub use put_lines::{
     put_done_line, put_end_line, put_event_line, put_first_line, put_ring_line, put_start_line,
     put_survey_line,
 };
-pub use read::{answers_are_apart, read_saved, texts_are_apart};
+pub use read::{answers_are_apart, outcomes_read_back, read_saved, texts_are_apart};
+pub use report::write_report;
 pub use saved::{Saved, SavedEvent, SavedRing, SavedSurvey};
 pub use text_lines::{ReadError, WriteFault};
 

@@ -1,6 +1,6 @@
 //! The reader of saved texts, and the laws of its answers.
 
-ghost use Rattle.ring_text.specs.Meaning.{IsRightRead, OneAnswerIsRight, TextsAreApart};
+ghost use Rattle.ring_text.specs.Meaning.{IsRightRead, OneAnswerIsRight, OutcomesReadBack, TextsAreApart};
 
 use crate::blocks::whole;
 use crate::saved::Saved;
@@ -34,4 +34,11 @@ pub fn texts_are_apart()
 /// is cut short has no bad line, and there is one first bad line.
 pub fn answers_are_apart()
     ensures { OneAnswerIsRight }
+{}
+
+/// What [`write_outcome`](crate::write_outcome) wrote of an outcome reads back: the right answer to
+/// the saved text is the value that says what the outcome says, block by block and line by line, or
+/// want of memory, and nothing else. That the text fits is a clause of the writer.
+pub fn outcomes_read_back()
+    ensures { OutcomesReadBack }
 {}

@@ -1,4 +1,4 @@
--- What `step` refuses.
+-- What the program refuses.
 use Rattle.std.specs.Prelude.{◌≡◌, ℕ, ◌<◌, cond, ◌==◌, nat_lt, nat_le, List, length, Option, None, Some}
 use Rattle.std.specs.List.{position}
 use Rattle.std.specs.Option.{option_map, option_or}
@@ -6,10 +6,18 @@ use Rattle.ring_state.specs.declared.sizes.ParamsError.{ParamsError}
 use Rattle.ring_state.specs.declared.states.StateError.{StateError}
 use Rattle.ring_book.specs.EventsView.{event_limit}
 use Rattle.ring_book.specs.declared.events.BookError.{BookError}
+use Rattle.ring_settings.specs.declared.faults.SettingsError.{SettingsError}
+use Rattle.ring_farm.specs.declared.faults.FarmError.{FarmError}
+use Rattle.text_lines.specs.declared.answer.ReadError.{ReadError}
+use Rattle.ring_check.specs.declared.answers.CheckError.{CheckError}
 use Rattle.ring_tool.specs.declared.faults.ToolError.{ToolError}
 use Rattle.ring_state.specs.declared.sizes.ParamsError.TheVariants as params
 use Rattle.ring_state.specs.declared.states.StateError.TheVariants as state
 use Rattle.ring_book.specs.declared.events.BookError.TheVariants as book
+use Rattle.ring_settings.specs.declared.faults.SettingsError.TheVariants as settings
+use Rattle.ring_farm.specs.declared.faults.FarmError.TheVariants as farm
+use Rattle.text_lines.specs.declared.answer.ReadError.TheVariants as read
+use Rattle.ring_check.specs.declared.answers.CheckError.TheVariants as check
 use Rattle.ring_tool.specs.declared.faults.ToolError.TheVariants as tool
 
 -- the exit status after a refusal: 2 where a list cannot be read, as after other words that cannot be, else 1
@@ -32,6 +40,30 @@ fault_of_state state.OutOfMemory = tool.OutOfMemory
 abbrev pub fault_of_book : BookError → ToolError
 fault_of_book book.HistoryFull = tool.HistoryFull
 fault_of_book book.OutOfMemory = tool.OutOfMemory
+
+abbrev pub fault_of_settings : SettingsError → ToolError
+fault_of_settings settings.Json = tool.Json
+fault_of_settings (settings.Shape field) = tool.Shape field
+fault_of_settings (settings.Limit field) = tool.Limit field
+fault_of_settings (settings.Ring place cause) = tool.Ring place cause
+fault_of_settings (settings.Script seat place) = tool.Script seat place
+fault_of_settings settings.OutOfMemory = tool.OutOfMemory
+
+abbrev pub fault_of_farm : FarmError → ToolError
+fault_of_farm farm.Spawn = tool.Spawn
+fault_of_farm farm.GateShut = tool.GateShut
+fault_of_farm farm.HistoryFull = tool.HistoryFull
+fault_of_farm farm.Mismatch = tool.Mismatch
+fault_of_farm farm.OutOfMemory = tool.OutOfMemory
+
+abbrev pub fault_of_read : ReadError → ToolError
+fault_of_read (read.Syntax line) = tool.Syntax line
+fault_of_read read.Truncated = tool.Truncated
+fault_of_read read.OutOfMemory = tool.OutOfMemory
+
+abbrev pub fault_of_check : CheckError → ToolError
+fault_of_check (check.Bad line kind) = tool.Bad line kind
+fault_of_check check.OutOfMemory = tool.OutOfMemory
 
 -- the first that is wrong with the numbers of machines and of values
 abbrev pub size_fault : ℕ → ℕ → Option ToolError
@@ -77,3 +109,10 @@ IsStepRefusal n k states choices tool.OutOfMemory = start_fault n k states ≡ N
 IsStepRefusal n k states choices tool.Write = fault_of n k states choices ≡ None
 IsStepRefusal n k states choices tool.HistoryFull = (fault_of n k states choices ≡ None) × (event_limit < length choices)
 IsStepRefusal n k states choices e = fault_of n k states choices ≡ Some e
+
+-- Which refusals the reading of a file may meet: that the file of this name cannot be read, that it is too large, or want of memory.
+abbrev pub IsReadRefusal : List ℕ → ToolError → Type 0
+IsReadRefusal file (tool.Read named) = named.now ≡ file
+IsReadRefusal file (tool.TooLarge named) = named.now ≡ file
+IsReadRefusal file tool.OutOfMemory = Unit {0}
+IsReadRefusal file _ = ⊥

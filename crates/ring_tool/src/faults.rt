@@ -1,13 +1,19 @@
 //! What the program refuses, and the line that it prints then.
 
 use ring_book::BookError;
+use ring_check::{CheckError, Kind};
+use ring_farm::FarmError;
+use ring_settings::{Field, RingCause, SettingsError};
 use ring_state::{ParamsError, StateError};
+use ring_text::ReadError;
 use text_lines::WriteFault;
 use thiserror::Error;
 
 /// Why the program does not do what it was asked for. Its `Display` is the line on standard error.
-#[derive(Debug, Drop, Error)]
-pub enum ToolError {
+///
+/// A fault of a file has the file's name as it was given.
+#[derive(Clone, Copy, Debug, Error)]
+pub enum ToolError<'a> {
     /// A list is not one or more canonical decimals below 2 to the power 32, separated by commas.
     #[error("bad list")]
     BadList,
@@ -27,8 +33,46 @@ pub enum ToolError {
     /// The index of the first choice that is not below n.
     #[error("choice {0} is not below n")]
     Choice(usize),
+    /// The settings have no reading as JSON.
+    #[error("settings are not JSON")]
+    Json,
+    #[error("settings: {0} is missing or has the wrong shape")]
+    Shape(Field),
+    #[error("settings: {0} is out of limits")]
+    Limit(Field),
+    /// A ring of the settings, by its place, and what is wrong with it.
+    #[error("ring {0}: {1}")]
+    Ring(usize, RingCause),
+    /// A seat of the settings, and the place in its script of the first entry that is no action.
+    #[error("seat {0}, action {1}: not an action")]
+    Script(usize, usize),
+    #[error("a thread could not be started")]
+    Spawn,
+    #[error("the gate was shut")]
+    GateShut,
     #[error("a history is full")]
     HistoryFull,
+    /// A seat's log does not fit its ring's history.
+    #[error("logs and history differ")]
+    Mismatch,
+    /// The first line, from 1, that cannot stand in a saved text.
+    #[error("line {0}: syntax")]
+    Syntax(u64),
+    /// A saved text ends too early.
+    #[error("text is truncated")]
+    Truncated,
+    /// The first bad line of a saved text, from 1, and what is wrong with it.
+    #[error("line {0}: {1}")]
+    Bad(u64, Kind),
+    /// A file cannot be opened or read.
+    #[error("cannot read {0}")]
+    Read(&'a str),
+    /// A file has more bytes than are read.
+    #[error("{0} is too large")]
+    TooLarge(&'a str),
+    /// The file for the saved text cannot be made or written.
+    #[error("cannot write {0}")]
+    Save(&'a str),
     /// Standard output failed, or took no byte.
     #[error("cannot write")]
     Write,
@@ -36,7 +80,7 @@ pub enum ToolError {
     OutOfMemory,
 }
 
-impl ToolError {
+impl ToolError<'_> {
     ghost use Rattle.std.specs.Prelude.{◌≡◌};
     ghost use Rattle.ring_tool.specs.Faults.{status_of};
 
@@ -52,13 +96,13 @@ impl ToolError {
     }
 }
 
-impl From<ParamsError> for ToolError {
+impl From<ParamsError> for ToolError<'_> {
     ghost use Rattle.std.specs.Prelude.{◌≡◌};
     ghost use Rattle.ring_tool.specs.Faults.{fault_of_params};
 
     ghost from_gives = { λ p e. e ≡ fault_of_params p };
 
-    fn from(error: ParamsError) -> ToolError {
+    fn from(error: ParamsError) -> Self {
         match error {
             ParamsError::TooFew => ToolError::TooFew,
             ParamsError::TooMany => ToolError::TooMany,
@@ -68,13 +112,13 @@ impl From<ParamsError> for ToolError {
     }
 }
 
-impl From<StateError> for ToolError {
+impl From<StateError> for ToolError<'_> {
     ghost use Rattle.std.specs.Prelude.{◌≡◌};
     ghost use Rattle.ring_tool.specs.Faults.{fault_of_state};
 
     ghost from_gives = { λ p e. e ≡ fault_of_state p };
 
-    fn from(error: StateError) -> ToolError {
+    fn from(error: StateError) -> Self {
         match error {
             StateError::Length => ToolError::Length,
             StateError::Value(index) => ToolError::Value(index),
@@ -83,13 +127,13 @@ impl From<StateError> for ToolError {
     }
 }
 
-impl From<BookError> for ToolError {
+impl From<BookError> for ToolError<'_> {
     ghost use Rattle.std.specs.Prelude.{◌≡◌};
     ghost use Rattle.ring_tool.specs.Faults.{fault_of_book};
 
     ghost from_gives = { λ p e. e ≡ fault_of_book p };
 
-    fn from(error: BookError) -> ToolError {
+    fn from(error: BookError) -> Self {
         match error {
             BookError::HistoryFull => ToolError::HistoryFull,
             BookError::OutOfMemory => ToolError::OutOfMemory,
@@ -97,13 +141,77 @@ impl From<BookError> for ToolError {
     }
 }
 
-impl From<WriteFault> for ToolError {
+impl From<SettingsError> for ToolError<'_> {
+    ghost use Rattle.std.specs.Prelude.{◌≡◌};
+    ghost use Rattle.ring_tool.specs.Faults.{fault_of_settings};
+
+    ghost from_gives = { λ p e. e ≡ fault_of_settings p };
+
+    fn from(error: SettingsError) -> Self {
+        match error {
+            SettingsError::Json => ToolError::Json,
+            SettingsError::Shape(field) => ToolError::Shape(field),
+            SettingsError::Limit(field) => ToolError::Limit(field),
+            SettingsError::Ring(place, cause) => ToolError::Ring(place, cause),
+            SettingsError::Script(seat, place) => ToolError::Script(seat, place),
+            SettingsError::OutOfMemory => ToolError::OutOfMemory,
+        }
+    }
+}
+
+impl From<FarmError> for ToolError<'_> {
+    ghost use Rattle.std.specs.Prelude.{◌≡◌};
+    ghost use Rattle.ring_tool.specs.Faults.{fault_of_farm};
+
+    ghost from_gives = { λ p e. e ≡ fault_of_farm p };
+
+    fn from(error: FarmError) -> Self {
+        match error {
+            FarmError::Spawn => ToolError::Spawn,
+            FarmError::GateShut => ToolError::GateShut,
+            FarmError::HistoryFull => ToolError::HistoryFull,
+            FarmError::Mismatch => ToolError::Mismatch,
+            FarmError::OutOfMemory => ToolError::OutOfMemory,
+        }
+    }
+}
+
+impl From<ReadError> for ToolError<'_> {
+    ghost use Rattle.std.specs.Prelude.{◌≡◌};
+    ghost use Rattle.ring_tool.specs.Faults.{fault_of_read};
+
+    ghost from_gives = { λ p e. e ≡ fault_of_read p };
+
+    fn from(error: ReadError) -> Self {
+        match error {
+            ReadError::Syntax(line) => ToolError::Syntax(line),
+            ReadError::Truncated => ToolError::Truncated,
+            ReadError::OutOfMemory => ToolError::OutOfMemory,
+        }
+    }
+}
+
+impl From<CheckError> for ToolError<'_> {
+    ghost use Rattle.std.specs.Prelude.{◌≡◌};
+    ghost use Rattle.ring_tool.specs.Faults.{fault_of_check};
+
+    ghost from_gives = { λ p e. e ≡ fault_of_check p };
+
+    fn from(error: CheckError) -> Self {
+        match error {
+            CheckError::Bad { line, kind } => ToolError::Bad(line, kind),
+            CheckError::OutOfMemory => ToolError::OutOfMemory,
+        }
+    }
+}
+
+impl From<WriteFault> for ToolError<'_> {
     ghost use Rattle.std.specs.Prelude.{◌≡◌};
     ghost use Rattle.ring_tool.specs.declared.faults.ToolError.TheVariants.{Write};
 
     ghost from_gives = { λ _ e. e ≡ Write };
 
-    fn from(_fault: WriteFault) -> ToolError {
+    fn from(_fault: WriteFault) -> Self {
         ToolError::Write
     }
 }

@@ -21,7 +21,7 @@ fn read_decimal(text: &str) -> Option<u32> {
 /// # Errors
 ///
 /// `BadList` where the text is no such list, and `OutOfMemory`.
-pub fn read_list(alloc: Global, text: &str) -> Result<Vec<u32>, ToolError> {
+pub fn read_list(alloc: Global, text: &str) -> Result<Vec<u32>, ToolError<'static>> {
     let mut numbers = Vec::new(alloc);
     for piece in text.split(',') {
         let Some(number) = read_decimal(piece) else {

@@ -5,16 +5,22 @@ mod commands;
 mod faults;
 mod lists;
 mod program;
+mod reading;
 mod words;
 
 use crate::faults::ToolError;
-use std::io::{self, BufWriter};
+use std::io::{self, BufWriter, ErrorKind, Write};
 use std::process::ExitCode;
+use std::rt::{Env, Files};
+use std::sync::Wait;
+use std::thread::Threads;
 
-/// The words behind the program's name.
-fn words_of(rt: &HostRuntime) -> Result<Vec<String>, ToolError> {
-    let Ok(all) = std::env::args(rt) else {
-        return Err(ToolError::OutOfMemory);
+/// The words behind the program's name; none where one of them is not UTF-8.
+fn words_of<R: AllocGlobal + Env>(rt: &R) -> Result<Option<Vec<String>>, ToolError<'static>> {
+    let all = match std::env::args(rt) {
+        Ok(all) => all,
+        Err(error) if error.kind() == ErrorKind::InvalidData => return Ok(None),
+        Err(_) => return Err(ToolError::OutOfMemory),
     };
     let mut words = Vec::new(rt.alloc());
     for word in all.skip(1) {
@@ -22,22 +28,29 @@ fn words_of(rt: &HostRuntime) -> Result<Vec<String>, ToolError> {
             return Err(ToolError::OutOfMemory);
         }
     }
-    Ok(words)
+    Ok(Some(words))
 }
 
 /// The whole run: what it prints goes through a buffer to standard output.
-fn run(rt: &HostRuntime) -> Result<u8, ToolError> {
-    let words = words_of(rt)?;
+fn run<R: AllocGlobal + Env + Files + Print + Threads + Wait + Sync, E: Write>(
+    rt: &R,
+    err: &mut E,
+) -> Result<u8, ToolError<'static>> {
+    let Some(words) = words_of(rt)? else {
+        let _ = writeln!(err, "error: a word is not UTF-8");
+        return Ok(2);
+    };
     let Ok(mut out) = BufWriter::new(rt.alloc(), io::writer(rt)) else {
         return Err(ToolError::OutOfMemory);
     };
-    Ok(program::run_tool(rt, words.as_slice(), &mut out, &mut rt.stderr()))
+    Ok(program::run_tool(rt, words.as_slice(), &mut out, err))
 }
 
 fn main(rt: HostRuntime) -> ExitCode {
-    let status = match run(&rt) {
+    let mut err = rt.stderr();
+    let status = match run(&rt, &mut err) {
         Ok(status) => status,
-        Err(fault) => program::tell(&fault, &mut rt.stderr()),
+        Err(fault) => program::tell(&fault, &mut err),
     };
     ExitCode::from(status)
 }

@@ -1,17 +1,19 @@
 //! The whole program, over its words and any two writers.
 
-ghost use Rattle.std.specs.Prelude.{◌≡◌, ◌≤◌};
+ghost use Rattle.std.specs.Prelude.{◌≡◌, ◌≤◌, OnOk, IfErr};
 ghost use Rattle.ring_tool.specs.Faults.{status_of};
 
-use crate::commands::step;
+use crate::commands::{check, run, step};
 use crate::faults::ToolError;
 use crate::words::{Request, read_words};
 use clap::error::ErrorKind;
-use std::alloc::Global;
 use std::io::Write;
+use std::rt::Files;
+use std::sync::Wait;
+use std::thread::Threads;
 
 /// Prints the fault's line, and answers its status. A fault of `err` itself changes nothing.
-pub fn tell<E: Write>(fault: &ToolError, err: &mut E) -> u8
+pub fn tell<E: Write>(fault: &ToolError<'_>, err: &mut E) -> u8
     ensures { result ≡ status_of fault.now }
 {
     let _ = writeln!(err, "{fault}");
@@ -19,9 +21,29 @@ pub fn tell<E: Write>(fault: &ToolError, err: &mut E) -> u8
 }
 
 /// Does what was asked for.
-fn answer<O: Write>(alloc: Global, request: &Request<'_>, out: &mut O) -> Result<(), ToolError> {
+fn answer<'a, R: AllocGlobal + Files + Threads + Wait + Sync, O: Write>(
+    rt: &R,
+    request: &Request<'a>,
+    out: &mut O,
+) -> Result<(), ToolError<'a>> {
     match request {
-        Request::Step(words) => step::run(alloc, words, out),
+        Request::Step(words) => step::run(rt.alloc(), words, out),
+        Request::Run(words) => run::run(rt, words, out),
+        Request::Check(words) => check::run(rt, words, out),
+    }
+}
+
+/// Ends a command: lets what was printed leave a buffer, also what was printed before a refusal, and
+/// answers the status. A fault is told on `err`.
+fn finish<O: Write, E: Write>(done: Result<(), ToolError<'_>>, out: &mut O, err: &mut E) -> u8
+    ensures ok { OnOk done.entry (result ≤ 1) }
+    ensures err { IfErr done.entry (λ e. result ≡ status_of e) }
+{
+    let flushed = out.flush();
+    match done {
+        Ok(()) if flushed.is_err() => tell(&ToolError::Write, err),
+        Ok(()) => 0,
+        Err(fault) => tell(&fault, err),
     }
 }
 
@@ -31,7 +53,7 @@ fn answer<O: Write>(alloc: Global, request: &Request<'_>, out: &mut O) -> Result
 ///
 /// The status is 0 where it was done, 2 where the words cannot be read, and 1 after each other
 /// refusal. A fault of `err` does not change it.
-pub fn run_tool<R: AllocGlobal, O: Write, E: Write>(
+pub fn run_tool<R: AllocGlobal + Files + Threads + Wait + Sync, O: Write, E: Write>(
     rt: &R,
     words: &[String],
     out: &mut O,
@@ -39,21 +61,21 @@ pub fn run_tool<R: AllocGlobal, O: Write, E: Write>(
 ) -> u8
     ensures { result ≤ 2 }
 {
-    let alloc = rt.alloc();
-    let done = match read_words(alloc, words) {
-        Ok(request) => answer(alloc, &request, out),
-        Err(error) if error.kind() == ErrorKind::OutOfMemory => Err(ToolError::OutOfMemory),
+    match read_words(rt.alloc(), words) {
+        Ok(request) => {
+            let done = answer(rt, &request, out);
+            finish(done, out, err)
+        }
+        Err(error) if error.kind() == ErrorKind::OutOfMemory => {
+            finish(Err(ToolError::OutOfMemory), out, err)
+        }
         Err(error) if error.use_stderr() => {
             let _ = write!(err, "{error}");
-            return 2;
+            2
         }
-        Err(error) => write!(out, "{error}").map_err(|_| ToolError::Write),
-    };
-    // What was printed before a refusal stays, so it leaves a buffer too.
-    let flushed = out.flush();
-    match done {
-        Ok(()) if flushed.is_err() => tell(&ToolError::Write, err),
-        Ok(()) => 0,
-        Err(fault) => tell(&fault, err),
+        Err(error) => {
+            let done = write!(out, "{error}").map_err(|_| ToolError::Write);
+            finish(done, out, err)
+        }
     }
 }

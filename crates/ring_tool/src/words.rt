@@ -1,14 +1,18 @@
 //! The program's command line, as `clap` reads it.
 
+use crate::commands::check::CheckWords;
+use crate::commands::run::RunWords;
 use crate::commands::step::StepWords;
 use clap::error::ErrorKind;
-use clap::{Arg, Command, Error, value_parser};
+use clap::{Arg, ArgMatches, Command, Error, value_parser};
 use std::alloc::Global;
 
 /// A command, with its words.
 #[derive(Clone, Copy, Debug)]
 pub enum Request<'a> {
     Step(StepWords<'a>),
+    Run(RunWords<'a>),
+    Check(CheckWords<'a>),
 }
 
 const ABOUT: &str =
@@ -27,6 +31,33 @@ Example:
   2 granted 2
   states 1,2,2
   privileged 1 first 1";
+
+const RUN_ABOUT: &str =
+    "Runs the rings of a settings file, driven by clients on threads, and prints a report";
+
+const RUN_HELP: &str = "\
+Each client of the settings, and the injector of faults, has a thread of its own on each ring. When all have
+done their actions, the report has four lines for each ring and one for the farm.
+
+Example, where settings.json is {\"rings\":[{\"n\":3,\"k\":3,\"start\":[0,2,0]}],
+\"workers\":[{\"script\":[[\"pass\",0,0,5],[\"pass\",0,0,1],[\"pass\",0,2,4],[\"survey\",0]]}]}:
+  $ ring_tool run settings.json --history saved.txt
+  ring 0 n 3 k 3 events 3 granted 2 refused 1 corrupted 0 surveys 1
+  states 1,2,2
+  privileged 1 first 1 calm 2 rest 0 bound 9
+  grants 1,0,1 settled 0,0,0
+  total rings 1 events 3 granted 2 surveys 1";
+
+const CHECK_ABOUT: &str = "Checks a saved history, line by line";
+
+const CHECK_HELP: &str = "\
+It replays each ring of the file on one thread, and trusts nothing that the file says. Where each event, each
+survey and each count is right it prints the sums over all rings. Else it says which line is the first bad one,
+and why: `parameter`, `range`, `reply`, `count`, `survey`, or `syntax` where the file is no saved history.
+
+Example:
+  $ ring_tool check saved.txt
+  legal rings 1 events 3 granted 2 corrupted 0 surveys 1";
 
 /// The words of `step`.
 fn step_command<'a>(alloc: Global) -> Result<Command<'a>, Error> {
@@ -55,6 +86,39 @@ fn step_command<'a>(alloc: Global) -> Result<Command<'a>, Error> {
     )
 }
 
+/// The words of `run`.
+fn run_command<'a>(alloc: Global) -> Result<Command<'a>, Error> {
+    let settings = Arg::new(alloc, "SETTINGS")
+        .required(true)
+        .help("The settings, a JSON file of at most 1,073,741,824 bytes");
+    let history = Arg::new(alloc, "HISTORY")
+        .long("history")
+        .value_name("FILE")
+        .help(
+            "Writes each ring's history to FILE, which `check` reads; a file that is there is replaced",
+        );
+    Ok(
+        Command::new(alloc, "run")
+            .about(RUN_ABOUT)
+            .after_help(RUN_HELP)
+            .arg(settings)?
+            .arg(history)?,
+    )
+}
+
+/// The words of `check`.
+fn check_command<'a>(alloc: Global) -> Result<Command<'a>, Error> {
+    let file = Arg::new(alloc, "FILE").required(true).help(
+        "The saved history, as `run --history` writes it, of at most 1,073,741,824 bytes",
+    );
+    Ok(
+        Command::new(alloc, "check")
+            .about(CHECK_ABOUT)
+            .after_help(CHECK_HELP)
+            .arg(file)?,
+    )
+}
+
 /// All that the program understands.
 fn command_line<'a>(alloc: Global) -> Result<Command<'a>, Error> {
     Ok(
@@ -63,8 +127,35 @@ fn command_line<'a>(alloc: Global) -> Result<Command<'a>, Error> {
             .no_binary_name(true)
             .about(ABOUT)
             .subcommand_required(true)
-            .subcommand(step_command(alloc)?)?,
+            .subcommand(step_command(alloc)?)?
+            .subcommand(run_command(alloc)?)?
+            .subcommand(check_command(alloc)?)?,
     )
+}
+
+/// `step`, where all its words are there.
+fn step_words<'a>(words: &ArgMatches<'a>) -> Option<Request<'a>> {
+    Some(Request::Step(StepWords {
+        n: words.get_one::<u32>("N")?,
+        k: words.get_one::<u32>("K")?,
+        states: words.get_str("STATES")?,
+        choices: words.get_str("CHOICES"),
+    }))
+}
+
+/// `run`, where the settings' file is there.
+fn run_words<'a>(words: &ArgMatches<'a>) -> Option<Request<'a>> {
+    Some(Request::Run(RunWords {
+        settings: words.get_str("SETTINGS")?,
+        history: words.get_str("HISTORY"),
+    }))
+}
+
+/// `check`, where its word is there.
+fn check_words<'a>(words: &ArgMatches<'a>) -> Option<Request<'a>> {
+    Some(Request::Check(CheckWords {
+        file: words.get_str("FILE")?,
+    }))
 }
 
 /// The command that the words ask for. The program's name is not among them.
@@ -76,20 +167,14 @@ fn command_line<'a>(alloc: Global) -> Result<Command<'a>, Error> {
 pub fn read_words<'a>(alloc: Global, words: &'a [String]) -> Result<Request<'a>, Error> {
     let mut command = command_line(alloc)?;
     let matches = command.try_get_matches_from_mut(words)?;
-    if let Some(("step", step)) = matches.subcommand() {
-        if let (Some(n), Some(k), Some(states)) = (
-            step.get_one::<u32>("N"),
-            step.get_one::<u32>("K"),
-            step.get_str("STATES"),
-        ) {
-            let choices = step.get_str("CHOICES");
-            return Ok(Request::Step(StepWords {
-                n,
-                k,
-                states,
-                choices,
-            }));
-        }
+    let request = match matches.subcommand() {
+        Some(("step", words)) => step_words(words),
+        Some(("run", words)) => run_words(words),
+        Some(("check", words)) => check_words(words),
+        _ => None,
+    };
+    if let Some(request) = request {
+        return Ok(request);
     }
     // No words lead here, since `clap` asks for a command and for its words.
     Err(command.error(ErrorKind::MissingSubcommand, "a command is required")?)

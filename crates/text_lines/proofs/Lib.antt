@@ -7,3 +7,4 @@ pub mod Rows
 pub mod Steps
 pub mod Answering
 pub mod Writing
+pub mod Commas

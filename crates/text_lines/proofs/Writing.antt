@@ -1,5 +1,5 @@
 -- One piece of a text written after another.
-use Rattle.std.proofs.Common.{◌≡◌, ℕ, ◌+◌, ◌<◌, ◌≤◌, List, [], ◌∷◌, ◌++◌, length, take, drop, get_or, Option, Some, None, Result, Ok, Err, refl, sym, ap, ◌∙◌, append_assoc, arith, length-append}
+use Rattle.std.proofs.Common.{◌≡◌, ℕ, ◌+◌, ◌<◌, ◌≤◌, List, [], ◌∷◌, ◌++◌, length, take, drop, get_or, Option, Some, None, Result, Ok, Err, refl, sym, ap, subst, ◌∙◌, append_assoc, arith, length-append}
 use Rattle.std.specs.Io.KnownBytes.{Appends, Keeps}
 use Rattle.std.specs.List.{flat_map}
 use Rattle.std.proofs.lemmas.List.{append-nil, take-append-drop, take_more, drop_more, take_all}
@@ -45,6 +45,14 @@ writes_then a b c (Err e) x y p q = (q.0, q.1, (x ++ q.2.0, ap (λ (u : List ℕ
 -- a fault in a piece is one in what begins with it
 pub writes_err : (a b : Option (List ℕ)) (e : WriteFault) (x y : List ℕ) → Writes a b (Err e) x → Writes a b (Err e) (x ++ y)
 writes_err a b e x y q = (q.0 ++ y, (let some = q.1 in omega (arith, length-append q.0 y, some)), (q.2.0, ap (λ (u : List ℕ). u ++ y) q.2.1 ∙ append_assoc q.2.0 q.0 y, q.2.2))
+
+-- the same text
+pub writes_same : (a b : Option (List ℕ)) (r : Result (Unit {0}) WriteFault) (x y : List ℕ) → x ≡ y → Writes a b r x → Writes a b r y
+writes_same a b r x y e h = let P : List ℕ → Type 0 = λ t. Writes a b r t in subst P e h
+
+-- what is left of a text, after what is written of it
+pub writes_left : (a b c : Option (List ℕ)) (r : Result (Unit {0}) WriteFault) (text left : List ℕ) → Wrote a b text left → Writes b c r left → Writes a c r text
+writes_left a b c r text left h p = writes_same a c r (h.0 ++ left) text (sym h.1) (writes_then a b c r h.0 left h.2 p)
 
 -- ---- a text that is written from its front on
 

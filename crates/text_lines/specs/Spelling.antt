@@ -1,7 +1,7 @@
 -- How numbers are spelled: by std's decimal, which has no leading 0.
-use Rattle.std.specs.Prelude.{◌≡◌, ℕ, ◌<◌, List, [], ◌∷◌, ◌++◌, length}
+use Rattle.std.specs.Prelude.{◌≡◌, ℕ, zero, suc, ◌<◌, List, [], ◌∷◌, ◌++◌, length, map}
 use Rattle.std.specs.Fmt.{decimal}
-use Rattle.std.specs.List.{AllByRecursion}
+use Rattle.std.specs.List.{AllByRecursion, join_with_byte}
 use Rattle.text_lines.specs.Reading.{Either, this, that}
 
 -- a number and a space
@@ -17,6 +17,15 @@ abbrev pub row : List ℕ → List ℕ
 row [] = []
 row (x ∷ []) = ended x
 row (x ∷ y ∷ xs) = spaced x ++ row (y ∷ xs)
+
+-- numbers with a comma between two of them
+abbrev pub list_text : List ℕ → List ℕ
+list_text numbers = join_with_byte 44 (map decimal numbers)
+
+-- what stands behind a number with so many behind it in the list
+abbrev pub comma_before_rest : ℕ → List ℕ
+comma_before_rest zero = []
+comma_before_rest (suc n) = 44 ∷ []
 
 -- a number that is below the limit
 abbrev pub Below : ℕ → ℕ → Type 0

@@ -1,5 +1,5 @@
 -- How far a writer got with a text.
-use Rattle.std.specs.Prelude.{◌≡◌, ℕ, ◌<◌, length, List, ◌++◌, Option, Result, Ok, Err}
+use Rattle.std.specs.Prelude.{◌≡◌, ℕ, ◌<◌, length, slice_index, List, ◌++◌, Option, Result, Ok, Err}
 use Rattle.std.specs.Io.KnownBytes.{Appends}
 use Rattle.text_lines.specs.declared.write.WriteFault.{WriteFault}
 
@@ -11,3 +11,8 @@ Wrote old new text left = (front : List ℕ) × (text ≡ front ++ left) × Appe
 abbrev pub Writes : Option (List ℕ) → Option (List ℕ) → Result (Unit {0}) WriteFault → List ℕ → Type 0
 Writes old new (Ok u) text = Appends old new text
 Writes old new (Err e) text = (left : List ℕ) × (0 < length left) × Wrote old new text left
+
+-- So many numbers are those that a function answers: each of its answers at a place is the number there.
+pub record AreAnswers (Answers : ℕ → ℕ → Type 0) (count : ℕ) (numbers : List ℕ) : Type 0 where
+  pub many : length numbers ≡ count
+  pub each : (i answer : ℕ) → i < count → Answers i answer → answer ≡ slice_index numbers i

@@ -11,6 +11,7 @@
 
 mod answer;
 mod fault;
+mod list;
 mod number;
 mod row;
 mod words;
@@ -20,6 +21,7 @@ pub use answer::{
     ReadError, answers_are_apart, line_at, nothing_more, readers_answer_right, refusal,
 };
 pub use fault::{Fault, Stop};
+pub use list::put_list;
 pub use number::{number32, number64, positive32};
 pub use row::{put_row, row32};
 pub use words::word;

@@ -1,4 +1,4 @@
-ghost use Rattle.std.specs.Prelude.{◌≡◌, ◌<◌, ◌≤◌, ◌+◌, ◌↔◌, true, false, List, length, IsOk, IfOk, OnOk, OnErr, IsErrOf};
+ghost use Rattle.std.specs.Prelude.{◌≡◌, ◌<◌, ◌≤◌, ◌+◌, ◌↔◌, true, false, List, length, IsOk, IfOk, IfErr, OnOk, OnErr, IsErrOf};
 ghost use Rattle.ring_model.specs.Ring.{is_settled, rest};
 ghost use Rattle.ring_model.specs.History.{opening};
 ghost use Rattle.ring_model.specs.HistoryLaws.{Settlement};
@@ -121,7 +121,7 @@ impl<R: Resource + Drop> Book<R> {
         ensures none { is_settled self.old.now.ring.values ≡ true → result ≡ Ok 0 }
         ensures book { IsBook R.works R.first self.new }
         ensures settlement { Settlement R.works (opening self.new.start R.first) self.new.history }
-        ensures full { IsErrOf result BookError.HistoryFull → length self.new.history ≡ event_limit }
+        ensures full { IfErr result (λ e. (e ≡ BookError.HistoryFull) ↔ (length self.new.history ≡ event_limit)) }
         ensures err { OnErr result (is_settled self.new.now.ring.values ≡ false) }
         ensures succeeds { rest self.old.now.ring.k self.old.now.ring.values ≤ self.old.room → IsOk result }
     {

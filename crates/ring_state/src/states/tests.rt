@@ -53,6 +53,26 @@ fn a_copy_is_equal_and_apart(rt: HostRuntime) -> Result<(), Fail> {
     Ok(())
 }
 
+// Passes too where any one request for memory is refused, as `bench/refused_memory.sh` has it.
+#[test]
+fn a_refused_request_for_memory_is_told(rt: HostRuntime) {
+    let alloc = rt.alloc();
+    let state = match state_of(alloc, &[0, 2, 1]) {
+        Ok(state) => state,
+        Err(error) => {
+            assert_eq!(rt; error, StateError::OutOfMemory);
+            state_of(alloc, &[0, 2, 1]).expect(&rt, "memory the second time")
+        }
+    };
+    assert_eq!(rt; three(&rt, &state), (0, 2, 1));
+    let copy = match state.try_copy(alloc) {
+        Ok(copy) => copy,
+        Err(_) => state.try_copy(alloc).expect(&rt, "memory the second time"),
+    };
+    assert_eq!(rt; three(&rt, &copy), (0, 2, 1));
+    assert_eq!(rt; three(&rt, &state), (0, 2, 1));
+}
+
 #[test]
 fn machines_move_by_the_rule(rt: HostRuntime) -> Result<(), Fail> {
     let mut state = state_of(rt.alloc(), &[0, 2, 0])?;

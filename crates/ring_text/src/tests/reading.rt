@@ -1,8 +1,9 @@
 //! Reading texts, texts that are cut, and texts with a byte of another value.
 
 use super::judge::judge;
-use super::texts::{PASSES, TWO_RINGS, write};
+use super::texts::{PASSES, TWO_CLIENTS, TWO_RINGS, write};
 use crate::{ReadError, Saved, SavedEvent, SavedSurvey, read_saved};
+use std::process::Abort;
 use std::test::Fail;
 
 /// What was read, without its value.
@@ -13,10 +14,8 @@ fn answer(read: Result<Saved, ReadError>) -> Result<(), ReadError> {
     }
 }
 
-#[test]
-fn the_passes_are_read(rt: HostRuntime) -> Result<(), Fail> {
-    assert_eq!(rt; PASSES.len(), 99);
-    let saved = read_saved(rt.alloc(), PASSES)?;
+/// The value is that of the passes.
+fn holds_the_passes(rt: &impl Abort, saved: &Saved) {
     assert_eq!(rt; saved.rings_said, 1);
     assert_eq!(rt; saved.rings.len(), 1);
     let ring = &saved.rings[0];
@@ -54,6 +53,26 @@ fn the_passes_are_read(rt: HostRuntime) -> Result<(), Fail> {
         rest: 0,
     };
     assert_eq!(rt; ring.surveys.as_slice(), [survey].as_slice());
+}
+
+#[test]
+fn the_passes_are_read(rt: HostRuntime) -> Result<(), Fail> {
+    assert_eq!(rt; PASSES.len(), 99);
+    holds_the_passes(&rt, &read_saved(rt.alloc(), PASSES)?);
+    Ok(())
+}
+
+// Passes too where any one request for memory is refused, as `bench/refused_memory.sh` has it.
+#[test]
+fn want_of_memory_is_told_as_such(rt: HostRuntime) -> Result<(), Fail> {
+    let saved = match read_saved(rt.alloc(), PASSES) {
+        Ok(saved) => saved,
+        Err(refusal) => {
+            assert_eq!(rt; refusal, ReadError::OutOfMemory);
+            read_saved(rt.alloc(), PASSES)?
+        }
+    };
+    holds_the_passes(&rt, &saved);
     Ok(())
 }
 
@@ -96,6 +115,46 @@ fn the_two_rings_are_read(rt: HostRuntime) -> Result<(), Fail> {
     assert!(rt; ring.events.is_empty());
     assert_eq!(rt; ring.events_said, 0);
     assert!(rt; ring.surveys.is_empty());
+    Ok(())
+}
+
+/// A survey of the second ring of the text with two clients.
+fn seen(seat: u32, position: u64) -> SavedSurvey {
+    SavedSurvey {
+        seat,
+        position,
+        privileged: 3,
+        first: 0,
+        calm: 0,
+        rest: 6,
+    }
+}
+
+#[test]
+fn lines_are_read_in_their_order(rt: HostRuntime) -> Result<(), Fail> {
+    let saved = read_saved(rt.alloc(), TWO_CLIENTS)?;
+    assert_eq!(rt; saved.rings_said, 2);
+    assert_eq!(rt; saved.rings.len(), 2);
+    assert_eq!(rt; (saved.rings[0].index, saved.rings[0].n), (0, 2));
+    let ring = &saved.rings[1];
+    assert_eq!(rt; (ring.index, ring.n), (1, 3));
+    let events = [
+        SavedEvent::Corrupted {
+            seat: 0,
+            machine: 1,
+            value: 2,
+            old: 0,
+        },
+        SavedEvent::Corrupted {
+            seat: 1,
+            machine: 1,
+            value: 2,
+            old: 2,
+        },
+    ];
+    assert_eq!(rt; ring.events.as_slice(), events.as_slice());
+    let surveys = [seen(0, 1), seen(0, 2), seen(1, 2)];
+    assert_eq!(rt; ring.surveys.as_slice(), surveys.as_slice());
     Ok(())
 }
 
@@ -155,10 +214,11 @@ fn the_last_bytes(rt: HostRuntime) -> Result<(), Fail> {
 
 #[test]
 fn refusals(rt: HostRuntime) -> Result<(), Fail> {
-    let cases: [(&[u8], Result<(), ReadError>); 21] = [
+    let cases: [(&[u8], Result<(), ReadError>); 22] = [
         (b"", Err(ReadError::Truncated)),
         (b"ringfarm 1\nring 0 03 3\n", Err(ReadError::Syntax(2))),
         (b"ringfarm 1\nring 0  3 3\n", Err(ReadError::Syntax(2))),
+        (b"ringfarm 1\nring  0 3 3\n", Err(ReadError::Syntax(2))),
         (
             b"ringfarm 1\nring 0 3 3\nstart 0 2\n",
             Err(ReadError::Syntax(3)),

@@ -15,6 +15,11 @@ pub const PASSES: &[u8] =
 pub const TWO_RINGS: &[u8] =
     b"ringfarm 1\nring 0 3 3\nstart 0 0 0\nc 0 1 2 0\nc 0 1 2 2\nend 2\ns 0 2 3 0 0 6\nring 1 1 1\nstart 4294967295\nend 0\ndone 2\n";
 
+/// Two rings of two clients: in the first client 1 comes first, and in the second client 0 looks
+/// twice.
+pub const TWO_CLIENTS: &[u8] =
+    b"ringfarm 1\nring 0 2 2\nstart 0 0\np 1 0 7 g 1 7\np 0 0 1 n\nend 2\ns 0 2 1 1 1 0\ns 1 1 1 1 1 0\nring 1 3 3\nstart 0 0 0\nc 0 1 2 0\nc 1 1 2 2\nend 2\ns 0 1 3 0 0 6\ns 0 2 3 0 0 6\ns 1 2 3 0 0 6\ndone 2\n";
+
 fn write_ring<W: Write>(out: &mut W, ring: &SavedRing) -> Result<(), WriteFault> {
     put_ring_line(out, ring.index, ring.n, ring.k)?;
     put_start_line(out, &ring.start)?;

@@ -8,7 +8,7 @@ use std::test::Fail;
 
 /// How a writer answers once, when its room is used up; from then on it takes all.
 #[derive(Clone, Copy, Debug)]
-enum Refusal {
+pub enum Refusal {
     Fails,
     Interrupted,
     TakesNone,
@@ -16,8 +16,8 @@ enum Refusal {
 
 /// A writer with room for so many bytes that takes at most so many a call.
 #[derive(Drop)]
-struct Scripted {
-    held: Vec<u8>,
+pub struct Scripted {
+    pub held: Vec<u8>,
     room: usize,
     at_most: usize,
     then: Refusal,
@@ -44,7 +44,7 @@ impl Write for Scripted {
     }
 }
 
-fn writer_with(alloc: Global, room: usize, at_most: usize, then: Refusal) -> Scripted {
+pub fn writer_with(alloc: Global, room: usize, at_most: usize, then: Refusal) -> Scripted {
     Scripted {
         held: Vec::new(alloc),
         room,
@@ -53,7 +53,7 @@ fn writer_with(alloc: Global, room: usize, at_most: usize, then: Refusal) -> Scr
     }
 }
 
-const REFUSALS: [Refusal; 3] = [Refusal::Fails, Refusal::Interrupted, Refusal::TakesNone];
+pub const REFUSALS: [Refusal; 3] = [Refusal::Fails, Refusal::Interrupted, Refusal::TakesNone];
 
 #[test]
 fn a_fault_leaves_a_beginning(rt: HostRuntime) -> Result<(), Fail> {

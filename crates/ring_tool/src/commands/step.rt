@@ -88,7 +88,7 @@ fn write_end<W: Write>(out: &mut W, state: &RingState) -> Result<(), WriteFault>
 }
 
 /// The ring's size, where it is allowed.
-fn sized(n: u32, k: u32) -> Result<Params, ToolError>
+fn sized(n: u32, k: u32) -> Result<Params, ToolError<'static>>
     ensures ok { IfOk result (λ p. (p ≡ record { n = n; k = k }) × (size_fault n k ≡ None)) }
     ensures err { IfErr result (λ e. size_fault n k ≡ Some e) }
 {
@@ -96,7 +96,7 @@ fn sized(n: u32, k: u32) -> Result<Params, ToolError>
 }
 
 /// The ring, where its size and its start values are allowed.
-fn started(alloc: Global, n: u32, k: u32, states: &[u32]) -> Result<RingState, ToolError>
+fn started(alloc: Global, n: u32, k: u32, states: &[u32]) -> Result<RingState, ToolError<'static>>
     ensures ok { IfOk result (λ r. (r ≡ record { k = k; values = states.now })
         × (length states.now ≡ n) × (start_fault n k states.now ≡ None)) }
     ensures err { IfErr result (λ e. IsRefusalOver (start_fault n k states.now) e) }
@@ -119,7 +119,7 @@ fn opened(
     k: u32,
     states: &[u32],
     choices: &[u32],
-) -> Result<Book<Idle>, ToolError>
+) -> Result<Book<Idle>, ToolError<'static>>
     ensures ok { IfOk result (λ b. IsFresh (record { k = k; values = states.now }) (record {}) b
         × (length states.now ≡ n) × (fault_of n k states.now choices.now ≡ None)) }
     ensures err { IfErr result (λ e. IsOpeningRefusal n k states.now choices.now e) }
@@ -151,7 +151,7 @@ pub fn step_lines<W: Write>(
     states: &[u32],
     choices: &[u32],
     out: &mut W,
-) -> Result<(), ToolError>
+) -> Result<(), ToolError<'static>>
     // What is written: all of the text, or a beginning of it, or nothing where there is a fault.
     ensures written { OnOk result (Appends (W.contents out.old) (W.contents out.new) (step_text k states.now choices.now)) }
     ensures front { OnErr result (AppendsFront (W.contents out.old) (W.contents out.new) (step_text k states.now choices.now)) }
@@ -175,7 +175,11 @@ pub fn step_lines<W: Write>(
 /// # Errors
 ///
 /// `BadList` where a list is not well written, and those of [`step_lines`].
-pub fn run<W: Write>(alloc: Global, words: &StepWords<'_>, out: &mut W) -> Result<(), ToolError> {
+pub fn run<W: Write>(
+    alloc: Global,
+    words: &StepWords<'_>,
+    out: &mut W,
+) -> Result<(), ToolError<'static>> {
     let states = read_list(alloc, words.states)?;
     let choices = match words.choices {
         Some(text) => read_list(alloc, text)?,

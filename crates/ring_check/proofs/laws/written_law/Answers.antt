@@ -1,5 +1,5 @@
-use Rattle.ring_check.proofs.WrittenTexts.{written_is_legal}
+use Rattle.ring_check.proofs.WrittenTexts.{written_is_legal, written_is_right}
 use Rattle.ring_check.proofs.laws.written_law.Goals as goal
 
 pub returns : goal.returns
-returns c = written_is_legal
+returns c = record { legal = written_is_legal; right = written_is_right }

@@ -1,4 +1,4 @@
-use Rattle.std.proofs.Common.{◌≡◌, ℕ, ◌+◌, ◌-◌, List, [], ◌∷◌, ◌++◌, length, drop, get_or, Err, Ok, sym, ap, subst}
+use Rattle.std.proofs.Common.{ℕ, ◌+◌, ◌-◌, List, [], ◌∷◌, ◌++◌, length, drop, get_or, Err, Ok, subst}
 use Rattle.std.specs.Fmt.{decimal}
 use Rattle.text_lines.specs.Reading.{stop_of}
 use Rattle.text_lines.specs.Spelling.{row}

@@ -7,7 +7,7 @@ use Rattle.ring_text.specs.Content.{Block, block_of}
 use Rattle.ring_check.specs.Lines.{block_lines}
 use Rattle.ring_check.proofs.Blocks.{block_long}
 use Rattle.ring_check.proofs.BlockLines.{lines_long}
-use Rattle.ring_check.proofs.tests.check.Goals as goal
+use Rattle.ring_check.proofs.tests.texts.check_once.Goals as goal
 
 -- the lines of one block more
 lines_more : (rs : List SavedRing) (r : SavedRing) (m : ℕ) → length r.events.items ≤ 1000000 → length r.surveys.items ≤ 1000000 →

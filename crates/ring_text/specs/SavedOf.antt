@@ -1,5 +1,6 @@
--- The saved text of what a farm hands out, as a plain function on lists (this project's own).
-use Rattle.std.specs.Prelude.{ℕ, ◌+◌, List, [], ◌∷◌, ◌++◌, map, length}
+-- The saved text of what a farm hands out, as a plain function of it (this project's own).
+use Rattle.std.specs.Prelude.{ℕ, ◌+◌, List, [], ◌∷◌, map, length}
+use Rattle.std.specs.List.{flat_map}
 use Rattle.ring_model.specs.declared.events.Op.{Op}
 use Rattle.ring_model.specs.declared.events.Op.TheVariants.{Pass, Corrupt}
 use Rattle.ring_model.specs.declared.events.Reply.{Reply}
@@ -8,17 +9,13 @@ use Rattle.ring_model.specs.declared.events.Event.{Event}
 use Rattle.ring_model.specs.declared.events.Survey.{Survey}
 use Rattle.ring_model.specs.declared.events.Entry.{Entry}
 use Rattle.ring_model.specs.declared.events.Entry.TheVariants as entry
+use Rattle.ring_shared.specs.declared.seats.Log.{Log}
+use Rattle.ring_farm.specs.declared.outcomes.Outcome.{Outcome}
+use Rattle.ring_farm.specs.declared.outcomes.RingOutcome.{RingOutcome}
 use Rattle.ring_text.specs.declared.saved.SavedEvent.{SavedEvent}
 use Rattle.ring_text.specs.declared.saved.SavedEvent.TheVariants as saved
 use Rattle.ring_text.specs.declared.saved.SavedSurvey.{SavedSurvey}
 use Rattle.ring_text.specs.Content.{Content, Block}
-
--- one ring of an outcome: K, the start values, the history, and the seats' logs by number
-pub record Run : Type 0 where
-  pub k : ℕ
-  pub start : List ℕ
-  pub history : List Event
-  pub logs : List (List Entry)
 
 -- the line of an event; where call and reply do not belong together there is none, and a refused pass stands for it
 abbrev pub saved_for : ℕ → Op → Reply → SavedEvent
@@ -35,34 +32,33 @@ saved_event e = saved_for e.seat e.op e.reply
 abbrev pub saved_survey : ℕ → Survey → SavedSurvey
 saved_survey seat s = record { seat = seat; position = s.position; privileged = s.privileged; first = s.first; calm = s.calm; rest = s.rest }
 
--- the surveys of a seat's log, in its order; the receipts are not written, since the history holds them
-abbrev pub log_surveys : ℕ → List Entry → List SavedSurvey
-log_surveys seat [] = []
-log_surveys seat (entry.Receipt r ∷ log) = log_surveys seat log
-log_surveys seat (entry.Survey s ∷ log) = saved_survey seat s ∷ log_surveys seat log
+-- the surveys among a seat's entries, in their order; the receipts are not written, since the history holds them
+abbrev pub entry_surveys : ℕ → List Entry → List SavedSurvey
+entry_surveys seat [] = []
+entry_surveys seat (entry.Receipt r ∷ log) = entry_surveys seat log
+entry_surveys seat (entry.Survey s ∷ log) = saved_survey seat s ∷ entry_surveys seat log
 
--- log by log, each with its number as the seat, the first of which is given
-abbrev pub surveys_from : ℕ → List (List Entry) → List SavedSurvey
-surveys_from seat [] = []
-surveys_from seat (log ∷ logs) = log_surveys seat log ++ surveys_from (seat + 1) logs
+-- those of a log, with its seat
+abbrev pub log_surveys : Log → List SavedSurvey
+log_surveys l = entry_surveys l.seat l.entries.items
 
--- the block of a ring at its place
-abbrev pub block_for : ℕ → Run → Block
-block_for place r = record {
+-- the block of a ring at its place: its start, its history, and the surveys log by log
+abbrev pub block_at : ℕ → RingOutcome → Block
+block_at place r = record {
   index = place;
-  n = length r.start;
-  k = r.k;
-  start = r.start;
-  events = map saved_event r.history;
-  events_said = length r.history;
-  surveys = surveys_from 0 r.logs;
+  n = length r.book.start.values;
+  k = r.book.start.k;
+  start = r.book.start.values;
+  events = map saved_event r.book.history;
+  events_said = length r.book.history;
+  surveys = flat_map log_surveys r.logs.items;
 }
 
 -- the blocks of the rings, each at its place, the first of which is given
-abbrev pub blocks_from : ℕ → List Run → List Block
+abbrev pub blocks_from : ℕ → List RingOutcome → List Block
 blocks_from place [] = []
-blocks_from place (r ∷ rs) = block_for place r ∷ blocks_from (place + 1) rs
+blocks_from place (r ∷ rs) = block_at place r ∷ blocks_from (place + 1) rs
 
--- the saved text of an outcome's rings
-abbrev pub saved_of : List Run → Content
-saved_of rs = record { rings = blocks_from 0 rs; rings_said = length rs }
+-- the saved text of an outcome says these blocks, and their number
+abbrev pub saved_of : Outcome → Content
+saved_of o = record { rings = blocks_from 0 o.rings.items; rings_said = length o.rings.items }

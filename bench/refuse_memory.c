@@ -1,0 +1,34 @@
+// Refuses one request for memory of a process: preloaded, with the number of the request, from 1, in REFUSED_REQUEST.
+// Where it came to that request, it makes the file that REFUSED_MARK names.
+#define _GNU_SOURCE
+#include <dlfcn.h>
+#include <errno.h>
+#include <fcntl.h>
+#include <stdatomic.h>
+#include <stddef.h>
+#include <stdlib.h>
+#include <unistd.h>
+
+static atomic_long requests;
+
+static int is_refused(void) {
+    const char *number = getenv("REFUSED_REQUEST");
+    if (!number || atomic_fetch_add(&requests, 1) + 1 != atol(number)) return 0;
+    const char *mark = getenv("REFUSED_MARK");
+    int file = mark ? open(mark, O_CREAT | O_WRONLY, 0600) : -1;
+    if (file >= 0) close(file);
+    errno = ENOMEM;
+    return 1;
+}
+
+void *malloc(size_t size) {
+    static void *(*next)(size_t);
+    if (!next) next = (void *(*)(size_t))dlsym(RTLD_NEXT, "malloc");
+    return is_refused() ? NULL : next(size);
+}
+
+void *realloc(void *old, size_t size) {
+    static void *(*next)(void *, size_t);
+    if (!next) next = (void *(*)(void *, size_t))dlsym(RTLD_NEXT, "realloc");
+    return is_refused() ? NULL : next(old, size);
+}

@@ -1,0 +1,86 @@
+#!/bin/sh
+# Refuses each request for memory in turn: in those tests that are written for it (they pass where a refusal is told and
+# what was there before still is), and in the program, which has to answer as ever, or with status 1, a text that names
+# what failed, and nothing on standard output. Words: the crates to try, all of them where there is none.
+# Needs rt and a C compiler.
+set -eu
+top=$(cd "$(dirname "$0")/.." && pwd)
+out=$top/bench/out
+mkdir -p "$out"
+"${CC:-cc}" -shared -fPIC -O1 -o "$out/refuse_memory.so" "$top/bench/refuse_memory.c" -ldl
+mark=$out/refused
+failed=0
+
+# refused N COMMAND..: the command with its request N refused; the status is the command's
+refused() {
+    number=$1
+    shift
+    rm -f "$mark"
+    REFUSED_REQUEST=$number REFUSED_MARK=$mark LD_PRELOAD=$out/refuse_memory.so "$@"
+}
+
+# a test of a crate, by its full name
+try_test() {
+    number=1
+    while :; do
+        refused "$number" "$top/crates/$1/out/$1_tests" "$2" >"$out/refused.txt" 2>&1 || {
+            echo "$1 $2, request $number:"
+            tail -1 "$out/refused.txt"
+            failed=1
+        }
+        [ -e "$mark" ] || break
+        number=$((number + 1))
+    done
+    echo "$1 $2: $((number - 1)) requests refused in turn"
+}
+
+# the tests of a crate whose names begin so
+try_crate() {
+    echo "proving and building the tests of $1"
+    (cd "$top/crates/$1" && rt test >"$out/refused-$1.log" 2>&1) || { tail -5 "$out/refused-$1.log"; exit 1; }
+    for name in $("$top/crates/$1/out/$1_tests" --list | sed -n 's/: test$//p' | grep -E "$2"); do
+        try_test "$1" "$name"
+    done
+}
+
+# the program with these words, in the folder of the outputs
+try_program() {
+    (cd "$out" && "$program" "$@" >wanted.txt 2>wanted-fault.txt) || { cat "$out/wanted-fault.txt"; exit 1; }
+    number=1
+    while :; do
+        status=0
+        (cd "$out" && refused "$number" "$program" "$@" >got.txt 2>got-fault.txt) || status=$?
+        if [ "$status" = 0 ]; then
+            cmp -s "$out/got.txt" "$out/wanted.txt" || { echo "$*, request $number: another answer"; failed=1; }
+        elif [ "$status" != 1 ] || [ -s "$out/got.txt" ] || ! grep -qxE 'out of memory|a thread could not be started|cannot (read|write)( .*)?' "$out/got-fault.txt"; then
+            echo "$*, request $number: status $status"
+            cat "$out/got-fault.txt"
+            failed=1
+        fi
+        [ -e "$mark" ] || break
+        number=$((number + 1))
+    done
+    echo "$*: $((number - 1)) requests refused in turn"
+}
+
+crates=${*:-ring_state ring_book ring_settle ring_settings ring_shared ring_farm ring_text ring_check ring_tool}
+for crate in $crates; do
+    case $crate in
+    ring_book | ring_settle) try_crate "$crate" . ;;
+    ring_shared) try_crate "$crate" two_seats_call_in_turn ;;
+    ring_check) try_crate "$crate" first_text_is_legal ;;
+    ring_tool)
+        echo "proving and building the program"
+        (cd "$top/crates/ring_tool" && rt run -- --help >"$out/refused-tool.log" 2>&1) || { tail -5 "$out/refused-tool.log"; exit 1; }
+        program=$top/crates/ring_tool/out/ring_tool
+        cp "$top/examples/first.json" "$out/first.json"
+        try_program step 3 3 0,2,0 0,0,2
+        try_program run first.json
+        try_program run first.json --history first.txt
+        "$program" run "$out/first.json" --history "$out/first.txt" >/dev/null
+        try_program check first.txt
+        ;;
+    *) try_crate "$crate" memory ;;
+    esac
+done
+exit "$failed"

@@ -1,0 +1,133 @@
+-- The lists of a saved text as what an outcome has, item by item.
+use Rattle.std.proofs.Common.{◌≡◌, ℕ, suc, ◌+◌, ◌-◌, ◌^◌, ◌<◌, ◌≤◌, List, [], ◌∷◌, ◌++◌, length, drop, get_or, map, Option, Err, refl, sym, ap, subst, arith}
+use Rattle.std.specs.Fmt.{decimal}
+use Rattle.std.specs.Io.KnownBytes.{Appends}
+use Rattle.std.specs.List.{flat_map, slice_index, AllByRecursion}
+use Rattle.std.proofs.lemmas.List.{append-nil}
+use Rattle.std.proofs.lemmas.List.Concat.{flat_map-append}
+use Rattle.text_lines.specs.declared.write.WriteFault.{WriteFault}
+use Rattle.text_lines.specs.Reading.{stop_of}
+use Rattle.text_lines.specs.Spelling.{row}
+use Rattle.text_lines.specs.Writing.{Wrote, Writes}
+use Rattle.text_lines.proofs.Rows.{row_next}
+use Rattle.text_lines.proofs.Writing.{wrote_piece, wrote_fault}
+use Rattle.ring_model.specs.declared.events.Event.{Event}
+use Rattle.ring_model.specs.declared.events.Entry.{Entry}
+use Rattle.ring_model.specs.declared.events.Entry.TheVariants as entry
+use Rattle.ring_shared.specs.declared.seats.Log.{Log}
+use Rattle.ring_farm.specs.declared.outcomes.RingOutcome.{RingOutcome}
+use Rattle.ring_text.specs.declared.saved.SavedSurvey.{SavedSurvey}
+use Rattle.ring_text.specs.Spelling.{event_line, survey_line, block_text, EventFits, SurveyFits, BlockFits}
+use Rattle.ring_text.specs.SavedOf.{saved_event, saved_survey, entry_surveys, log_surveys, block_at, blocks_from}
+use Rattle.ring_text.proofs.Passing.{Spelled}
+
+-- ---- the values of a start
+
+-- one value more
+module _ (values : List ℕ) (i n x : ℕ) (size : n ≡ length values) (is : x ≡ get_or values i 0) (lt : i < n) (a b c : Option (List ℕ)) (so_far : Wrote a b (row values) (row (drop i values))) where
+  abbrev value_text : List ℕ
+  value_text = decimal x ++ stop_of (n - i - 1) ∷ []
+
+  value_next : Wrote a b (row values) (value_text ++ row (drop (i + 1) values))
+  value_next =
+      let below : i < length values = omega (arith, size, lt) in
+      let e : row (drop i values) ≡ value_text ++ row (drop (i + 1) values) = rw (size, is) (row_next values i below) in
+      subst (λ (u : List ℕ). Wrote a b (row values) u) e so_far
+
+  pub value_more : Appends b c value_text → Wrote a c (row values) (row (drop (i + 1) values))
+  value_more h = wrote_piece a b c (row values) value_text (row (drop (i + 1) values)) value_next h
+
+  pub value_fault : (e : WriteFault) → Writes b c (Err e) value_text → Writes a c (Err e) (row values)
+  value_fault e h = wrote_fault a b c e (row values) value_text (row (drop (i + 1) values)) value_next h
+
+-- the values of a state are small
+pub small_below : (limit : ℕ) (xs : List ℕ) → ((i : ℕ) → i < length xs → slice_index xs i < limit) → limit ≤ 2 ^ 32 → AllByRecursion (λ x. x < 2 ^ 32) xs
+small_below limit [] h le = tt
+small_below limit (x ∷ xs) h le =
+    let first : x < limit = h 0 (omega arith) in
+    (omega (arith, first, le), small_below limit xs (λ i lt. h (suc i) (omega (arith, lt))) le)
+
+-- ---- events
+
+abbrev pub events_text : ℕ → List Event → List ℕ
+events_text i es = flat_map event_line (map saved_event es)
+
+abbrev pub EventsFit : ℕ → List Event → Type 0
+EventsFit i es = AllByRecursion EventFits (map saved_event es)
+
+abbrev pub event_text : ℕ → Event → List ℕ
+event_text i e = event_line (saved_event e)
+
+abbrev pub EventFit : ℕ → Event → Type 0
+EventFit i e = EventFits (saved_event e)
+
+pub events_spelled : Spelled event_text events_text EventFit EventsFit
+events_spelled = record { none = λ i. refl; next = λ i x xs. refl; fits_none = λ i. tt; fits_next = λ i x xs f h. (f, h) }
+
+-- ---- surveys
+
+abbrev pub surveys_text : ℕ → ℕ → List Entry → List ℕ
+surveys_text seat i es = flat_map survey_line (entry_surveys seat es)
+
+abbrev pub SurveysFit : ℕ → ℕ → List Entry → Type 0
+SurveysFit seat i es = AllByRecursion SurveyFits (entry_surveys seat es)
+
+abbrev pub entry_text : ℕ → ℕ → Entry → List ℕ
+entry_text seat i e = flat_map survey_line (entry_surveys seat (e ∷ []))
+
+abbrev pub EntryFit : ℕ → ℕ → Entry → Type 0
+EntryFit seat i e = AllByRecursion SurveyFits (entry_surveys seat (e ∷ []))
+
+pub surveys_spelled : (seat : ℕ) → Spelled (entry_text seat) (surveys_text seat) (EntryFit seat) (SurveysFit seat)
+surveys_spelled seat = record { none = λ i. refl; next = next; fits_none = λ i. tt; fits_next = fits_next }
+  where
+    next : (i : ℕ) (e : Entry) (es : List Entry) → surveys_text seat i (e ∷ es) ≡ entry_text seat i e ++ surveys_text seat (i + 1) es
+    next i (entry.Receipt r) es = refl
+    next i (entry.Survey s) es = ap (λ (u : List ℕ). u ++ surveys_text seat (i + 1) es) (sym (append-nil (survey_line (saved_survey seat s))))
+
+    fits_next : (i : ℕ) (e : Entry) (es : List Entry) → EntryFit seat i e → SurveysFit seat (i + 1) es → SurveysFit seat i (e ∷ es)
+    fits_next i (entry.Receipt r) es f h = h
+    fits_next i (entry.Survey s) es f h = (f.0, h)
+
+-- ---- logs
+
+abbrev pub logs_text : ℕ → List Log → List ℕ
+logs_text i ls = flat_map survey_line (flat_map log_surveys ls)
+
+abbrev pub LogsFit : ℕ → List Log → Type 0
+LogsFit i ls = AllByRecursion SurveyFits (flat_map log_surveys ls)
+
+abbrev pub log_text : ℕ → Log → List ℕ
+log_text i l = flat_map survey_line (log_surveys l)
+
+abbrev pub LogFit : ℕ → Log → Type 0
+LogFit i l = AllByRecursion SurveyFits (log_surveys l)
+
+all_append : (xs ys : List SavedSurvey) → AllByRecursion SurveyFits xs → AllByRecursion SurveyFits ys → AllByRecursion SurveyFits (xs ++ ys)
+all_append [] ys p q = q
+all_append (x ∷ xs) ys p q = (p.0, all_append xs ys p.1 q)
+
+pub logs_spelled : Spelled log_text logs_text LogFit LogsFit
+logs_spelled = record {
+  none = λ i. refl;
+  next = λ i l ls. flat_map-append survey_line (log_surveys l) (flat_map log_surveys ls);
+  fits_none = λ i. tt;
+  fits_next = λ i l ls f h. all_append (log_surveys l) (flat_map log_surveys ls) f h;
+}
+
+-- ---- rings
+
+abbrev pub blocks_text : ℕ → List RingOutcome → List ℕ
+blocks_text i rs = flat_map block_text (blocks_from i rs)
+
+abbrev pub BlocksFit : ℕ → List RingOutcome → Type 0
+BlocksFit i rs = AllByRecursion BlockFits (blocks_from i rs)
+
+abbrev pub ring_text : ℕ → RingOutcome → List ℕ
+ring_text i r = block_text (block_at i r)
+
+abbrev pub RingFit : ℕ → RingOutcome → Type 0
+RingFit i r = BlockFits (block_at i r)
+
+pub blocks_spelled : Spelled ring_text blocks_text RingFit BlocksFit
+blocks_spelled = record { none = λ i. refl; next = λ i x xs. refl; fits_none = λ i. tt; fits_next = λ i x xs f h. (f, h) }

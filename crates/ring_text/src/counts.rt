@@ -1,0 +1,120 @@
+//! What a report counts.
+
+ghost use Rattle.std.specs.Prelude.{◌≡◌, ◌+◌, ◌<◌, ◌≤◌, ◌^◌, []};
+ghost use Rattle.ring_model.specs.Surveys.{granted_count, corrupted_count};
+ghost use Rattle.ring_book.specs.EventsView.{event_limit};
+ghost use Rattle.ring_text.specs.Report.{refused_count, survey_count, surveys_in, entries_of, counts_of, totals_of};
+
+use ring_farm::RingOutcome;
+use ring_model::{Entry, Event, Reply};
+use ring_shared::Log;
+
+/// What is counted of one ring.
+#[derive(Clone, Copy, Debug, PartialEq, Eq)]
+pub struct Counts {
+    pub events: u64,
+    /// Passes that were granted.
+    pub granted: u64,
+    /// Passes that found no privilege.
+    pub refused: u64,
+    pub corrupted: u64,
+    /// Surveys in the logs of the ring's seats.
+    pub surveys: u64,
+}
+
+/// What adds up over the rings of a farm.
+#[derive(Clone, Copy, Debug, PartialEq, Eq)]
+pub struct Totals {
+    pub events: u64,
+    pub granted: u64,
+    pub surveys: u64,
+}
+
+impl Totals {
+    /// Those of no ring.
+    pub fn new() -> Totals
+        ensures { result ≡ totals_of [] }
+    {
+        Totals {
+            events: 0,
+            granted: 0,
+            surveys: 0,
+        }
+    }
+
+    /// Adds what was counted of a ring.
+    pub fn add(&mut self, counts: Counts)
+        requires events { self.old.events + counts.events < 2 ^ 64 }
+        requires granted { self.old.granted + counts.granted < 2 ^ 64 }
+        requires surveys { self.old.surveys + counts.surveys < 2 ^ 64 }
+        ensures { self.new ≡ record { events = self.old.events + counts.events; granted = self.old.granted + counts.granted; surveys = self.old.surveys + counts.surveys } }
+    {
+        self.events += counts.events;
+        self.granted += counts.granted;
+        self.surveys += counts.surveys;
+    }
+}
+
+fn granted(history: &[Event]) -> usize
+    ensures { result ≡ granted_count history.now }
+{
+    history
+        .iter()
+        .filter(|event| matches!(event.reply, Reply::Granted { .. }))
+        .count()
+}
+
+fn refused(history: &[Event]) -> usize
+    ensures { result ≡ refused_count history.now }
+{
+    history
+        .iter()
+        .filter(|event| matches!(event.reply, Reply::NotPrivileged))
+        .count()
+}
+
+fn corrupted(history: &[Event]) -> usize
+    ensures { result ≡ corrupted_count history.now }
+{
+    history
+        .iter()
+        .filter(|event| matches!(event.reply, Reply::Corrupted { .. }))
+        .count()
+}
+
+fn surveys(entries: &[Entry]) -> usize
+    ensures { result ≡ survey_count entries.now }
+{
+    entries
+        .iter()
+        .filter(|entry| matches!(entry, Entry::Survey(_)))
+        .count()
+}
+
+fn surveys_of(logs: &[Log]) -> u64
+    requires { entries_of logs.now < 2 ^ 64 }
+    ensures { result ≡ surveys_in logs.now }
+{
+    let mut all = 0;
+    for log in logs {
+        all += surveys(log.entries.as_slice()) as u64;
+    }
+    all
+}
+
+/// Counts a ring's events and surveys.
+pub fn counted(ring: &RingOutcome) -> Counts
+    requires { entries_of ring.now.logs.items < 2 ^ 64 }
+    ensures is { result ≡ counts_of ring.now }
+    ensures few { result.events ≤ event_limit }
+    ensures granted { result.granted ≤ result.events }
+{
+    let history = ring.book.history();
+    Counts {
+        events: history.len() as u64,
+        granted: granted(history) as u64,
+        refused: refused(history) as u64,
+        corrupted: corrupted(history) as u64,
+        surveys: surveys_of(ring.logs.as_slice()),
+    }
+}

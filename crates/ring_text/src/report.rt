@@ -1,0 +1,240 @@
+//! The writer of the report on what a farm hands out. It takes no memory.
+
+ghost use Rattle.std.specs.Prelude.{◌≡◌, ◌<◌, ◌≤◌, ◌^◌, ◌++◌, ℕ, List, length, codes};
+ghost use Rattle.text_lines.specs.Spelling.{list_text};
+ghost use Rattle.text_lines.specs.Writing.{AreAnswers, Writes};
+ghost use Rattle.ring_model.specs.History.{after, opening};
+ghost use Rattle.ring_model.specs.Resources.{till};
+ghost use Rattle.ring_text.specs.Report.{entries_in, counts_of, counts_line, states_line, standing_line, grants_line, end_lines, ring_lines, total_line, report};
+
+use crate::counts::{Counts, Totals, counted};
+use itoa::Buffer;
+use ring_book::{Book, GrantBook, Survey, Till};
+use ring_farm::{Outcome, RingOutcome};
+use ring_settle::bound;
+use ring_state::RingState;
+use std::io::Write;
+use text_lines::{WriteFault, put, put_all, put_list};
+
+/// The line of a ring's place, its size and what is counted of it.
+fn put_counts_line<W: Write>(
+    out: &mut W,
+    place: u32,
+    n: u32,
+    k: u32,
+    counts: Counts,
+) -> Result<(), WriteFault>
+    ensures { Writes (W.contents out.old) (W.contents out.new) result (counts_line place n k counts) }
+{
+    let mut sizes = (Buffer::new(), Buffer::new(), Buffer::new());
+    let mut buffers = (
+        Buffer::new(),
+        Buffer::new(),
+        Buffer::new(),
+        Buffer::new(),
+        Buffer::new(),
+    );
+    let place = sizes.0.format(place).as_bytes();
+    let n = sizes.1.format(n).as_bytes();
+    let k = sizes.2.format(k).as_bytes();
+    let events = buffers.0.format(counts.events).as_bytes();
+    let granted = buffers.1.format(counts.granted).as_bytes();
+    let refused = buffers.2.format(counts.refused).as_bytes();
+    let corrupted = buffers.3.format(counts.corrupted).as_bytes();
+    let surveys = buffers.4.format(counts.surveys).as_bytes();
+    put_all(
+        out,
+        &[
+            b"ring ",
+            place,
+            b" n ",
+            n,
+            b" k ",
+            k,
+            b" events ",
+            events,
+            b" granted ",
+            granted,
+            b" refused ",
+            refused,
+            b" corrupted ",
+            corrupted,
+            b" surveys ",
+            surveys,
+            b"\n",
+        ],
+    )
+}
+
+/// A word, and a list of so many numbers behind it, the one at place `i` as `number` answers it.
+#[tactic(auto, using(text_lines::proofs::Writing::writes_then))]
+fn put_worded_list<W: Write, F: Fn(u32) -> u64>(
+    out: &mut W,
+    word: &[u8],
+    count: u32,
+    number: F,
+) -> Result<(), WriteFault>
+    requires { (i : ℕ) → i < count → F.pre number i }
+    ensures { (numbers : List ℕ) → AreAnswers (F.post number) count numbers → Writes (W.contents out.old) (W.contents out.new) result (word.now ++ list_text numbers) }
+{
+    match put(out, word) {
+        Ok(()) => put_list(out, count, number),
+        Err(fault) => Err(fault),
+    }
+}
+
+/// The line of a ring's values.
+fn put_states_line<W: Write>(out: &mut W, state: &RingState) -> Result<(), WriteFault>
+    ensures { Writes (W.contents out.old) (W.contents out.new) result (states_line state.now.values) }
+{
+    let n = state.params().n();
+    match put_worded_list(out, b"states ", n, |machine| state.get(machine) as u64) {
+        Ok(()) => put(out, b"\n"),
+        Err(fault) => Err(fault),
+    }
+}
+
+/// The line of a survey and a bound of the rest.
+fn put_standing_line<W: Write>(out: &mut W, survey: Survey, limit: u64) -> Result<(), WriteFault>
+    ensures { Writes (W.contents out.old) (W.contents out.new) result (standing_line survey limit) }
+{
+    let mut fronts = (Buffer::new(), Buffer::new());
+    let mut backs = (Buffer::new(), Buffer::new(), Buffer::new());
+    let privileged = fronts.0.format(survey.privileged).as_bytes();
+    let first = fronts.1.format(survey.first).as_bytes();
+    let calm = backs.0.format(survey.calm).as_bytes();
+    let rest = backs.1.format(survey.rest).as_bytes();
+    let limit = backs.2.format(limit).as_bytes();
+    put_all(
+        out,
+        &[
+            b"privileged ",
+            privileged,
+            b" first ",
+            first,
+            b" calm ",
+            calm,
+            b" rest ",
+            rest,
+            b" bound ",
+            limit,
+            b"\n",
+        ],
+    )
+}
+
+/// The grants of each of n machines in the settled run, and the end of the line.
+fn put_settled_grants<W: Write>(out: &mut W, grants: &GrantBook, n: u32) -> Result<(), WriteFault>
+    requires each { length grants.now.each ≡ n }
+    requires settled { length grants.now.settled ≡ n }
+    ensures { Writes (W.contents out.old) (W.contents out.new) result (codes " settled " ++ (list_text grants.now.settled ++ codes "\n")) }
+{
+    match put_worded_list(out, b" settled ", n, |machine| grants.settled_of(machine)) {
+        Ok(()) => put(out, b"\n"),
+        Err(fault) => Err(fault),
+    }
+}
+
+/// The line of the grants of each of n machines.
+fn put_grants_line<W: Write>(out: &mut W, grants: &GrantBook, n: u32) -> Result<(), WriteFault>
+    requires each { length grants.now.each ≡ n }
+    requires settled { length grants.now.settled ≡ n }
+    ensures { Writes (W.contents out.old) (W.contents out.new) result (grants_line grants.now.each grants.now.settled) }
+{
+    match put_worded_list(out, b"grants ", n, |machine| grants.of(machine)) {
+        Ok(()) => put_settled_grants(out, grants, n),
+        Err(fault) => Err(fault),
+    }
+}
+
+/// The state behind a book's whole history.
+fn end_state(book: &Book<Till>) -> &RingState
+    ensures { result.now.values ≡ (after till (opening book.now.start 0) book.now.history).ring.values }
+{
+    book.state()
+}
+
+/// What a book comes to: its state, a survey of it, and the grants of each machine.
+fn put_end<W: Write>(out: &mut W, book: &Book<Till>) -> Result<(), WriteFault>
+    ensures { Writes (W.contents out.old) (W.contents out.new) result (end_lines book.now) }
+{
+    let n = book.start().params().n();
+    match put_states_line(out, end_state(book)) {
+        Ok(()) => match put_standing_line(out, book.survey(), bound(n)) {
+            Ok(()) => put_grants_line(out, book.grants(), n),
+            Err(fault) => Err(fault),
+        },
+        Err(fault) => Err(fault),
+    }
+}
+
+/// The lines of the ring at a place, of which this was counted.
+#[tactic(auto, using(text_lines::proofs::Writing::writes_then))]
+fn put_ring<W: Write>(
+    out: &mut W,
+    place: u32,
+    ring: &RingOutcome,
+    counts: Counts,
+) -> Result<(), WriteFault>
+    requires { counts ≡ counts_of ring.now }
+    ensures { Writes (W.contents out.old) (W.contents out.new) result (ring_lines place ring.now) }
+{
+    let start = ring.book.start().params();
+    match put_counts_line(out, place, start.n(), start.k(), counts) {
+        Ok(()) => put_end(out, &ring.book),
+        Err(fault) => Err(fault),
+    }
+}
+
+/// The line of the farm.
+fn put_total_line<W: Write>(out: &mut W, rings: u32, totals: Totals) -> Result<(), WriteFault>
+    ensures { Writes (W.contents out.old) (W.contents out.new) result (total_line rings totals) }
+{
+    let mut buffers = (Buffer::new(), Buffer::new(), Buffer::new(), Buffer::new());
+    let rings = buffers.0.format(rings).as_bytes();
+    let events = buffers.1.format(totals.events).as_bytes();
+    let granted = buffers.2.format(totals.granted).as_bytes();
+    let surveys = buffers.3.format(totals.surveys).as_bytes();
+    put_all(
+        out,
+        &[
+            b"total rings ",
+            rings,
+            b" events ",
+            events,
+            b" granted ",
+            granted,
+            b" surveys ",
+            surveys,
+            b"\n",
+        ],
+    )
+}
+
+/// Writes the report on what a farm hands out: four lines for each ring, and one for the farm.
+///
+/// The first line of a ring has its place, its size and the numbers of its events, its granted passes, its passes
+/// that found no privilege, its corruptions and the surveys in its logs. The second has the values of its machines
+/// behind its whole history, the third a survey of it there and the bound of the rest, and the fourth the granted
+/// passes of each machine, in all and in the settled run. The line of the farm adds up over the rings. It takes no
+/// memory.
+///
+/// # Errors
+///
+/// `WriteFault` at the first error of the writer, an interruption too, or write of 0 bytes. The writer then holds a
+/// beginning of the report, but not all of it, behind what it held.
+pub fn write_report<W: Write>(outcome: &Outcome, out: &mut W) -> Result<(), WriteFault>
+    requires most { length outcome.now.rings.items ≤ 16 }
+    requires few { entries_in outcome.now < 2 ^ 64 }
+    ensures { Writes (W.contents out.old) (W.contents out.new) result (report outcome.now) }
+{
+    let mut totals = Totals::new();
+    for (place, ring) in outcome.rings.iter().enumerate() {
+        let counts = counted(ring);
+        match put_ring(out, place as u32, ring, counts) {
+            Ok(()) => totals.add(counts),
+            Err(fault) => return Err(fault),
+        }
+    }
+    put_total_line(out, outcome.rings.len() as u32, totals)
+}
