@@ -3,21 +3,13 @@
 # 1,000,000 events and as many surveys, each at another place, of a ring of 256 machines that never settles. Needs rt, awk
 # and /usr/bin/time.
 set -eu
-top=$(cd "$(dirname "$0")/.." && pwd)
-out=$top/bench/out
+. "$(dirname "$0")/common.sh"
 tool=$top/crates/ring_tool/out/ring_tool
-mkdir -p "$out"
-
-echo "proving and building the program"
-(cd "$top/crates/ring_tool" && rt run -- --help >"$out/check-build.log" 2>&1) || { cat "$out/check-build.log"; exit 1; }
+build ring_tool --help
 
 # one worker that makes so many passes, each granted
 for events in 250000 500000 1000000; do
-    awk -v events="$events" 'BEGIN {
-        printf "{\"rings\":[{\"n\":8,\"k\":8,\"start\":[0,0,0,0,0,0,0,0]}],\"workers\":[{\"script\":["
-        for (i = 0; i < events; i++) printf "%s[\"pass\",0,%d,1]", (i > 0 ? "," : ""), i % 8
-        print "]}]}"
-    }' >"$out/passes.json"
+    passes passes.json 8 "$events" 0
     "$tool" run "$out/passes.json" --history "$out/passes.txt" >/dev/null
     echo "$(wc -c <"$out/passes.txt") bytes"
     /usr/bin/time -f "  %e s, %M KiB at most" "$tool" check "$out/passes.txt"

@@ -4,9 +4,7 @@
 # what failed, and nothing on standard output. Words: the crates to try, all of them where there is none.
 # Needs rt and a C compiler.
 set -eu
-top=$(cd "$(dirname "$0")/.." && pwd)
-out=$top/bench/out
-mkdir -p "$out"
+. "$(dirname "$0")/common.sh"
 "${CC:-cc}" -shared -fPIC -O1 -o "$out/refuse_memory.so" "$top/bench/refuse_memory.c" -ldl
 mark=$out/refused
 failed=0
@@ -70,8 +68,7 @@ for crate in $crates; do
     ring_shared) try_crate "$crate" two_seats_call_in_turn ;;
     ring_check) try_crate "$crate" first_text_is_legal ;;
     ring_tool)
-        echo "proving and building the program"
-        (cd "$top/crates/ring_tool" && rt run -- --help >"$out/refused-tool.log" 2>&1) || { tail -5 "$out/refused-tool.log"; exit 1; }
+        build ring_tool --help
         program=$top/crates/ring_tool/out/ring_tool
         cp "$top/examples/first.json" "$out/first.json"
         try_program step 3 3 0,2,0 0,0,2

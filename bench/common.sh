@@ -1,0 +1,35 @@
+# What the benchmarks share, for the scripts beside it: where things stand, settings files, and building a program.
+top=$(cd "$(dirname "$0")/.." && pwd)
+out=$top/bench/out
+mkdir -p "$out"
+
+# build CRATE [WORD]: proves and builds the program of a crate, and runs it once with the word
+build() {
+    echo "proving and building $1"
+    (cd "$top/crates/$1" && rt run -- ${2:+"$2"} >"$out/$1-build.log" 2>&1) || { cat "$out/$1-build.log"; exit 1; }
+}
+
+# drawn FILE RINGS N K WORKERS ACTIONS: settings of rings that start at 0, with so many drawn workers
+drawn() {
+    awk -v rings="$2" -v n="$3" -v k="$4" -v workers="$5" -v actions="$6" 'BEGIN {
+        printf "{\"rings\":["
+        for (r = 0; r < rings; r++) {
+            printf "%s{\"n\":%d,\"k\":%d,\"start\":[", (r > 0 ? "," : ""), n, k
+            for (i = 0; i < n; i++) printf "%s0", (i > 0 ? "," : "")
+            printf "]}"
+        }
+        printf "],\"workers\":["
+        for (w = 0; w < workers; w++) printf "%s{\"seed\":%d,\"actions\":%d}", (w > 0 ? "," : ""), w + 1, actions
+        print "]}"
+    }' >"$out/$1"
+}
+
+# passes FILE K ACTIONS STEP: one worker that lets each of eight machines pass in turn, so that each pass is granted; the
+# orders begin with 1 and grow by STEP
+passes() {
+    awk -v k="$2" -v actions="$3" -v step="$4" 'BEGIN {
+        printf "{\"rings\":[{\"n\":8,\"k\":%d,\"start\":[0,0,0,0,0,0,0,0]}],\"workers\":[{\"script\":[", k
+        for (i = 0; i < actions; i++) printf "%s[\"pass\",0,%d,%d]", (i > 0 ? "," : ""), i % 8, 1 + i * step
+        print "]}]}"
+    }' >"$out/$1"
+}
