@@ -33,8 +33,8 @@ def read(path):
         return b""
 
 
-def look(checks, others):
-    """Notes the processor time of each process of rattle that runs now."""
+def look(session, checks, others):
+    """Notes the processor time of each process of rattle that runs now in the session of the gate."""
     now = time.monotonic()
     for pid in filter(str.isdigit, os.listdir("/proc")):
         stat = read(f"/proc/{pid}/stat").decode(errors="replace")
@@ -42,7 +42,7 @@ def look(checks, others):
             continue
         fields = stat.rpartition(")")[2].split()
         key = pid, fields[19]
-        if key in others:
+        if key in others or int(fields[3]) != session:
             continue
         if key not in checks:
             words = read(f"/proc/{pid}/cmdline").decode(errors="replace").split("\0")
@@ -50,7 +50,7 @@ def look(checks, others):
                 place = os.readlink(f"/proc/{pid}/cwd")
             except OSError:
                 continue
-            if "--crate-name" not in words or not any(part in place for part in (os.getcwd(), "/rt-edit-")):
+            if "--crate-name" not in words:
                 others.add(key)
                 continue
             task = "edits" if "/rt-edit-" in place else "tests" if "--test" in words else "proof"
@@ -63,9 +63,9 @@ def watch(command, log):
     """Runs the command and returns its checks, its status, and its seconds by the processor and by the clock."""
     checks, others, begun = {}, set(), time.monotonic()
     with open(log, "wb") as file:
-        started = subprocess.Popen(command, stdin=subprocess.DEVNULL, stdout=file, stderr=subprocess.STDOUT)
+        started = subprocess.Popen(command, stdin=subprocess.DEVNULL, stdout=file, stderr=subprocess.STDOUT, start_new_session=True)
         while started.poll() is None:
-            look(checks, others)
+            look(started.pid, checks, others)
             time.sleep(1 / LOOKS_A_SECOND)
     spent = resource.getrusage(resource.RUSAGE_CHILDREN)
     return list(checks.values()), started.returncode, spent.ru_utime + spent.ru_stime, time.monotonic() - begun
