@@ -1,0 +1,56 @@
+-- What `check` answers to the bytes of a file.
+use Rattle.std.specs.Prelude.{◌≡◌, ℕ, List, Option}
+use Rattle.text_lines.specs.Texts.{IsCutShort, IsFirstBadLine}
+use Rattle.ring_text.specs.Content.{Content}
+use Rattle.ring_text.specs.Spelling.{Fits, text}
+use Rattle.ring_text.specs.Meaning.{IsText}
+use Rattle.ring_check.specs.declared.answers.Kind.{Kind}
+use Rattle.ring_check.specs.declared.answers.Summary.{Summary}
+use Rattle.ring_check.specs.Lines.{lines}
+use Rattle.ring_check.specs.Legal.{IsFirstBad, summary_of}
+use Rattle.ring_check.specs.Meaning.{IsRightText}
+use Rattle.ring_commands.specs.CheckText.{legal_line}
+use Rattle.ring_commands.specs.Written.{AppendsFront}
+use Rattle.ring_commands.specs.declared.check.CheckWords.{CheckWords}
+use Rattle.ring_commands.specs.declared.faults.ToolError.{ToolError}
+use Rattle.ring_commands.specs.declared.faults.ToolError.TheVariants as tool
+
+-- The bytes are the saved text of a content: each of its blocks tells of one legal history of a one-thread ring over the till, and of surveys
+-- of it, and the counts are right. These are its sums.
+pub record IsLegalSavedText (bytes : List ℕ) (sums : Summary) : Type 0 where
+  pub content : Content
+  pub fits : Fits content
+  pub spelled : bytes ≡ text content
+  pub right : IsRightText content
+  pub sums_right : sums ≡ summary_of content
+
+-- the bytes are the saved text of a content whose first bad line, from 1, has this fault
+pub record IsBadSavedText (bytes : List ℕ) (line : ℕ) (kind : Kind) : Type 0 where
+  pub content : Content
+  pub fits : Fits content
+  pub spelled : bytes ≡ text content
+  pub bad : IsFirstBad (lines content) line kind
+
+-- what is refused of bytes that are no legal saved text
+abbrev pub IsSavedTextRefusal : List ℕ → ToolError → Type 0
+IsSavedTextRefusal bytes (tool.Syntax line) = IsFirstBadLine IsText bytes line
+IsSavedTextRefusal bytes tool.Truncated = IsCutShort IsText bytes
+IsSavedTextRefusal bytes (tool.Bad line kind) = IsBadSavedText bytes line kind
+IsSavedTextRefusal bytes tool.OutOfMemory = Unit {0}
+IsSavedTextRefusal bytes _ = ⊥
+
+-- or the writer failed, which held the first bytes and then those of a beginning of a legal text's line
+abbrev pub IsCheckRefusal : List ℕ → Option (List ℕ) → Option (List ℕ) → ToolError → Type 0
+IsCheckRefusal bytes old new tool.Write = (sums : Summary) × IsLegalSavedText bytes sums × AppendsFront old new (legal_line sums)
+IsCheckRefusal bytes old new e = IsSavedTextRefusal bytes e
+
+-- Which refusals `check` may meet: the file by its word, those of what the file gave, and a writer that got a beginning of the line of some legal text.
+abbrev pub IsCheckRunRefusal : CheckWords → Option (List ℕ) → Option (List ℕ) → ToolError → Type 0
+IsCheckRunRefusal words old new (tool.Read named) = named.now ≡ words.file.now
+IsCheckRunRefusal words old new (tool.TooLarge named) = named.now ≡ words.file.now
+IsCheckRunRefusal words old new (tool.Syntax line) = Unit {0}
+IsCheckRunRefusal words old new tool.Truncated = Unit {0}
+IsCheckRunRefusal words old new (tool.Bad line kind) = Unit {0}
+IsCheckRunRefusal words old new tool.OutOfMemory = Unit {0}
+IsCheckRunRefusal words old new tool.Write = (bytes : List ℕ) × (sums : Summary) × IsLegalSavedText bytes sums × AppendsFront old new (legal_line sums)
+IsCheckRunRefusal words old new _ = ⊥

@@ -1,0 +1,115 @@
+//! `check`: whether a saved text is that of legal histories.
+
+ghost use Rattle.std.specs.Prelude.{◌≡◌, ◌≢◌, ℕ, List, OnOk, IfOk, IfErr};
+ghost use Rattle.std.specs.Io.KnownBytes.{Appends};
+ghost use Rattle.text_lines.specs.Writing.{Writes};
+ghost use Rattle.ring_check.specs.declared.answers.Summary.{Summary};
+ghost use Rattle.ring_commands.specs.CheckText.{legal_line};
+ghost use Rattle.ring_commands.specs.Checked.{IsLegalSavedText, IsSavedTextRefusal, IsCheckRefusal, IsCheckRunRefusal};
+
+use crate::faults::ToolError;
+use crate::reading::read_file;
+use itoa::Buffer;
+use ring_check::{Summary, check_saved};
+use ring_text::read_saved;
+use std::alloc::Global;
+use std::io::Write;
+use std::rt::Files;
+use text_lines::{WriteFault, put_all};
+
+/// What `check` was asked for.
+#[derive(Clone, Copy, Debug)]
+pub struct CheckWords<'a> {
+    pub file: &'a str,
+}
+
+/// The line of a legal text: its sums.
+fn write_sums<W: Write>(out: &mut W, sums: &Summary) -> Result<(), WriteFault>
+    ensures { Writes (W.contents out.old) (W.contents out.new) result (legal_line sums.now) }
+{
+    let mut buffers = (
+        Buffer::new(),
+        Buffer::new(),
+        Buffer::new(),
+        Buffer::new(),
+        Buffer::new(),
+    );
+    let rings = buffers.0.format(sums.rings).as_bytes();
+    let events = buffers.1.format(sums.events).as_bytes();
+    let granted = buffers.2.format(sums.granted).as_bytes();
+    let corrupted = buffers.3.format(sums.corrupted).as_bytes();
+    let surveys = buffers.4.format(sums.surveys).as_bytes();
+    put_all(
+        out,
+        &[
+            b"legal rings ",
+            rings,
+            b" events ",
+            events,
+            b" granted ",
+            granted,
+            b" corrupted ",
+            corrupted,
+            b" surveys ",
+            surveys,
+            b"\n",
+        ],
+    )
+}
+
+/// The sums of the saved text that the bytes are, where it is legal.
+///
+/// # Errors
+///
+/// `Syntax` or `Truncated` where the bytes are no saved text, `Bad` where they are one that is not
+/// legal, and `OutOfMemory`.
+fn sums_of(alloc: Global, bytes: &[u8]) -> Result<Summary, ToolError<'static>>
+    ensures ok { IfOk result (λ sums. IsLegalSavedText bytes.now sums) }
+    ensures err { IfErr result (λ e. IsSavedTextRefusal bytes.now e) }
+{
+    let saved = read_saved(alloc, bytes)?;
+    let sums = check_saved(alloc, &saved)?;
+    Ok(sums)
+}
+
+/// Checks the bytes of a saved text, and writes the sums of a legal one.
+///
+/// # Errors
+///
+/// The first line that cannot stand in a saved text, or that the bytes end too early; the first bad
+/// line of a saved text, and what is wrong with it; `OutOfMemory`. Nothing is written then. `Write`
+/// where the writer fails: what was written until then is a beginning of the line.
+pub fn check_bytes<W: Write>(
+    alloc: Global,
+    bytes: &[u8],
+    out: &mut W,
+) -> Result<(), ToolError<'static>>
+    ensures ok { OnOk result ((sums : Summary) × IsLegalSavedText bytes.now sums
+        × Appends (W.contents out.old) (W.contents out.new) (legal_line sums)) }
+    ensures err { IfErr result (λ e. IsCheckRefusal bytes.now (W.contents out.old) (W.contents out.new) e) }
+    ensures nothing { IfErr result (λ e. e ≢ ToolError.Write → out.new ≡ out.old) }
+{
+    let sums = sums_of(alloc, bytes)?;
+    write_sums(out, &sums)?;
+    Ok(())
+}
+
+/// `check`, from its words: reads the file, and writes the sums of a legal saved text.
+///
+/// # Errors
+///
+/// `Read` and `TooLarge` for the file, and those of [`check_bytes`]. Nothing is written then, but for
+/// `Write`: a beginning of the line.
+pub fn run<'a, R: AllocGlobal + Files, W: Write>(
+    rt: &R,
+    words: &CheckWords<'a>,
+    out: &mut W,
+) -> Result<(), ToolError<'a>>
+    ensures ok { OnOk result ((bytes : List ℕ) × (sums : Summary) × IsLegalSavedText bytes sums
+        × Appends (W.contents out.old) (W.contents out.new) (legal_line sums)) }
+    ensures err { IfErr result (λ e. IsCheckRunRefusal words.now (W.contents out.old) (W.contents out.new) e) }
+    ensures nothing { IfErr result (λ e. e ≢ ToolError.Write → out.new ≡ out.old) }
+{
+    let bytes = read_file(rt, words.file)?;
+    check_bytes(rt.alloc(), bytes.as_slice(), out)
+}
