@@ -1,6 +1,6 @@
 //! `check`: the sums of legal texts, each refusal, and files that cannot be read.
 
-use crate::paper::{Paper, expect, status_on};
+use crate::paper::{Paper, expect, expect_cut};
 use crate::places::path_of;
 use ring_commands::check::check_bytes;
 use ring_commands::faults::ToolError;
@@ -19,6 +19,9 @@ pub const PASSES: &str =
 /// Two rings; the first one has two corruptions of machine 1, and a survey.
 const CORRUPTED: &str =
     "ringfarm 1\nring 0 3 3\nstart 0 0 0\nc 0 1 2 0\nc 0 1 2 2\nend 2\ns 0 2 3 0 0 6\nring 1 2 2\nstart 0 0\np 9 0 7 g 1 7\nend 1\ndone 2\n";
+
+/// Its sums.
+const CORRUPTED_SUMS: &str = "legal rings 2 events 3 granted 1 corrupted 2 surveys 1\n";
 
 /// What the legal text's line is.
 pub const PASSES_SUMS: &str = "legal rings 1 events 3 granted 2 corrupted 0 surveys 1\n";
@@ -41,17 +44,23 @@ fn expect_check<R: Abort + AllocGlobal + Files + Threads + Wait + Sync>(
 #[test]
 fn a_legal_text_gives_its_sums(rt: HostRuntime) -> Result<(), Fail> {
     let path = path_of(&rt, "legal.txt")?;
-    let path = path.as_str();
-    expect_check(&rt, path, PASSES, 0, PASSES_SUMS, "")?;
-    expect_check(
-        &rt,
-        path,
-        CORRUPTED,
-        0,
-        "legal rings 2 events 3 granted 1 corrupted 2 surveys 1\n",
-        "",
-    )?;
+    for (text, sums) in [(PASSES, PASSES_SUMS), (CORRUPTED, CORRUPTED_SUMS)] {
+        expect_check(&rt, path.as_str(), text, 0, sums, "")?;
+    }
     Ok(())
+}
+
+/// Runs `check` on the legal text with one piece changed, which is refused so.
+fn expect_refused<R: Abort + AllocGlobal + Files + Threads + Wait + Sync>(
+    rt: &R,
+    path: &str,
+    right: &str,
+    wrong: &str,
+    text: &str,
+) -> Result<(), Fail> {
+    let (front, back) = PASSES.split_once(right).expect(rt, "it is a piece");
+    let changed = format!(in rt.alloc(); "{front}{wrong}{back}")?;
+    expect_check(rt, path, changed.as_str(), 1, "", text)
 }
 
 #[test]
@@ -73,20 +82,15 @@ fn the_first_bad_line_is_told(rt: HostRuntime) -> Result<(), Fail> {
             "end 4\ns 0 3 1 1 2 1",
             "line 7: count\n",
         ),
+        (
+            PASSES,
+            "ringfarm 1\nring 0 1 1\nstart 0\nend 0\ndone 1\n",
+            "line 2: parameter\n",
+        ),
     ];
     for (right, wrong, text) in table {
-        let (front, back) = PASSES.split_once(right).unwrap_or((PASSES, ""));
-        let changed = format!(in rt.alloc(); "{front}{wrong}{back}")?;
-        expect_check(&rt, path.as_str(), changed.as_str(), 1, "", text)?;
+        expect_refused(&rt, path.as_str(), right, wrong, text)?;
     }
-    expect_check(
-        &rt,
-        path.as_str(),
-        "ringfarm 1\nring 0 1 1\nstart 0\nend 0\ndone 1\n",
-        1,
-        "",
-        "line 2: parameter\n",
-    )?;
     Ok(())
 }
 
@@ -100,21 +104,12 @@ fn what_is_no_saved_text_is_told(rt: HostRuntime) -> Result<(), Fail> {
         ("done 1\n", "done 1", "text is truncated\n"),
         ("done 1\n", "", "text is truncated\n"),
         ("ringfarm 1\n", "ringfarm 2\n", "line 1: syntax\n"),
+        (PASSES, "", "text is truncated\n"),
+        (PASSES, "ringfarm 1\ndone 0\n", "line 2: syntax\n"),
     ];
     for (right, wrong, text) in table {
-        let (front, back) = PASSES.split_once(right).unwrap_or((PASSES, ""));
-        let changed = format!(in rt.alloc(); "{front}{wrong}{back}")?;
-        expect_check(&rt, path.as_str(), changed.as_str(), 1, "", text)?;
+        expect_refused(&rt, path.as_str(), right, wrong, text)?;
     }
-    expect_check(&rt, path.as_str(), "", 1, "", "text is truncated\n")?;
-    expect_check(
-        &rt,
-        path.as_str(),
-        "ringfarm 1\ndone 0\n",
-        1,
-        "",
-        "line 2: syntax\n",
-    )?;
     Ok(())
 }
 
@@ -138,18 +133,7 @@ fn a_line_that_cannot_be_written_keeps_a_beginning(rt: HostRuntime) -> Result<()
     fs::write(&rt, path.as_str(), PASSES)?;
     for room in 0..PASSES_SUMS.len() {
         for mute in [false, true] {
-            let mut out = Paper {
-                room,
-                mute,
-                ..Paper::new(rt.alloc())
-            };
-            let mut err = Paper::new(rt.alloc());
-            assert_eq!(rt;
-                status_on(&rt, &["check", path.as_str()], &mut out, &mut err)?,
-                1
-            );
-            assert_eq!(rt; out.text.as_slice(), &PASSES_SUMS.as_bytes()[..room]);
-            assert_eq!(rt; err.text.as_slice(), b"cannot write\n".as_slice());
+            expect_cut(&rt, &["check", path.as_str()], PASSES_SUMS, room, mute)?;
         }
     }
     fs::remove_file(&rt, path.as_str())?;
@@ -157,13 +141,10 @@ fn a_line_that_cannot_be_written_keeps_a_beginning(rt: HostRuntime) -> Result<()
 }
 
 #[test]
-fn bytes_are_checked(rt: HostRuntime) -> Result<(), Fail> {
+fn bytes_are_checked(rt: HostRuntime) {
     let mut out = Paper::new(rt.alloc());
     let done = check_bytes(rt.alloc(), PASSES.as_bytes(), &mut out);
-    assert!(rt; done.is_ok());
-    assert_eq!(rt; out.text.as_slice(), PASSES_SUMS.as_bytes());
+    assert!(rt; done.is_ok() && out.holds(PASSES_SUMS));
     let done = check_bytes(rt.alloc(), b"ringfarm 1", &mut out);
-    assert!(rt; matches!(done, Err(ToolError::Truncated)));
-    assert_eq!(rt; out.text.as_slice(), PASSES_SUMS.as_bytes());
-    Ok(())
+    assert!(rt; matches!(done, Err(ToolError::Truncated)) && out.holds(PASSES_SUMS));
 }

@@ -1,9 +1,9 @@
 //! The line of each fault, also of those that no words lead to.
 
 use crate::paper::Paper;
-use ring_commands::faults::ToolError;
-use ring_commands::endings::tell;
 use ring_check::Kind;
+use ring_commands::endings::tell;
+use ring_commands::faults::ToolError;
 use ring_settings::{Field, RingCause};
 
 #[test]
@@ -61,7 +61,10 @@ fn each_fault_has_its_line(rt: HostRuntime) {
     ];
     for (fault, status, text) in table {
         let mut err = Paper::new(rt.alloc());
-        assert_eq!(rt; tell(&fault, &mut err), status, "at {fault}");
-        assert_eq!(rt; err.text.as_slice(), text.as_bytes(), "at {fault}");
+        let got = tell(&fault, &mut err);
+        assert!(rt;
+            got == status && err.holds(text),
+            "at {fault}: status {got}"
+        );
     }
 }

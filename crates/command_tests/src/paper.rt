@@ -29,6 +29,11 @@ impl Paper {
             stuck: false,
         }
     }
+
+    /// Whether just this text was written.
+    pub fn holds(&self, text: &str) -> bool {
+        self.text.as_slice() == text.as_bytes()
+    }
 }
 
 impl Write for Paper {
@@ -72,13 +77,52 @@ pub fn expect<R: Abort + AllocGlobal + Files + Threads + Wait + Sync>(
     out: &str,
     err: &str,
 ) -> Result<(), AllocError> {
-    let mut out_paper = Paper::new(rt.alloc());
-    let mut err_paper = Paper::new(rt.alloc());
-    let got = status_on(rt, line, &mut out_paper, &mut err_paper)?;
-    assert_eq!(rt; out_paper.text.as_slice(), out.as_bytes(), "at {line:?}");
-    assert_eq!(rt; err_paper.text.as_slice(), err.as_bytes(), "at {line:?}");
+    let mut printed = Paper::new(rt.alloc());
+    let mut told = Paper::new(rt.alloc());
+    let got = status_on(rt, line, &mut printed, &mut told)?;
+    let right = printed.holds(out) && told.holds(err) && got == status;
+    assert!(rt; right, "at {line:?}: status {got}");
+    Ok(())
+}
+
+/// Runs the program with a writer that takes so many bytes of what it prints, and then fails or takes
+/// none: it writes just those, and says that it cannot write.
+pub fn expect_cut<R: Abort + AllocGlobal + Files + Threads + Wait + Sync>(
+    rt: &R,
+    line: &[&str],
+    whole: &str,
+    room: usize,
+    mute: bool,
+) -> Result<(), AllocError> {
+    let mut printed = Paper {
+        room,
+        mute,
+        ..Paper::new(rt.alloc())
+    };
+    let mut told = Paper::new(rt.alloc());
+    let got = status_on(rt, line, &mut printed, &mut told)?;
+    let front = whole.get(..room).unwrap_or("no such beginning");
+    let right = printed.holds(front) && told.holds("cannot write\n") && got == 1;
+    assert!(rt; right, "at {room} of {line:?}: status {got}");
+    Ok(())
+}
+
+/// Runs the program with writers that cannot be written to the end, and compares its status.
+pub fn expect_status<R: Abort + AllocGlobal + Files + Threads + Wait + Sync>(
+    rt: &R,
+    line: &[&str],
+    printed: &mut Paper,
+    told: &mut Paper,
+    status: u8,
+) -> Result<(), AllocError> {
+    let got = status_on(rt, line, printed, told)?;
     assert_eq!(rt; got, status, "at {line:?}");
     Ok(())
+}
+
+/// Whether a text has each of these words in it.
+fn has_all(text: &str, parts: &[&str]) -> bool {
+    parts.iter().all(|part| text.contains(*part))
 }
 
 /// Runs the program on words that `clap` answers itself: to one writer goes a text with these words in it,
@@ -92,16 +136,13 @@ pub fn expect_clap<R: Abort + AllocGlobal + Files + Threads + Wait + Sync>(
     let mut out = Paper::new(rt.alloc());
     let mut err = Paper::new(rt.alloc());
     let got = status_on(rt, line, &mut out, &mut err)?;
-    assert_eq!(rt; got, status, "at {line:?}");
     let (told, silent) = if status == 0 {
         (&out, &err)
     } else {
         (&err, &out)
     };
-    assert!(rt; silent.text.is_empty(), "at {line:?}");
     let text = std::str::from_utf8(told.text.as_slice()).expect(rt, "the text is UTF-8");
-    for part in parts {
-        assert!(rt; text.contains(*part), "at {line:?}: {part} in {text}");
-    }
+    let right = silent.text.is_empty() && has_all(text, parts) && got == status;
+    assert!(rt; right, "at {line:?}: status {got}, {text}");
     Ok(())
 }

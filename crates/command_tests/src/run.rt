@@ -1,7 +1,7 @@
 //! `run`: the report, the saved text, each refusal, and files that cannot be read or written.
 
 use crate::check::{PASSES, PASSES_SUMS};
-use crate::paper::{Paper, expect, status_on};
+use crate::paper::{Paper, expect, expect_cut, expect_status};
 use crate::places::path_of;
 use std::fs;
 use std::process::Abort;
@@ -44,54 +44,77 @@ fn a_farm_is_run_and_reported(rt: HostRuntime) -> Result<(), Fail> {
     expect_run(&rt, path.as_str(), SETTINGS, 0, REPORT, "")
 }
 
+/// Runs `run` with a line that names this file for the history, which is then the text of the passes.
+fn expect_saved<R: Abort + AllocGlobal + Files + Threads + Wait + Sync>(
+    rt: &R,
+    line: &[&str],
+    history: &str,
+) -> Result<(), Fail> {
+    expect(rt, line, 0, REPORT, "")?;
+    let text = fs::read_to_string(rt, history)?;
+    assert_eq!(rt; text.as_str(), PASSES);
+    expect(rt, &["check", history], 0, PASSES_SUMS, "")?;
+    Ok(())
+}
+
 #[test]
 fn a_history_is_saved_and_is_legal(rt: HostRuntime) -> Result<(), Fail> {
     let settings = path_of(&rt, "saved.json")?;
     let history = path_of(&rt, "saved.txt")?;
-    fs::write(&rt, settings.as_str(), SETTINGS)?;
-    // What was there before is replaced, also where it was longer.
-    let before = "x".repeat(rt.alloc(), 1000)?;
-    fs::write(&rt, history.as_str(), before.as_str())?;
+    let (settings, history) = (settings.as_str(), history.as_str());
+    fs::write(&rt, settings, SETTINGS)?;
     for line in [
-        ["run", settings.as_str(), "--history", history.as_str()],
-        ["run", "--history", history.as_str(), settings.as_str()],
+        ["run", settings, "--history", history],
+        ["run", "--history", history, settings],
     ] {
-        expect(&rt, &line, 0, REPORT, "")?;
-        let text = fs::read_to_string(&rt, history.as_str())?;
-        assert_eq!(rt; text.as_str(), PASSES);
+        // What was there before is replaced, also where it was longer.
+        fs::write(&rt, history, "x".repeat(rt.alloc(), 1000)?.as_str())?;
+        expect_saved(&rt, &line, history)?;
     }
-    expect(&rt, &["check", history.as_str()], 0, PASSES_SUMS, "")?;
-    fs::remove_file(&rt, settings.as_str())?;
-    fs::remove_file(&rt, history.as_str())?;
+    remove_both(&rt, settings, history)
+}
+
+/// Lets go of the two files of a run.
+fn remove_both<R: Files>(rt: &R, settings: &str, history: &str) -> Result<(), Fail> {
+    fs::remove_file(rt, settings)?;
+    fs::remove_file(rt, history)?;
     Ok(())
+}
+
+/// The line of the check that belongs to a report of two rings, whose injector's 50 actions are all corruptions.
+fn legal_line_of<R: Abort + AllocGlobal>(rt: &R, report: &str) -> Result<String, Fail> {
+    assert_eq!(rt; report.lines().count(), 9);
+    let (_, back) = report
+        .split_once("\ntotal rings 2 events ")
+        .expect(rt, "the report has a total");
+    let (counts, surveys) = back
+        .split_once(" surveys ")
+        .expect(rt, "the total has surveys");
+    Ok(format!(in rt.alloc(); "legal rings 2 events {counts} corrupted 50 surveys {surveys}")?)
+}
+
+/// Runs `run` on this line, and answers the line of the check that belongs to its report.
+fn legal_line_after<R: Abort + AllocGlobal + Files + Threads + Wait + Sync>(
+    rt: &R,
+    line: &[&str],
+) -> Result<String, Fail> {
+    let mut out = Paper::new(rt.alloc());
+    let mut err = Paper::new(rt.alloc());
+    expect_status(rt, line, &mut out, &mut err, 0)?;
+    assert!(rt; err.text.is_empty());
+    let report = std::str::from_utf8(out.text.as_slice()).expect(rt, "the report is UTF-8");
+    legal_line_of(rt, report)
 }
 
 #[test]
 fn what_threads_did_is_legal(rt: HostRuntime) -> Result<(), Fail> {
     let settings = path_of(&rt, "drawn.json")?;
     let history = path_of(&rt, "drawn.txt")?;
-    fs::write(&rt, settings.as_str(), DRAWN)?;
-    let mut out = Paper::new(rt.alloc());
-    let mut err = Paper::new(rt.alloc());
-    let line = ["run", settings.as_str(), "--history", history.as_str()];
-    assert_eq!(rt; status_on(&rt, &line, &mut out, &mut err)?, 0);
-    assert!(rt; err.text.is_empty());
-    let report = std::str::from_utf8(out.text.as_slice()).expect(&rt, "the report is UTF-8");
-    assert_eq!(rt; report.lines().count(), 9);
-    // The sums of the check are those of the report; the injector's 50 actions are all corruptions.
-    let total = report.lines().last().unwrap_or("");
-    let (front, back) = total
-        .split_once("total rings 2 events ")
-        .unwrap_or(("?", ""));
-    assert_eq!(rt; front, "");
-    let (counts, surveys) = back.split_once(" surveys ").unwrap_or(("", ""));
-    let legal = format!(in rt.alloc();
-        "legal rings 2 events {counts} corrupted 50 surveys {surveys}\n"
-    )?;
-    expect(&rt, &["check", history.as_str()], 0, legal.as_str(), "")?;
-    fs::remove_file(&rt, settings.as_str())?;
-    fs::remove_file(&rt, history.as_str())?;
-    Ok(())
+    let (settings, history) = (settings.as_str(), history.as_str());
+    fs::write(&rt, settings, DRAWN)?;
+    let legal = legal_line_after(&rt, &["run", settings, "--history", history])?;
+    expect(&rt, &["check", history], 0, legal.as_str(), "")?;
+    remove_both(&rt, settings, history)
 }
 
 #[test]
@@ -184,18 +207,22 @@ fn settings_that_are_refused_are_told(rt: HostRuntime) -> Result<(), Fail> {
 fn a_full_history_is_told(rt: HostRuntime) -> Result<(), Fail> {
     let path = path_of(&rt, "full.json")?;
     let history = path_of(&rt, "full.txt")?;
+    let (path, history) = (path.as_str(), history.as_str());
     let settings =
         r#"{"rings":[{"n":2,"k":2,"start":[0,0]}],"workers":[{"seed":1,"actions":1000000},{"seed":2,"actions":1000000}]}"#;
-    fs::write(&rt, path.as_str(), settings)?;
-    fs::write(&rt, history.as_str(), PASSES)?;
-    let line = ["run", path.as_str(), "--history", history.as_str()];
-    expect(&rt, &line, 1, "", "a history is full\n")?;
+    fs::write(&rt, path, settings)?;
+    fs::write(&rt, history, PASSES)?;
+    expect(
+        &rt,
+        &["run", path, "--history", history],
+        1,
+        "",
+        "a history is full\n",
+    )?;
     // A farm that is refused writes nothing.
-    let text = fs::read_to_string(&rt, history.as_str())?;
+    let text = fs::read_to_string(&rt, history)?;
     assert_eq!(rt; text.as_str(), PASSES);
-    fs::remove_file(&rt, path.as_str())?;
-    fs::remove_file(&rt, history.as_str())?;
-    Ok(())
+    remove_both(&rt, path, history)
 }
 
 #[test]
@@ -206,13 +233,7 @@ fn a_settings_file_that_cannot_be_read_is_told_by_its_word(rt: HostRuntime) -> R
         ("", "cannot read \n"),
     ] {
         expect(&rt, &["run", file], 1, "", text)?;
-        expect(
-            &rt,
-            &["run", file, "--history", "no folder/saved.txt"],
-            1,
-            "",
-            text,
-        )?;
+        expect_unsaved(&rt, file, "no folder/saved.txt", text)?;
     }
     Ok(())
 }
@@ -251,18 +272,7 @@ fn a_report_that_cannot_be_written_keeps_a_beginning(rt: HostRuntime) -> Result<
     fs::write(&rt, path.as_str(), SETTINGS)?;
     for room in [0, 1, 65, 66, 67, REPORT.len() - 1] {
         for mute in [false, true] {
-            let mut out = Paper {
-                room,
-                mute,
-                ..Paper::new(rt.alloc())
-            };
-            let mut err = Paper::new(rt.alloc());
-            assert_eq!(rt;
-                status_on(&rt, &["run", path.as_str()], &mut out, &mut err)?,
-                1
-            );
-            assert_eq!(rt; out.text.as_slice(), &REPORT.as_bytes()[..room]);
-            assert_eq!(rt; err.text.as_slice(), b"cannot write\n".as_slice());
+            expect_cut(&rt, &["run", path.as_str()], REPORT, room, mute)?;
         }
     }
     fs::remove_file(&rt, path.as_str())?;

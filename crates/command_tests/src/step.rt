@@ -1,13 +1,33 @@
 //! `step`: its lines, its refusals and the lists that it reads.
 
-use crate::paper::{Paper, expect, status_on};
-use ring_commands::step::step_lines;
+use crate::paper::{Paper, expect, expect_cut, expect_status};
 use ring_commands::faults::ToolError;
 use ring_commands::lists::read_list;
+use ring_commands::step::step_lines;
+use std::process::Abort;
+use std::rt::Files;
+use std::sync::Wait;
 use std::test::Fail;
+use std::thread::Threads;
 
 /// A run of `step`.
 const ROW: [&str; 5] = ["step", "3", "3", "0,2,0", "0,0,2"];
+
+/// Lists that are not well written.
+const BAD_LISTS: [&str; 12] = [
+    "00",
+    "01",
+    "4294967296",
+    "1,",
+    ",1",
+    "1, 2",
+    "",
+    "+1",
+    "0,,0",
+    "1 2",
+    "x",
+    "99999999999999999999",
+];
 
 /// What `step` prints on [`ROW`].
 pub const ROW_TEXT: &str =
@@ -15,21 +35,19 @@ pub const ROW_TEXT: &str =
 
 #[test]
 fn step_prints_each_reply_and_the_last_state(rt: HostRuntime) -> Result<(), Fail> {
-    expect(&rt, &ROW, 0, ROW_TEXT, "")?;
-    expect(
-        &rt,
-        &["step", "2", "2", "0,0", "0,1,0,1"],
-        0,
-        "0 granted 1\n1 granted 2\n0 granted 3\n1 granted 4\nstates 0,0\nprivileged 1 first 0\n",
-        "",
-    )?;
-    expect(
-        &rt,
-        &["step", "3", "3", "0,2,0"],
-        0,
-        "states 0,2,0\nprivileged 3 first 0\n",
-        "",
-    )?;
+    for (line, text) in [
+        (ROW.as_slice(), ROW_TEXT),
+        (
+            ["step", "2", "2", "0,0", "0,1,0,1"].as_slice(),
+            "0 granted 1\n1 granted 2\n0 granted 3\n1 granted 4\nstates 0,0\nprivileged 1 first 0\n",
+        ),
+        (
+            ["step", "3", "3", "0,2,0"].as_slice(),
+            "states 0,2,0\nprivileged 3 first 0\n",
+        ),
+    ] {
+        expect(&rt, line, 0, text, "")?;
+    }
     Ok(())
 }
 
@@ -52,141 +70,154 @@ fn each_refusal_has_its_line_and_the_first_is_told(rt: HostRuntime) -> Result<()
     Ok(())
 }
 
-#[test]
-fn only_canonical_lists_are_read(rt: HostRuntime) -> Result<(), Fail> {
-    for list in [
-        "00",
-        "01",
-        "4294967296",
-        "1,",
-        ",1",
-        "1, 2",
-        "",
-        "+1",
-        "0,,0",
-        "1 2",
-        "x",
-        "99999999999999999999",
+/// Runs `step` with a list that is not well written, in either place; a list is told before a size that is
+/// not allowed.
+fn expect_bad_list<R: Abort + AllocGlobal + Files + Threads + Wait + Sync>(
+    rt: &R,
+    list: &str,
+) -> Result<(), Fail> {
+    for line in [
+        ["step", "2", "2", "0,0", list],
+        ["step", "0", "0", list, "0"],
     ] {
-        expect(&rt, &["step", "2", "2", "0,0", list], 2, "", "bad list\n")?;
-        // A list that cannot be read is told before a size that is not allowed.
-        expect(&rt, &["step", "0", "0", list, "0"], 2, "", "bad list\n")?;
-        assert!(rt;
-            matches!(read_list(rt.alloc(), list), Err(ToolError::BadList)),
-            "at {list}"
-        );
+        expect(rt, &line, 2, "", "bad list\n")?;
+    }
+    Ok(())
+}
+
+#[test]
+fn only_canonical_lists_are_taken(rt: HostRuntime) -> Result<(), Fail> {
+    for list in BAD_LISTS {
+        expect_bad_list(&rt, list)?;
+    }
+    for (list, status, out, err) in [
+        (
+            "0",
+            0,
+            "0 granted 1\nstates 1,0\nprivileged 1 first 1\n",
+            "",
+        ),
+        ("4294967295", 1, "", "choice 0 is not below n\n"),
+    ] {
+        expect(&rt, &["step", "2", "2", "0,0", list], status, out, err)?;
+    }
+    Ok(())
+}
+
+#[test]
+fn only_canonical_lists_are_read(rt: HostRuntime) {
+    for list in BAD_LISTS {
+        let read = read_list(rt.alloc(), list);
+        assert!(rt; matches!(read, Err(ToolError::BadList)), "at {list}");
     }
     assert!(rt; matches!(read_list(rt.alloc(), "-1"), Err(ToolError::BadList)));
-    expect(
-        &rt,
-        &["step", "2", "2", "0,0", "0"],
-        0,
-        "0 granted 1\nstates 1,0\nprivileged 1 first 1\n",
-        "",
-    )?;
-    expect(
-        &rt,
-        &["step", "2", "2", "0,0", "4294967295"],
-        1,
-        "",
-        "choice 0 is not below n\n",
-    )?;
     let Ok(numbers) = read_list(rt.alloc(), "0,10,4294967295") else {
-        return Err("refused".into());
+        panic!(rt; "refused");
     };
     assert_eq!(rt; numbers.as_slice(), [0, 10, 4294967295].as_slice());
-    Ok(())
 }
 
 #[test]
 fn a_writer_that_fails_keeps_a_beginning(rt: HostRuntime) -> Result<(), Fail> {
     for room in 0..ROW_TEXT.len() {
         for mute in [false, true] {
-            let mut out = Paper {
-                room,
-                mute,
-                ..Paper::new(rt.alloc())
-            };
-            let mut err = Paper::new(rt.alloc());
-            assert_eq!(rt; status_on(&rt, &ROW, &mut out, &mut err)?, 1, "at {room}");
-            assert_eq!(rt;
-                out.text.as_slice(),
-                &ROW_TEXT.as_bytes()[..room],
-                "at {room}"
-            );
-            assert_eq!(rt;
-                err.text.as_slice(),
-                b"cannot write\n".as_slice(),
-                "at {room}"
-            );
+            expect_cut(&rt, &ROW, ROW_TEXT, room, mute)?;
         }
     }
+    Ok(())
+}
+
+#[test]
+fn a_writer_of_one_byte_at_a_time_gets_all(rt: HostRuntime) -> Result<(), Fail> {
     let mut out = Paper {
         at_most: 1,
         ..Paper::new(rt.alloc())
     };
     let mut err = Paper::new(rt.alloc());
-    assert_eq!(rt; status_on(&rt, &ROW, &mut out, &mut err)?, 0);
-    assert_eq!(rt; out.text.as_slice(), ROW_TEXT.as_bytes());
+    expect_status(&rt, &ROW, &mut out, &mut err, 0)?;
+    assert!(rt; out.holds(ROW_TEXT) && err.text.is_empty());
+    Ok(())
+}
+
+/// Runs the program with this writer for what it prints, which cannot take it all.
+fn expect_unwritten<R: Abort + AllocGlobal + Files + Threads + Wait + Sync>(
+    rt: &R,
+    line: &[&str],
+    mut out: Paper,
+) -> Result<(), Fail> {
+    let mut err = Paper::new(rt.alloc());
+    expect_status(rt, line, &mut out, &mut err, 1)?;
+    assert!(rt; err.holds("cannot write\n"));
     Ok(())
 }
 
 #[test]
-fn a_fault_of_either_stream_has_its_status(rt: HostRuntime) -> Result<(), Fail> {
-    // What is printed cannot leave a buffer.
-    let mut out = Paper {
+fn what_is_printed_cannot_leave_a_buffer(rt: HostRuntime) -> Result<(), Fail> {
+    let out = Paper {
         stuck: true,
         ..Paper::new(rt.alloc())
     };
-    let mut err = Paper::new(rt.alloc());
-    assert_eq!(rt; status_on(&rt, &ROW, &mut out, &mut err)?, 1);
-    assert_eq!(rt; err.text.as_slice(), b"cannot write\n".as_slice());
-    // Help that cannot be printed is refused as anything else.
-    let mut out = Paper {
+    expect_unwritten(&rt, &ROW, out)
+}
+
+#[test]
+fn help_that_cannot_be_printed_is_refused(rt: HostRuntime) -> Result<(), Fail> {
+    let out = Paper {
         room: 9,
         ..Paper::new(rt.alloc())
     };
-    let mut err = Paper::new(rt.alloc());
-    assert_eq!(rt; status_on(&rt, &["--help"], &mut out, &mut err)?, 1);
-    assert_eq!(rt; err.text.as_slice(), b"cannot write\n".as_slice());
-    // A fault of standard error changes no status.
+    expect_unwritten(&rt, &["--help"], out)
+}
+
+/// Runs the program with a standard error that takes nothing: the status is as ever, and nothing is printed.
+fn expect_untold<R: Abort + AllocGlobal + Files + Threads + Wait + Sync>(
+    rt: &R,
+    line: &[&str],
+    status: u8,
+) -> Result<(), Fail> {
+    let mut out = Paper::new(rt.alloc());
+    let mut err = Paper {
+        room: 0,
+        ..Paper::new(rt.alloc())
+    };
+    expect_status(rt, line, &mut out, &mut err, status)?;
+    assert!(rt; out.text.is_empty());
+    Ok(())
+}
+
+#[test]
+fn a_fault_of_standard_error_changes_no_status(rt: HostRuntime) -> Result<(), Fail> {
     for (line, status) in [
         (["step", "3", "3", "0,,0"], 2),
         (["step", "1", "3", "0"], 1),
         (["step", "3", "3", "-1"], 2),
     ] {
-        let mut out = Paper::new(rt.alloc());
-        let mut err = Paper {
-            room: 0,
-            ..Paper::new(rt.alloc())
-        };
-        assert_eq!(rt;
-            status_on(&rt, &line, &mut out, &mut err)?,
-            status,
-            "at {line:?}"
-        );
-        assert!(rt; out.text.is_empty());
+        expect_untold(&rt, &line, status)?;
     }
     Ok(())
 }
 
-#[test]
-fn a_history_holds_a_million_events(rt: HostRuntime) -> Result<(), Fail> {
-    let mut choices = Vec::with_capacity(rt.alloc(), 1_000_001)?;
-    for _ in 0..1_000_000 {
+/// Lets machine 1 of the ring 0, 0 ask to pass so often. It is not privileged, so each line has 17 bytes.
+fn pass_often<R: AllocGlobal>(
+    rt: &R,
+    often: usize,
+) -> Result<(Result<(), ToolError<'static>>, usize), Fail> {
+    let mut choices = Vec::with_capacity(rt.alloc(), often)?;
+    for _ in 0..often {
         choices.push(1)?;
     }
     let mut out = Paper::new(rt.alloc());
-    // Machine 1 of the ring 0, 0 is not privileged, so each line has 17 bytes.
+    let done = step_lines(rt.alloc(), 2, 2, &[0, 0], choices.as_slice(), &mut out);
+    Ok((done, out.text.len()))
+}
+
+#[test]
+fn a_history_holds_a_million_events(rt: HostRuntime) -> Result<(), Fail> {
     let line = "1 not privileged\n".len();
     let end = "states 0,0\nprivileged 1 first 0\n".len();
-    let done = step_lines(rt.alloc(), 2, 2, &[0, 0], choices.as_slice(), &mut out);
-    assert!(rt; done.is_ok());
-    assert_eq!(rt; out.text.len(), 1_000_000 * line + end);
-    choices.push(1)?;
-    let mut out = Paper::new(rt.alloc());
-    let done = step_lines(rt.alloc(), 2, 2, &[0, 0], choices.as_slice(), &mut out);
-    assert!(rt; matches!(done, Err(ToolError::HistoryFull)));
-    assert_eq!(rt; out.text.len(), 1_000_000 * line);
+    let (done, written) = pass_often(&rt, 1_000_000)?;
+    assert!(rt; done.is_ok() && written == 1_000_000 * line + end);
+    let (done, written) = pass_often(&rt, 1_000_001)?;
+    assert!(rt; matches!(done, Err(ToolError::HistoryFull)) && written == 1_000_000 * line);
     Ok(())
 }
