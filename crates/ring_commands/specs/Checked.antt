@@ -1,5 +1,5 @@
 -- What `check` answers to the bytes of a file.
-use Rattle.std.specs.Prelude.{◌≡◌, ℕ, List, Option}
+use Rattle.std.specs.Prelude.{◌≡◌, ℕ, List, Option, ◌⊎◌}
 use Rattle.text_lines.specs.Texts.{IsCutShort, IsFirstBadLine}
 use Rattle.ring_text.specs.Content.{Content}
 use Rattle.ring_text.specs.Spelling.{Fits, text}
@@ -10,6 +10,8 @@ use Rattle.ring_check.specs.Lines.{lines}
 use Rattle.ring_check.specs.Legal.{IsFirstBad, summary_of}
 use Rattle.ring_check.specs.Meaning.{IsRightText}
 use Rattle.ring_commands.specs.CheckText.{legal_line}
+use Rattle.ring_commands.specs.Faults.{IsReadRefusal}
+use Rattle.ring_commands.specs.Reading.{most_bytes, IsAllOf}
 use Rattle.ring_commands.specs.Written.{AppendsFront}
 use Rattle.ring_commands.specs.declared.check.CheckWords.{CheckWords}
 use Rattle.ring_commands.specs.declared.faults.ToolError.{ToolError}
@@ -44,13 +46,10 @@ abbrev pub IsCheckRefusal : List ℕ → Option (List ℕ) → Option (List ℕ)
 IsCheckRefusal bytes old new tool.Write = (sums : Summary) × IsLegalSavedText bytes sums × AppendsFront old new (legal_line sums)
 IsCheckRefusal bytes old new e = IsSavedTextRefusal bytes e
 
--- Which refusals `check` may meet: the file by its word, those of what the file gave, and a writer that got a beginning of the line of some legal text.
+-- Which refusals the check of a file may meet, by what its reader had left before and has now: those of its reading, and those of all the bytes that it gave.
+abbrev pub IsCheckFileRefusal : List ℕ → Option (List ℕ) → Option (List ℕ) → Option (List ℕ) → Option (List ℕ) → ToolError → Type 0
+IsCheckFileRefusal file from left old new e = IsReadRefusal file from left e ⊎ ((bytes : List ℕ) × IsAllOf most_bytes from left bytes × IsCheckRefusal bytes old new e)
+
+-- Which refusals `check` may meet: those of the file that its word names, of whatever bytes that gives.
 abbrev pub IsCheckRunRefusal : CheckWords → Option (List ℕ) → Option (List ℕ) → ToolError → Type 0
-IsCheckRunRefusal words old new (tool.Read named) = named.now ≡ words.file.now
-IsCheckRunRefusal words old new (tool.TooLarge named) = named.now ≡ words.file.now
-IsCheckRunRefusal words old new (tool.Syntax line) = Unit {0}
-IsCheckRunRefusal words old new tool.Truncated = Unit {0}
-IsCheckRunRefusal words old new (tool.Bad line kind) = Unit {0}
-IsCheckRunRefusal words old new tool.OutOfMemory = Unit {0}
-IsCheckRunRefusal words old new tool.Write = (bytes : List ℕ) × (sums : Summary) × IsLegalSavedText bytes sums × AppendsFront old new (legal_line sums)
-IsCheckRunRefusal words old new _ = ⊥
+IsCheckRunRefusal words old new e = (from : Option (List ℕ)) × (left : Option (List ℕ)) × IsCheckFileRefusal words.file.now from left old new e

@@ -10,6 +10,7 @@ use Rattle.ring_settings.specs.declared.faults.SettingsError.{SettingsError}
 use Rattle.ring_farm.specs.declared.faults.FarmError.{FarmError}
 use Rattle.text_lines.specs.declared.answer.ReadError.{ReadError}
 use Rattle.ring_check.specs.declared.answers.CheckError.{CheckError}
+use Rattle.ring_commands.specs.Reading.{most_bytes, IsOver}
 use Rattle.ring_commands.specs.declared.faults.ToolError.{ToolError}
 use Rattle.ring_state.specs.declared.sizes.ParamsError.TheVariants as params
 use Rattle.ring_state.specs.declared.states.StateError.TheVariants as state
@@ -110,9 +111,10 @@ IsStepRefusal n k states choices tool.Write = fault_of n k states choices ≡ No
 IsStepRefusal n k states choices tool.HistoryFull = (fault_of n k states choices ≡ None) × (event_limit < length choices)
 IsStepRefusal n k states choices e = fault_of n k states choices ≡ Some e
 
--- Which refusals the reading of a file may meet: that the file of this name cannot be read, that it is too large, or want of memory.
-abbrev pub IsReadRefusal : List ℕ → ToolError → Type 0
-IsReadRefusal file (tool.Read named) = named.now ≡ file
-IsReadRefusal file (tool.TooLarge named) = named.now ≡ file
-IsReadRefusal file tool.OutOfMemory = Unit {0}
-IsReadRefusal file _ = ⊥
+-- Which refusals the reading of a file may meet, by what its reader had left before and has now: that the file of this name cannot be read, that it
+-- has more bytes than are read, or want of memory.
+abbrev pub IsReadRefusal : List ℕ → Option (List ℕ) → Option (List ℕ) → ToolError → Type 0
+IsReadRefusal file old new (tool.Read named) = named.now ≡ file
+IsReadRefusal file old new (tool.TooLarge named) = (named.now ≡ file) × IsOver most_bytes old new
+IsReadRefusal file old new tool.OutOfMemory = Unit {0}
+IsReadRefusal file old new _ = ⊥

@@ -1,5 +1,5 @@
 -- What `run` answers: what the farm promises of its outcome, and which refusals there are.
-use Rattle.std.specs.Prelude.{◌≡◌, ℕ, List, length, Option, Some, Ok, Err}
+use Rattle.std.specs.Prelude.{◌≡◌, ℕ, List, length, Option, Some, Ok, Err, ◌⊎◌}
 use Rattle.std.specs.Option.{option_map}
 use Rattle.ring_settings.specs.Contents.{SettingsData, IsSettings}
 use Rattle.ring_settings.specs.Seats.{settings_of}
@@ -7,7 +7,8 @@ use Rattle.ring_settings.specs.declared.faults.SettingsError.{SettingsError}
 use Rattle.ring_farm.specs.Headline.{EachRing, IsOneHistory, HoldsCalls, HasLogs, AreRight, IsRepaired, TakesTurns}
 use Rattle.ring_farm.specs.declared.outcomes.Outcome.{Outcome}
 use Rattle.ring_text.specs.Report.{report}
-use Rattle.ring_commands.specs.Faults.{fault_of_settings}
+use Rattle.ring_commands.specs.Faults.{fault_of_settings, IsReadRefusal}
+use Rattle.ring_commands.specs.Reading.{most_bytes, IsAllOf}
 use Rattle.ring_commands.specs.Written.{AppendsFront}
 use Rattle.ring_commands.specs.declared.run.RunWords.{RunWords}
 use Rattle.ring_commands.specs.declared.faults.ToolError.{ToolError}
@@ -42,27 +43,26 @@ IsFarmRefusal bytes tool.Mismatch = AreSettings bytes
 IsFarmRefusal bytes tool.OutOfMemory = Unit {0}
 IsFarmRefusal bytes e = (fault : SettingsError) × (settings_of bytes ≡ Err fault) × (e ≡ fault_of_settings fault)
 
+-- Which refusals the farm of a file may meet, by what its reader had left before and has now: those of its reading, and those of all the bytes that it gave.
+abbrev pub IsFarmFileRefusal : List ℕ → Option (List ℕ) → Option (List ℕ) → ToolError → Type 0
+IsFarmFileRefusal file from left e = IsReadRefusal file from left e ⊎ ((bytes : List ℕ) × IsAllOf most_bytes from left bytes × IsFarmRefusal bytes e)
+
 -- the file of this name cannot be made or written, or there is no memory
 abbrev pub IsSaveRefusal : List ℕ → ToolError → Type 0
 IsSaveRefusal file (tool.Save named) = named.now ≡ file
 IsSaveRefusal file tool.OutOfMemory = Unit {0}
 IsSaveRefusal file _ = ⊥
 
--- Which refusals `run` may meet: each file by its word, the settings', the farm's, want of memory, and a writer that got a beginning of the report of
--- some farm.
+-- What may keep an outcome from being handed out: the file for its saved text, where there is one, want of memory, and a writer that got a beginning
+-- of its report.
+abbrev pub IsOutcomeRefusal : Option (List ℕ) → Outcome → Option (List ℕ) → Option (List ℕ) → ToolError → Type 0
+IsOutcomeRefusal file o old new (tool.Save named) = Some named.now ≡ file
+IsOutcomeRefusal file o old new tool.OutOfMemory = Unit {0}
+IsOutcomeRefusal file o old new tool.Write = AppendsFront old new (report o)
+IsOutcomeRefusal file o old new _ = ⊥
+
+-- Which refusals `run` may meet: those of the farm of the file that its word names, of whatever bytes that gives, and those of the outcome of a farm.
 abbrev pub IsRunRefusal : RunWords → Option (List ℕ) → Option (List ℕ) → ToolError → Type 0
-IsRunRefusal words old new (tool.Read named) = named.now ≡ words.settings.now
-IsRunRefusal words old new (tool.TooLarge named) = named.now ≡ words.settings.now
-IsRunRefusal words old new (tool.Save named) = Some named.now ≡ option_map (λ file. file.now) words.history
-IsRunRefusal words old new tool.Json = Unit {0}
-IsRunRefusal words old new (tool.Shape field) = Unit {0}
-IsRunRefusal words old new (tool.Limit field) = Unit {0}
-IsRunRefusal words old new (tool.Ring ring cause) = Unit {0}
-IsRunRefusal words old new (tool.Script seat action) = Unit {0}
-IsRunRefusal words old new tool.Spawn = Unit {0}
-IsRunRefusal words old new tool.GateShut = Unit {0}
-IsRunRefusal words old new tool.HistoryFull = Unit {0}
-IsRunRefusal words old new tool.Mismatch = Unit {0}
-IsRunRefusal words old new tool.OutOfMemory = Unit {0}
-IsRunRefusal words old new tool.Write = (settings : SettingsData) × (outcome : Outcome) × IsFarmOf settings outcome × AppendsFront old new (report outcome)
-IsRunRefusal words old new _ = ⊥
+IsRunRefusal words old new e =
+    ((from : Option (List ℕ)) × (left : Option (List ℕ)) × IsFarmFileRefusal words.settings.now from left e)
+    ⊎ ((settings : SettingsData) × (outcome : Outcome) × IsFarmOf settings outcome × IsOutcomeRefusal (option_map (λ file. file.now) words.history) outcome old new e)

@@ -5,15 +5,17 @@ ghost use Rattle.std.specs.Io.KnownBytes.{Appends};
 ghost use Rattle.text_lines.specs.Writing.{Writes};
 ghost use Rattle.ring_check.specs.declared.answers.Summary.{Summary};
 ghost use Rattle.ring_commands.specs.CheckText.{legal_line};
-ghost use Rattle.ring_commands.specs.Checked.{IsLegalSavedText, IsSavedTextRefusal, IsCheckRefusal, IsCheckRunRefusal};
+ghost use Rattle.ring_commands.specs.Checked.{IsLegalSavedText, IsSavedTextRefusal, IsCheckRefusal, IsCheckFileRefusal, IsCheckRunRefusal};
+ghost use Rattle.ring_commands.specs.Reading.{most_bytes, IsAllOf};
 
 use crate::faults::ToolError;
-use crate::reading::read_file;
+use crate::reading::read_whole;
 use itoa::Buffer;
 use ring_check::{Summary, check_saved};
 use ring_text::read_saved;
 use std::alloc::Global;
-use std::io::Write;
+use std::fs;
+use std::io::{Read, Write};
 use std::rt::Files;
 use text_lines::{WriteFault, put_all};
 
@@ -94,12 +96,32 @@ pub fn check_bytes<W: Write>(
     Ok(())
 }
 
-/// `check`, from its words: reads the file, and writes the sums of a legal saved text.
+/// Reads the file of this name, by its reader, and checks it as [`check_bytes`] does.
 ///
 /// # Errors
 ///
 /// `Read` and `TooLarge` for the file, and those of [`check_bytes`]. Nothing is written then, but for
 /// `Write`: a beginning of the line.
+pub fn check_file<'a, I: Read, W: Write>(
+    alloc: Global,
+    file: &'a str,
+    reader: &mut I,
+    out: &mut W,
+) -> Result<(), ToolError<'a>>
+    ensures ok { OnOk result ((bytes : List ℕ) × (sums : Summary) × IsAllOf most_bytes (I.remaining reader.old) (I.remaining reader.new) bytes
+        × IsLegalSavedText bytes sums × Appends (W.contents out.old) (W.contents out.new) (legal_line sums)) }
+    ensures err { IfErr result (λ e. IsCheckFileRefusal file.now (I.remaining reader.old) (I.remaining reader.new) (W.contents out.old) (W.contents out.new) e) }
+    ensures nothing { IfErr result (λ e. e ≢ ToolError.Write → out.new ≡ out.old) }
+{
+    let bytes = read_whole(alloc, file, reader)?;
+    check_bytes(alloc, bytes.as_slice(), out)
+}
+
+/// `check`, from its words: opens the file, and checks it.
+///
+/// # Errors
+///
+/// `Read` where the file cannot be opened, and those of [`check_file`].
 pub fn run<'a, R: AllocGlobal + Files, W: Write>(
     rt: &R,
     words: &CheckWords<'a>,
@@ -110,6 +132,8 @@ pub fn run<'a, R: AllocGlobal + Files, W: Write>(
     ensures err { IfErr result (λ e. IsCheckRunRefusal words.now (W.contents out.old) (W.contents out.new) e) }
     ensures nothing { IfErr result (λ e. e ≢ ToolError.Write → out.new ≡ out.old) }
 {
-    let bytes = read_file(rt, words.file)?;
-    check_bytes(rt.alloc(), bytes.as_slice(), out)
+    let Ok(mut reader) = fs::open(rt, words.file) else {
+        return Err(ToolError::Read(words.file));
+    };
+    check_file(rt.alloc(), words.file, &mut reader, out)
 }

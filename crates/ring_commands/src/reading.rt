@@ -1,17 +1,16 @@
 //! Reading of whole files, up to a limit.
 
-ghost use Rattle.std.specs.Prelude.{◌≡◌, ℕ, ◌+◌, ◌≤◌, List, length, vec_len, IfOk, OnOk, IfErr, IsErrOf};
+ghost use Rattle.std.specs.Prelude.{◌≡◌, ◌≤◌, vec_len, IfOk, OnOk, IfErr, IsErrOf};
 ghost use Rattle.std.specs.Io.KnownBytes.{Consumes, IsAtEnd};
 ghost use Rattle.ring_commands.specs.Faults.{IsReadRefusal};
+ghost use Rattle.ring_commands.specs.Reading.{most_bytes, IsAllOf, IsOver};
 
 use crate::faults::ToolError;
 use std::alloc::Global;
-use std::fs;
 use std::io::Read;
-use std::rt::Files;
 
 /// The most bytes of a file that is read.
-pub const MOST_BYTES: usize = 1_073_741_824;
+pub const MOST_BYTES: u64 = 1_073_741_824;
 
 /// How many bytes are asked for at once.
 const BLOCK: usize = 8192;
@@ -38,18 +37,17 @@ pub enum ReadFault {
 pub fn read_limited<R: Read>(
     alloc: Global,
     reader: &mut R,
-    limit: usize,
+    limit: u64,
 ) -> Result<Vec<u8>, ReadFault>
     ensures most { IfOk result (λ bytes. vec_len bytes ≤ limit) }
     ensures given { IfOk result (λ bytes. Consumes (R.remaining reader.old) (R.remaining reader.new) bytes.items) }
     ensures end { OnOk result (IsAtEnd (R.remaining reader.new)) }
-    ensures large { IsErrOf result ReadFault.TooLarge
-        → (bytes : List ℕ) × (length bytes ≡ limit + 1) × Consumes (R.remaining reader.old) (R.remaining reader.new) bytes }
+    ensures large { IsErrOf result ReadFault.TooLarge → IsOver limit (R.remaining reader.old) (R.remaining reader.new) }
 {
     let mut bytes = Vec::new(alloc);
     let mut block = [0u8; BLOCK];
-    while bytes.len() <= limit {
-        let room = (limit - bytes.len()).min(BLOCK - 1) + 1;
+    while bytes.len() as u64 <= limit {
+        let room = (limit - bytes.len() as u64).min(BLOCK as u64 - 1) as usize + 1;
         let Ok(count) = reader.read(&mut block[..room]) else {
             return Err(ReadFault::Failed);
         };
@@ -63,23 +61,20 @@ pub fn read_limited<R: Read>(
     Err(ReadFault::TooLarge)
 }
 
-/// All bytes of the file of this name, at most [`MOST_BYTES`].
+/// All bytes of the file of this name, by its reader, at most [`MOST_BYTES`].
 ///
 /// # Errors
 ///
-/// `Read` where the file cannot be opened, or at the first error of a read, `TooLarge`, each with the
-/// name, and `OutOfMemory`.
-pub fn read_file<'a, R: AllocGlobal + Files>(
-    rt: &R,
+/// `Read` at the first error of a read, `TooLarge`, each with the name, and `OutOfMemory`.
+pub fn read_whole<'a, R: Read>(
+    alloc: Global,
     file: &'a str,
+    reader: &mut R,
 ) -> Result<Vec<u8>, ToolError<'a>>
-    ensures most { IfOk result (λ bytes. vec_len bytes ≤ MOST_BYTES) }
-    ensures err { IfErr result (λ e. IsReadRefusal file.now e) }
+    ensures ok { IfOk result (λ bytes. IsAllOf most_bytes (R.remaining reader.old) (R.remaining reader.new) bytes.items) }
+    ensures err { IfErr result (λ e. IsReadRefusal file.now (R.remaining reader.old) (R.remaining reader.new) e) }
 {
-    let Ok(mut reader) = fs::open(rt, file) else {
-        return Err(ToolError::Read(file));
-    };
-    match read_limited(rt.alloc(), &mut reader, MOST_BYTES) {
+    match read_limited(alloc, reader, MOST_BYTES) {
         Ok(bytes) => Ok(bytes),
         Err(ReadFault::Failed) => Err(ToolError::Read(file)),
         Err(ReadFault::TooLarge) => Err(ToolError::TooLarge(file)),
