@@ -1,14 +1,12 @@
 //! The program: it reads its words, does a command and prints what the command answers.
 #![tactic(auto)]
 
-mod commands;
-mod faults;
-mod lists;
-mod program;
-mod reading;
-mod words;
+pub use ring_commands::faults::ToolError;
+pub use ring_commands::reading::read_limited;
+pub use ring_commands::step::step_lines;
+pub use ring_words::run_tool;
 
-use crate::faults::ToolError;
+use ring_commands::endings::tell;
 use std::io::{self, BufWriter, ErrorKind, Write};
 use std::process::ExitCode;
 use std::rt::{Env, Files};
@@ -43,17 +41,14 @@ fn run<R: AllocGlobal + Env + Files + Print + Threads + Wait + Sync, E: Write>(
     let Ok(mut out) = BufWriter::new(rt.alloc(), io::writer(rt)) else {
         return Err(ToolError::OutOfMemory);
     };
-    Ok(program::run_tool(rt, words.as_slice(), &mut out, err))
+    Ok(run_tool(rt, words.as_slice(), &mut out, err))
 }
 
 fn main(rt: HostRuntime) -> ExitCode {
     let mut err = rt.stderr();
     let status = match run(&rt, &mut err) {
         Ok(status) => status,
-        Err(fault) => program::tell(&fault, &mut err),
+        Err(fault) => tell(&fault, &mut err),
     };
     ExitCode::from(status)
 }
-
-#[cfg(test)]
-mod tests;

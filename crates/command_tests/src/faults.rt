@@ -1,0 +1,70 @@
+//! The line of each fault, also of those that no words lead to.
+
+use crate::paper::Paper;
+use ring_check::Kind;
+use ring_commands::endings::tell;
+use ring_commands::faults::ToolError;
+use ring_settings::{Field, RingCause};
+
+#[test]
+fn each_fault_has_its_line(rt: HostRuntime) {
+    let table = [
+        (ToolError::BadList, 2, "bad list\n"),
+        (ToolError::TooFew, 1, "n is less than 2\n"),
+        (ToolError::TooMany, 1, "n is more than 256\n"),
+        (ToolError::FewValues, 1, "k is less than n\n"),
+        (ToolError::ManyValues, 1, "k is more than 256\n"),
+        (ToolError::Length, 1, "start does not have n values\n"),
+        (ToolError::Value(255), 1, "start value 255 is not below k\n"),
+        (ToolError::Choice(7), 1, "choice 7 is not below n\n"),
+        (ToolError::Json, 1, "settings are not JSON\n"),
+        (
+            ToolError::Shape(Field::Top),
+            1,
+            "settings: document is missing or has the wrong shape\n",
+        ),
+        (
+            ToolError::Limit(Field::Script),
+            1,
+            "settings: script is out of limits\n",
+        ),
+        (
+            ToolError::Ring(15, RingCause::Value(2)),
+            1,
+            "ring 15: start value 2 is not below k\n",
+        ),
+        (
+            ToolError::Script(9, 999_999),
+            1,
+            "seat 9, action 999999: not an action\n",
+        ),
+        (ToolError::Spawn, 1, "a thread could not be started\n"),
+        (ToolError::GateShut, 1, "the gate was shut\n"),
+        (ToolError::HistoryFull, 1, "a history is full\n"),
+        (ToolError::Mismatch, 1, "logs and history differ\n"),
+        (
+            ToolError::Syntax(u64::MAX),
+            1,
+            "line 18446744073709551615: syntax\n",
+        ),
+        (ToolError::Truncated, 1, "text is truncated\n"),
+        (ToolError::Bad(2, Kind::Parameter), 1, "line 2: parameter\n"),
+        (ToolError::Bad(3, Kind::Range), 1, "line 3: range\n"),
+        (ToolError::Bad(4, Kind::Reply), 1, "line 4: reply\n"),
+        (ToolError::Bad(5, Kind::Count), 1, "line 5: count\n"),
+        (ToolError::Bad(6, Kind::Survey), 1, "line 6: survey\n"),
+        (ToolError::Read("in.txt"), 1, "cannot read in.txt\n"),
+        (ToolError::TooLarge("in.txt"), 1, "in.txt is too large\n"),
+        (ToolError::Save("out.txt"), 1, "cannot write out.txt\n"),
+        (ToolError::Write, 1, "cannot write\n"),
+        (ToolError::OutOfMemory, 1, "out of memory\n"),
+    ];
+    for (fault, status, text) in table {
+        let mut err = Paper::new(rt.alloc());
+        let got = tell(&fault, &mut err);
+        assert!(rt;
+            got == status && err.holds(text),
+            "at {fault}: status {got}"
+        );
+    }
+}

@@ -1,0 +1,132 @@
+//! Reading up to a limit, from readers that give little, too much, or fail.
+
+use ring_commands::reading::{ReadFault, read_limited};
+use std::io::{self, ErrorKind, Read};
+use std::process::Abort;
+use std::test::Fail;
+
+/// A reader that gives at most `at_most` bytes a call, and then no more, or the error if it has one.
+#[derive(Drop)]
+struct Giver<'a> {
+    text: &'a [u8],
+    given: usize,
+    at_most: usize,
+    error: Option<ErrorKind>,
+    /// How often it answered the error.
+    errors: usize,
+}
+
+impl<'a> Giver<'a> {
+    fn new(text: &'a [u8]) -> Giver<'a> {
+        Giver {
+            text,
+            given: 0,
+            at_most: usize::MAX,
+            error: None,
+            errors: 0,
+        }
+    }
+}
+
+impl Read for Giver<'_> {
+    fn read(&mut self, buf: &mut [u8]) -> io::Result<usize> {
+        let rest = self.text.get(self.given..).unwrap_or(&[]);
+        let count = rest.len().min(self.at_most).min(buf.len());
+        if let (Some(kind), 0) = (self.error, count) {
+            self.errors = self.errors.saturating_add(1);
+            return Err(io::Error::from(kind));
+        }
+        buf[..count].copy_from_slice(&rest[..count]);
+        self.given = self.given.saturating_add(count);
+        Ok(count)
+    }
+}
+
+/// Reads the text, so many bytes at a time, and compares.
+fn expect_bytes<R: Abort + AllocGlobal>(rt: &R, text: &[u8], at_most: usize, limit: usize) {
+    let mut reader = Giver {
+        at_most,
+        ..Giver::new(text)
+    };
+    match read_limited(rt.alloc(), &mut reader, limit) {
+        Ok(bytes) => assert_eq!(rt; bytes.as_slice(), text, "{at_most} at a time"),
+        Err(fault) => panic!(rt; "{fault:?} at {at_most} at a time"),
+    }
+}
+
+/// Reads the text, so many bytes at a time, and compares the refusal and how much was read until it came.
+fn expect_refusal<R: Abort + AllocGlobal>(
+    rt: &R,
+    reader: &mut Giver<'_>,
+    limit: usize,
+    fault: ReadFault,
+    given: usize,
+) {
+    match read_limited(rt.alloc(), reader, limit) {
+        Ok(_) => panic!(rt; "not refused"),
+        Err(met) => assert_eq!(rt; met, fault),
+    }
+    assert_eq!(rt; reader.given, given);
+}
+
+#[test]
+fn all_bytes_are_read_however_they_come(rt: HostRuntime) -> Result<(), Fail> {
+    for at_most in [1, 2, 5, 100] {
+        expect_bytes(&rt, b"", at_most, 10);
+        expect_bytes(&rt, b"token ring", at_most, 1000);
+        // Just as many as the limit.
+        expect_bytes(&rt, b"token ring", at_most, 10);
+    }
+    expect_bytes(&rt, b"", 1, 0);
+    let mut long = Vec::with_capacity(rt.alloc(), 20_000)?;
+    for i in 0..20_000u32 {
+        long.push((i % 251) as u8)?;
+    }
+    for at_most in [1, 8191, 8192, 8193, 20_000] {
+        expect_bytes(&rt, long.as_slice(), at_most, 20_000);
+        expect_bytes(&rt, long.as_slice(), at_most, usize::MAX);
+    }
+    Ok(())
+}
+
+#[test]
+fn one_byte_over_the_limit_ends_it(rt: HostRuntime) -> Result<(), Fail> {
+    for at_most in [1, 3, 100] {
+        for limit in 0..10 {
+            let mut reader = Giver {
+                at_most,
+                ..Giver::new(b"token ring")
+            };
+            expect_refusal(&rt, &mut reader, limit, ReadFault::TooLarge, limit + 1);
+        }
+    }
+    // An error that stands behind that byte is not met.
+    let mut reader = Giver {
+        error: Some(ErrorKind::BrokenPipe),
+        ..Giver::new(b"token")
+    };
+    expect_refusal(&rt, &mut reader, 4, ReadFault::TooLarge, 5);
+    assert_eq!(rt; reader.errors, 0);
+    Ok(())
+}
+
+#[test]
+fn the_first_error_of_a_read_ends_it(rt: HostRuntime) -> Result<(), Fail> {
+    for kind in [
+        ErrorKind::BrokenPipe,
+        ErrorKind::Interrupted,
+        ErrorKind::OutOfMemory,
+        ErrorKind::UnexpectedEof,
+    ] {
+        for at_most in [1, 3, 100] {
+            let mut reader = Giver {
+                at_most,
+                error: Some(kind),
+                ..Giver::new(b"token")
+            };
+            expect_refusal(&rt, &mut reader, 5, ReadFault::Failed, 5);
+            assert_eq!(rt; reader.errors, 1);
+        }
+    }
+    Ok(())
+}

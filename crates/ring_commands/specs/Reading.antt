@@ -1,0 +1,17 @@
+-- What reading up to a limit gives.
+use Rattle.std.specs.Prelude.{◌≡◌, ℕ, ◌+◌, ◌≤◌, List, length, Option}
+use Rattle.std.specs.Io.KnownBytes.{Consumes, IsAtEnd}
+
+-- how many bytes of a file are read at most
+abbrev pub most_bytes : ℕ
+most_bytes = 1073741824
+
+-- The bytes are all that a reader gave, from what it had left before to its end, and no more than so many.
+pub record IsAllOf (limit : ℕ) (old new : Option (List ℕ)) (bytes : List ℕ) : Type 0 where
+  pub within : length bytes ≤ limit
+  pub given : Consumes old new bytes
+  pub end : IsAtEnd new
+
+-- it gave one byte more than so many
+abbrev pub IsOver : ℕ → Option (List ℕ) → Option (List ℕ) → Type 0
+IsOver limit old new = (bytes : List ℕ) × (length bytes ≡ limit + 1) × Consumes old new bytes

@@ -1,0 +1,23 @@
+-- What is saved of a farm.
+use Rattle.std.specs.Prelude.{Result}
+use Rattle.text_lines.specs.declared.answer.ReadError.{ReadError}
+use Rattle.ring_settings.specs.Contents.{SettingsData}
+use Rattle.ring_farm.specs.declared.outcomes.Outcome.{Outcome}
+use Rattle.ring_text.specs.declared.saved.Saved.{Saved}
+use Rattle.ring_text.specs.Meaning.{IsRightRead, IsReadAs}
+use Rattle.ring_text.specs.SavedOf.{saved_of}
+use Rattle.ring_text.specs.Spelling.{text}
+use Rattle.ring_check.specs.Legal.{IsLegalText, summary_of}
+use Rattle.ring_commands.specs.Checked.{IsLegalSavedText}
+use Rattle.ring_commands.specs.Ran.{IsFarmOf}
+
+-- The saved text of an outcome is legal, in the subject's words with the outcome's sums, and by the table of what is refused; and the one right
+-- answer of its reader, memory aside, is what was saved.
+pub record IsSavedLegal (o : Outcome) : Type 0 where
+  pub legal : IsLegalSavedText (text (saved_of o)) (summary_of (saved_of o))
+  pub table : IsLegalText (saved_of o)
+  pub alone : (answer : Result Saved ReadError) → IsRightRead (text (saved_of o)) answer → IsReadAs (saved_of o) answer
+
+-- it is, where the outcome is that of a farm
+abbrev pub IsLegalOfFarm : Outcome → Type 0
+IsLegalOfFarm o = (settings : SettingsData) → IsFarmOf settings o → IsSavedLegal o

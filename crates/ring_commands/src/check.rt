@@ -1,0 +1,139 @@
+//! `check`: whether a saved text is that of legal histories.
+
+ghost use Rattle.std.specs.Prelude.{◌≡◌, ◌≢◌, ℕ, List, OnOk, IfOk, IfErr};
+ghost use Rattle.std.specs.Io.KnownBytes.{Appends};
+ghost use Rattle.text_lines.specs.Writing.{Writes};
+ghost use Rattle.ring_check.specs.declared.answers.Summary.{Summary};
+ghost use Rattle.ring_commands.specs.CheckText.{legal_line};
+ghost use Rattle.ring_commands.specs.Checked.{IsLegalSavedText, IsSavedTextRefusal, IsCheckRefusal, IsCheckFileRefusal, IsCheckRunRefusal};
+ghost use Rattle.ring_commands.specs.Reading.{most_bytes, IsAllOf};
+
+use crate::faults::ToolError;
+use crate::reading::read_whole;
+use itoa::Buffer;
+use ring_check::{Summary, check_saved};
+use ring_text::read_saved;
+use std::alloc::Global;
+use std::fs;
+use std::io::{Read, Write};
+use std::rt::Files;
+use text_lines::{WriteFault, put_all};
+
+/// What `check` was asked for.
+#[derive(Clone, Copy, Debug)]
+pub struct CheckWords<'a> {
+    pub file: &'a str,
+}
+
+/// The line of a legal text: its sums.
+fn write_sums<W: Write>(out: &mut W, sums: &Summary) -> Result<(), WriteFault>
+    ensures { Writes (W.contents out.old) (W.contents out.new) result (legal_line sums.now) }
+{
+    let mut buffers = (
+        Buffer::new(),
+        Buffer::new(),
+        Buffer::new(),
+        Buffer::new(),
+        Buffer::new(),
+    );
+    let rings = buffers.0.format(sums.rings).as_bytes();
+    let events = buffers.1.format(sums.events).as_bytes();
+    let granted = buffers.2.format(sums.granted).as_bytes();
+    let corrupted = buffers.3.format(sums.corrupted).as_bytes();
+    let surveys = buffers.4.format(sums.surveys).as_bytes();
+    put_all(
+        out,
+        &[
+            b"legal rings ",
+            rings,
+            b" events ",
+            events,
+            b" granted ",
+            granted,
+            b" corrupted ",
+            corrupted,
+            b" surveys ",
+            surveys,
+            b"\n",
+        ],
+    )
+}
+
+/// The sums of the saved text that the bytes are, where it is legal.
+///
+/// # Errors
+///
+/// `Syntax` or `Truncated` where the bytes are no saved text, `Bad` where they are one that is not
+/// legal, and `OutOfMemory`.
+fn sums_of(alloc: Global, bytes: &[u8]) -> Result<Summary, ToolError<'static>>
+    ensures ok { IfOk result (λ sums. IsLegalSavedText bytes.now sums) }
+    ensures err { IfErr result (λ e. IsSavedTextRefusal bytes.now e) }
+{
+    let saved = read_saved(alloc, bytes)?;
+    let sums = check_saved(alloc, &saved)?;
+    Ok(sums)
+}
+
+/// Checks the bytes of a saved text, and writes the sums of a legal one.
+///
+/// # Errors
+///
+/// The first line that cannot stand in a saved text, or that the bytes end too early; the first bad
+/// line of a saved text, and what is wrong with it; `OutOfMemory`. Nothing is written then. `Write`
+/// where the writer fails: what was written until then is a beginning of the line.
+pub fn check_bytes<W: Write>(
+    alloc: Global,
+    bytes: &[u8],
+    out: &mut W,
+) -> Result<(), ToolError<'static>>
+    ensures ok { OnOk result ((sums : Summary) × IsLegalSavedText bytes.now sums
+        × Appends (W.contents out.old) (W.contents out.new) (legal_line sums)) }
+    ensures err { IfErr result (λ e. IsCheckRefusal bytes.now (W.contents out.old) (W.contents out.new) e) }
+    ensures nothing { IfErr result (λ e. e ≢ ToolError.Write → out.new ≡ out.old) }
+{
+    let sums = sums_of(alloc, bytes)?;
+    write_sums(out, &sums)?;
+    Ok(())
+}
+
+/// Reads the file of this name, by its reader, and checks it as [`check_bytes`] does.
+///
+/// # Errors
+///
+/// `Read` and `TooLarge` for the file, and those of [`check_bytes`]. Nothing is written then, but for
+/// `Write`: a beginning of the line.
+pub fn check_file<'a, I: Read, W: Write>(
+    alloc: Global,
+    file: &'a str,
+    reader: &mut I,
+    out: &mut W,
+) -> Result<(), ToolError<'a>>
+    ensures ok { OnOk result ((bytes : List ℕ) × (sums : Summary) × IsAllOf most_bytes (I.remaining reader.old) (I.remaining reader.new) bytes
+        × IsLegalSavedText bytes sums × Appends (W.contents out.old) (W.contents out.new) (legal_line sums)) }
+    ensures err { IfErr result (λ e. IsCheckFileRefusal file.now (I.remaining reader.old) (I.remaining reader.new) (W.contents out.old) (W.contents out.new) e) }
+    ensures nothing { IfErr result (λ e. e ≢ ToolError.Write → out.new ≡ out.old) }
+{
+    let bytes = read_whole(alloc, file, reader)?;
+    check_bytes(alloc, bytes.as_slice(), out)
+}
+
+/// `check`, from its words: opens the file, and checks it.
+///
+/// # Errors
+///
+/// `Read` where the file cannot be opened, and those of [`check_file`].
+pub fn run<'a, R: AllocGlobal + Files, W: Write>(
+    rt: &R,
+    words: &CheckWords<'a>,
+    out: &mut W,
+) -> Result<(), ToolError<'a>>
+    ensures ok { OnOk result ((bytes : List ℕ) × (sums : Summary) × IsLegalSavedText bytes sums
+        × Appends (W.contents out.old) (W.contents out.new) (legal_line sums)) }
+    ensures err { IfErr result (λ e. IsCheckRunRefusal words.now (W.contents out.old) (W.contents out.new) e) }
+    ensures nothing { IfErr result (λ e. e ≢ ToolError.Write → out.new ≡ out.old) }
+{
+    let Ok(mut reader) = fs::open(rt, words.file) else {
+        return Err(ToolError::Read(words.file));
+    };
+    check_file(rt.alloc(), words.file, &mut reader, out)
+}

@@ -1,0 +1,14 @@
+//! What the program's commands do once its words are read: the commands, their lists and files, what is refused, and how a run ends.
+//!
+//! The command line itself stands in `ring_tool`. Here nothing knows of it, so that these parts are proved, and tried on wrong
+//! bodies, without it.
+#![tactic(auto)]
+
+pub mod check;
+pub mod endings;
+pub mod faults;
+pub mod lists;
+pub mod reading;
+pub mod requests;
+pub mod run;
+pub mod step;

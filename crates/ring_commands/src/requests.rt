@@ -1,0 +1,35 @@
+//! What the program can be asked for.
+
+use crate::check::{self, CheckWords};
+use crate::faults::ToolError;
+use crate::run::{self, RunWords};
+use crate::step::{self, StepWords};
+use std::io::Write;
+use std::rt::Files;
+use std::sync::Wait;
+use std::thread::Threads;
+
+/// A command, with its words.
+#[derive(Clone, Copy, Debug)]
+pub enum Request<'a> {
+    Step(StepWords<'a>),
+    Run(RunWords<'a>),
+    Check(CheckWords<'a>),
+}
+
+/// Does what was asked for.
+///
+/// # Errors
+///
+/// The refusals of the command.
+pub fn answer<'a, R: AllocGlobal + Files + Threads + Wait + Sync, O: Write>(
+    rt: &R,
+    request: &Request<'a>,
+    out: &mut O,
+) -> Result<(), ToolError<'a>> {
+    match request {
+        Request::Step(words) => step::run(rt.alloc(), words, out),
+        Request::Run(words) => run::run(rt, words, out),
+        Request::Check(words) => check::run(rt, words, out),
+    }
+}

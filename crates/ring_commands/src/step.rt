@@ -1,0 +1,208 @@
+//! `step`: a ring on one thread, from given values, by given choices.
+
+ghost use Rattle.std.specs.Prelude.{◌≡◌, ◌≤◌, [], length, nat_le, position, IsSome, OnOk, OnErr, IfOk, IfErr};
+ghost use Rattle.std.specs.Io.KnownBytes.{Appends};
+ghost use Rattle.ring_book.specs.BookView.{IsFresh};
+ghost use Rattle.ring_book.specs.EventsView.{event_limit};
+ghost use Rattle.ring_commands.specs.Faults.{size_fault, start_fault, fault_of, IsRefusalOver, IsOpeningRefusal, IsStepRefusal};
+ghost use Rattle.ring_commands.specs.StepText.{list_text, granted_line, refused_line, reply_line, end_lines, step_text};
+ghost use Rattle.ring_commands.specs.Written.{AppendsFront};
+ghost use Rattle.text_lines.specs.Writing.{Writes};
+
+use crate::faults::ToolError;
+use crate::lists::read_list;
+use itoa::Buffer;
+use ring_book::{Book, Idle, Reply};
+use ring_state::{Params, RingState};
+use std::alloc::Global;
+use std::io::Write;
+use text_lines::{WriteFault, put, put_all};
+
+/// What `step` was asked for, with its lists as they were given.
+#[derive(Clone, Copy, Debug)]
+pub struct StepWords<'a> {
+    pub n: u32,
+    pub k: u32,
+    pub states: &'a str,
+    pub choices: Option<&'a str>,
+}
+
+/// The line of a granted pass: the machine, and the number of the grant.
+fn write_granted<W: Write>(out: &mut W, machine: u32, number: u64) -> Result<(), WriteFault>
+    ensures { Writes (W.contents out.old) (W.contents out.new) result (granted_line machine number) }
+{
+    let mut machine_digits = Buffer::new();
+    let mut digits = Buffer::new();
+    put_all(
+        out,
+        &[
+            machine_digits.format(machine).as_bytes(),
+            b" granted ",
+            digits.format(number).as_bytes(),
+            b"\n",
+        ],
+    )
+}
+
+/// The line of a pass that found no privilege.
+fn write_refused<W: Write>(out: &mut W, machine: u32) -> Result<(), WriteFault>
+    ensures { Writes (W.contents out.old) (W.contents out.new) result (refused_line machine) }
+{
+    let mut digits = Buffer::new();
+    put_all(
+        out,
+        &[digits.format(machine).as_bytes(), b" not privileged\n"],
+    )
+}
+
+/// The line of one pass: the machine, and what the ring answered it.
+fn write_reply<W: Write>(out: &mut W, machine: u32, reply: Reply) -> Result<(), WriteFault>
+    ensures { Writes (W.contents out.old) (W.contents out.new) result (reply_line machine reply) }
+{
+    match reply {
+        Reply::Granted { number, .. } => write_granted(out, machine, number),
+        Reply::NotPrivileged | Reply::Corrupted { .. } => write_refused(out, machine),
+    }
+}
+
+/// The values of the ring, with a comma between each two.
+fn write_values<W: Write>(out: &mut W, state: &RingState) -> Result<(), WriteFault>
+    ensures { Writes (W.contents out.old) (W.contents out.new) result (list_text state.now.values) }
+{
+    let n = state.params().n();
+    let mut digits = Buffer::new();
+    put(out, digits.format(state.get(0)).as_bytes())?;
+    for i in 1..n {
+        let mut digits = Buffer::new();
+        put_all(out, &[b",", digits.format(state.get(i)).as_bytes()])?;
+    }
+    Ok(())
+}
+
+/// The two lines of the last state.
+fn write_end<W: Write>(out: &mut W, state: &RingState) -> Result<(), WriteFault>
+    ensures { Writes (W.contents out.old) (W.contents out.new) result (end_lines state.now.values) }
+{
+    put(out, b"states ")?;
+    write_values(out, state)?;
+    let mut count = Buffer::new();
+    let mut first = Buffer::new();
+    put_all(
+        out,
+        &[
+            b"\nprivileged ",
+            count.format(state.privileged()).as_bytes(),
+            b" first ",
+            first.format(state.first()).as_bytes(),
+            b"\n",
+        ],
+    )
+}
+
+/// The ring's size, where it is allowed.
+fn sized(n: u32, k: u32) -> Result<Params, ToolError<'static>>
+    ensures ok { IfOk result (λ p. (p ≡ record { n = n; k = k }) × (size_fault n k ≡ None)) }
+    ensures err { IfErr result (λ e. size_fault n k ≡ Some e) }
+{
+    Ok(Params::new(n, k)?)
+}
+
+/// The ring, where its size and its start values are allowed.
+fn started(alloc: Global, n: u32, k: u32, states: &[u32]) -> Result<RingState, ToolError<'static>>
+    ensures ok { IfOk result (λ r. (r ≡ record { k = k; values = states.now })
+        × (length states.now ≡ n) × (start_fault n k states.now ≡ None)) }
+    ensures err { IfErr result (λ e. IsRefusalOver (start_fault n k states.now) e) }
+{
+    let params = sized(n, k)?;
+    Ok(RingState::from_values(alloc, &params, states)?)
+}
+
+/// The index of the first choice that is no machine of a ring of `n`.
+fn first_beyond(n: u32, choices: &[u32]) -> Option<usize>
+    ensures { result ≡ position (λ choice. nat_le n choice) choices.now }
+{
+    choices.iter().position(|choice| *choice >= n)
+}
+
+/// The ring with no events yet, where all that `step` was given is allowed.
+fn opened(
+    alloc: Global,
+    n: u32,
+    k: u32,
+    states: &[u32],
+    choices: &[u32],
+) -> Result<Book<Idle>, ToolError<'static>>
+    ensures ok { IfOk result (λ b. IsFresh (record { k = k; values = states.now }) (record {}) b
+        × (length states.now ≡ n) × (fault_of n k states.now choices.now ≡ None)) }
+    ensures err { IfErr result (λ e. IsOpeningRefusal n k states.now choices.now e) }
+{
+    let state = started(alloc, n, k, states)?;
+    if let Some(index) = first_beyond(n, choices) {
+        return Err(ToolError::Choice(index));
+    }
+    match Book::new(alloc, state, Idle) {
+        Ok(book) => Ok(book),
+        Err(_) => Err(ToolError::OutOfMemory),
+    }
+}
+
+/// Lets each chosen machine of a ring ask to pass, with order 0, and writes the reply to each and
+/// then the last state.
+///
+/// # Errors
+///
+/// The first that applies: a size that is not allowed (2 to 256 machines, n to 256 values), start
+/// values of another number than n, the first start value that is not below `k`, the first choice
+/// that is not below `n`. Nothing is written then. Want of memory comes where memory is asked for;
+/// `HistoryFull` comes where there are more than 1,000,000 choices, and `Write` where the writer
+/// fails: what was written until then is a beginning of the lines.
+pub fn step_lines<W: Write>(
+    alloc: Global,
+    n: u32,
+    k: u32,
+    states: &[u32],
+    choices: &[u32],
+    out: &mut W,
+) -> Result<(), ToolError<'static>>
+    // What is written: all of the text, or a beginning of it, or nothing where there is a fault.
+    ensures written { OnOk result (Appends (W.contents out.old) (W.contents out.new) (step_text k states.now choices.now)) }
+    ensures front { OnErr result (AppendsFront (W.contents out.old) (W.contents out.new) (step_text k states.now choices.now)) }
+    ensures nothing { IsSome (fault_of n k states.now choices.now) → out.new ≡ out.old }
+
+    // What is answered.
+    ensures ok { OnOk result ((fault_of n k states.now choices.now ≡ None) × (length choices.now ≤ event_limit)) }
+    ensures err { IfErr result (λ e. IsStepRefusal n k states.now choices.now e) }
+{
+    let mut book = opened(alloc, n, k, states, choices)?;
+    for choice in choices {
+        let receipt = book.pass(0, *choice, 0)?;
+        write_reply(out, *choice, receipt.event.reply)?;
+    }
+    write_end(out, book.state())?;
+    Ok(())
+}
+
+/// `step`, from its words: reads the lists, the start values first.
+///
+/// # Errors
+///
+/// `BadList` where a list is not well written, and those of [`step_lines`].
+pub fn run<W: Write>(
+    alloc: Global,
+    words: &StepWords<'_>,
+    out: &mut W,
+) -> Result<(), ToolError<'static>> {
+    let states = read_list(alloc, words.states)?;
+    let choices = match words.choices {
+        Some(text) => read_list(alloc, text)?,
+        None => Vec::new(alloc),
+    };
+    step_lines(
+        alloc,
+        words.n,
+        words.k,
+        states.as_slice(),
+        choices.as_slice(),
+        out,
+    )
+}
