@@ -13,6 +13,3 @@ pub use events::BookError;
 pub use grants::GrantBook;
 pub use resources::{Idle, Resource, Till};
 pub use ring_model::{Entry, Event, Op, Receipt, Reply, Survey};
-
-#[cfg(test)]
-mod tests;

@@ -11,8 +11,6 @@ mod bytes;
 mod kernels;
 mod limits;
 mod probe;
-#[cfg(test)]
-mod tests;
 
 use bytes::{Holding, Privileged, Returning};
 use kernels::{any_hit, count_hits, first_hit, weigh_hits, write_hits};

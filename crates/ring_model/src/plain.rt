@@ -179,6 +179,3 @@ pub fn follow(k: u32, values: &mut [u32], choices: &[u32]) -> u64
     }
     granted
 }
-
-#[cfg(test)]
-mod tests;

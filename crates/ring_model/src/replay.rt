@@ -59,6 +59,3 @@ pub fn calm(events: &[Event]) -> u64
     }
     calm
 }
-
-#[cfg(test)]
-mod tests;

@@ -39,6 +39,3 @@ pub fn run_descent()
 pub fn round()
     ensures { Round }
 {}
-
-#[cfg(test)]
-mod tests;

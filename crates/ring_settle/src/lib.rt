@@ -7,6 +7,3 @@ mod runs;
 
 pub use potential::{bound, is_settled, lead, rest};
 pub use runs::follow;
-
-#[cfg(test)]
-mod tests;

@@ -207,6 +207,3 @@ impl RingState {
         Ok(RingState { k: self.k, bytes })
     }
 }
-
-#[cfg(test)]
-mod tests;

@@ -1,19 +1,5 @@
-ghost use Rattle.std.specs.Prelude.{◌≡◌, length};
-
-use crate::{bound, follow, is_settled, lead, rest};
-use ring_state::{Params, RingState};
-use std::alloc::Global;
-use std::process::Abort;
-use std::test::Fail;
-
-/// A state; where there was no memory for it, it is asked for a second time.
-fn state_of(rt: &impl Abort, alloc: Global, n: u32, k: u32, values: &[u32]) -> RingState {
-    let size = Params::new(n, k).expect(rt, "a size within the limits");
-    match RingState::from_values(alloc, &size, values) {
-        Ok(state) => state,
-        Err(_) => RingState::from_values(alloc, &size, values).expect(rt, "values of this size"),
-    }
-}
+use crate::rings::{state_of, three};
+use ring_settle::{bound, follow, is_settled, lead, rest};
 
 #[test]
 fn bounds(rt: HostRuntime) {
@@ -70,12 +56,6 @@ fn the_largest_ring_of_different_values(rt: HostRuntime) {
     assert_eq!(rt; (state.privileged(), state.first()), (255, 1));
     assert_eq!(rt; (lead(&state), rest(&state)), (0, 32_640));
     assert!(rt; !is_settled(&state));
-}
-
-/// The values of a state of three machines.
-fn three(rt: &impl Abort, state: &RingState) -> (u32, u32, u32) {
-    assert_eq!(rt; state.params().n(), 3);
-    (state.get(0), state.get(1), state.get(2))
 }
 
 #[test]

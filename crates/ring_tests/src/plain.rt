@@ -1,25 +1,33 @@
 //! Worked values, found by hand from the rule.
 
-use super::*;
+use ring_model::plain::{
+    bound, first_privileged, first_value_is_prefix, follow, is_absent, is_ring, is_settled, lead,
+    move_machine, privileged_count, rest, weight,
+};
 
 #[test]
 fn steps_and_copies(rt: HostRuntime) {
-    let mut ring = [0, 2, 0];
-    assert!(rt; is_ring(3, &ring));
-    assert_eq!(rt; privileged_count(&ring), 3);
-    assert_eq!(rt; first_privileged(&ring), 0);
-    move_machine(3, &mut ring, 0);
-    assert_eq!(rt; ring, [1, 2, 0]);
-    move_machine(3, &mut ring, 1);
-    assert_eq!(rt; ring, [1, 1, 0]);
-    assert!(rt; is_settled(&ring));
-    assert_eq!(rt; first_privileged(&ring), 2);
-    move_machine(3, &mut ring, 2);
-    assert_eq!(rt; ring, [1, 1, 1]);
+    for (before, machine, after) in [
+        ([0, 2, 0], 0, [1, 2, 0]),
+        ([1, 2, 0], 1, [1, 1, 0]),
+        ([1, 1, 0], 2, [1, 1, 1]),
+        ([2, 2, 2], 0, [0, 2, 2]),
+    ] {
+        let mut ring: [u32; 3] = before;
+        assert!(rt; machine < 3);
+        move_machine(3, &mut ring, machine);
+        assert_eq!(rt; ring, after, "machine {machine} of {before:?}");
+    }
+}
 
-    let mut at_the_top = [2, 2, 2];
-    move_machine(3, &mut at_the_top, 0);
-    assert_eq!(rt; at_the_top, [0, 2, 2]);
+#[test]
+fn tells_who_is_privileged(rt: HostRuntime) {
+    for (ring, count, first, settled) in [([0, 2, 0], 3, 0, false), ([1, 1, 0], 1, 2, true)] {
+        assert!(rt; is_ring(3, &ring));
+        assert_eq!(rt; privileged_count(&ring), count, "at {ring:?}");
+        assert_eq!(rt; first_privileged(&ring), first, "at {ring:?}");
+        assert_eq!(rt; is_settled(&ring), settled, "at {ring:?}");
+    }
 }
 
 #[test]
@@ -42,30 +50,31 @@ fn knows_rings(rt: HostRuntime) {
     assert!(rt; !is_ring(0, &[]));
 }
 
+// Values, and their weight, lead and rest: three machines with three values.
 #[test]
 fn answers_the_potential(rt: HostRuntime) {
-    // Three machines with three values: values, weight, lead, rest.
-    for (ring, weight_wanted, lead_wanted, rest_wanted) in [
-        ([0, 2, 0], 3, 1, 6),
-        ([1, 2, 0], 3, 0, 3),
-        ([1, 1, 0], 1, 0, 0),
+    for (ring, wanted) in [
+        ([0, 2, 0], (3, 1, 6)),
+        ([1, 2, 0], (3, 0, 3)),
+        ([1, 1, 0], (1, 0, 0)),
     ] {
-        assert_eq!(rt; weight(&ring), weight_wanted, "at {ring:?}");
-        assert_eq!(rt; lead(3, &ring), lead_wanted, "at {ring:?}");
-        assert_eq!(rt; rest(3, &ring), rest_wanted, "at {ring:?}");
+        let got = (weight(&ring), lead(3, &ring), rest(3, &ring));
+        assert_eq!(rt; got, wanted, "at {ring:?}");
     }
+}
 
-    // Four machines with four values.
-    for (ring, weight_wanted, lead_wanted, rest_wanted) in [
-        ([0, 2, 1, 0], 6, 3, 18),
-        ([1, 2, 1, 0], 6, 2, 14),
-        ([1, 1, 1, 0], 1, 0, 0),
-        ([3, 3, 1, 0], 3, 0, 3),
-        ([1, 0, 1, 1], 5, 1, 9),
+// The same, of four machines with four values.
+#[test]
+fn answers_the_potential_of_four(rt: HostRuntime) {
+    for (ring, wanted) in [
+        ([0, 2, 1, 0], (6, 3, 18)),
+        ([1, 2, 1, 0], (6, 2, 14)),
+        ([1, 1, 1, 0], (1, 0, 0)),
+        ([3, 3, 1, 0], (3, 0, 3)),
+        ([1, 0, 1, 1], (5, 1, 9)),
     ] {
-        assert_eq!(rt; weight(&ring), weight_wanted, "at {ring:?}");
-        assert_eq!(rt; lead(4, &ring), lead_wanted, "at {ring:?}");
-        assert_eq!(rt; rest(4, &ring), rest_wanted, "at {ring:?}");
+        let got = (weight(&ring), lead(4, &ring), rest(4, &ring));
+        assert_eq!(rt; got, wanted, "at {ring:?}");
     }
 }
 

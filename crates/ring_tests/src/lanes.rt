@@ -1,7 +1,10 @@
 // Worked examples by hand, and every kernel beside the plain program on a table of rings.
 ghost use Rattle.std.specs.Prelude.{◌≤◌, ◌<◌, length};
 
-use super::*;
+use ring_lanes::{
+    all_below, first_privileged, first_value_is_prefix, holds_past_first, privileged_count,
+    privileged_mask, weight,
+};
 use ring_model::plain;
 use std::process::Abort;
 
@@ -94,18 +97,27 @@ fn check_lone(rt: &impl Abort, n: usize, d: usize)
     } else {
         (1, n - 1, 1, true)
     };
-    assert_eq!(rt; privileged_count(s), count, "count at {n} and {d}");
-    assert_eq!(rt; first_privileged(s), first, "first at {n} and {d}");
-    assert_eq!(rt; weight(s), sum as u64, "weight at {n} and {d}");
-    assert_eq!(rt; first_value_is_prefix(s), prefix, "prefix at {n} and {d}");
-    assert!(rt; !all_below(s, 1), "the value 1 at {n} and {d}");
+    assert_eq!(rt;
+        (
+            privileged_count(s),
+            first_privileged(s),
+            weight(s),
+            first_value_is_prefix(s)
+        ),
+        (count, first, sum as u64, prefix),
+        "at {n} and {d}"
+    );
+    assert_eq!(rt;
+        (all_below(s, 1), holds_past_first(s, 1)),
+        (false, d >= 1),
+        "the value 1 at {n} and {d}"
+    );
     for limit in [2, 256, u32::MAX] {
         assert!(rt;
             all_below(s, limit),
             "no value from {limit} on at {n} and {d}"
         );
     }
-    assert_eq!(rt; holds_past_first(s, 1), d >= 1, "held at {n} and {d}");
     check_ring(rt, s);
 }
 

@@ -3,7 +3,7 @@
 
 ghost use Rattle.std.specs.Prelude.{◌<◌, ◌≤◌, length};
 
-use crate::plain;
+use ring_model::plain;
 use std::process::Abort;
 
 /// n, K and how many states there are: K to the power n.
@@ -41,17 +41,14 @@ fn check_move(rt: &impl Abort, k: u32, ring: &[u32], machine: usize)
     moved.copy_from_slice(ring);
     plain::move_machine(k, moved, machine);
 
-    assert!(rt;
-        plain::is_ring(k, moved),
-        "no ring after {machine} of {ring:?}"
-    );
-    assert!(rt;
-        plain::privileged_count(moved) <= plain::privileged_count(ring),
-        "count after {machine} of {ring:?}"
-    );
-    assert!(rt;
-        !plain::is_privileged(moved, machine),
-        "{machine} of {ring:?} kept its privilege"
+    assert_eq!(rt;
+        (
+            plain::is_ring(k, moved),
+            plain::privileged_count(moved) <= plain::privileged_count(ring),
+            plain::is_privileged(moved, machine)
+        ),
+        (true, true, false),
+        "after {machine} of {ring:?}"
     );
     for other in 0..n {
         if other != machine && other != right {
@@ -64,14 +61,10 @@ fn check_move(rt: &impl Abort, k: u32, ring: &[u32], machine: usize)
     }
     if plain::is_settled(ring) {
         assert_eq!(rt; machine, plain::first_privileged(ring));
-        assert!(rt;
-            plain::is_settled(moved),
-            "unsettled after {machine} of {ring:?}"
-        );
         assert_eq!(rt;
-            plain::first_privileged(moved),
-            right,
-            "round after {machine} of {ring:?}"
+            (plain::is_settled(moved), plain::first_privileged(moved)),
+            (true, right),
+            "after {machine} of {ring:?}"
         );
     } else {
         assert!(rt;

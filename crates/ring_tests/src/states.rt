@@ -1,4 +1,5 @@
-use crate::{Params, ParamsError, RingState, StateError};
+use crate::rings::three;
+use ring_state::{Params, ParamsError, RingState, StateError};
 use std::alloc::Global;
 use std::process::Abort;
 use std::test::Fail;
@@ -14,12 +15,6 @@ fn sizes_are_accepted_or_refused_in_order(rt: HostRuntime) -> Result<(), Fail> {
     let least = Params::new(2, 2)?;
     assert_eq!(rt; (least.n(), least.k()), (2, 2));
     Ok(())
-}
-
-/// The values of a state, one for each of three machines.
-fn three(rt: &impl Abort, state: &RingState) -> (u32, u32, u32) {
-    assert_eq!(rt; state.params().n(), 3);
-    (state.get(0), state.get(1), state.get(2))
 }
 
 /// A state of three machines with three values.
@@ -73,52 +68,91 @@ fn a_refused_request_for_memory_is_told(rt: HostRuntime) {
     assert_eq!(rt; three(&rt, &state), (0, 2, 1));
 }
 
+/// A move of a machine, which is privileged, or a write of a value into it.
+#[derive(Clone, Copy, Debug)]
+enum Act {
+    Move(u32),
+    Write(u32, u32),
+}
+
+/// Does it, and answers the value that was written over.
+fn act_on(rt: &impl Abort, state: &mut RingState, act: Act) -> Option<u32> {
+    assert_eq!(rt; (state.params().n(), state.params().k()), (3, 3));
+    match act {
+        Act::Move(machine) => {
+            assert!(rt; machine < 3 && state.is_privileged(machine));
+            state.move_machine(machine);
+            None
+        },
+        Act::Write(machine, value) => {
+            assert!(rt; machine < 3 && value < 3);
+            Some(state.write(machine, value))
+        },
+    }
+}
+
+/// The privileged machines of three, how many they are, and the first of them.
+fn privileges(rt: &impl Abort, state: &RingState) -> ([bool; 3], u32, u32) {
+    assert_eq!(rt; state.params().n(), 3);
+    (
+        [
+            state.is_privileged(0),
+            state.is_privileged(1),
+            state.is_privileged(2),
+        ],
+        state.privileged(),
+        state.first(),
+    )
+}
+
 #[test]
 fn machines_move_by_the_rule(rt: HostRuntime) -> Result<(), Fail> {
     let mut state = state_of(rt.alloc(), &[0, 2, 0])?;
-    assert_eq!(rt; (state.privileged(), state.first()), (3, 0));
-    assert!(rt; state.is_privileged(0));
-    state.move_machine(0);
-    assert_eq!(rt; three(&rt, &state), (1, 2, 0));
-    assert!(rt; !state.is_privileged(0));
-    assert!(rt; state.is_privileged(2));
-    state.move_machine(2);
-    assert_eq!(rt; three(&rt, &state), (1, 2, 2));
-    assert_eq!(rt; (state.privileged(), state.first()), (1, 1));
-    assert_eq!(rt; state.write(2, 1), 2);
-    assert_eq!(rt; three(&rt, &state), (1, 2, 1));
-    assert_eq!(rt; (state.privileged(), state.first()), (3, 0));
+    assert_eq!(rt; privileges(&rt, &state), ([true, true, true], 3, 0));
+    for (act, old, values, behind) in [
+        (Act::Move(0), None, (1, 2, 0), ([false, true, true], 2, 1)),
+        (Act::Move(2), None, (1, 2, 2), ([false, true, false], 1, 1)),
+        (
+            Act::Write(2, 1),
+            Some(2),
+            (1, 2, 1),
+            ([true, true, true], 3, 0),
+        ),
+    ] {
+        assert_eq!(rt; act_on(&rt, &mut state, act), old, "at {act:?}");
+        assert_eq!(rt; three(&rt, &state), values, "behind {act:?}");
+        assert_eq!(rt; privileges(&rt, &state), behind, "behind {act:?}");
+    }
     Ok(())
+}
+
+/// Which of the values 0, 1 and 2 a machine other than machine 0 holds.
+fn held_past_first(rt: &impl Abort, state: &RingState) -> [bool; 3] {
+    assert_eq!(rt; state.params().k(), 3);
+    [
+        state.holds_past_first(0),
+        state.holds_past_first(1),
+        state.holds_past_first(2),
+    ]
 }
 
 // The ring (0, 2, 0): all three machines are privileged, the weight is 2 + 1, and machine 2 holds the value of machine 0 behind
 // machine 1, which does not. In (1, 2, 2) machine 1 alone is privileged.
 #[test]
 fn readers_see_the_whole_ring(rt: HostRuntime) -> Result<(), Fail> {
-    let unsettled = state_of(rt.alloc(), &[0, 2, 0])?;
     let mut mask = [7; 4];
-    unsettled.mask(&mut mask);
-    assert_eq!(rt; mask, [0b111, 0, 0, 0]);
-    assert_eq!(rt; unsettled.weight(), 3);
-    assert!(rt; !unsettled.first_value_is_prefix());
-    let settled = state_of(rt.alloc(), &[1, 2, 2])?;
-    settled.mask(&mut mask);
-    assert_eq!(rt; mask, [0b010, 0, 0, 0]);
-    assert_eq!(rt; settled.weight(), 2);
-    assert!(rt; settled.first_value_is_prefix());
-    for (state, held) in [
-        (&unsettled, [true, false, true]),
-        (&settled, [false, false, true]),
+    for (values, bits, weight, prefix, held) in [
+        ([0, 2, 0], 0b111, 3, false, [true, false, true]),
+        ([1, 2, 2], 0b010, 2, true, [false, false, true]),
     ] {
-        assert_eq!(rt; state.params().k(), 3);
+        let state = state_of(rt.alloc(), &values)?;
+        state.mask(&mut mask);
+        assert_eq!(rt; mask, [bits, 0, 0, 0], "of {values:?}");
         assert_eq!(rt;
-            [
-                state.holds_past_first(0),
-                state.holds_past_first(1),
-                state.holds_past_first(2)
-            ],
-            held
+            (state.weight(), state.first_value_is_prefix()),
+            (weight, prefix)
         );
+        assert_eq!(rt; held_past_first(&rt, &state), held, "of {values:?}");
     }
     Ok(())
 }

@@ -1,0 +1,20 @@
+//! Tests of the crates from `ring_model` to `ring_book`, by their public items alone. They stand here so that those
+//! crates are not proved once more with their tests; each module is named after what it tests.
+#![tactic(auto)]
+
+#[cfg(test)]
+mod book;
+#[cfg(test)]
+mod lanes;
+#[cfg(test)]
+mod model_laws;
+#[cfg(test)]
+mod plain;
+#[cfg(test)]
+mod replay;
+#[cfg(test)]
+mod rings;
+#[cfg(test)]
+mod settle;
+#[cfg(test)]
+mod states;
