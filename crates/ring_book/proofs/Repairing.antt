@@ -21,7 +21,7 @@ use Rattle.ring_book.specs.Repairs.{AreRepairs, IsRepairedBy}
 pub book_settlement : {C : Type 0} (w : Works C) (first : C) (b : BookView C) → IsBook w first b → Settlement w (opening b.start first) b.history
 book_settlement w first b k = settlement w (opening b.start first) b.history k.start_ring.ring k.legal
 
--- rest and calm together are at most the bound
+-- the rest is at most the bound less the calm
 pub book_calm : {C : Type 0} (w : Works C) (first : C) (b : BookView C) → IsBook w first b → rest b.now.ring.k b.now.ring.values ≤ bound (length b.start.values) - calm b.history
 book_calm w first b k =
     subst (λ (s : State _). rest s.ring.k s.ring.values ≤ bound (length b.start.values) - calm b.history) k.current
