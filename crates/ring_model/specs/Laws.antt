@@ -32,7 +32,7 @@ RestIsZero = (K : ℕ) (s : List ℕ) → IsRing K s → (rest K s ≡ 0 → is_
 abbrev pub Bounded : Type 0
 Bounded = (K : ℕ) (s : List ℕ) → IsRing K s → rest K s ≤ bound (length s)
 
--- over every run the rest falls by the number of granted passes, down to 0
+-- over every run the rest falls by at least the number of granted passes, down to 0
 abbrev pub RunDescent : Type 0
 RunDescent = (K : ℕ) (s choices : List ℕ) → IsRing K s → AreBelow (length s) choices →
     rest K (after_passes K s choices) ≤ rest K s - length (granted_passes K s choices)

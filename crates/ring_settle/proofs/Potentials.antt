@@ -102,7 +102,7 @@ follow_turn k s choices t u granted more at inv f e m =
       few = omega arith;
     }
 
--- at the end the rest has fallen by the granted passes
+-- at the end the rest has fallen by at least the number of granted passes
 pub follow_done : (k : ℕ) (s choices : List ℕ) (t : Ring) (granted at : ℕ) → FollowsTo k s choices t granted at → length choices ≤ at →
     IsRing k s → AreBelow (length s) choices → rest t.k t.values ≤ rest k s - granted
 follow_done k s choices t granted at inv l r b =
