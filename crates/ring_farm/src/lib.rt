@@ -13,6 +13,3 @@ pub use farms::run_farm;
 pub use faults::FarmError;
 pub use gates::{Gate, Open};
 pub use outcomes::{Outcome, RingOutcome};
-
-#[cfg(test)]
-mod tests;
