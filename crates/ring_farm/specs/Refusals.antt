@@ -1,9 +1,14 @@
 -- Which refusal comes from where.
-use Rattle.std.specs.Prelude.{◌≡◌, ◌⊎◌}
+use Rattle.std.specs.Prelude.{◌≡◌, ◌⊎◌, Option, Some, None}
 use Rattle.ring_book.specs.declared.events.BookError.{BookError}
 use Rattle.ring_book.specs.declared.events.BookError.TheVariants as book
 use Rattle.ring_farm.specs.declared.faults.FarmError.{FarmError}
 use Rattle.ring_farm.specs.declared.faults.FarmError.TheVariants as farm
+
+-- the first of two faults
+abbrev pub first_of : Option FarmError → Option FarmError → Option FarmError
+first_of (Some fault) found = Some fault
+first_of None found = found
 
 -- a book's refusal, as a farm tells it
 abbrev pub told_as : BookError → FarmError
