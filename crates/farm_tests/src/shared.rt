@@ -1,5 +1,8 @@
 //! Two seats of one ring, by its calls and its close.
 
+mod calls;
+mod threads;
+
 ghost use Rattle.std.specs.Prelude.{◌≡◌, ◌≢◌, ◌<◌, ◌≤◌, ◌∷◌, [], eqb, length, map, vec_capacity};
 ghost use Rattle.std.specs.List.{IsDistinct};
 ghost use Rattle.ring_model.specs.Resources.{till};
@@ -7,36 +10,50 @@ ghost use Rattle.ring_shared.specs.Holding.{MeansLegal};
 ghost use Rattle.ring_shared.specs.Opening.{AreFresh};
 
 use crate::events::{granted, refused, told};
+use calls::{Act, closed_well, handed_back, pass_often, play, seen};
 use ring_book::{Book, BookError, Till};
 use ring_model::{Event, Op, Receipt, Reply, Survey};
-use ring_shared::{CloseFault, CloseReason, Closed, Draft, Entry, Name, Ring, Seat};
+use ring_shared::{CloseReason, Draft, Entry, Name, Ring, Seat};
 use ring_state::{Params, RingState};
 use std::alloc::Global;
 use std::marker::Brand;
 use std::process::Abort;
 use std::sync::Wait;
-use std::thread::{Threads, join};
+use std::thread::Threads;
+use threads::pass_at_once;
 
-/// What is done with a ring of two machines with two values, all 0, over a till, that has two seats.
+/// What is done with a ring over a till that has two seats. Its machines have as many values as there are machines.
 #[derive(Clone, Copy)]
 enum Script {
     /// Memory may be refused once where it is scarce.
     CallInTurn { scarce: bool },
+    CallUnsettled,
     CallInTwoThreads,
     CloseOneSeatShort,
     CallUntilFull,
 }
 
-fn small_book(rt: &impl Abort, alloc: Global) -> Book<Till>
-    ensures start { result.start ≡ record { k = 2; values = 0 ∷ 0 ∷ [] } }
+/// The values that the ring's machines start with.
+fn start_of(script: Script) -> &'static [u32] {
+    match script {
+        Script::CallUnsettled => &[0, 2, 0],
+        _ => &[0, 0],
+    }
+}
+
+/// A book over a till that starts with these values, as many as K.
+fn book_of(rt: &impl Abort, alloc: Global, start: &[u32]) -> Book<Till>
+    ensures machines { 2 ≤ length result.start.values }
+    ensures values { 2 ≤ result.start.k }
     ensures empty { result.history ≡ [] }
 {
-    let Ok(params) = Params::new(2, 2) else {
+    assert!(rt; start.len() == 2 || start.len() == 3);
+    let Ok(params) = Params::new(start.len() as u32, start.len() as u32) else {
         panic!(rt; "the size is allowed");
     };
-    let state = match RingState::from_values(alloc, &params, &[0, 0]) {
+    let state = match RingState::from_values(alloc, &params, start) {
         Ok(state) => state,
-        Err(_) => RingState::from_values(alloc, &params, &[0, 0]).expect(
+        Err(_) => RingState::from_values(alloc, &params, start).expect(
             rt,
             "the values are allowed",
         ),
@@ -51,7 +68,7 @@ fn small_book(rt: &impl Abort, alloc: Global) -> Book<Till>
 }
 
 fn run<W: Threads + Wait + Abort + Sync>(rt: &W, alloc: Global, script: Script) {
-    let Ok(draft) = Draft::new(small_book(rt, alloc), 2) else {
+    let Ok(draft) = Draft::new(book_of(rt, alloc, start_of(script)), 2) else {
         panic!(rt; "a draft takes no memory");
     };
     run_named::<Brand, W>(rt, alloc, draft, script)
@@ -91,7 +108,8 @@ fn run_named<N: Name + Send + Sync, W: Threads + Wait + Abort + Sync>(
     requires start { draft.book.start ≡ N.start }
     requires seats { draft.seats ≡ N.seats }
     requires legal { MeansLegal till 0 N.start N.legal }
-    requires small { N.start ≡ record { k = 2; values = 0 ∷ 0 ∷ [] } }
+    requires machines { 2 ≤ length N.start.values }
+    requires values { 2 ≤ N.start.k }
     requires two { N.seats ≡ 2 }
 {
     let (ring, mut seats) = opened::<N>(rt, alloc, draft);
@@ -104,6 +122,7 @@ fn run_named<N: Name + Send + Sync, W: Threads + Wait + Abort + Sync>(
     assert_eq!(rt; second.log().len(), 0);
     match script {
         Script::CallInTurn { scarce } => call_in_turn(rt, alloc, ring, first, second, scarce),
+        Script::CallUnsettled => call_unsettled(rt, alloc, ring, first, second),
         Script::CallInTwoThreads => call_in_two_threads(rt, alloc, ring, first, second),
         Script::CloseOneSeatShort => close_one_seat_short(rt, alloc, ring, first, second),
         Script::CallUntilFull => call_until_full(rt, alloc, ring, first, second),
@@ -142,131 +161,6 @@ fn alone<N: Name>(rt: &impl Abort, alloc: Global, one: Seat<N>) -> Vec<Seat<N>>
     seats
 }
 
-/// One call of a seat.
-#[derive(Clone, Copy)]
-enum Act {
-    Pass { machine: u32, order: u64 },
-    Corrupt { machine: u32, value: u32 },
-    Survey,
-}
-
-/// Makes the call, by one of the first two machines; what the seat is told, or nothing where memory was refused.
-fn told_by<N: Name, W: Wait + Abort>(
-    rt: &W,
-    ring: &Ring<N, Till>,
-    seat: &mut Seat<N>,
-    act: Act,
-) -> Option<Entry>
-    requires machines { 2 ≤ length N.start.values }
-    requires values { 2 ≤ N.start.k }
-    ensures { seat.new.number ≡ seat.old.number }
-{
-    match act {
-        Act::Pass { machine, order } => {
-            assert!(rt; machine < 2);
-            match ring.pass(rt, seat, machine, order) {
-                Ok(receipt) => Some(Entry::Receipt(receipt)),
-                Err(_) => None,
-            }
-        }
-        Act::Corrupt { machine, value } => {
-            assert!(rt; machine < 2);
-            assert!(rt; value < 2);
-            match ring.corrupt(rt, seat, machine, value) {
-                Ok(receipt) => Some(Entry::Receipt(receipt)),
-                Err(_) => None,
-            }
-        }
-        Act::Survey => match ring.survey(rt, seat) {
-            Ok(survey) => Some(Entry::Survey(survey)),
-            Err(_) => None,
-        },
-    }
-}
-
-/// The call; where memory is scarce and was refused, nothing has changed, and it is made again.
-fn called<N: Name, W: Wait + Abort>(
-    rt: &W,
-    ring: &Ring<N, Till>,
-    seat: &mut Seat<N>,
-    act: Act,
-    scarce: bool,
-) -> Entry
-    requires machines { 2 ≤ length N.start.values }
-    requires values { 2 ≤ N.start.k }
-    ensures { seat.new.number ≡ seat.old.number }
-{
-    let before = seat.log().len();
-    if let Some(entry) = told_by(rt, ring, seat, act) {
-        return entry;
-    }
-    assert!(rt; scarce);
-    assert_eq!(rt; seat.log().len(), before);
-    match told_by(rt, ring, seat, act) {
-        Some(entry) => entry,
-        None => panic!(rt; "memory is refused twice"),
-    }
-}
-
-/// Makes these calls, and compares what the seat is told.
-fn play<N: Name, W: Wait + Abort>(
-    rt: &W,
-    ring: &Ring<N, Till>,
-    seat: Seat<N>,
-    calls: &[(Act, Entry)],
-    scarce: bool,
-) -> Seat<N>
-    requires machines { 2 ≤ length N.start.values }
-    requires values { 2 ≤ N.start.k }
-    ensures { result.number ≡ seat.number }
-{
-    let mut seat = seat;
-    for (act, want) in calls {
-        assert_eq!(rt; called(rt, ring, &mut seat, *act, scarce), *want);
-    }
-    seat
-}
-
-/// A log holds what its seat was told at these calls, and no more.
-fn is_told(rt: &impl Abort, log: &[Entry], calls: &[(Act, Entry)]) {
-    assert_eq!(rt; log.len(), calls.len());
-    for (entry, (_, want)) in log.iter().zip(calls) {
-        assert_eq!(rt; *entry, *want);
-    }
-}
-
-/// What a ring of two seats hands out at its end.
-fn closed_well(
-    rt: &impl Abort,
-    closed: &Closed<Till>,
-    events: &[Event],
-    first: &[(Act, Entry)],
-    second: &[(Act, Entry)],
-) {
-    assert_eq!(rt; closed.book.history(), events);
-    assert_eq!(rt; closed.logs.len(), 2);
-    assert_eq!(rt; closed.logs[0].seat, 0);
-    assert_eq!(rt; closed.logs[1].seat, 1);
-    is_told(rt, closed.logs[0].entries.as_slice(), first);
-    is_told(rt, closed.logs[1].entries.as_slice(), second);
-}
-
-/// What comes back where there was no memory to close a ring whose second seat was given first.
-fn handed_back<N: Name>(
-    rt: &impl Abort,
-    fault: &CloseFault<N, Till>,
-    events: &[Event],
-    first: &[(Act, Entry)],
-    second: &[(Act, Entry)],
-) {
-    assert_eq!(rt; fault.reason, CloseReason::OutOfMemory);
-    assert_eq!(rt; fault.book.history(), events);
-    assert_eq!(rt; fault.seats.len(), 2);
-    assert_eq!(rt; fault.seats[0].number(), 1);
-    is_told(rt, fault.seats[0].log(), second);
-    is_told(rt, fault.seats[1].log(), first);
-}
-
 fn call_in_turn<N: Name, W: Wait + Abort>(
     rt: &W,
     alloc: Global,
@@ -275,7 +169,8 @@ fn call_in_turn<N: Name, W: Wait + Abort>(
     second: Seat<N>,
     scarce: bool,
 )
-    requires small { N.start ≡ record { k = 2; values = 0 ∷ 0 ∷ [] } }
+    requires machines { 2 ≤ length N.start.values }
+    requires values { 2 ≤ N.start.k }
     requires first { first.number ≡ 0 }
     requires second { second.number ≡ 1 }
 {
@@ -288,13 +183,7 @@ fn call_in_turn<N: Name, W: Wait + Abort>(
         },
         reply: Reply::Corrupted { old: 1 },
     };
-    let survey = Entry::Survey(Survey {
-        position: 1,
-        privileged: 1,
-        first: 1,
-        calm: 1,
-        rest: 0,
-    });
+    let survey = seen(1, 1, 1, 1, 0);
     let passing = Act::Pass {
         machine: 0,
         order: 3,
@@ -318,23 +207,45 @@ fn call_in_turn<N: Name, W: Wait + Abort>(
     }
 }
 
-/// Makes this many passes with order 1.
-fn pass_often<N: Name, W: Wait + Abort>(
+// The machines hold 0, 2, 0, then 1, 2, 0, then 1, 1, 0.
+fn call_unsettled<N: Name, W: Wait + Abort>(
     rt: &W,
-    ring: &Ring<N, Till>,
-    seat: Seat<N>,
-    machine: u32,
-    times: u32,
-) -> Seat<N>
-    requires { machine < length N.start.values }
-    ensures { result.number ≡ seat.number }
+    alloc: Global,
+    ring: Ring<N, Till>,
+    first: Seat<N>,
+    second: Seat<N>,
+)
+    requires machines { 2 ≤ length N.start.values }
+    requires values { 2 ≤ N.start.k }
+    requires first { first.number ≡ 0 }
+    requires second { second.number ≡ 1 }
 {
-    let mut seat = seat;
-    for _ in 0..times {
-        let passed = ring.pass(rt, &mut seat, machine, 1);
-        assert!(rt; passed.is_ok());
+    let events = [granted(0, 0, 1, 1, 1), granted(1, 1, 1, 2, 2)];
+    let pass_first = Act::Pass {
+        machine: 0,
+        order: 1,
+    };
+    let pass_second = Act::Pass {
+        machine: 1,
+        order: 1,
+    };
+    let first_calls = [
+        (Act::Survey, seen(0, 3, 0, 0, 6)),
+        (pass_first, told(0, events[0])),
+        (Act::Survey, seen(1, 2, 1, 1, 3)),
+    ];
+    let second_calls = [
+        (Act::Survey, seen(1, 2, 1, 1, 3)),
+        (pass_second, told(1, events[1])),
+        (Act::Survey, seen(2, 1, 2, 2, 0)),
+    ];
+    let first = play(rt, &ring, first, &first_calls, false);
+    let second = play(rt, &ring, second, &second_calls, false);
+    let seats = both(rt, alloc, second, first);
+    match ring.close(rt, alloc, seats) {
+        Ok(closed) => closed_well(rt, &closed, &events, &first_calls, &second_calls),
+        Err(fault) => panic!(rt; "{:?}", fault.reason),
     }
-    seat
 }
 
 fn call_in_two_threads<N: Name + Send + Sync, W: Threads + Wait + Abort + Sync>(
@@ -344,22 +255,12 @@ fn call_in_two_threads<N: Name + Send + Sync, W: Threads + Wait + Abort + Sync>(
     first: Seat<N>,
     second: Seat<N>,
 )
-    requires small { N.start ≡ record { k = 2; values = 0 ∷ 0 ∷ [] } }
+    requires machines { 2 ≤ length N.start.values }
+    requires values { 2 ≤ N.start.k }
     requires first { first.number ≡ 0 }
     requires second { second.number ≡ 1 }
 {
-    let shared = &ring;
-    let (mut first, mut second) = join(
-        rt,
-        move || -> Seat<N>
-            requires { 0 < length N.start.values }
-            ensures { result.number ≡ first.number }
-        { pass_often(rt, shared, first, 0, 100) },
-        move || -> Seat<N>
-            requires { 1 < length N.start.values }
-            ensures { result.number ≡ second.number }
-        { pass_often(rt, shared, second, 1, 100) },
-    );
+    let (mut first, mut second) = pass_at_once(rt, &ring, first, second);
     let one = ring.survey(rt, &mut first);
     let other = ring.survey(rt, &mut second);
     assert_eq!(rt; one, other);
@@ -394,7 +295,8 @@ fn close_one_seat_short<N: Name, W: Wait + Abort>(
     mut first: Seat<N>,
     _second: Seat<N>,
 )
-    requires small { N.start ≡ record { k = 2; values = 0 ∷ 0 ∷ [] } }
+    requires machines { 2 ≤ length N.start.values }
+    requires values { 2 ≤ N.start.k }
 {
     let passed = ring.pass(rt, &mut first, 1, 5);
     let idle = refused(0, 1, 5);
@@ -432,7 +334,8 @@ fn call_until_full<N: Name, W: Wait + Abort>(
     first: Seat<N>,
     second: Seat<N>,
 )
-    requires small { N.start ≡ record { k = 2; values = 0 ∷ 0 ∷ [] } }
+    requires machines { 2 ≤ length N.start.values }
+    requires values { 2 ≤ N.start.k }
     requires first { first.number ≡ 0 }
     requires second { second.number ≡ 1 }
 {
@@ -463,6 +366,11 @@ fn two_seats_call_in_turn(rt: HostRuntime) {
 #[test]
 fn want_of_memory_changes_nothing(rt: HostRuntime) {
     run(&rt, rt.alloc(), Script::CallInTurn { scarce: true });
+}
+
+#[test]
+fn two_seats_survey_an_unsettled_ring(rt: HostRuntime) {
+    run(&rt, rt.alloc(), Script::CallUnsettled);
 }
 
 #[test]

@@ -2,13 +2,18 @@
 
 use super::gates::{Closed, ShutFor};
 use super::{CROSSING, ran, refusal};
-use ring_farm::{FarmError, run_farm};
+use crate::settings::settings_of;
+use ring_farm::{FarmError, run_farm, run_rings};
 use ring_settings::{SettingsError, read_settings};
 use std::sync::atomic::{AtomicU64, Ordering};
 
 /// Two rings, and more calls of each than a history holds.
 const FULL: &str =
     r#"{"rings":[{"n":2,"k":2,"start":[0,0]},{"n":2,"k":2,"start":[0,0]}],"workers":[{"seed":1,"actions":1000000},{"seed":2,"actions":1000000}],"injector":{"seed":3,"actions":1000000}}"#;
+
+/// A worker with nothing to do on either of two rings.
+const TWO_RINGS: &str =
+    r#"{"rings":[{"n":2,"k":2,"start":[0,0]},{"n":2,"k":2,"start":[0,0]}],"workers":[{"script":[]}]}"#;
 
 /// A worker with nothing to do, and after it two that make more calls than a history holds.
 const IDLE_FIRST: &str =
@@ -33,6 +38,32 @@ fn the_refusal_of_the_least_ring_and_seat_is_answered(rt: HostRuntime) {
             Some(want),
             "under {text}, shut on ring {ring}"
         );
+    }
+}
+
+#[test]
+fn each_ring_has_its_own_refusal(rt: HostRuntime) {
+    let alloc = rt.alloc();
+    let shut = Some(FarmError::GateShut);
+    let full = Some(FarmError::HistoryFull);
+    for (text, ring, wants) in [
+        (FULL, 0, [shut, full]),
+        (FULL, 1, [full, shut]),
+        (TWO_RINGS, 0, [shut, None]),
+        (TWO_RINGS, 1, [None, shut]),
+    ] {
+        let settings = settings_of(&rt, alloc, text);
+        let Ok(results) = run_rings(&rt, alloc, &settings, &ShutFor { ring, worker: 0 }) else {
+            panic!(rt; "there is memory");
+        };
+        assert_eq!(rt; results.len(), 2);
+        for (result, want) in results.iter().zip(wants) {
+            assert_eq!(rt;
+                result.as_ref().err().copied(),
+                want,
+                "under {text}, shut on ring {ring}"
+            );
+        }
     }
 }
 
