@@ -65,7 +65,7 @@ crates=${*:-ring_tests farm_tests text_tests check_tests ring_tool}
 for crate in $crates; do
     case $crate in
     ring_tests) try_crate "$crate" "^(book|settle)::|memory" ;;
-    ring_check) try_crate "$crate" first_text_is_legal ;;
+    check_tests) try_crate "$crate" first_text_is_legal ;;
     ring_tool)
         build ring_tool --help
         program=$top/crates/ring_tool/out/ring_tool
