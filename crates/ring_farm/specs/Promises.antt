@@ -2,7 +2,6 @@
 use Rattle.std.specs.Prelude.{◌≡◌, ℕ}
 use Rattle.ring_settings.specs.declared.actions.Plan.{Plan}
 use Rattle.ring_shared.specs.Client.{Client}
-use Rattle.ring_shared.specs.declared.seats.Log.{Log}
 use Rattle.ring_farm.specs.declared.threads.Does.{Does}
 use Rattle.ring_farm.specs.Plans.{actions_of, part}
 

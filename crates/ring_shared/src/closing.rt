@@ -41,6 +41,21 @@ pub struct CloseFault<N: Name, R: Resource + Drop> {
     pub seats: Vec<Seat<N>>,
 }
 
+/// A ring that was not closed well, for this reason.
+fn refused<N: Name, R: Resource + Drop>(
+    reason: CloseReason,
+    book: Book<R>,
+    seats: Vec<Seat<N>>,
+) -> CloseFault<N, R>
+    ensures { (result.reason ≡ reason) × (result.book ≡ book) × (result.seats ≡ seats) }
+{
+    CloseFault {
+        reason,
+        book,
+        seats,
+    }
+}
+
 impl<N: Name, R: Resource + Drop> Ring<N, R> {
     /// Ends the ring: its book, and the logs of its seats, each of which was compared with the history. The
     /// seats are given back all, in any order; no two have one number.
@@ -80,32 +95,16 @@ impl<N: Name, R: Resource + Drop> Ring<N, R> {
         } = self;
         let book = shared.into_inner().into_book();
         if seats.len() < count as usize {
-            return Err(CloseFault {
-                reason: CloseReason::SeatsMissing,
-                book,
-                seats,
-            });
+            return Err(refused(CloseReason::SeatsMissing, book, seats));
         }
         let Ok(logs) = Vec::with_capacity(alloc, seats.len()) else {
-            return Err(CloseFault {
-                reason: CloseReason::OutOfMemory,
-                book,
-                seats,
-            });
+            return Err(refused(CloseReason::OutOfMemory, book, seats));
         };
         let Ok(fit) = all_fit(alloc, &book, seats.as_slice()) else {
-            return Err(CloseFault {
-                reason: CloseReason::OutOfMemory,
-                book,
-                seats,
-            });
+            return Err(refused(CloseReason::OutOfMemory, book, seats));
         };
         if !fit {
-            return Err(CloseFault {
-                reason: CloseReason::Mismatch,
-                book,
-                seats,
-            });
+            return Err(refused(CloseReason::Mismatch, book, seats));
         }
         all_given(seats.as_slice());
         sort(&mut seats);

@@ -1,10 +1,9 @@
-use Rattle.std.proofs.Common.{rules, vec_len, ◌≡◌, ◌<◌, refl, ◌+◌, ◌∷◌, [], ◌++◌, None, length, length-append, map, Some, slice_get, slice_index_or, ap, ◌∙◌, sym, subst, arith}
+use Rattle.std.proofs.Common.{rules, vec_len, ◌≡◌, ◌<◌, refl, ◌∷◌, [], length, length-append, slice_get, ap, ◌∙◌, sym, arith}
 use Rattle.std.proofs.lemmas.Iterator.Consumers.{YieldsList-turn}
 use Rattle.std.proofs.lemmas.Iterator.Adapters.{YieldsList-from_vec}
 use Rattle.std.proofs.lemmas.Option.{slice_get_read, get_or_from_slice_get}
 use Rattle.ring_shared.specs.Client.{Client}
 use Rattle.ring_farm.specs.declared.threads.Does.{Does}
-use Rattle.ring_farm.specs.Plans.{Pairs}
 use Rattle.ring_farm.specs.Promises.{IsPromised}
 use Rattle.ring_farm.proofs.Pairing.{Pairs-map-next}
 use Rattle.ring_farm.proofs.threads.spawn_all.Goals.{in-Ok, in-Err}

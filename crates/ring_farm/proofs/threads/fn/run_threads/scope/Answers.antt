@@ -1,7 +1,5 @@
-use Rattle.std.proofs.Common.{rules, ◌≡◌, ◌≤◌, List, map, length, vec_len, ◌∙◌, arith}
+use Rattle.std.proofs.Common.{◌≡◌, map, length, ◌∙◌, arith}
 use Rattle.std.proofs.lemmas.List.{length-map}
-use Rattle.ring_farm.specs.Plans.{Pairs}
-use Rattle.ring_farm.specs.Promises.{IsKept, IsDone}
 use Rattle.ring_farm.proofs.Pairing.{done_of, ok_both}
 use Rattle.ring_farm.proofs.threads.fn.run_threads.scope.Goals as goal
 
