@@ -1,7 +1,7 @@
 //! The threads of one ring: one for each plan, all joined.
 ghost use Rattle.std.specs.Prelude.{◌≡◌, ℕ, ◌<◌, ◌≤◌, [], None, All, Some, map, slice_get, length, vec_len, vec_capacity, IfOk, IfSome, IsTrue};
 ghost use Rattle.ring_farm.specs.Plans.{Pairs, actions_of, part, AreActionsOn};
-ghost use Rattle.ring_farm.specs.Promises.{IsPromised, IsKept, IsDone};
+ghost use Rattle.ring_farm.specs.Promises.{IsPromised, IsKept, IsDone, AreReady};
 ghost use Rattle.ring_settings.specs.declared.actions.Plan.{Plan};
 
 use crate::faults::{FarmError, first_fault};
@@ -131,6 +131,44 @@ fn join_all<N: Name + Send, W: Threads>(
     }
 }
 
+/// Runs each plan's part on a thread of its own, and hands back the seats, by these empty lists of threads and seats.
+fn run_in_scope<
+    N: Name + Send + Sync,
+    R: Resource + Drop + Send,
+    G: Gate + Sync,
+    W: Threads + Wait + Sync,
+>(
+    rt: &W,
+    ring: &Ring<N, R>,
+    gate: &G,
+    number: u32,
+    plans: &Vec<Plan>,
+    seats: Vec<Seat<N>>,
+    handles: Vec<PromisedHandle<Work<N>, Does>>,
+    back: Vec<Seat<N>>,
+) -> Result<Vec<Seat<N>>, FarmError>
+    requires ready { AreReady number N.start plans.now.items seats.items }
+    requires room { (vec_len seats ≤ vec_capacity handles) × (vec_len seats ≤ vec_capacity back) }
+    requires empty { (handles.items ≡ []) × (back.items ≡ []) }
+    ensures { IfOk result (λ v. (vec_len v ≡ vec_len plans.now) × Pairs (IsDone number) plans.now.items v.items) }
+{
+    thread::scope(
+        thread::scope_env(),
+        rt,
+        |scope| -> Result<Vec<Seat<N>>, FarmError>
+            requires { AreReady number N.start plans.now.items seats.items × (vec_len seats ≤ vec_capacity handles) × (vec_len seats ≤ vec_capacity back) × (handles.items ≡ []) × (back.items ≡ []) }
+            ensures { IfOk result (λ v. (vec_len v ≡ vec_len plans.entry.now) × Pairs (IsDone number) plans.entry.now.items v.items) }
+        {
+            let (handles, all) = spawn_all(scope, rt, ring, gate, number, plans, seats, handles);
+            let joined = join_all(rt, handles, back);
+            if !all {
+                return Err(FarmError::Spawn);
+            }
+            joined
+        },
+    )
+}
+
 /// Runs each plan's part for the ring of this number on a thread of its own, and hands back the seats.
 ///
 /// # Errors
@@ -164,26 +202,5 @@ pub(crate) fn run_threads<
     let Ok(back) = Vec::with_capacity(alloc, plans.len()) else {
         return Err(FarmError::OutOfMemory);
     };
-    thread::scope(
-        thread::scope_env(),
-        rt,
-        |scope| -> Result<Vec<Seat<N>>, FarmError>
-            requires { (vec_len seats ≡ vec_len plans.now)
-                × (vec_len seats ≤ vec_capacity handles)
-                × (vec_len seats ≤ vec_capacity back)
-                × (handles.items ≡ [])
-                × (back.items ≡ [])
-                × All (λ p. length p.actions.items ≤ 1000000) plans.now.items
-                × All (λ p. AreActionsOn number N.start p.actions.items) plans.now.items
-                × ((i : ℕ) → i < vec_len plans.now → slice_get seats.items i ≡ Some (record { number = i; log = [] })) }
-            ensures { IfOk result (λ v. (vec_len v ≡ vec_len plans.entry.now) × Pairs (IsDone number) plans.entry.now.items v.items) }
-        {
-            let (handles, all) = spawn_all(scope, rt, ring, gate, number, plans, seats, handles);
-            let joined = join_all(rt, handles, back);
-            if !all {
-                return Err(FarmError::Spawn);
-            }
-            joined
-        },
-    )
+    run_in_scope(rt, ring, gate, number, plans, seats, handles, back)
 }
