@@ -10,5 +10,5 @@ returns-clause-right g c =
       h,
       subst (λ (s : Ring). IsLegal g.R.Resource.works (opening s g.R.Resource.first) h) held.begins held.book.legal,
       held.of_seats,
-      c.survey-survey.ensures.is ∙ ap (λ (s : Ring). survey_at g.R.Resource.works (opening s g.R.Resource.first) h (length h)) held.begins,
+      subst (λ (s : Ring). c.survey-survey.result ≡ survey_at g.R.Resource.works (opening s g.R.Resource.first) h (length h)) held.begins c.survey-survey.ensures.is,
     )
