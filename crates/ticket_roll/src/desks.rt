@@ -1,10 +1,11 @@
 //! A desk: three clients draw from a roll by a ring, each on a thread of its own, while a fourth injects faults.
-ghost use Rattle.std.specs.Prelude.{◌≡◌, ◌<◌, ◌≤◌, map, IfOk};
+ghost use Rattle.std.specs.Prelude.{◌≡◌, ◌<◌, ◌≤◌, map, eqb, IfOk};
+ghost use Rattle.std.specs.List.{IsDistinct};
 ghost use Rattle.ring_state.specs.Sizes.{size_of};
 ghost use Rattle.ring_shared.specs.Holding.{MeansLegal};
 ghost use Rattle.ticket_roll.specs.Tickets.{roll, NoneTwice, JustThoseGone};
 
-use crate::rolls::Roll;
+use crate::rolls::{NO_TICKET, Roll};
 use ring_book::{Book, BookError, Receipt, Reply};
 use ring_shared::{CloseReason, Closed, Draft, Name, Ring, Seat};
 use ring_state::{Params, RingState};
@@ -159,6 +160,23 @@ fn serve_all<N: Name + Send + Sync, W: Threads + Wait + Sync>(
     thread::for_each_mut(rt, seats, SEATS as usize, &one);
 }
 
+/// Closes the ring of a desk: its clauses alone say what the clients were given.
+fn close<N: Name, W>(
+    rt: &W,
+    alloc: Global,
+    ring: Ring<N, Roll>,
+    seats: Vec<Seat<N>>,
+) -> Result<Closed<Roll>, DeskError>
+    requires { IsDistinct eqb (map (λ s. s.number) seats.items) }
+    ensures twice { IfOk result (λ c. NoneTwice c.logs.items) }
+    ensures gone { IfOk result (λ c. JustThoseGone c.book.now.content c.logs.items) }
+{
+    match ring.close(rt, alloc, seats) {
+        Ok(closed) => Ok(closed),
+        Err(fault) => Err(refusal_of_close(fault.reason)),
+    }
+}
+
 /// Opens a ring of name `N` over the draft, serves its seats and closes it.
 fn run_named<N: Name + Send + Sync, W: Threads + Wait + Sync>(
     rt: &W,
@@ -178,13 +196,10 @@ fn run_named<N: Name + Send + Sync, W: Threads + Wait + Sync>(
     };
     let refused = OnceLock::new();
     serve_all(rt, &ring, size, &refused, seats.as_mut_slice());
-    let closed = ring.close(rt, alloc, seats);
-    if let Some(error) = refused.get() {
-        return Err(refusal_of_call(*error));
-    }
-    match closed {
-        Ok(closed) => Ok(closed),
-        Err(fault) => Err(refusal_of_close(fault.reason)),
+    let closed = close(rt, alloc, ring, seats);
+    match refused.get() {
+        Some(error) => Err(refusal_of_call(*error)),
+        None => closed,
     }
 }
 

@@ -7,4 +7,4 @@ mod rolls;
 
 pub use counts::times_given;
 pub use desks::{DeskError, run_desk};
-pub use rolls::{Roll, TICKETS};
+pub use rolls::{NO_TICKET, Roll, TICKETS};

@@ -8,6 +8,9 @@ use std::marker::Model;
 /// How many tickets a roll has.
 pub const TICKETS: u64 = 60;
 
+/// What a pass is answered where no ticket is left.
+pub const NO_TICKET: u64 = 0;
+
 /// A roll of 60 tickets, numbered from 1.
 ///
 /// Contracts see how many of them are gone, which are 0 at first.
@@ -50,12 +53,12 @@ impl Resource for Roll {
 
     ghost works = { roll };
 
-    /// Takes the next ticket and answers its number; 0 where none is left.
+    /// Takes the next ticket and answers its number; `NO_TICKET` where none is left.
     fn work(&mut self, _machine: u32, _order: u64) -> u64 {
         if self.gone < TICKETS {
             self.gone += 1;
             return self.gone;
         }
-        0
+        NO_TICKET
     }
 }
