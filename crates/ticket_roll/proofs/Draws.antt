@@ -1,16 +1,14 @@
 -- Along a legal history over a roll each ticket is handed out once, and just those that go.
-use Rattle.std.proofs.Common.{◌≡◌, ℕ, ◌+◌, ◌<◌, ◌≤◌, Bool, true, false, cond, List, [], ◌∷◌, ltb, leb, eqb, refl, sym, ◌∙◌, ap, subst, arith}
+use Rattle.std.proofs.Common.{◌≡◌, ℕ, ◌+◌, ◌≤◌, Bool, true, false, cond, List, [], ◌∷◌, ltb, leb, eqb, refl, sym, ◌∙◌, ap, arith}
 use Rattle.std.specs.Prelude.{count_by}
 use Rattle.std.proofs.lemmas.Bool.Decides.{nat_tests}
 use Rattle.ring_model.specs.Numbers.{bit}
-use Rattle.ring_model.specs.Ring.{is_privileged}
-use Rattle.ring_model.specs.History.{Works, State, StepOf, granted_state, next, after, IsLegal}
+use Rattle.ring_model.specs.History.{State, StepOf, next, after, IsLegal}
 use Rattle.ring_model.specs.declared.events.Op.{Op}
 use Rattle.ring_model.specs.declared.events.Op.TheVariants.{Pass, Corrupt}
 use Rattle.ring_model.specs.declared.events.Reply.{Reply}
 use Rattle.ring_model.specs.declared.events.Reply.TheVariants.{Granted, NotPrivileged, Corrupted}
 use Rattle.ring_model.specs.declared.events.Event.{Event}
-use Rattle.ring_model.proofs.Histories.{StepOf-next}
 use Rattle.ring_model.proofs.QuietRuns.{count_events-cons}
 use Rattle.ticket_roll.specs.Tickets.{roll, roll_size, gives}
 
