@@ -189,7 +189,7 @@ settled-step w a h e b step = ap (λ (s : State _). is_settled s.ring.values) (S
 -- all counts after a granted pass
 pub IsTallyOf-grant : {C : Type 0} (w : Works C) (a : State C) (h : List Event) (t : TallyView) (b : State C) (seat m order number result : ℕ) (settled : Bool) →
     IsTallyOf w a h t → StepOf w (after w a h) (Pass m order) (Granted number result) b →
-    IsRing (after w a h).ring.k (after w a h).ring.values → length (after w a h).ring.values ≡ length a.ring.values → seat ≤ 9 →
+    IsRing (after w a h).ring → length (after w a h).ring.values ≡ length a.ring.values → seat ≤ 9 →
     settled ≡ is_settled b.ring.values →
     IsTallyOf w a (h ++ record { seat = seat; op = Pass m order; reply = Granted number result } ∷ []) (after_call (after_grant t m settled) seat)
 IsTallyOf-grant w a h t b seat m order number result settled was step ring size few s =
@@ -203,7 +203,7 @@ IsTallyOf-grant w a h t b seat m order number result settled was step ring size 
       settled = s ∙ settled-step w a h e b step;
       no_run = λ f. elim (cases_Bool (is_settled (after w a h).ring.values)) [
         | inl y ↦
-            let stays : is_settled b.ring.values ≡ true = ap (λ (x : State _). is_settled x.ring.values) step.4 ∙ settled_stays (after w a h).ring.k (after w a h).ring.values m ring step.0 step.1 y in
+            let stays : is_settled b.ring.values ≡ true = ap (λ (x : State _). is_settled x.ring.values) step.4 ∙ settled_stays (after w a h).ring m ring step.0 step.1 y in
             absurd (both_ways settled f (s ∙ stays))
         | inr n ↦ run_is_over w a h e n
       ];

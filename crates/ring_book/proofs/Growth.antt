@@ -4,8 +4,8 @@ use Rattle.std.specs.Prelude.{◌==◌, slice_index}
 use Rattle.std.specs.List.{count_by}
 use Rattle.std.proofs.lemmas.List.{length-set, take_all}
 use Rattle.std.proofs.lemmas.List.Sums.{length-filter, count_by-le-length}
-use Rattle.ring_model.specs.Ring.{is_privileged, moved, moved_value, is_settled, privileged_count, first_privileged, rest}
-use Rattle.ring_model.specs.History.{Ring, Works, State, opening, granted_state, Step, StepOf, next, after, IsLegal}
+use Rattle.ring_model.specs.Ring.{Ring, is_privileged, moved, moved_value, is_settled, privileged_count, first_privileged, rest}
+use Rattle.ring_model.specs.History.{Works, State, opening, granted_state, Step, StepOf, next, after, IsLegal}
 use Rattle.ring_model.specs.Surveys.{survey_at, calm}
 use Rattle.ring_model.specs.Grants.{settled_grants_of}
 use Rattle.ring_model.specs.HistoryLaws.{IsFair}
@@ -31,17 +31,17 @@ use Rattle.ring_book.proofs.Counting.{grants-grant, IsTallyOf-new, IsTallyOf-gra
 -- a step keeps a ring, and its size
 pub ring_kept : {C : Type 0} (w : Works C) (a b : State C) (o : Op) (r : Reply) → StepOf w a o r b → IsRingState a.ring → IsRingState b.ring
 ring_kept w a b (Pass i order) (Granted number result) h g =
-    subst (λ (s : State _). IsRingState s.ring) (sym h.4) (record { ring = move_ring a.ring.k a.ring.values i g.ring h.0; most = g.most })
+    subst (λ (s : State _). IsRingState s.ring) (sym h.4) (record { ring = move_ring a.ring i g.ring h.0; most = g.most })
 ring_kept w a b (Pass i order) NotPrivileged h g = subst (λ (s : State _). IsRingState s.ring) (sym h.2) g
 ring_kept w a b (Pass i order) (Corrupted old) h g = absurd h
 ring_kept w a b (Corrupt i v) (Granted number result) h g = absurd h
 ring_kept w a b (Corrupt i v) NotPrivileged h g = absurd h
 ring_kept w a b (Corrupt i v) (Corrupted old) h g =
-    subst (λ (s : State _). IsRingState s.ring) (sym h.3) (record { ring = set_ring a.ring.k a.ring.values i v g.ring h.0 h.1; most = g.most })
+    subst (λ (s : State _). IsRingState s.ring) (sym h.3) (record { ring = set_ring a.ring i v g.ring h.0 h.1; most = g.most })
 
 pub same_size-step : {C : Type 0} (w : Works C) (a b : State C) (o : Op) (r : Reply) → StepOf w a o r b → size_of b.ring ≡ size_of a.ring
 same_size-step w a b (Pass i order) (Granted number result) h =
-    ap (λ (s : State _). size_of s.ring) h.4 ∙ ap (λ (n : ℕ). let s : Size = record { n = n; k = a.ring.k } in s) (length-set a.ring.values i (moved_value a.ring.k a.ring.values i))
+    ap (λ (s : State _). size_of s.ring) h.4 ∙ ap (λ (n : ℕ). let s : Size = record { n = n; k = a.ring.k } in s) (length-set a.ring.values i (moved_value a.ring i))
 same_size-step w a b (Pass i order) NotPrivileged h = ap (λ (s : State _). size_of s.ring) h.2
 same_size-step w a b (Pass i order) (Corrupted old) h = absurd h
 same_size-step w a b (Corrupt i v) (Granted number result) h = absurd h
@@ -126,10 +126,10 @@ IsKept-corruption w first old t b seat m value was room settled k fits step few 
 
 -- a settled ring stays settled by a move, so the counted mark and the look at the new values together are right
 pub settled_mark : {C : Type 0} (w : Works C) (first : C) (old : BookView C) (t : TallyView) (m : ℕ) → IsKept w first old t → m < length old.now.ring.values →
-    is_privileged old.now.ring.values m ≡ true → t.settled ≡ true → is_settled (moved old.now.ring.k old.now.ring.values m) ≡ true
+    is_privileged old.now.ring.values m ≡ true → t.settled ≡ true → is_settled (moved old.now.ring m).values ≡ true
 settled_mark w first old t m k l e y =
     let now : is_settled old.now.ring.values ≡ true = sym (k.tally.settled ∙ ap (λ (s : State _). is_settled s.ring.values) k.book.current) ∙ y in
-    settled_stays old.now.ring.k old.now.ring.values m k.book.now_ring.ring l e now
+    settled_stays old.now.ring m k.book.now_ring.ring l e now
 
 -- a survey behind all events
 pub survey_end : {C : Type 0} (w : Works C) (a : State C) (h : List Event) → survey_at w a h (length h) ≡ record {
@@ -137,14 +137,14 @@ pub survey_end : {C : Type 0} (w : Works C) (a : State C) (h : List Event) → s
   privileged = privileged_count (after w a h).ring.values;
   first = first_privileged (after w a h).ring.values;
   calm = calm h;
-  rest = rest (after w a h).ring.k (after w a h).ring.values;
+  rest = rest (after w a h).ring;
 }
 survey_end w a h = ap (λ (front : List Event). let s : Survey = record {
   position = length h;
   privileged = privileged_count (after w a front).ring.values;
   first = first_privileged (after w a front).ring.values;
   calm = calm front;
-  rest = rest (after w a front).ring.k (after w a front).ring.values;
+  rest = rest (after w a front).ring;
 } in s) (take_all (length h) h (omega arith))
 
 -- a book with no events

@@ -1,6 +1,7 @@
 -- What contracts see of a book.
 use Rattle.std.specs.Prelude.{◌≡◌, ◌++◌, ◌∷◌, ◌+◌, ◌≤◌, ℕ, List, [], length}
-use Rattle.ring_model.specs.History.{Ring, Works, State, Step, opening, after, IsLegal}
+use Rattle.ring_model.specs.Ring.{Ring}
+use Rattle.ring_model.specs.History.{Works, State, Step, opening, after, IsLegal}
 use Rattle.ring_model.specs.declared.events.Event.{Event}
 use Rattle.ring_model.specs.declared.events.Op.{Op}
 use Rattle.ring_model.specs.declared.events.Receipt.{Receipt}

@@ -3,7 +3,7 @@ use Rattle.std.proofs.Common.{◌≡◌, ℕ, ◌+◌, ◌<◌, ◌≤◌, List,
 use Rattle.std.specs.Prelude.{IsErr, IsErrAnd, nat_le, nat_lt}
 use Rattle.std.specs.List.{list_all}
 use Rattle.std.proofs.lemmas.List.{length-map}
-use Rattle.ring_model.specs.Ring.{IsRing}
+use Rattle.ring_model.specs.Ring.{ring_with, IsRing}
 use Rattle.ring_text.specs.declared.saved.SavedEvent.{SavedEvent}
 use Rattle.ring_text.specs.declared.saved.SavedSurvey.{SavedSurvey}
 use Rattle.ring_text.specs.Content.{Block}
@@ -30,7 +30,7 @@ parameters_mean n k e =
     let r = both (nat_le n k) (nat_le k 256) q.1 in
     (at_most 2 n p.0, at_most n 256 q.0, at_most n k r.0, at_most k 256 r.1)
 
-pub ring_of : (n k : ℕ) (s : List ℕ) → are_parameters n k ≡ true → list_all (λ v. nat_lt v k) s ≡ true → length s ≡ n → IsRing k s
+pub ring_of : (n k : ℕ) (s : List ℕ) → are_parameters n k ≡ true → list_all (λ v. nat_lt v k) s ≡ true → length s ≡ n → IsRing (ring_with k s)
 ring_of n k s p b e =
     let q = parameters_mean n k p in
     let two = q.0 in

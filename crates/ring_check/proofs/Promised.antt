@@ -2,7 +2,8 @@
 use Rattle.std.proofs.Common.{◌≡◌, ℕ, ◌<◌, ◌≤◌, [], length, get_or, sym, subst, arith}
 use Rattle.std.specs.Prelude.{All, Some, slice_get, vec_len}
 use Rattle.std.proofs.lemmas.Option.{slice_get-get_or}
-use Rattle.ring_model.specs.History.{Ring, opening, IsLegal}
+use Rattle.ring_model.specs.Ring.{Ring}
+use Rattle.ring_model.specs.History.{opening, IsLegal}
 use Rattle.ring_model.specs.Logs.{Fits}
 use Rattle.ring_model.specs.Resources.{till}
 use Rattle.ring_state.specs.Sizes.{IsRingState}

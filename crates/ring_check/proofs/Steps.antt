@@ -3,7 +3,7 @@ use Rattle.std.proofs.Common.{◌≡◌, ℕ, ◌+◌, ◌<◌, ◌≤◌, List,
 use Rattle.std.specs.Prelude.{nat_lt, nat_le, Some, None}
 use Rattle.std.proofs.lemmas.Bool.{cases_Bool, cases_eq}
 use Rattle.std.proofs.lemmas.List.{length-set}
-use Rattle.ring_model.specs.Ring.{IsRing, is_privileged}
+use Rattle.ring_model.specs.Ring.{written, Ring, IsRing, is_privileged}
 use Rattle.ring_model.proofs.Settled.{move_ring}
 use Rattle.ring_model.proofs.Histories.{calm_next, after-push, StepOf-reply}
 use Rattle.ring_model.specs.declared.events.Op.{Op}
@@ -79,33 +79,33 @@ event_fine n a e l seat step =
     rw (i, r) refl
 
 -- a ring with one value written
-set_ring : (K : ℕ) (s : List ℕ) (i v : ℕ) → IsRing K s → i < length s → v < K → IsRing K (set s i v)
-set_ring K s i v r l small =
-    let two = r.two in
-    let enough = r.enough in
-    let n : length (set s i v) ≡ length s = length-set s i v in
+set_ring : (r : Ring) (i v : ℕ) → IsRing r → i < length r.values → v < r.k → IsRing (written r i v)
+set_ring r i v g l small =
+    let two = g.two in
+    let enough = g.enough in
+    let n : length (set r.values i v) ≡ length r.values = length-set r.values i v in
     record {
       two = omega arith;
       enough = omega arith;
       below = λ k lk. elim (cases_eq k i) [
-        | inl e ↦ let a : get_or (set s i v) k 0 ≡ v = ap (λ (x : ℕ). get_or (set s i v) x 0) e ∙ get_or-set_same s i v 0 l in omega arith
+        | inl e ↦ let a : get_or (set r.values i v) k 0 ≡ v = ap (λ (x : ℕ). get_or (set r.values i v) x 0) e ∙ get_or-set_same r.values i v 0 l in omega arith
         | inr ne ↦
-            let a : get_or (set s i v) k 0 ≡ get_or s k 0 = get_or-set_other s i k v 0 ne in
-            let b : get_or s k 0 < K = r.below k (omega arith) in
+            let a : get_or (set r.values i v) k 0 ≡ get_or r.values k 0 = get_or-set_other r.values i k v 0 ne in
+            let b : get_or r.values k 0 < r.k = g.below k (omega arith) in
             omega arith
       ];
     }
 
 -- what a step keeps
 pub record IsKept (a b : State ℕ) : Type 0 where
-  pub ring : IsRing b.ring.k b.ring.values
+  pub ring : IsRing b.ring
   pub long : length b.ring.values ≡ length a.ring.values
   pub same_k : b.ring.k ≡ a.ring.k
   pub grants : b.grants ≤ a.grants + 1
 
-pub step_keeps : (a : State ℕ) (o : Op) (r : Reply) → IsRing a.ring.k a.ring.values → StepOf till a o r (next till a o) → IsKept a (next till a o)
+pub step_keeps : (a : State ℕ) (o : Op) (r : Reply) → IsRing a.ring → StepOf till a o r (next till a o) → IsKept a (next till a o)
 step_keeps a (Pass i order) (Granted number result) ring h = rw h.1 (record {
-  ring = move_ring a.ring.k a.ring.values i ring h.0;
+  ring = move_ring a.ring i ring h.0;
   long = length-set a.ring.values i _;
   same_k = refl;
   grants = omega arith;
@@ -115,7 +115,7 @@ step_keeps a (Pass i order) (Corrupted old) ring h = absurd h
 step_keeps a (Corrupt i v) (Granted number result) ring h = absurd h
 step_keeps a (Corrupt i v) NotPrivileged ring h = absurd h
 step_keeps a (Corrupt i v) (Corrupted old) ring h = record {
-  ring = set_ring a.ring.k a.ring.values i v ring h.0 h.1;
+  ring = set_ring a.ring i v ring h.0 h.1;
   long = length-set a.ring.values i v;
   same_k = refl;
   grants = omega arith;
@@ -128,7 +128,7 @@ calm_next_le c (Corrupted old) = omega arith
 
 -- a ring of as many machines as the start, where a history has led
 pub record IsWell (k : ℕ) (start : List ℕ) (h : List Event) : Type 0 where
-  pub ring : IsRing (after till (first_state k start) h).ring.k (after till (first_state k start) h).ring.values
+  pub ring : IsRing (after till (first_state k start) h).ring
   pub long : length (after till (first_state k start) h).ring.values ≡ length start
 
 pub well_push : (k : ℕ) (start : List ℕ) (h : List Event) (e : Event) → IsWell k start h →
@@ -138,6 +138,6 @@ well_push k start h e w step =
     let kept = step_keeps a e.op e.reply w.ring step in
     let on = after-push till (first_state k start) h e in
     record {
-      ring = subst (λ (x : State ℕ). IsRing x.ring.k x.ring.values) (sym on) kept.ring;
+      ring = subst (λ (x : State ℕ). IsRing x.ring) (sym on) kept.ring;
       long = ap (λ (x : State ℕ). length x.ring.values) on ∙ kept.long ∙ w.long;
     }

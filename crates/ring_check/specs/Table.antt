@@ -7,6 +7,7 @@ use Rattle.ring_model.specs.declared.events.Reply.{Reply}
 use Rattle.ring_model.specs.declared.events.Reply.TheVariants.{Granted, NotPrivileged, Corrupted}
 use Rattle.ring_model.specs.declared.events.Event.{Event}
 use Rattle.ring_model.specs.declared.events.Survey.{Survey}
+use Rattle.ring_model.specs.Ring.{ring_with}
 use Rattle.ring_model.specs.History.{State, opening, after, reply}
 use Rattle.ring_model.specs.Resources.{till}
 use Rattle.ring_model.specs.Surveys.{survey_at}
@@ -25,7 +26,7 @@ event_of (saved.Corrupted seat machine value old) = record { seat = seat; op = C
 
 -- the one-thread ring before any event: K, these values, and a till with the amount 0
 abbrev pub first_state : ℕ → List ℕ → State ℕ
-first_state k start = opening (record { k = k; values = start }) 0
+first_state k start = opening (ring_with k start) 0
 
 -- What the lines before a line say.
 pub record Before : Type 0 where

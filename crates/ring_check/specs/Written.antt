@@ -20,7 +20,7 @@ use Rattle.ring_check.specs.Meaning.{IsRightText}
 -- from the start values and the amount 0, the logs are at most ten and stand by the numbers of their seats, each event's seat is that of
 -- one of them, and each log fits the history.
 pub record IsRightRun (r : RingOutcome) : Type 0 where
-  pub ring : IsRing r.book.start.k r.book.start.values
+  pub ring : IsRing r.book.start
   pub most : r.book.start.k ≤ 256
   pub legal : IsLegal till (opening r.book.start 0) r.book.history
   pub few : length r.logs.items ≤ 10

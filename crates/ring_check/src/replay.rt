@@ -1,7 +1,7 @@
 //! A ring, replayed event by event.
 
 ghost use Rattle.std.specs.Prelude.{◌≡◌, ◌+◌, ◌<◌, ◌≤◌, ◌^◌, length, map, true, IfOk};
-ghost use Rattle.ring_model.specs.Ring.{IsRing};
+ghost use Rattle.ring_model.specs.Ring.{ring_with, IsRing};
 ghost use Rattle.ring_model.specs.History.{Step, next, IsLegal};
 ghost use Rattle.ring_model.specs.Resources.{till};
 ghost use Rattle.ring_model.proofs.Histories.{calm_next};
@@ -99,7 +99,7 @@ impl Replay {
 
     /// Does what an event without a fault says.
     pub(crate) fn apply(&mut self, event: &SavedEvent)
-        requires ring { IsRing self.old.k self.old.values.items }
+        requires ring { IsRing (state_of self.old).ring }
         requires step { Step till (state_of self.old) (event_of event.now) (next till (state_of self.old) (event_of event.now).op) }
         requires room { (self.old.grants + 1 < 2 ^ 64) × (self.old.calm + 1 < 2 ^ 64) }
         ensures state { state_of self.new ≡ next till (state_of self.old) (event_of event.now).op }
@@ -135,7 +135,7 @@ impl Replay {
         from: usize,
         to: usize,
     ) -> Result<(), AllocError>
-        requires ring { IsRing self.old.k start.now }
+        requires ring { IsRing (ring_with self.old.k start.now) }
         requires stands { StandsAt self.old.k start.now events.now from self.old }
         requires within { to ≤ length events.now }
         requires room { length events.now + 1 < 2 ^ 64 }
@@ -156,7 +156,7 @@ impl Replay {
 
     /// What a survey of the ring says at this point.
     pub(crate) fn survey(&self, alloc: Global, position: u64) -> Result<Survey, AllocError>
-        requires ring { IsRing self.now.k self.now.values.items }
+        requires ring { IsRing (state_of self.now).ring }
         requires small { self.now.k ≤ 65536 }
         ensures { IfOk result (λ s. s ≡ survey_where self.now position) }
     {

@@ -1,7 +1,7 @@
 //! The survey lines of a block.
 
 ghost use Rattle.std.specs.Prelude.{◌≡◌, ℕ, ◌+◌, ◌<◌, ◌≤◌, ◌^◌, List, length, map, IfOk};
-ghost use Rattle.ring_model.specs.Ring.{IsRing};
+ghost use Rattle.ring_model.specs.Ring.{ring_with, IsRing};
 ghost use Rattle.ring_model.specs.History.{IsLegal};
 ghost use Rattle.ring_model.specs.Resources.{till};
 ghost use Rattle.ring_text.specs.declared.saved.SavedEvent.{SavedEvent};
@@ -26,7 +26,7 @@ pub(crate) struct Reading {
 impl Reading {
     /// The ring before any event.
     fn begin(alloc: Global, k: u32, start: &[u32]) -> Result<Reading, AllocError>
-        requires ring { IsRing k start.now }
+        requires ring { IsRing (ring_with k start.now) }
         requires small { k ≤ 256 }
         ensures { IfOk result (λ r. (r.survey.position ≡ 0) × ((events : List SavedEvent) → IsReading k start.now events r)) }
     {
@@ -43,7 +43,7 @@ impl Reading {
         events: &[SavedEvent],
         position: u64,
     ) -> Result<(), AllocError>
-        requires ring { IsRing self.old.replay.k start.now }
+        requires ring { IsRing (ring_with self.old.replay.k start.now) }
         requires small { self.old.replay.k ≤ 256 }
         requires reading { IsReading self.old.replay.k start.now events.now self.old }
         requires within { position ≤ length events.now }
@@ -89,7 +89,7 @@ pub(crate) fn check_surveys(
     surveys: &[SavedSurvey],
     line: u64,
 ) -> Result<(), CheckError>
-    requires ring { IsRing k start.now }
+    requires ring { IsRing (ring_with k start.now) }
     requires small { k ≤ 256 }
     requires legal { IsLegal till (first_state k start.now) (map event_of events.now) }
     requires room { (length events.now + 1 < 2 ^ 64) × (line + length surveys.now + 1 < 2 ^ 64) }

@@ -3,8 +3,8 @@ use Rattle.std.proofs.Common.{◌≡◌, ℕ, suc, ◌+◌, ◌<◌, ◌≤◌, 
 use Rattle.std.specs.Prelude.{filter, All, unwrap_or, IfOk, Option, None, Result, Ok}
 use Rattle.std.proofs.lemmas.Bool.Decides.{nat_tests}
 use Rattle.std.proofs.lemmas.Option.{slice_get_within, get_or_from_slice_get, slice_get_cases}
-use Rattle.ring_model.specs.Ring.{bound, is_settled, privileged_count}
-use Rattle.ring_model.specs.History.{Ring, opening, IsLegal}
+use Rattle.ring_model.specs.Ring.{Ring, bound, is_settled, privileged_count}
+use Rattle.ring_model.specs.History.{opening, IsLegal}
 use Rattle.ring_model.specs.HistoryLaws.{between, NoCorruption, values_at, Settlement}
 use Rattle.ring_model.specs.Surveys.{calm}
 use Rattle.ring_model.specs.Logs.{Fits, calls_of, receipts_of}

@@ -3,8 +3,7 @@
 #![tactic(auto)]
 
 ghost use Rattle.std.specs.Prelude.{◌≡◌, ◌↔◌, ◌≤◌, ◌<◌, ◌/◌, ◌%◌, ◌&&◌, if◌then◌else◌, not, nat_lt, ℕ, length, slice_index, IsTrue, EachIndex, true};
-ghost use Rattle.ring_model.specs.Ring.{is_privileged, privileged_count, first_privileged, weight, is_absent, first_value_is_prefix};
-ghost use Rattle.ring_model.specs.Laws.{IsPrefix};
+ghost use Rattle.ring_model.specs.Ring.{is_privileged, privileged_count, first_privileged, weight, is_absent, first_value_is_prefix, IsPrefix};
 ghost use Rattle.std.specs.Int.{bit_at};
 
 mod bytes;

@@ -6,7 +6,7 @@ use std::marker::Brand;
 /// that opens a ring picks it. Two rings' seats have different types, so neither can be used at the other.
 pub trait Name {
     ghost use Rattle.std.specs.Prelude.{ℕ, List};
-    ghost use Rattle.ring_model.specs.History.{Ring};
+    ghost use Rattle.ring_model.specs.Ring.{Ring};
     ghost use Rattle.ring_model.specs.declared.events.Event.{Event};
 
     ghost start: { Ring };

@@ -1,7 +1,6 @@
 -- How large rings may be here.
 use Rattle.std.specs.Prelude.{◌≤◌, ℕ, length}
-use Rattle.ring_model.specs.Ring.{IsRing}
-use Rattle.ring_model.specs.History.{Ring}
+use Rattle.ring_model.specs.Ring.{Ring, IsRing}
 
 -- how many machines there are, and how many values
 pub record Size : Type 0 where
@@ -20,5 +19,5 @@ size_of r = record { n = length r.values; k = r.k }
 
 -- a ring of a size that is allowed here
 pub record IsRingState (r : Ring) : Type 0 where
-  pub ring : IsRing r.k r.values
+  pub ring : IsRing r
   pub most : r.k ≤ 256

@@ -1,8 +1,6 @@
 ghost use Rattle.std.specs.Prelude.{◌≡◌, ◌↔◌, ◌<◌, ◌≤◌, ◌-◌, ◌/◌, ◌%◌, ◌&&◌, if◌then◌else◌, nat_lt, not, ℕ, List, length, true, false, slice_index, IfOk, IfErr, IsTrue};
 ghost use Rattle.std.specs.Int.{bit_at};
-ghost use Rattle.ring_model.specs.Ring.{IsRing, is_privileged, privileged_count, first_privileged, weight, is_absent, first_value_is_prefix, rest};
-ghost use Rattle.ring_model.specs.Laws.{IsPrefix};
-ghost use Rattle.ring_model.specs.History.{Ring, moved_ring, written_ring};
+ghost use Rattle.ring_model.specs.Ring.{Ring, IsRing, is_privileged, privileged_count, first_privileged, weight, is_absent, first_value_is_prefix, rest, IsPrefix, moved, written};
 ghost use Rattle.ring_state.specs.Sizes.{IsRingState, size_of};
 ghost use Rattle.ring_state.specs.StateFault.{IsFaultOf};
 ghost use Rattle.ring_state.specs.Closure.{IsClosed};
@@ -22,7 +20,7 @@ pub struct RingState {
 }
 
 impl Model for RingState {
-    ghost use Rattle.ring_model.specs.History.{Ring};
+    ghost use Rattle.ring_model.specs.Ring.{Ring};
     ghost use Rattle.ring_state.specs.Sizes.{IsRingState};
 
     ghost Value = { Ring };
@@ -159,9 +157,9 @@ impl RingState {
     pub fn move_machine(&mut self, i: u32)
         requires machine { i < length self.old.values }
         requires privileged { is_privileged self.old.values i ≡ true }
-        ensures is { self.new ≡ moved_ring self.old i }
+        ensures is { self.new ≡ moved self.old i }
         ensures closure { IsClosed self.old.values self.new.values i }
-        ensures descent { rest self.new.k self.new.values ≤ rest self.old.k self.old.values - 1 }
+        ensures descent { rest self.new ≤ rest self.old - 1 }
     {
         self.take_step(i);
     }
@@ -169,7 +167,7 @@ impl RingState {
     /// The move alone.
     fn take_step(&mut self, i: u32)
         requires { i < length self.old.values }
-        ensures is { self.new ≡ moved_ring self.old i }
+        ensures is { self.new ≡ moved self.old i }
         ensures ring { IsRingState self.old }
     {
         let own = i as usize;
@@ -187,7 +185,7 @@ impl RingState {
         requires machine { i < length self.old.values }
         requires value { v < self.old.k }
         ensures old { result ≡ slice_index self.old.values i }
-        ensures new { self.new ≡ written_ring self.old i v }
+        ensures new { self.new ≡ written self.old i v }
     {
         let own = i as usize;
         let old = self.bytes[own];

@@ -6,7 +6,7 @@ use Rattle.std.proofs.lemmas.List.{append-nil}
 use Rattle.text_lines.specs.declared.write.WriteFault.{WriteFault}
 use Rattle.text_lines.specs.Writing.{Wrote, Writes}
 use Rattle.text_lines.proofs.Writing.{wrote_none, wrote_piece, wrote_fault, wrote_all}
-use Rattle.ring_model.specs.History.{Ring}
+use Rattle.ring_model.specs.Ring.{Ring}
 use Rattle.ring_model.specs.declared.events.Event.{Event}
 use Rattle.ring_state.specs.Sizes.{IsRingState}
 use Rattle.ring_shared.specs.declared.seats.Log.{Log}

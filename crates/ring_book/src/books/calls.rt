@@ -117,13 +117,13 @@ impl<R: Resource + Drop> Book<R> {
         ensures repairs { (passes : List Event) × IsRepairedBy R.works self.old self.new seat passes }
         ensures ok { OnOk result (is_settled self.new.now.ring.values ≡ true) }
         ensures number { IfOk result (λ passes. length self.new.history ≡ length self.old.history + passes) }
-        ensures few { IfOk result (λ passes. passes ≤ rest self.old.now.ring.k self.old.now.ring.values) }
+        ensures few { IfOk result (λ passes. passes ≤ rest self.old.now.ring) }
         ensures none { is_settled self.old.now.ring.values ≡ true → result ≡ Ok 0 }
         ensures book { IsBook R.works R.first self.new }
         ensures settlement { Settlement R.works (opening self.new.start R.first) self.new.history }
         ensures full { IfErr result (λ e. (e ≡ BookError.HistoryFull) ↔ (length self.new.history ≡ event_limit)) }
         ensures err { OnErr result (is_settled self.new.now.ring.values ≡ false) }
-        ensures succeeds { rest self.old.now.ring.k self.old.now.ring.values ≤ self.old.room → IsOk result }
+        ensures succeeds { rest self.old.now.ring ≤ self.old.room → IsOk result }
     {
         let mut passes = 0;
         while !self.is_settled() {

@@ -1,5 +1,5 @@
 use Rattle.std.proofs.Common.{rules, ◌≡◌, ◌≤◌, ◌∙◌, ℕ, List, length, vec_len, sym, subst, arith}
-use Rattle.ring_model.specs.History.{Ring}
+use Rattle.ring_model.specs.Ring.{Ring}
 use Rattle.ring_model.specs.declared.events.Event.{Event}
 use Rattle.ring_shared.specs.Holding.{AreOfSeats}
 use Rattle.ring_farm.specs.Runs.{IsRun}
