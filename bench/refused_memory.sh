@@ -61,12 +61,11 @@ try_program() {
     echo "$*: $((number - 1)) requests refused in turn"
 }
 
-crates=${*:-ring_tests ring_settings ring_shared ring_farm ring_text ring_check ring_tool}
+crates=${*:-ring_tests farm_tests text_tests check_tests ring_tool}
 for crate in $crates; do
     case $crate in
     ring_tests) try_crate "$crate" "^(book|settle)::|memory" ;;
-    ring_shared) try_crate "$crate" two_seats_call_in_turn ;;
-    ring_check) try_crate "$crate" first_text_is_legal ;;
+    check_tests) try_crate "$crate" first_text_is_legal ;;
     ring_tool)
         build ring_tool --help
         program=$top/crates/ring_tool/out/ring_tool

@@ -43,7 +43,7 @@ impl Read for Giver<'_> {
 }
 
 /// Reads the text, so many bytes at a time, and compares.
-fn expect_bytes<R: Abort + AllocGlobal>(rt: &R, text: &[u8], at_most: usize, limit: usize) {
+fn expect_bytes<R: Abort + AllocGlobal>(rt: &R, text: &[u8], at_most: usize, limit: u64) {
     let mut reader = Giver {
         at_most,
         ..Giver::new(text)
@@ -58,7 +58,7 @@ fn expect_bytes<R: Abort + AllocGlobal>(rt: &R, text: &[u8], at_most: usize, lim
 fn expect_refusal<R: Abort + AllocGlobal>(
     rt: &R,
     reader: &mut Giver<'_>,
-    limit: usize,
+    limit: u64,
     fault: ReadFault,
     given: usize,
 ) {
@@ -84,7 +84,7 @@ fn all_bytes_are_read_however_they_come(rt: HostRuntime) -> Result<(), Fail> {
     }
     for at_most in [1, 8191, 8192, 8193, 20_000] {
         expect_bytes(&rt, long.as_slice(), at_most, 20_000);
-        expect_bytes(&rt, long.as_slice(), at_most, usize::MAX);
+        expect_bytes(&rt, long.as_slice(), at_most, u64::MAX);
     }
     Ok(())
 }
@@ -97,7 +97,7 @@ fn one_byte_over_the_limit_ends_it(rt: HostRuntime) -> Result<(), Fail> {
                 at_most,
                 ..Giver::new(b"token ring")
             };
-            expect_refusal(&rt, &mut reader, limit, ReadFault::TooLarge, limit + 1);
+            expect_refusal(&rt, &mut reader, limit, ReadFault::TooLarge, limit as usize + 1);
         }
     }
     // An error that stands behind that byte is not met.

@@ -1,8 +1,8 @@
 -- What the history laws say of a book, and how its repairs go on.
-use Rattle.std.proofs.Common.{◌≡◌, ℕ, ◌+◌, ◌-◌, ◌<◌, ◌≤◌, true, false, List, [], ◌∷◌, ◌++◌, length, length-append, append_assoc, append-nil, refl, sym, ◌∙◌, ap, subst, inl, inr, arith}
+use Rattle.std.proofs.Common.{◌≡◌, ℕ, ◌-◌, ◌<◌, ◌≤◌, true, false, List, [], ◌∷◌, ◌++◌, length, append_assoc, append-nil, refl, sym, ◌∙◌, ap, subst, inl, inr, arith}
 use Rattle.std.proofs.lemmas.Bool.{cases_lt, both_ways, eqb-true}
-use Rattle.ring_model.specs.Ring.{IsRing, is_privileged, moved, is_settled, privileged_count, first_privileged, rest, bound}
-use Rattle.ring_model.specs.History.{Works, State, opening, granted_state, Step, next, reply, after, IsLegal}
+use Rattle.ring_model.specs.Ring.{is_privileged, moved, is_settled, privileged_count, first_privileged, rest, bound}
+use Rattle.ring_model.specs.History.{Works, State, opening, granted_state, next, reply, after}
 use Rattle.ring_model.specs.Surveys.{is_granted, calm}
 use Rattle.ring_model.specs.HistoryLaws.{Settlement}
 use Rattle.ring_model.specs.declared.events.Op.{Op}
@@ -21,7 +21,7 @@ use Rattle.ring_book.specs.Repairs.{AreRepairs, IsRepairedBy}
 pub book_settlement : {C : Type 0} (w : Works C) (first : C) (b : BookView C) → IsBook w first b → Settlement w (opening b.start first) b.history
 book_settlement w first b k = settlement w (opening b.start first) b.history k.start_ring.ring k.legal
 
--- rest and calm together are at most the bound
+-- the rest is at most the bound less the calm
 pub book_calm : {C : Type 0} (w : Works C) (first : C) (b : BookView C) → IsBook w first b → rest b.now.ring ≤ bound (length b.start.values) - calm b.history
 book_calm w first b k =
     subst (λ (s : State _). rest s.ring ≤ bound (length b.start.values) - calm b.history) k.current

@@ -56,7 +56,7 @@ impl Events {
     }
 
     /// Takes memory for `more` events.
-    pub(crate) fn reserve(&mut self, more: u64) -> Result<(), BookError>
+    pub(crate) fn reserve(&mut self, more: u32) -> Result<(), BookError>
         ensures list { self.new.list ≡ self.old.list }
         ensures ok { OnOk result (more ≤ self.new.room) }
         ensures grows { self.old.room ≤ self.new.room }
@@ -65,11 +65,12 @@ impl Events {
         ensures succeeds { more ≤ self.old.room → IsOk result }
         ensures err { OnErr result (self.new ≡ self.old) }
     {
-        let left = (EVENT_LIMIT - self.items.len()) as u64;
+        let more = more as usize;
+        let left = EVENT_LIMIT - self.items.len();
         if more > left {
             return Err(BookError::HistoryFull);
         }
-        let Ok(()) = self.items.reserve(more as usize) else {
+        let Ok(()) = self.items.reserve(more) else {
             return Err(BookError::OutOfMemory);
         };
         Ok(())

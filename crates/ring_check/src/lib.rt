@@ -14,8 +14,6 @@ mod replay;
 mod rings;
 mod sums;
 mod surveys;
-#[cfg(test)]
-mod tests;
 
 pub use answers::{CheckError, Kind, Summary};
 pub use check::check_saved;

@@ -1,6 +1,5 @@
 -- One write after another, and one choice after another.
 use Rattle.std.proofs.Common.{◌≡◌, ℕ, ◌+◌, ◌<◌, List, [], ◌∷◌, ◌++◌, length, get_or, drop, drop-cons, add-one, Option, None, Some, Result, Ok, Err, append_assoc, append-nil, length-append, arith, refl, sym, ap, ◌∙◌, ◌⊎◌, inl, inr, subst}
-use Rattle.std.specs.Prelude.{codes, decimal}
 use Rattle.std.specs.Io.KnownBytes.{Appends}
 use Rattle.ring_model.specs.History.{State, Step, next, reply}
 use Rattle.ring_model.specs.declared.events.Event.{Event}

@@ -1,6 +1,6 @@
 -- What `step` prints (this project's own lines, over the one-thread ring): the reply to each choice, then the last state.
-use Rattle.std.specs.Prelude.{ℕ, List, [], ◌∷◌, ◌++◌, map, codes, decimal}
-use Rattle.std.specs.List.{join_with_byte}
+use Rattle.std.specs.Prelude.{ℕ, List, [], ◌∷◌, ◌++◌, codes, decimal}
+use Rattle.text_lines.specs.Spelling.{list_text}
 use Rattle.ring_model.specs.Ring.{privileged_count, first_privileged}
 use Rattle.ring_model.specs.History.{State, opening, next, reply}
 use Rattle.ring_model.specs.declared.events.Op.TheVariants.{Pass}
@@ -8,14 +8,6 @@ use Rattle.ring_model.specs.declared.events.Reply.{Reply}
 use Rattle.ring_model.specs.declared.events.Reply.TheVariants.{Granted, NotPrivileged, Corrupted}
 use Rattle.ring_book.specs.IdleWorks.{idle}
 use Rattle.ring_book.specs.declared.resources.Idle.{Idle}
-
--- the comma, by its code
-abbrev pub comma : ℕ
-comma = 44
-
--- numbers with a comma between each two
-abbrev pub list_text : List ℕ → List ℕ
-list_text numbers = join_with_byte comma (map decimal numbers)
 
 -- the line of a granted pass: who asked, and the number of the grant
 abbrev pub granted_line : ℕ → ℕ → List ℕ

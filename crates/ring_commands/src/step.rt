@@ -5,8 +5,9 @@ ghost use Rattle.std.specs.Io.KnownBytes.{Appends};
 ghost use Rattle.ring_book.specs.BookView.{IsFresh};
 ghost use Rattle.ring_book.specs.EventsView.{event_limit};
 ghost use Rattle.ring_commands.specs.Faults.{size_fault, start_fault, fault_of, IsRefusalOver, IsOpeningRefusal, IsStepRefusal};
-ghost use Rattle.ring_commands.specs.StepText.{list_text, granted_line, refused_line, reply_line, end_lines, step_text};
+ghost use Rattle.ring_commands.specs.StepText.{granted_line, refused_line, reply_line, end_lines, step_text};
 ghost use Rattle.ring_commands.specs.Written.{AppendsFront};
+ghost use Rattle.text_lines.specs.Spelling.{list_text};
 ghost use Rattle.text_lines.specs.Writing.{Writes};
 
 use crate::faults::ToolError;
@@ -16,7 +17,7 @@ use ring_book::{Book, Idle, Reply};
 use ring_state::{Params, RingState};
 use std::alloc::Global;
 use std::io::Write;
-use text_lines::{WriteFault, put, put_all};
+use text_lines::{WriteFault, put, put_all, put_list};
 
 /// What `step` was asked for, with its lists as they were given.
 #[derive(Clone, Copy, Debug)]
@@ -70,13 +71,7 @@ fn write_values<W: Write>(out: &mut W, state: &RingState) -> Result<(), WriteFau
     ensures { Writes (W.contents out.old) (W.contents out.new) result (list_text state.now.values) }
 {
     let n = state.params().n();
-    let mut digits = Buffer::new();
-    put(out, digits.format(state.get(0)).as_bytes())?;
-    for i in 1..n {
-        let mut digits = Buffer::new();
-        put_all(out, &[b",", digits.format(state.get(i)).as_bytes()])?;
-    }
-    Ok(())
+    put_list(out, n, |machine| state.get(machine) as u64)
 }
 
 /// The two lines of the last state.

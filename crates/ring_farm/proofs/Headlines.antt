@@ -24,16 +24,17 @@ use Rattle.ring_shared.specs.declared.seats.Log.{Log}
 use Rattle.ring_shared.specs.Holding.{AreOfSeats}
 use Rattle.ring_farm.specs.declared.outcomes.Outcome.{Outcome}
 use Rattle.ring_farm.specs.declared.outcomes.RingOutcome.{RingOutcome}
-use Rattle.ring_farm.proofs.Refusals.{ok_at}
+use Rattle.ring_farm.specs.declared.faults.FarmError.{FarmError}
+use Rattle.ring_farm.proofs.Refusals.{ok_place}
 use Rattle.ring_farm.specs.Plans.{Pairs, actions_of, part, calls_read, action_of_op, is_call}
 use Rattle.ring_farm.specs.Runs.{IsRun, IsLogged, ring_of_data}
-use Rattle.ring_farm.specs.Headline.{EachRing, IsOneHistory, HoldsCalls, HasLogs, AreRight, IsRepaired, TakesTurns}
+use Rattle.ring_farm.specs.Headline.{EachRing, EachDone, IsOutcomeOf, IsOneHistory, HoldsCalls, HasLogs, AreRight, IsRepaired, TakesTurns}
 
 -- the run of a ring of the settings
 abbrev pub RunOf : List Plan → ℕ → RingData → RingOutcome → Type 0
 RunOf plans ring d r = IsRun plans ring (ring_of_data d) r.book r.logs.items
 
-pub one_history : (plans : List Plan) (ring : ℕ) (d : RingData) (r : RingOutcome) → RunOf plans ring d r → IsOneHistory ring d r
+one_history : (plans : List Plan) (ring : ℕ) (d : RingData) (r : RingOutcome) → RunOf plans ring d r → IsOneHistory ring d r
 one_history plans ring d r run = (run.begins, subst (λ (s : Ring). IsLegal till (opening s 0) r.book.history) run.begins run.book.legal)
 
 op_is_call : (ring : ℕ) (o : Op) → is_call (action_of_op ring o) ≡ true
@@ -85,14 +86,14 @@ calls_of_plan settings plans ring d r seat p l run are at_p at_l =
     ∙ ap (filter is_call) logged.1
     ∙ ap (λ (xs : List Action). filter is_call (part ring xs)) (plan_is settings plans seat p are at_p)
 
-pub holds_calls : (settings : SettingsData) (plans : List Plan) (ring : ℕ) (d : RingData) (r : RingOutcome) → RunOf plans ring d r → ArePlansOf settings plans → length plans ≡ length settings.seats →
+holds_calls : (settings : SettingsData) (plans : List Plan) (ring : ℕ) (d : RingData) (r : RingOutcome) → RunOf plans ring d r → ArePlansOf settings plans → length plans ≡ length settings.seats →
     HoldsCalls settings ring d r
 holds_calls settings plans ring d r run are count = (
   subst (λ (k : ℕ). AreOfSeats k r.book.history) count run.of_seats,
   λ seat within. let found = log_at plans ring d r seat run (omega arith) in calls_of_plan settings plans ring d r seat found.0 found.1 run are found.2 found.3,
 )
 
-pub has_logs : (settings : SettingsData) (plans : List Plan) (ring : ℕ) (d : RingData) (r : RingOutcome) → RunOf plans ring d r → ArePlansOf settings plans → length plans ≡ length settings.seats →
+has_logs : (settings : SettingsData) (plans : List Plan) (ring : ℕ) (d : RingData) (r : RingOutcome) → RunOf plans ring d r → ArePlansOf settings plans → length plans ≡ length settings.seats →
     HasLogs settings ring r
 has_logs settings plans ring d r run are count = record {
   count = run.count ∙ count;
@@ -104,25 +105,44 @@ has_logs settings plans ring d r run are count = record {
       (logged.0, logged.1 ∙ ap (part ring) (plan_is settings plans seat found.0 are found.2));
 }
 
-pub are_right : (plans : List Plan) (ring : ℕ) (d : RingData) (r : RingOutcome) → RunOf plans ring d r → AreRight d r
+are_right : (plans : List Plan) (ring : ℕ) (d : RingData) (r : RingOutcome) → RunOf plans ring d r → AreRight d r
 are_right plans ring d r run = run.fits
 
 one_is : (n : ℕ) → eqb n 1 ≡ true → n ≡ 1
 one_is n e = grind (arith, nat_tests)
 
-pub is_repaired : (plans : List Plan) (ring : ℕ) (d : RingData) (r : RingOutcome) → RunOf plans ring d r → IsRepaired d r
+is_repaired : (plans : List Plan) (ring : ℕ) (d : RingData) (r : RingOutcome) → RunOf plans ring d r → IsRepaired d r
 is_repaired plans ring d r run q within calm = one_is _ (run.settlement.calm_settles q within calm)
 
-pub takes_turns : (plans : List Plan) (ring : ℕ) (d : RingData) (r : RingOutcome) → RunOf plans ring d r → TakesTurns d r
+takes_turns : (plans : List Plan) (ring : ℕ) (d : RingData) (r : RingOutcome) → RunOf plans ring d r → TakesTurns d r
 takes_turns plans ring d r run p q order within quiet calm =
     (run.settlement.stays_round p q order within quiet (run.settlement.calm_settles p (omega arith) calm)).1
 
--- each ring of the settings has its run
-pub runs_each : {E : Type 0} (plans : List Plan) (settings : SettingsData) (results : List (Result RingOutcome E)) (o : Outcome) →
-    ((i : ℕ) (d : Result RingOutcome E) → i < length settings.rings → IfOk (get_or results i d) (λ (r : RingOutcome). IsRun plans i (ring_of_data (ring_at settings i)) r.book r.logs.items)) →
-    results ≡ map (λ r. Ok r) o.rings.items → EachRing (RunOf plans) settings o
-runs_each plans settings results o each is i d r at_d at_r =
+-- a run of a ring keeps all that is promised of it
+outcome_of : (settings : SettingsData) (plans : List Plan) (ring : ℕ) (d : RingData) (r : RingOutcome) → RunOf plans ring d r → ArePlansOf settings plans → length plans ≡ length settings.seats →
+    IsOutcomeOf settings ring d r
+outcome_of settings plans ring d r run are count = record {
+  one_history = one_history plans ring d r run;
+  calls = holds_calls settings plans ring d r run are count;
+  logs = has_logs settings plans ring d r run are count;
+  right = are_right plans ring d r run;
+  repaired = is_repaired plans ring d r run;
+  turns = takes_turns plans ring d r run;
+}
+
+-- each ring that was not refused has its run
+pub each_done : (plans : List Plan) (settings : SettingsData) (results : List (Result RingOutcome FarmError)) → ArePlansOf settings plans → length plans ≡ length settings.seats →
+    ((i : ℕ) (d : Result RingOutcome FarmError) → i < length settings.rings → IfOk (get_or results i d) (λ (r : RingOutcome). IsRun plans i (ring_of_data (ring_at settings i)) r.book r.logs.items)) →
+    EachDone settings results
+each_done plans settings results are count each i d res at_d at_r r is =
     let within = slice_get_within settings.rings i d at_d in
-    let run = ok_at (λ (r : RingOutcome). IsRun plans i (ring_of_data (ring_at settings i)) r.book r.logs.items) results o.rings.items i r is at_r (λ x. each i x within) in
-    let there : ring_at settings i ≡ d = ap (λ (x : Option RingData). unwrap_or x (record { size = record { n = 0; k = 0 }; start = [] })) at_d in
-    subst (λ (x : RingData). IsRun plans i (ring_of_data x) r.book r.logs.items) there run
+    let there : slice_get results i ≡ Some (Ok r) = at_r ∙ ap (λ (x : Result RingOutcome FarmError). Some x) is in
+    let run : IsRun plans i (ring_of_data (ring_at settings i)) r.book r.logs.items = subst (λ (x : Result RingOutcome FarmError). IfOk x (λ (r : RingOutcome). IsRun plans i (ring_of_data (ring_at settings i)) r.book r.logs.items))
+    (get_or_from_slice_get results i (Ok r) (Ok r) there) (each i (Ok r) within) in
+    let same : ring_at settings i ≡ d = ap (λ (x : Option RingData). unwrap_or x (record { size = record { n = 0; k = 0 }; start = [] })) at_d in
+    outcome_of settings plans i d r (subst (λ (x : RingData). IsRun plans i (ring_of_data x) r.book r.logs.items) same run) are count
+
+-- where no ring was refused, each has its outcome
+pub each_ring : (settings : SettingsData) (results : List (Result RingOutcome FarmError)) (o : Outcome) → EachDone settings results → results ≡ map (λ r. Ok r) o.rings.items →
+    EachRing (IsOutcomeOf settings) settings o
+each_ring settings results o done is i d r at_d at_r = done i d (Ok r) at_d (ok_place results o.rings.items i r is at_r) r refl

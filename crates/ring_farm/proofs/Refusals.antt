@@ -12,11 +12,11 @@ refusal_here {A = A} {E = E} (x ∷ all) (r ∷ rs) e so at =
     let rest : take (length rs) all ≡ map {A = A} (λ x. Ok x) rs = cc in
     ap (λ (y : Result A E). first_refusal (y ∷ all)) same ∙ refusal_here all rs e rest at
 
-pub ok_at : {A E : Type 0} (P : A → Type 0) (rs : List (Result A E)) (xs : List A) (i : ℕ) (x : A) → rs ≡ map (λ y. Ok y) xs → slice_get xs i ≡ Some x → ((d : Result A E) → IfOk (get_or rs i d) P) → P x
-ok_at {A = A} {E = E} P rs xs i x is at each =
+-- what is at a place of the outcomes is at that place of the results
+pub ok_place : {A E : Type 0} (rs : List (Result A E)) (xs : List A) (i : ℕ) (x : A) → rs ≡ map (λ y. Ok y) xs → slice_get xs i ≡ Some x → slice_get rs i ≡ Some (Ok x)
+ok_place {A = A} {E = E} rs xs i x is at =
     let m = slice_get-map {A = A} {B = Result A E} (λ y. Ok y) xs i in
-    let there : slice_get rs i ≡ Some (Ok x) = ap (λ (ys : List (Result A E)). slice_get ys i) is ∙ (m ∙ rw at refl) in
-    subst (λ (r : Result A E). IfOk r P) (get_or_from_slice_get rs i (Ok x) (Ok x) there) (each (Ok x))
+    ap (λ (ys : List (Result A E)). slice_get ys i) is ∙ (m ∙ rw at refl)
 
 pub ok_then : {A E : Type 0} (P S : A → Type 0) (r : Result A E) → ((v : A) → P v → S v) → IfOk r P → IfOk r S
 ok_then P S (Ok v) f p = f v p

@@ -1,5 +1,5 @@
 -- What a farm promises of each of its rings, clause by clause.
-use Rattle.std.specs.Prelude.{◌≡◌, ℕ, ◌<◌, ◌≤◌, All, length, take, filter, Some, slice_get}
+use Rattle.std.specs.Prelude.{◌≡◌, ℕ, ◌<◌, ◌≤◌, All, length, take, filter, List, Some, slice_get, Result, Ok}
 use Rattle.ring_model.specs.Ring.{privileged_count, bound}
 use Rattle.ring_model.specs.Runs.{GoesRound}
 use Rattle.ring_model.specs.History.{opening, IsLegal}
@@ -11,6 +11,7 @@ use Rattle.ring_model.specs.Resources.{till}
 use Rattle.ring_settings.specs.Contents.{SettingsData, RingData, plan_of}
 use Rattle.ring_shared.specs.Holding.{AreOfSeats}
 use Rattle.ring_shared.specs.declared.seats.Log.{Log}
+use Rattle.ring_farm.specs.declared.faults.FarmError.{FarmError}
 use Rattle.ring_farm.specs.declared.outcomes.Outcome.{Outcome}
 use Rattle.ring_farm.specs.declared.outcomes.RingOutcome.{RingOutcome}
 use Rattle.ring_farm.specs.Plans.{Pairs, part, actions_of, calls_read, is_call}
@@ -48,3 +49,16 @@ IsRepaired d r = (q : ℕ) → q ≤ length r.book.history → bound (length d.s
 abbrev pub TakesTurns : RingData → RingOutcome → Type 0
 TakesTurns d r = (p q : ℕ) → p ≤ q → q ≤ length r.book.history → NoCorruption r.book.history p q → bound (length d.start) ≤ calm (take p r.book.history) →
     GoesRound (length d.start) (granted_machines (between r.book.history p q))
+
+-- all that is promised of one ring
+pub record IsOutcomeOf (settings : SettingsData) (ring : ℕ) (d : RingData) (r : RingOutcome) : Type 0 where
+  pub one_history : IsOneHistory ring d r
+  pub calls : HoldsCalls settings ring d r
+  pub logs : HasLogs settings ring r
+  pub right : AreRight d r
+  pub repaired : IsRepaired d r
+  pub turns : TakesTurns d r
+
+-- each ring of the settings that was not refused keeps the promises
+abbrev pub EachDone : SettingsData → List (Result RingOutcome FarmError) → Type 0
+EachDone settings results = Pairs (λ i d res. (r : RingOutcome) → res ≡ Ok r → IsOutcomeOf settings i d r) settings.rings results

@@ -5,7 +5,7 @@ ghost use Rattle.ring_settings.specs.Actions.{IsActionFor, size_at};
 ghost use Rattle.ring_settings.specs.Contents.{ring_at, sizes_of, plan_of, plans_of};
 ghost use Rattle.ring_settings.specs.Views.{plan_actions};
 ghost use Rattle.ring_farm.specs.Runs.{IsRun, ring_of_data, first_refusal};
-ghost use Rattle.ring_farm.specs.Headline.{EachRing, IsOneHistory, HoldsCalls, HasLogs, AreRight, IsRepaired, TakesTurns};
+ghost use Rattle.ring_farm.specs.Headline.{EachRing, EachDone, IsOneHistory, HoldsCalls, HasLogs, AreRight, IsRepaired, TakesTurns};
 
 use crate::faults::FarmError;
 use crate::gates::Gate;
@@ -99,6 +99,25 @@ fn run_each<G: Gate + Sync, W: Threads + Wait + Sync>(
     thread::map_indices(rt, alloc, rings, &run)
 }
 
+/// Runs the rings of the settings as `run_farm` does, and hands out each ring's own outcome or refusal, in the order of
+/// the settings. What is not refused keeps all that `run_farm` promises of a ring, whatever became of the others.
+///
+/// # Errors
+///
+/// Want of memory for the plans and the list of the results.
+pub fn run_rings<G: Gate + Sync, W: Threads + Wait + Sync>(
+    rt: &W,
+    alloc: Global,
+    settings: &Settings,
+    gate: &G,
+) -> Result<Vec<Result<RingOutcome, FarmError>>, AllocError>
+    ensures count { IfOk result (λ v. vec_len v ≡ length settings.now.rings) }
+    ensures each { IfOk result (λ v. EachDone settings.now v.items) }
+{
+    let plans = plans(alloc, settings)?;
+    run_each(rt, alloc, gate, settings, &plans)
+}
+
 /// Runs the rings of the settings, each driven by one thread for each plan, and hands out their histories.
 ///
 /// For every number n of machines from 2, every K from n, every start and every plan, each ring's passes and
@@ -110,7 +129,7 @@ fn run_each<G: Gate + Sync, W: Threads + Wait + Sync>(
 /// # Errors
 ///
 /// Want of memory for the plans and the lists of the farm comes first, then the refusal of the least ring
-/// that met one: in the order of time, want of memory for opening, `Spawn`, the refusal of the least seat
+/// that met one, the first of those that `run_rings` answers: in the order of time, want of memory for opening, `Spawn`, the refusal of the least seat
 /// (`GateShut`, `HistoryFull`, `OutOfMemory`), and that of closing (`Mismatch`, `OutOfMemory`). A worker that
 /// meets a refusal stops, the others go on to their ends; all are joined. Nothing of a refused run is kept.
 pub fn run_farm<G: Gate + Sync, W: Threads + Wait + Sync>(
@@ -127,13 +146,10 @@ pub fn run_farm<G: Gate + Sync, W: Threads + Wait + Sync>(
     ensures repaired { IfOk result (λ o. EachRing (λ _ d r. IsRepaired d r) settings.now o) }
     ensures turns { IfOk result (λ o. EachRing (λ _ d r. TakesTurns d r) settings.now o) }
 {
-    let Ok(plans) = plans(alloc, settings) else {
-        return Err(FarmError::OutOfMemory);
-    };
     let Ok(rings) = Vec::with_capacity(alloc, settings.ring_count()) else {
         return Err(FarmError::OutOfMemory);
     };
-    let Ok(results) = run_each(rt, alloc, gate, settings, &plans) else {
+    let Ok(results) = run_rings(rt, alloc, settings, gate) else {
         return Err(FarmError::OutOfMemory);
     };
     collect(results, rings)

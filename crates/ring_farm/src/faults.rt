@@ -1,6 +1,7 @@
 //! What a farm refuses.
 
 ghost use Rattle.std.specs.Prelude.{◌≡◌, None};
+ghost use Rattle.ring_farm.specs.Refusals.{first_of};
 
 use thiserror::Error;
 
@@ -25,7 +26,8 @@ pub enum FarmError {
 
 /// The first of two faults.
 pub(crate) fn first_fault(fault: Option<FarmError>, found: Option<FarmError>) -> Option<FarmError>
-    ensures { result ≡ None → (fault ≡ None) × (found ≡ None) }
+    ensures is { result ≡ first_of fault found }
+    ensures none { result ≡ None → (fault ≡ None) × (found ≡ None) }
 {
     match fault {
         Some(fault) => Some(fault),

@@ -9,10 +9,7 @@ mod rings;
 mod threads;
 mod workers;
 
-pub use farms::run_farm;
+pub use farms::{run_farm, run_rings};
 pub use faults::FarmError;
 pub use gates::{Gate, Open};
 pub use outcomes::{Outcome, RingOutcome};
-
-#[cfg(test)]
-mod tests;

@@ -1,5 +1,6 @@
 //! A worker: the actions of one plan on one ring, in order.
-ghost use Rattle.std.specs.Prelude.{◌≡◌, ◌==◌, ◌≤◌, ◌<◌, ◌++◌, ◌∷◌, ◌+◌, [], None, length, vec_len};
+ghost use Rattle.std.specs.Prelude.{◌≡◌, ◌==◌, ◌≤◌, ◌<◌, ◌++◌, ◌∷◌, ◌+◌, [], None, Some, IfSome, IsTrue, IsFalse, length, vec_len};
+ghost use Rattle.ring_farm.specs.Refusals.{told_as, IsCallFault, IsSeatFault};
 ghost use Rattle.ring_farm.specs.Plans.{ring_of, part, actions_of, IsActionOn, AreActionsOn};
 
 use crate::faults::FarmError;
@@ -27,6 +28,7 @@ fn act<N: Name, R: Resource + Drop, W: Wait>(
     ensures number { seat.new.number ≡ seat.old.number }
     ensures log { result ≡ None → actions_of (ring_of action) seat.new.log ≡ actions_of (ring_of action) seat.old.log ++ action ∷ [] }
     ensures one { result ≡ None → length seat.new.log ≡ length seat.old.log + 1 }
+    ensures fault { IfSome result IsCallFault }
 {
     match action {
         Action::Pass {
@@ -53,7 +55,9 @@ fn act<N: Name, R: Resource + Drop, W: Wait>(
 }
 
 /// The farm's refusal for one of a book.
-fn fault_of(error: BookError) -> FarmError {
+fn fault_of(error: BookError) -> FarmError
+    ensures { result ≡ told_as error }
+{
     match error {
         BookError::HistoryFull => FarmError::HistoryFull,
         BookError::OutOfMemory => FarmError::OutOfMemory,
@@ -70,12 +74,46 @@ fn is_on(action: &Action, number: u32) -> bool
     ring == number
 }
 
-/// Whether the gate lets the worker on. The call has the number of the answers that the worker has: call c
-/// comes just before action c, and the last one after the last answer.
-fn comes<N: Name, G: Gate>(gate: &G, number: u32, seat: &Seat<N>) -> bool
-    requires { length seat.now.log ≤ 1000000 }
+/// What a gate's answer leads to: a worker that may not go on is refused.
+fn refused_by(on: bool) -> Option<FarmError>
+    ensures let_on { IsTrue on → result ≡ None }
+    ensures shut { IsFalse on → result ≡ Some FarmError.GateShut }
 {
-    gate.arrive(number, seat.number(), seat.log().len() as u32)
+    if on {
+        return None;
+    }
+    Some(FarmError::GateShut)
+}
+
+/// Comes to the gate; the refusal where it is shut. The call has the number of the answers that the worker has:
+/// call c comes just before action c, and the last one after the last answer.
+fn comes<N: Name, G: Gate>(gate: &G, number: u32, seat: &Seat<N>) -> Option<FarmError>
+    requires { length seat.now.log ≤ 1000000 }
+    ensures { IfSome result (λ e. e ≡ FarmError.GateShut) }
+{
+    refused_by(gate.arrive(number, seat.number(), seat.log().len() as u32))
+}
+
+/// Makes one action on the ring, if the gate lets the worker on; the refusal that it met.
+fn make<N: Name, R: Resource + Drop, G: Gate, W: Wait>(
+    rt: &W,
+    ring: &Ring<N, R>,
+    gate: &G,
+    number: u32,
+    action: Action,
+    seat: &mut Seat<N>,
+) -> Option<FarmError>
+    requires few { length seat.old.log ≤ 1000000 }
+    requires possible { IsActionOn N.start action }
+    ensures number { seat.new.number ≡ seat.old.number }
+    ensures log { result ≡ None → actions_of (ring_of action) seat.new.log ≡ actions_of (ring_of action) seat.old.log ++ action ∷ [] }
+    ensures one { result ≡ None → length seat.new.log ≡ length seat.old.log + 1 }
+    ensures fault { IfSome result IsSeatFault }
+{
+    match comes(gate, number, seat) {
+        Some(fault) => Some(fault),
+        None => act(rt, ring, action, seat),
+    }
 }
 
 /// Makes the part of a plan that is for the ring of this number, in order, until a refusal is met.
@@ -92,29 +130,17 @@ pub(crate) fn run_plan<N: Name, R: Resource + Drop, G: Gate, W: Wait>(
     requires new { seat.log ≡ [] }
     ensures number { result.seat.number ≡ seat.number }
     ensures log { result.fault ≡ None → actions_of number result.seat.log ≡ part number plan.now.actions.items }
+    ensures fault { IfSome result.fault IsSeatFault }
 {
     let mut seat = seat;
     for action in &plan.actions {
         if is_on(action, number) {
-            if !comes(gate, number, &seat) {
-                return Work {
-                    seat,
-                    fault: Some(FarmError::GateShut),
-                };
-            }
-            if let Some(fault) = act(rt, ring, *action, &mut seat) {
-                return Work {
-                    seat,
-                    fault: Some(fault),
-                };
+            let fault = make(rt, ring, gate, number, *action, &mut seat);
+            if fault.is_some() {
+                return Work { seat, fault };
             }
         }
     }
-    if !comes(gate, number, &seat) {
-        return Work {
-            seat,
-            fault: Some(FarmError::GateShut),
-        };
-    }
-    Work { seat, fault: None }
+    let fault = comes(gate, number, &seat);
+    Work { seat, fault }
 }

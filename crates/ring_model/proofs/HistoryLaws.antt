@@ -7,7 +7,7 @@ use Rattle.ring_model.specs.Ring.{Ring, IsRing, is_privileged, privileged_count,
 use Rattle.ring_model.specs.Runs.{after_passes, granted_passes, GoesRoundFrom}
 use Rattle.ring_model.specs.History.{Works, State, next, after, IsLegal}
 use Rattle.ring_model.specs.Surveys.{is_corrupted, granted_count, corrupted_count, calm}
-use Rattle.ring_model.specs.Grants.{is_grant_of, grants_of, and_granted, granted_machines, is_settled_run, settled_run, settled_grants_of}
+use Rattle.ring_model.specs.Grants.{is_grant_of, grants_of, asked_machines, and_granted, granted_machines, is_settled_run, settled_run, settled_grants_of}
 use Rattle.ring_model.specs.HistoryLaws.{values_at, rest_at, between, Settlement, HistoryDescent, HistorySettles, HistoryCalm, HistoryRound, HistoryFairness, HistorySurveys, HistoryKeepsRing}
 use Rattle.ring_model.specs.declared.events.Op.{Op}
 use Rattle.ring_model.specs.declared.events.Op.TheVariants.{Pass, Corrupt}
@@ -17,7 +17,7 @@ use Rattle.ring_model.specs.declared.events.Event.{Event}
 use Rattle.ring_model.proofs.Settled.{count_positive, first_is, rest_zero}
 use Rattle.ring_model.proofs.Below.{count_le}
 use Rattle.ring_model.proofs.Runs.{run_descent, round}
-use Rattle.ring_model.proofs.QuietRuns.{asked_machines, quiet_run, corrupted_count-cons, grants_of-cons}
+use Rattle.ring_model.proofs.QuietRuns.{quiet_run, corrupted_count-cons, grants_of-cons}
 use Rattle.ring_model.proofs.Places.{front_legal, between_legal, between_after, kept_after, calm_after}
 use Rattle.ring_model.proofs.Fairness.{times, fair_round, round_from}
 

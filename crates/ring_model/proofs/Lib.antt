@@ -17,3 +17,5 @@ pub mod Places
 pub mod Fairness
 pub mod HistoryLaws
 pub mod Suffixes
+mod Steps
+mod Worked

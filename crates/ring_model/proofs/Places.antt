@@ -98,7 +98,7 @@ calm_step w a (Corrupt i v) (Corrupted old) top c h g b le =
     let n : bound (length t.values) ≡ bound (length a.ring.values) = ap bound (length-set a.ring.values i v) in
     omega arith
 
--- so rest and calm together are at most the bound, at every place
+-- so the rest is at most the bound less the calm, at every place
 pub calm_after : {C : Type 0} (w : Works C) (a : State C) → IsRing a.ring → (h : List Event) → IsLegal w a h →
     rest (after w a h).ring ≤ bound (length a.ring.values) - calm h
 calm_after w a g h = by_pushes

@@ -8,7 +8,7 @@ use Rattle.ring_model.specs.Ring.{Ring, is_privileged, moved}
 use Rattle.ring_model.specs.Runs.{passed, after_passes, granted_passes, AreBelow}
 use Rattle.ring_model.specs.History.{Works, State, StepOf, next, after, IsLegal}
 use Rattle.ring_model.specs.Surveys.{is_granted, is_corrupted, granted_count, corrupted_count}
-use Rattle.ring_model.specs.Grants.{is_grant_of, grants_of, and_granted, granted_machines}
+use Rattle.ring_model.specs.Grants.{is_grant_of, grants_of, and_asked, asked_machines, and_granted, granted_machines}
 use Rattle.ring_model.specs.declared.events.Op.{Op}
 use Rattle.ring_model.specs.declared.events.Op.TheVariants.{Pass, Corrupt}
 use Rattle.ring_model.specs.declared.events.Reply.{Reply}
@@ -16,16 +16,6 @@ use Rattle.ring_model.specs.declared.events.Reply.TheVariants.{Granted, NotPrivi
 use Rattle.ring_model.specs.declared.events.Event.{Event}
 use Rattle.ring_model.proofs.Moves.{length_move}
 use Rattle.ring_model.proofs.Runs.{pass_granted, pass_idle}
-
--- the machines that the passes among the events ask for, in order
-
-abbrev pub and_asked : Op → List ℕ → List ℕ
-and_asked (Pass machine order) machines = machine ∷ machines
-and_asked (Corrupt machine value) machines = machines
-
-abbrev pub asked_machines : List Event → List ℕ
-asked_machines [] = []
-asked_machines (e ∷ es) = and_asked e.op (asked_machines es)
 
 -- counts of events, one event at a time
 

@@ -23,7 +23,7 @@ between h p q = drop p (take q h)
 abbrev pub NoCorruption : List Event → ℕ → ℕ → Type 0
 NoCorruption h p q = corrupted_count (between h p q) ≡ 0
 
--- descent: from p to q the rest falls by the granted passes, down to 0
+-- descent: from p to q the rest falls by at least the number of granted passes, down to 0
 abbrev pub Descends : {C : Type 0} → Works C → State C → List Event → Type 0
 Descends w a h = (p q : ℕ) → p ≤ q → q ≤ length h → NoCorruption h p q → rest_at w a h q ≤ rest_at w a h p - granted_count (between h p q)
 
@@ -31,7 +31,7 @@ Descends w a h = (p q : ℕ) → p ≤ q → q ≤ length h → NoCorruption h p
 abbrev pub Settles : {C : Type 0} → Works C → State C → List Event → Type 0
 Settles w a h = (p q : ℕ) → p ≤ q → q ≤ length h → NoCorruption h p q → rest_at w a h p ≤ granted_count (between h p q) → is_settled (values_at w a h q) ≡ true
 
--- calm bounds the rest: rest and calm together are at most the bound
+-- calm bounds the rest: it is at most the bound less the calm, and 0 where the calm has passed the bound
 abbrev pub CalmBoundsRest : {C : Type 0} → Works C → State C → List Event → Type 0
 CalmBoundsRest w a h = (q : ℕ) → q ≤ length h → rest_at w a h q ≤ bound (length a.ring.values) - calm (take q h)
 
@@ -50,7 +50,7 @@ StaysRound w a h = (p q : ℕ) → p ≤ q → q ≤ length h → NoCorruption h
 abbrev pub IsFair : {C : Type 0} → Works C → State C → List Event → Type 0
 IsFair w a h = (i j : ℕ) → i < length a.ring.values → j < length a.ring.values → settled_grants_of w a i h ≤ settled_grants_of w a j h + 1
 
--- what a survey tells: some machine is privileged, rest and calm together are at most the bound, and where the calm has reached it one machine is privileged and the rest is 0
+-- what a survey tells: some machine is privileged, the rest is at most the bound less the calm, and where the calm has reached the bound one machine is privileged and the rest is 0
 abbrev pub SurveysTell : {C : Type 0} → Works C → State C → List Event → Type 0
 SurveysTell w a h = (p : ℕ) → p ≤ length h →
     (1 ≤ (survey_at w a h p).privileged) × ((survey_at w a h p).privileged ≤ length a.ring.values) × ((survey_at w a h p).first < length a.ring.values)

@@ -32,7 +32,7 @@ RestIsZero = (r : Ring) → IsRing r → (rest r ≡ 0 → is_settled r.values �
 abbrev pub Bounded : Type 0
 Bounded = (r : Ring) → IsRing r → rest r ≤ bound (length r.values)
 
--- over every run the rest falls by the number of granted passes, down to 0
+-- over every run the rest falls by at least the number of granted passes, down to 0
 abbrev pub RunDescent : Type 0
 RunDescent = (r : Ring) (choices : List ℕ) → IsRing r → AreBelow (length r.values) choices →
     rest (after_passes r choices) ≤ rest r - length (granted_passes r choices)

@@ -12,3 +12,5 @@ pub mod Surveys
 pub mod Grants
 pub mod Logs
 pub mod Resources
+pub mod Steps
+pub mod Worked

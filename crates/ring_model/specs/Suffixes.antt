@@ -1,4 +1,4 @@
--- That the calm and the settled run are those of the longest suffixes of a history, in words that need no recursion.
+-- That the calm and the settled run are those of the longest suffixes of a history, by the places where these begin.
 use Rattle.std.specs.Prelude.{◌≡◌, ℕ, ◌<◌, ◌≤◌, ◌≢◌, true, false, List, length, take, drop}
 use Rattle.ring_model.specs.History.{Works, State, after}
 use Rattle.ring_model.specs.Surveys.{granted_count, corrupted_count, calm}

@@ -1,9 +1,24 @@
 //! What holds of every legal history, whatever its resource. Each law is the contract of a function that
 //! does nothing, for every type `C` of the resource's content; the statements stand in
-//! `specs/Statewise.antt` and `specs/HistoryLaws.antt`.
+//! `specs/Steps.antt`, `specs/Statewise.antt` and `specs/HistoryLaws.antt`.
 
+ghost use Rattle.ring_model.specs.Steps.{StepsAreCalls, CallsHaveSteps, HistoriesAreRuns, RunsAreHistories};
 ghost use Rattle.ring_model.specs.Statewise.{LegalWhereRuns, StatesAreUnique, StatesAreAfter};
 ghost use Rattle.ring_model.specs.HistoryLaws.{HistoryKeepsRing, HistoryDescent, HistorySettles, HistoryCalm, HistoryRound, HistoryFairness, HistorySurveys};
+
+/// A step is a call in range with the reply and the next state that the call determines, and each call in
+/// range has that step, whoever makes it.
+pub fn steps_of_calls<C>()
+    ensures steps { StepsAreCalls C }
+    ensures calls { CallsHaveSteps C }
+{}
+
+/// A legal history without a corruption is the run of the machines that its passes ask for, with the same
+/// ring and the same grants, and each run of choices is such a history.
+pub fn runs_of_choices<C>()
+    ensures histories { HistoriesAreRuns C }
+    ensures runs { RunsAreHistories C }
+{}
 
 /// A history is legal just where some list of states runs through it; that list is unique, and its state
 /// at each place is the state after the events before it.
@@ -18,7 +33,8 @@ pub fn history_keeps_ring<C>()
     ensures { HistoryKeepsRing C }
 {}
 
-/// Between two places with no corruption between, the rest falls by the granted passes, down to 0.
+/// Between two places with no corruption between, the rest falls by at least the number of granted passes,
+/// down to 0.
 pub fn history_descent<C>()
     ensures { HistoryDescent C }
 {}
@@ -29,7 +45,7 @@ pub fn history_settles<C>()
     ensures { HistorySettles C }
 {}
 
-/// The rest is at most the bound less the calm, at every place.
+/// At every place the rest is at most the bound less the calm, and 0 where the calm has passed the bound.
 pub fn history_calm<C>()
     ensures { HistoryCalm C }
 {}
@@ -44,8 +60,8 @@ pub fn history_fairness<C>()
     ensures { HistoryFairness C }
 {}
 
-/// What a survey tells at each place: some machine is privileged, rest and calm together are at most the
-/// bound, and where the calm has reached the bound one machine is privileged and the rest is 0.
+/// What a survey tells at each place: some machine is privileged, the rest is at most the bound less the
+/// calm, and where the calm has reached the bound one machine is privileged and the rest is 0.
 pub fn history_surveys<C>()
     ensures { HistorySurveys C }
 {}

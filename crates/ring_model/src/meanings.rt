@@ -1,10 +1,11 @@
 //! What the definitions by tests and recursions mean, in words that need no program. Each is the contract
-//! of a function that does nothing; the statements stand in `specs/Laws.antt`, `specs/OtherLead.antt` and
-//! `specs/Suffixes.antt`.
+//! of a function that does nothing; the statements stand in `specs/Laws.antt`, `specs/OtherLead.antt`,
+//! `specs/Suffixes.antt` and `specs/Worked.antt`.
 
 ghost use Rattle.ring_model.specs.Laws.{FrontMeans, LeadMeans};
 ghost use Rattle.ring_model.specs.OtherLead.{OtherDescent, OtherRestRises};
 ghost use Rattle.ring_model.specs.Suffixes.{CalmMeans, SettledRunMeans};
+ghost use Rattle.ring_model.specs.Worked.{WorkedPlaces, WorkedGrants, WorkedLogs};
 
 /// The test on neighbours says that the machines that hold the value of machine 0 are exactly 0 to p, for some p.
 pub fn prefix_meaning()
@@ -32,4 +33,11 @@ pub fn calm_meaning()
 /// The settled run of a history is its longest suffix without a corruption before each of whose events the ring is settled.
 pub fn settled_run_meaning<C>()
     ensures { SettledRunMeans C }
+{}
+
+/// A history worked by hand: its states, its surveys and its grants, a log that fits it and logs that do not.
+pub fn worked_history()
+    ensures places { WorkedPlaces }
+    ensures grants { WorkedGrants }
+    ensures logs { WorkedLogs }
 {}

@@ -27,8 +27,8 @@ pub fn bounded()
     ensures { Bounded }
 {}
 
-/// Over every run of choices the rest falls by the granted passes, down to 0, so that as many of them
-/// as the bound settle the ring.
+/// Over every run of choices the rest falls by at least the number of granted passes, down to 0, so that as
+/// many of them as the bound settle the ring.
 pub fn run_descent()
     ensures falls { RunDescent }
     ensures settles { RunSettles }

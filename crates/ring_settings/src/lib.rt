@@ -18,6 +18,3 @@ pub use document::read_settings;
 pub use draws::draw_plan;
 pub use faults::{Field, RingCause, SettingsError};
 pub use seat_plans::plans;
-
-#[cfg(test)]
-mod tests;

@@ -103,7 +103,7 @@ follow_turn r choices t u granted more at inv f e m =
 pub follow_end : (r : Ring) (choices : List ℕ) (t : Ring) (granted at : ℕ) → FollowsTo r choices t granted at → length choices ≤ at → t ≡ after_passes r choices
 follow_end r choices t granted at inv l = ap (after_passes t) (sym (drop_all at choices l)) ∙ inv.state
 
--- and the rest has fallen by the granted passes
+-- and the rest has fallen by at least the number of granted passes
 pub follow_done : (r : Ring) (choices : List ℕ) (t : Ring) (granted at : ℕ) → FollowsTo r choices t granted at → length choices ≤ at →
     IsRing r → AreBelow (length r.values) choices → rest t ≤ rest r - granted
 follow_done r choices t granted at inv l g b =

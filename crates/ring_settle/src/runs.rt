@@ -6,7 +6,7 @@ ghost use Rattle.ring_state.specs.Sizes.{IsRingState};
 use ring_state::RingState;
 
 /// Passes by the chosen machines, each below n, in order: each moves if it is privileged. Answers how many
-/// did; the rest falls by that number, down to 0.
+/// did; the rest falls by at least that number, down to 0.
 pub fn follow(state: &mut RingState, choices: &[u32]) -> u64
     requires { AreBelow (length state.old.values) choices.now }
     ensures state { state.new ≡ after_passes state.old choices.now }

@@ -97,11 +97,3 @@ fresh_distinct n ss f = in_order_distinct ss (λ i s at.
     let is = sym (f.each i (omega arith)) ∙ at in
     let same : record { number = i; log = [] } ≡ s = cc in
     sym (ap (λ (t : Client). t.number) same))
-
-pub one_distinct : (s : Client) → IsDistinct eqb (map (λ (s : Client). s.number) (s ∷ []))
-unfolding IsDistinct
-one_distinct s = (tt, tt)
-
-pub two_distinct : (s t : Client) → (s.number ≡ t.number → ⊥) → IsDistinct eqb (map (λ (s : Client). s.number) (s ∷ t ∷ []))
-unfolding IsDistinct
-two_distinct s t apart = ((ne_eqb s.number t.number apart, tt), (tt, tt))

@@ -14,6 +14,3 @@ pub use names::Name;
 pub use ring_model::Entry;
 pub use rings::{Draft, OpenFault, OpenReason, Ring};
 pub use seats::{Log, Seat};
-
-#[cfg(test)]
-mod tests;

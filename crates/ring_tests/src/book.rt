@@ -20,7 +20,7 @@ pub enum Ask {
     /// A corruption by seat 9.
     Corrupt { machine: u32, value: u32 },
     /// Memory for so many events.
-    Reserve(u64),
+    Reserve(u32),
     /// To be settled by seat 3.
     Settle,
     /// A survey.
@@ -129,7 +129,7 @@ fn corrupt<R: Resource + Drop>(
 }
 
 /// Memory for so many events.
-fn reserve<R: Resource + Drop>(rt: &impl Abort, book: &mut Book<R>, more: u64) -> Answer {
+fn reserve<R: Resource + Drop>(rt: &impl Abort, book: &mut Book<R>, more: u32) -> Answer {
     let before = book.survey();
     let made = match book.reserve(more) {
         Err(BookError::OutOfMemory) => book.reserve(more),

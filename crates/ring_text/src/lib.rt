@@ -24,6 +24,3 @@ pub use read::{answers_are_apart, outcomes_read_back, read_saved, texts_are_apar
 pub use report::write_report;
 pub use saved::{Saved, SavedEvent, SavedRing, SavedSurvey};
 pub use text_lines::{ReadError, WriteFault};
-
-#[cfg(test)]
-mod tests;

@@ -26,6 +26,3 @@ pub use number::{number32, number64, positive32};
 pub use row::{put_row, row32};
 pub use words::word;
 pub use write::{WriteFault, put, put_all};
-
-#[cfg(test)]
-mod tests;

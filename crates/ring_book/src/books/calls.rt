@@ -93,7 +93,7 @@ impl<R: Resource + Drop> Book<R> {
     ///
     /// `HistoryFull` where the history would have more than 1,000,000 events, else `OutOfMemory`. Nothing has
     /// changed then.
-    pub fn reserve(&mut self, more: u64) -> Result<(), BookError>
+    pub fn reserve(&mut self, more: u32) -> Result<(), BookError>
         ensures ok { OnOk result (more ≤ self.new.room) }
         ensures same { self.new ≡ record self.old { room = self.new.room } }
         ensures grows { self.old.room ≤ self.new.room }

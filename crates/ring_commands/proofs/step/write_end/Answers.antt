@@ -2,7 +2,8 @@ use Rattle.std.proofs.Common.{◌≡◌, ◌++◌, ◌∙◌, List, ℕ, ap, ref
 use Rattle.std.specs.Prelude.{codes, decimal}
 use Rattle.std.proofs.lemmas.Result.{err_from_is_err_and}
 use Rattle.ring_model.specs.Ring.{privileged_count, first_privileged}
-use Rattle.ring_commands.specs.StepText.{list_text, end_lines}
+use Rattle.text_lines.specs.Spelling.{list_text}
+use Rattle.ring_commands.specs.StepText.{end_lines}
 use Rattle.ring_commands.proofs.StepLemmas.{wrote_none, wrote_piece, wrote_cut, wrote_last}
 use Rattle.ring_commands.proofs.step.write_end.Goals as goal
 

@@ -12,7 +12,7 @@ loop-handle-preserved g c =
       (let n = p.len in let m = i.0 in omega (arith, length-append c.loop-handle.yielded (c.in-Some.handle ∷ []))),
       (let n = p.capacity in let m = i.1 in omega arith),
       (λ none.
-          let t = c.first_fault-fault.ensures none in
+          let t = c.first_fault-fault.ensures.none none in
           let k = c.join-seat.ensures in
           let i0 = i.0 in
           let same : length c.loop-handle.yielded ≡ length c.loop-handle.seats.items = omega arith in

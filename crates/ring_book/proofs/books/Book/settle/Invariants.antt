@@ -1,4 +1,4 @@
-use Rattle.std.proofs.Common.{◌≡◌, ℕ, ◌+◌, ◌≤◌, List, length}
+use Rattle.std.proofs.Common.{◌≡◌, ◌+◌, ◌≤◌, List, length}
 use Rattle.ring_model.specs.Ring.{rest}
 use Rattle.ring_model.specs.declared.events.Event.{Event}
 use Rattle.ring_book.specs.Repairs.{IsRepairedBy}

@@ -1,0 +1,50 @@
+//! Farms: what they hand out, how their threads run, and what they refuse.
+
+mod arrivals;
+mod gates;
+mod outcomes;
+mod refusals;
+
+use crate::settings::settings_of;
+use ring_farm::{FarmError, Gate, Outcome, run_farm};
+use std::alloc::Global;
+use std::process::Abort;
+use std::sync::Wait;
+use std::thread::Threads;
+
+/// One ring of two machines, and ten seats with nothing to do.
+const IDLE: &str =
+    r#"{"rings":[{"n":2,"k":2,"start":[0,0]}],"workers":[{"script":[]},{"script":[]},{"script":[]},{"script":[]},{"script":[]},{"script":[]},{"script":[]},{"script":[]},{"script":[]}],"injector":{"script":[]}}"#;
+
+/// One ring of two machines, and one pass by each.
+const CROSSING: &str =
+    r#"{"rings":[{"n":2,"k":2,"start":[0,0]}],"workers":[{"script":[["pass",0,0,7]]},{"script":[["pass",0,1,7]]}]}"#;
+
+/// What a farm makes of settings under a gate.
+fn ran<G: Gate + Sync, W: Threads + Wait + Abort + Sync>(
+    rt: &W,
+    alloc: Global,
+    text: &str,
+    gate: &G,
+) -> Result<Outcome, FarmError> {
+    run_farm(rt, alloc, &settings_of(rt, alloc, text), gate)
+}
+
+/// The outcome, of this many rings.
+fn outcome(rt: &impl Abort, ran: Result<Outcome, FarmError>, rings: usize) -> Outcome {
+    match ran {
+        Ok(outcome) => {
+            assert_eq!(rt; outcome.rings.len(), rings);
+            outcome
+        }
+        Err(fault) => panic!(rt; "refused: {fault}"),
+    }
+}
+
+/// The refusal of a run.
+fn refusal(ran: Result<Outcome, FarmError>) -> Option<FarmError> {
+    match ran {
+        Ok(_) => None,
+        Err(fault) => Some(fault),
+    }
+}

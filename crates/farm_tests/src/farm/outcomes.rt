@@ -1,0 +1,124 @@
+//! What a farm hands out.
+
+use super::gates::{Crossed, waiting};
+use super::{CROSSING, outcome, ran};
+use crate::events::{granted, refused, told};
+use crate::settings::{SCRIPTED, settings_of};
+use ring_farm::{FarmError, Open, Outcome, run_farm};
+use ring_model::Survey;
+use ring_settings::{Action, SettingsError, plans, read_settings};
+use ring_shared::Entry;
+use std::process::Abort;
+
+/// Two rings, four drawn workers and an injector.
+const DRAWN: &str =
+    r#"{"rings":[{"n":3,"k":3,"start":[0,0,0]},{"n":8,"k":16,"start":[0,0,0,0,0,0,0,0]}],"workers":[{"seed":1,"actions":500},{"seed":2,"actions":500},{"seed":3,"actions":500},{"seed":4,"actions":500}],"injector":{"seed":5,"actions":50}}"#;
+
+/// The outcome is that of the script.
+fn follows_the_script(rt: &impl Abort, outcome: &Outcome) {
+    assert_eq!(rt; outcome.rings.len(), 1);
+    let ring = &outcome.rings[0];
+    let events = [
+        granted(0, 0, 5, 1, 5),
+        refused(0, 0, 1),
+        granted(0, 2, 4, 2, 9),
+    ];
+    assert_eq!(rt; ring.book.history(), events.as_slice());
+    assert_eq!(rt; ring.logs.len(), 1);
+    let survey = Survey {
+        position: 3,
+        privileged: 1,
+        first: 1,
+        calm: 2,
+        rest: 0,
+    };
+    let entries = [
+        told(0, events[0]),
+        told(1, events[1]),
+        told(2, events[2]),
+        Entry::Survey(survey),
+    ];
+    assert_eq!(rt; ring.logs[0].entries.as_slice(), entries.as_slice());
+}
+
+#[test]
+fn a_script_is_followed_at_each_run(rt: HostRuntime) {
+    let alloc = rt.alloc();
+    let settings = settings_of(&rt, alloc, SCRIPTED);
+    for _ in 0..2 {
+        let ran = run_farm(&rt, alloc, &settings, &Open);
+        follows_the_script(&rt, &outcome(&rt, ran, 1));
+    }
+}
+
+// Passes too where any one request for memory is refused, as `bench/refused_memory.sh` has it.
+#[test]
+fn want_of_memory_is_told_as_such(rt: HostRuntime) {
+    let alloc = rt.alloc();
+    let settings = match read_settings(alloc, SCRIPTED.as_bytes()) {
+        Ok(settings) => settings,
+        Err(error) => {
+            assert_eq!(rt; error, SettingsError::OutOfMemory);
+            return;
+        }
+    };
+    match run_farm(&rt, alloc, &settings, &Open) {
+        Ok(outcome) => follows_the_script(&rt, &outcome),
+        Err(fault) => assert!(rt; matches!(fault, FarmError::OutOfMemory | FarmError::Spawn)),
+    }
+}
+
+#[test]
+fn arrivals_wait_for_each_other(rt: HostRuntime) {
+    let alloc = rt.alloc();
+    let gate: Crossed = waiting();
+    let outcome = outcome(&rt, ran(&rt, alloc, CROSSING, &gate), 1);
+    assert_eq!(rt; outcome.rings.len(), 1);
+    let events = [refused(1, 1, 7), granted(0, 0, 7, 1, 7)];
+    assert_eq!(rt; outcome.rings[0].book.history(), events.as_slice());
+}
+
+/// The calls of a log, and its surveys.
+fn count(log: &[Entry]) -> (u64, u64) {
+    let mut calls = 0u64;
+    let mut surveys = 0u64;
+    for entry in log {
+        match entry {
+            Entry::Receipt(_) => calls = calls.saturating_add(1),
+            Entry::Survey(_) => surveys = surveys.saturating_add(1),
+        }
+    }
+    (calls, surveys)
+}
+
+#[test]
+fn drawn_plans_are_made_whole(rt: HostRuntime) -> Result<(), std::test::Fail> {
+    let alloc = rt.alloc();
+    let settings = settings_of(&rt, alloc, DRAWN);
+    let plans = plans(alloc, &settings)?;
+    let outcome = outcome(&rt, run_farm(&rt, alloc, &settings, &Open), 2);
+    assert_eq!(rt; (outcome.rings.len(), plans.len()), (2, 5));
+    let mut seat = 0u32;
+    for plan in &plans {
+        assert!(rt; seat <= 9);
+        let surveys = plan
+            .actions
+            .iter()
+            .filter(|action| matches!(action, Action::Survey { ring: _ }))
+            .count() as u64;
+        let mut made = (0u64, 0u64);
+        let mut booked = 0u64;
+        for ring in &outcome.rings {
+            assert_eq!(rt; ring.logs.len(), 5);
+            assert!(rt; (seat as usize) < ring.logs.len());
+            let (calls, seen) = count(ring.logs[seat as usize].entries.as_slice());
+            made = (made.0.saturating_add(calls), made.1.saturating_add(seen));
+            booked = booked.saturating_add(ring.book.calls_of(seat));
+        }
+        assert_eq!(rt; made.1, surveys);
+        assert_eq!(rt; made.0.saturating_add(made.1), plan.actions.len() as u64);
+        assert_eq!(rt; booked, made.0);
+        seat += 1;
+    }
+    Ok(())
+}

@@ -1,0 +1,44 @@
+//! Worked examples, with values found by hand from the rules, or by another program that follows them.
+
+mod draws;
+mod examples;
+mod readers;
+mod refusals;
+
+use ring_settings::{Settings, SettingsError, read_settings};
+use std::alloc::{AllocError, Global};
+use std::process::Abort;
+
+/// One ring of three machines, and one worker with a script of four actions.
+pub(crate) const SCRIPTED: &str =
+    r#"{"rings":[{"n":3,"k":3,"start":[0,2,0]}],"workers":[{"script":[["pass",0,0,5],["pass",0,0,1],["pass",0,2,4],["survey",0]]}]}"#;
+
+/// The settings that a text is.
+pub(crate) fn settings_of(rt: &impl Abort, alloc: Global, text: &str) -> Settings {
+    match read_settings(alloc, text.as_bytes()) {
+        Ok(settings) => settings,
+        Err(e) => panic!(rt; "refused: {e}"),
+    }
+}
+
+/// Why a text is refused.
+fn refusal(rt: &impl Abort, alloc: Global, text: &str) -> SettingsError {
+    match read_settings(alloc, text.as_bytes()) {
+        Ok(_) => panic!(rt; "not refused"),
+        Err(e) => e,
+    }
+}
+
+/// An array of this many equal entries.
+fn array_of(alloc: Global, entry: &str, count: usize) -> Result<String, AllocError> {
+    let mut text = String::new(alloc);
+    text.push_str("[")?;
+    for i in 0..count {
+        if i > 0 {
+            text.push_str(",")?;
+        }
+        text.push_str(entry)?;
+    }
+    text.push_str("]")?;
+    Ok(text)
+}

@@ -1,0 +1,362 @@
+//! What is refused, and which fault is told first.
+
+use super::{SCRIPTED, array_of, refusal, settings_of};
+use ring_settings::{Field, RingCause, SeatSetting, SettingsError, plans, read_settings};
+use std::alloc::{AllocError, Global};
+use std::test::Fail;
+
+/// A document with this as its one ring, and one worker.
+fn ring_text(alloc: Global, ring: &str) -> Result<String, AllocError> {
+    format!(in alloc; "{{\"rings\":[{ring}],\"workers\":[{{\"seed\":1,\"actions\":2}}]}}")
+}
+
+/// A document with one good ring and these further members.
+fn seats_text(alloc: Global, members: &str) -> Result<String, AllocError> {
+    format!(in alloc; "{{\"rings\":[{{\"n\":3,\"k\":3,\"start\":[0,2,0]}}]{members}}}")
+}
+
+#[test]
+fn what_is_no_object_is_refused_first(rt: HostRuntime) -> Result<(), Fail> {
+    let alloc = rt.alloc();
+    let mut deep = String::new(alloc);
+    for _ in 0..200 {
+        deep.push_str("[")?;
+    }
+    for _ in 0..200 {
+        deep.push_str("]")?;
+    }
+    for (text, want) in [
+        ("", SettingsError::Json),
+        ("{", SettingsError::Json),
+        (deep.as_str(), SettingsError::Json),
+        ("[]", SettingsError::Shape(Field::Top)),
+        ("7", SettingsError::Shape(Field::Top)),
+        ("{}", SettingsError::Shape(Field::Rings)),
+        (r#"{"rings":{}}"#, SettingsError::Shape(Field::Rings)),
+        (r#"{"rings":[]}"#, SettingsError::Limit(Field::Rings)),
+        (r#"{"rings":[7]}"#, SettingsError::Shape(Field::Rings)),
+    ] {
+        assert_eq!(rt; refusal(&rt, alloc, text), want, "at {text}");
+    }
+    match read_settings(alloc, &[255]) {
+        Ok(_) => panic!(rt; "not text"),
+        Err(e) => assert_eq!(rt; e, SettingsError::Json),
+    }
+    Ok(())
+}
+
+#[test]
+fn a_ring_is_refused_by_its_first_fault(rt: HostRuntime) -> Result<(), Fail> {
+    let alloc = rt.alloc();
+    for (ring, want) in [
+        (r#"{"k":3,"start":[0,2,0]}"#, SettingsError::Shape(Field::N)),
+        (
+            r#"{"n":-1,"k":3,"start":[0,2,0]}"#,
+            SettingsError::Shape(Field::N),
+        ),
+        (
+            r#"{"n":3.0,"k":3,"start":[0,2,0]}"#,
+            SettingsError::Shape(Field::N),
+        ),
+        (
+            r#"{"n":4294967296,"k":"3","start":[0,2,0]}"#,
+            SettingsError::Limit(Field::N),
+        ),
+        (
+            r#"{"n":4294967295,"k":"3","start":[0,2,0]}"#,
+            SettingsError::Shape(Field::K),
+        ),
+        (
+            r#"{"n":1,"k":4294967296,"start":[0,2,0]}"#,
+            SettingsError::Limit(Field::K),
+        ),
+        (r#"{"n":1,"k":3}"#, SettingsError::Shape(Field::Start)),
+        (
+            r#"{"n":1,"k":3,"start":3}"#,
+            SettingsError::Shape(Field::Start),
+        ),
+        (
+            r#"{"n":3,"k":3,"start":[0,4294967296,"x"]}"#,
+            SettingsError::Shape(Field::Start),
+        ),
+        (
+            r#"{"n":1,"k":3,"start":[0,4294967296,1]}"#,
+            SettingsError::Limit(Field::Start),
+        ),
+        (
+            r#"{"n":1,"k":0,"start":[]}"#,
+            SettingsError::Ring(0, RingCause::TooFew),
+        ),
+        (
+            r#"{"n":257,"k":3,"start":[]}"#,
+            SettingsError::Ring(0, RingCause::TooMany),
+        ),
+        (
+            r#"{"n":4,"k":3,"start":[]}"#,
+            SettingsError::Ring(0, RingCause::FewValues),
+        ),
+        (
+            r#"{"n":4,"k":257,"start":[]}"#,
+            SettingsError::Ring(0, RingCause::ManyValues),
+        ),
+        (
+            r#"{"n":3,"k":3,"start":[9,9]}"#,
+            SettingsError::Ring(0, RingCause::Length),
+        ),
+        (
+            r#"{"n":3,"k":3,"start":[0,3,7]}"#,
+            SettingsError::Ring(0, RingCause::Value(1)),
+        ),
+    ] {
+        let text = ring_text(alloc, ring)?;
+        assert_eq!(rt; refusal(&rt, alloc, text.as_str()), want, "at {ring}");
+    }
+    let second = r#"{"rings":[{"n":3,"k":3,"start":[0,2,0]},{"n":1,"k":1,"start":[0]},{"k":1}]}"#;
+    assert_eq!(rt;
+        refusal(&rt, alloc, second),
+        SettingsError::Ring(1, RingCause::TooFew)
+    );
+    let bare = r#"{"rings":[{"n":4,"k":3,"start":[]}],"workers":[]}"#;
+    assert_eq!(rt;
+        refusal(&rt, alloc, bare),
+        SettingsError::Ring(0, RingCause::FewValues)
+    );
+    Ok(())
+}
+
+#[test]
+fn a_seat_is_refused_by_its_first_fault(rt: HostRuntime) -> Result<(), Fail> {
+    let alloc = rt.alloc();
+    for (members, want) in [
+        ("", SettingsError::Shape(Field::Workers)),
+        (r#","workers":{}"#, SettingsError::Shape(Field::Workers)),
+        (r#","workers":[]"#, SettingsError::Limit(Field::Workers)),
+        (r#","workers":[7]"#, SettingsError::Shape(Field::Workers)),
+        (
+            r#","workers":[{"script":null}]"#,
+            SettingsError::Shape(Field::Script),
+        ),
+        (
+            r#","workers":[{"script":null,"seed":1,"actions":2}]"#,
+            SettingsError::Shape(Field::Script),
+        ),
+        (r#","workers":[{}]"#, SettingsError::Shape(Field::Seed)),
+        (
+            r#","workers":[{"seed":-1,"actions":2}]"#,
+            SettingsError::Shape(Field::Seed),
+        ),
+        (
+            r#","workers":[{"seed":1}]"#,
+            SettingsError::Shape(Field::Actions),
+        ),
+        (
+            r#","workers":[{"seed":1,"actions":1000001}]"#,
+            SettingsError::Limit(Field::Actions),
+        ),
+        (
+            r#","workers":[{"seed":1,"actions":2},{"script":[["survey",0],["survey",1],7]}]"#,
+            SettingsError::Script(1, 1),
+        ),
+        (
+            r#","workers":[{"seed":1,"actions":2}],"injector":false"#,
+            SettingsError::Shape(Field::Injector),
+        ),
+        (
+            r#","workers":[{"seed":1,"actions":2}],"injector":{}"#,
+            SettingsError::Shape(Field::Seed),
+        ),
+        (
+            r#","workers":[{"seed":1,"actions":2}],"injector":{"script":[[]]}"#,
+            SettingsError::Script(1, 0),
+        ),
+    ] {
+        let text = seats_text(alloc, members)?;
+        assert_eq!(rt; refusal(&rt, alloc, text.as_str()), want, "at {members}");
+    }
+    Ok(())
+}
+
+#[test]
+fn what_is_no_action_is_refused_by_its_place(rt: HostRuntime) -> Result<(), Fail> {
+    let alloc = rt.alloc();
+    for entry in [
+        r#"["pass",0,3,5]"#,
+        r#"["pass",1,0,5]"#,
+        r#"["pass",0,0]"#,
+        r#"["pass",0,0,5,6]"#,
+        r#"["pass",0,0,-5]"#,
+        r#"["pass",0,0,18446744073709551616]"#,
+        r#"["pass",4294967296,0,5]"#,
+        r#"["corrupt",0,0,3]"#,
+        r#"["corrupt",0,3,0]"#,
+        r#"["survey",1]"#,
+        r#"["survey",0,0]"#,
+        r#"["survey",0,0,0]"#,
+        r#"["survey"]"#,
+        r#"["Pass",0,0,5]"#,
+        r#"[0,0,0,5]"#,
+        r#"{"pass":0}"#,
+        "null",
+    ] {
+        let text = format!(in alloc; ",\"workers\":[{{\"script\":[[\"survey\",0],{entry},7]}}]")?;
+        let document = seats_text(alloc, text.as_str())?;
+        assert_eq!(rt;
+            refusal(&rt, alloc, document.as_str()),
+            SettingsError::Script(0, 1),
+            "at {entry}"
+        );
+    }
+    Ok(())
+}
+
+#[test]
+fn limits_of_rings_and_workers_are_exact(rt: HostRuntime) -> Result<(), Fail> {
+    let alloc = rt.alloc();
+    let ring = r#"{"n":2,"k":2,"start":[0,1]}"#;
+    let seat = r#"{"seed":1,"actions":0}"#;
+    for (rings, workers) in [(1, 1), (16, 9)] {
+        let rings_text = array_of(alloc, ring, rings)?;
+        let workers_text = array_of(alloc, seat, workers)?;
+        let text = format!(in alloc; "{{\"rings\":{rings_text},\"workers\":{workers_text}}}")?;
+        let settings = settings_of(&rt, alloc, text.as_str());
+        assert_eq!(rt; settings.ring_count(), rings);
+        assert_eq!(rt; settings.seat_count(), workers);
+    }
+    let seventeen = array_of(alloc, ring, 17)?;
+    let text = format!(in alloc; "{{\"rings\":{seventeen},\"workers\":[]}}")?;
+    assert_eq!(rt;
+        refusal(&rt, alloc, text.as_str()),
+        SettingsError::Limit(Field::Rings)
+    );
+    let ten = array_of(alloc, seat, 10)?;
+    let text = format!(in alloc; "{{\"rings\":[{ring}],\"workers\":{ten}}}")?;
+    assert_eq!(rt;
+        refusal(&rt, alloc, text.as_str()),
+        SettingsError::Limit(Field::Workers)
+    );
+    Ok(())
+}
+
+#[test]
+fn a_script_has_at_most_a_million_actions(rt: HostRuntime) -> Result<(), Fail> {
+    let alloc = rt.alloc();
+    let most = array_of(alloc, r#"["survey",0]"#, 1_000_000)?;
+    let text = format!(in alloc;
+        "{{\"rings\":[{{\"n\":2,\"k\":2,\"start\":[0,1]}}],\"workers\":[{{\"script\":{most}}}]}}"
+    )?;
+    let settings = settings_of(&rt, alloc, text.as_str());
+    assert_eq!(rt; settings.seat_count(), 1);
+    match settings.seat(0) {
+        SeatSetting::Script(actions) => assert_eq!(rt; actions.len(), 1_000_000),
+        SeatSetting::Drawn { .. } => panic!(rt; "a script"),
+    }
+    let more = array_of(alloc, "7", 1_000_001)?;
+    let text = format!(in alloc;
+        "{{\"rings\":[{{\"n\":2,\"k\":2,\"start\":[0,1]}}],\"workers\":[{{\"script\":{more}}}]}}"
+    )?;
+    assert_eq!(rt;
+        refusal(&rt, alloc, text.as_str()),
+        SettingsError::Limit(Field::Script)
+    );
+    Ok(())
+}
+
+#[test]
+fn refusals_are_told_in_words(rt: HostRuntime) -> Result<(), Fail> {
+    let alloc = rt.alloc();
+    for (fault, want) in [
+        (SettingsError::Json, "settings are not JSON"),
+        (
+            SettingsError::Shape(Field::Top),
+            "settings: document is missing or has the wrong shape",
+        ),
+        (
+            SettingsError::Shape(Field::Rings),
+            "settings: rings is missing or has the wrong shape",
+        ),
+        (
+            SettingsError::Limit(Field::N),
+            "settings: n is out of limits",
+        ),
+        (
+            SettingsError::Shape(Field::K),
+            "settings: k is missing or has the wrong shape",
+        ),
+        (
+            SettingsError::Limit(Field::Start),
+            "settings: start is out of limits",
+        ),
+        (
+            SettingsError::Limit(Field::Workers),
+            "settings: workers is out of limits",
+        ),
+        (
+            SettingsError::Shape(Field::Injector),
+            "settings: injector is missing or has the wrong shape",
+        ),
+        (
+            SettingsError::Limit(Field::Script),
+            "settings: script is out of limits",
+        ),
+        (
+            SettingsError::Shape(Field::Seed),
+            "settings: seed is missing or has the wrong shape",
+        ),
+        (
+            SettingsError::Limit(Field::Actions),
+            "settings: actions is out of limits",
+        ),
+        (
+            SettingsError::Ring(0, RingCause::TooFew),
+            "ring 0: n is less than 2",
+        ),
+        (
+            SettingsError::Ring(1, RingCause::TooMany),
+            "ring 1: n is more than 256",
+        ),
+        (
+            SettingsError::Ring(2, RingCause::FewValues),
+            "ring 2: k is less than n",
+        ),
+        (
+            SettingsError::Ring(3, RingCause::ManyValues),
+            "ring 3: k is more than 256",
+        ),
+        (
+            SettingsError::Ring(4, RingCause::Length),
+            "ring 4: start does not have n values",
+        ),
+        (
+            SettingsError::Ring(15, RingCause::Value(7)),
+            "ring 15: start value 7 is not below k",
+        ),
+        (
+            SettingsError::Script(9, 12),
+            "seat 9, action 12: not an action",
+        ),
+        (SettingsError::OutOfMemory, "out of memory"),
+    ] {
+        assert_eq!(rt; fault.to_string(alloc)?.as_str(), want);
+    }
+    Ok(())
+}
+
+/// Where a request for memory is refused, by `rt try --test --fail-alloc`, nothing but want of memory is told.
+#[test]
+fn want_of_memory_is_told_as_such(rt: HostRuntime) {
+    let alloc = rt.alloc();
+    let settings = match read_settings(alloc, SCRIPTED.as_bytes()) {
+        Ok(settings) => settings,
+        Err(e) => {
+            assert_eq!(rt; e, SettingsError::OutOfMemory);
+            return;
+        }
+    };
+    assert_eq!(rt; settings.ring_count(), 1);
+    assert_eq!(rt; settings.start(0), [0, 2, 0].as_slice());
+    let Ok(all) = plans(alloc, &settings) else {
+        return;
+    };
+    assert_eq!(rt; all.len(), 1);
+    assert_eq!(rt; all[0].actions.len(), 4);
+}

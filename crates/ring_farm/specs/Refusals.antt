@@ -1,0 +1,24 @@
+-- Which refusal comes from where.
+use Rattle.std.specs.Prelude.{◌≡◌, ◌⊎◌, Option, Some, None}
+use Rattle.ring_book.specs.declared.events.BookError.{BookError}
+use Rattle.ring_book.specs.declared.events.BookError.TheVariants as book
+use Rattle.ring_farm.specs.declared.faults.FarmError.{FarmError}
+use Rattle.ring_farm.specs.declared.faults.FarmError.TheVariants as farm
+
+-- the first of two faults
+abbrev pub first_of : Option FarmError → Option FarmError → Option FarmError
+first_of (Some fault) found = Some fault
+first_of None found = found
+
+-- a book's refusal, as a farm tells it
+abbrev pub told_as : BookError → FarmError
+told_as book.HistoryFull = farm.HistoryFull
+told_as book.OutOfMemory = farm.OutOfMemory
+
+-- what a call of a ring is refused for
+abbrev pub IsCallFault : FarmError → Type 0
+IsCallFault e = (e ≡ farm.HistoryFull) ⊎ (e ≡ farm.OutOfMemory)
+
+-- what a seat meets
+abbrev pub IsSeatFault : FarmError → Type 0
+IsSeatFault e = (e ≡ farm.GateShut) ⊎ IsCallFault e

@@ -1,0 +1,9 @@
+//! Saved texts and reports, read, judged and written.
+
+mod judge;
+mod outcomes;
+mod reading;
+mod reports;
+mod scenes;
+mod texts;
+mod writing;

@@ -1,0 +1,36 @@
+//! The writers of lines, over writers that stop after a while or take little at a time.
+
+use super::texts::{PASSES, TWO_RINGS, write};
+use crate::scripted::{REFUSALS, Refusal, writer_with};
+use ring_text::read_saved;
+use std::test::Fail;
+
+#[test]
+fn a_fault_leaves_a_beginning(rt: HostRuntime) -> Result<(), Fail> {
+    for text in [PASSES, TWO_RINGS] {
+        let saved = read_saved(rt.alloc(), text)?;
+        for then in REFUSALS {
+            for at_most in [1, 1000] {
+                for k in 0..text.len() {
+                    let mut out = writer_with(rt.alloc(), k, at_most, then);
+                    assert!(rt; write(&mut out, &saved).is_err(), "{then:?} at {k}");
+                    assert_eq!(rt; out.held.as_slice(), &text[..k], "{then:?} at {k}");
+                }
+            }
+        }
+    }
+    Ok(())
+}
+
+#[test]
+fn short_writes_go_on(rt: HostRuntime) -> Result<(), Fail> {
+    for text in [PASSES, TWO_RINGS] {
+        let saved = read_saved(rt.alloc(), text)?;
+        for at_most in [1, 2, 1000] {
+            let mut out = writer_with(rt.alloc(), text.len(), at_most, Refusal::Fails);
+            assert_eq!(rt; write(&mut out, &saved), Ok(()), "{at_most} a call");
+            assert_eq!(rt; out.held.as_slice(), text, "{at_most} a call");
+        }
+    }
+    Ok(())
+}

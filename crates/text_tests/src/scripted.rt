@@ -1,0 +1,57 @@
+//! Writers that stop after a while, and writers that take little at a time.
+
+use std::alloc::Global;
+use std::io::{self, ErrorKind, Write};
+
+/// How a writer answers once, when its room is used up; from then on it takes all.
+#[derive(Clone, Copy, Debug)]
+pub enum Refusal {
+    Fails,
+    Interrupted,
+    TakesNone,
+}
+
+pub const REFUSALS: [Refusal; 3] = [Refusal::Fails, Refusal::Interrupted, Refusal::TakesNone];
+
+/// A writer with room for so many bytes that takes at most so many a call.
+#[derive(Drop)]
+pub struct Scripted {
+    pub held: Vec<u8>,
+    pub room: usize,
+    /// How often it was asked to take bytes.
+    pub asked: usize,
+    at_most: usize,
+    then: Refusal,
+}
+
+impl Write for Scripted {
+    fn write(&mut self, bytes: &[u8]) -> io::Result<usize> {
+        self.asked = self.asked.saturating_add(1);
+        if self.room == 0 {
+            self.room = usize::MAX;
+            return match self.then {
+                Refusal::Fails => Err(io::Error::from(ErrorKind::BrokenPipe)),
+                Refusal::Interrupted => Err(io::Error::from(ErrorKind::Interrupted)),
+                Refusal::TakesNone => Ok(0),
+            };
+        }
+        let taken = bytes.len().min(self.room).min(self.at_most);
+        self.held.extend_from_slice(&bytes[..taken])?;
+        self.room = self.room.saturating_sub(taken);
+        Ok(taken)
+    }
+
+    fn flush(&mut self) -> io::Result<()> {
+        Err(io::Error::from(ErrorKind::Unsupported))
+    }
+}
+
+pub fn writer_with(alloc: Global, room: usize, at_most: usize, then: Refusal) -> Scripted {
+    Scripted {
+        held: Vec::new(alloc),
+        room,
+        asked: 0,
+        at_most,
+        then,
+    }
+}
