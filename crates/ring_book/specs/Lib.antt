@@ -1,3 +1,4 @@
+pub mod Limits
 pub mod EventsView
 pub mod IdleWorks
 pub mod GrantCounts

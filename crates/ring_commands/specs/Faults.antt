@@ -4,7 +4,7 @@ use Rattle.std.specs.List.{position}
 use Rattle.std.specs.Option.{option_map, option_or}
 use Rattle.ring_state.specs.declared.sizes.ParamsError.{ParamsError}
 use Rattle.ring_state.specs.declared.states.StateError.{StateError}
-use Rattle.ring_book.specs.EventsView.{event_limit}
+use Rattle.ring_book.specs.Limits.{event_limit}
 use Rattle.ring_book.specs.declared.events.BookError.{BookError}
 use Rattle.ring_settings.specs.declared.faults.SettingsError.{SettingsError}
 use Rattle.ring_farm.specs.declared.faults.FarmError.{FarmError}

@@ -3,7 +3,7 @@ ghost use Rattle.std.specs.Prelude.{◌≡◌, ◌<◌, ◌++◌, ◌∷◌, ◌
 ghost use Rattle.ring_model.specs.History.{opening};
 ghost use Rattle.ring_model.specs.Surveys.{survey_at};
 ghost use Rattle.ring_book.specs.BookView.{IsBook, IsRecorded};
-ghost use Rattle.ring_book.specs.EventsView.{event_limit};
+ghost use Rattle.ring_book.specs.Limits.{event_limit};
 ghost use Rattle.ring_shared.specs.Holding.{IsHeld};
 ghost use Rattle.ring_shared.specs.Replays.{IsCallOf};
 
