@@ -97,7 +97,13 @@ fn one_byte_over_the_limit_ends_it(rt: HostRuntime) -> Result<(), Fail> {
                 at_most,
                 ..Giver::new(b"token ring")
             };
-            expect_refusal(&rt, &mut reader, limit, ReadFault::TooLarge, limit as usize + 1);
+            expect_refusal(
+                &rt,
+                &mut reader,
+                limit,
+                ReadFault::TooLarge,
+                limit as usize + 1,
+            );
         }
     }
     // An error that stands behind that byte is not met.

@@ -74,6 +74,46 @@ fn a_history_is_saved_and_is_legal(rt: HostRuntime) -> Result<(), Fail> {
     remove_both(&rt, settings, history)
 }
 
+/// Three rings, and one client that lets machine 0 of each pass, the last ring first.
+const THREE: &str =
+    r#"{"rings":[{"n":2,"k":2,"start":[0,0]},{"n":2,"k":3,"start":[1,1]},{"n":2,"k":2,"start":[1,1]}],"workers":[{"script":[["pass",2,0,7],["pass",1,0,8],["pass",0,0,9]]}]}"#;
+
+/// What is saved of them.
+const THREE_SAVED: &str =
+    "ringfarm 1\nring 0 2 2\nstart 0 0\np 0 0 9 g 1 9\nend 1\nring 1 2 3\nstart 1 1\np 0 0 8 g 1 8\nend 1\nring 2 2 2\nstart 1 1\np 0 0 7 g 1 7\nend 1\ndone 3\n";
+
+/// Their report.
+const THREE_REPORT: &str =
+    "ring 0 n 2 k 2 events 1 granted 1 refused 0 corrupted 0 surveys 0\nstates 1,0\nprivileged 1 first 1 calm 1 rest 0 bound 3\ngrants 1,0 settled 1,0\nring 1 n 2 k 3 events 1 granted 1 refused 0 corrupted 0 surveys 0\nstates 2,1\nprivileged 1 first 1 calm 1 rest 0 bound 3\ngrants 1,0 settled 1,0\nring 2 n 2 k 2 events 1 granted 1 refused 0 corrupted 0 surveys 0\nstates 0,1\nprivileged 1 first 1 calm 1 rest 0 bound 3\ngrants 1,0 settled 1,0\ntotal rings 3 events 3 granted 3 surveys 0\n";
+
+#[test]
+fn each_of_three_rings_is_saved(rt: HostRuntime) -> Result<(), Fail> {
+    let settings = path_of(&rt, "three.json")?;
+    let history = path_of(&rt, "three.txt")?;
+    let (settings, history) = (settings.as_str(), history.as_str());
+    fs::write(&rt, settings, THREE)?;
+    let line = ["run", settings, "--history", history];
+    expect(&rt, &line, 0, THREE_REPORT, "")?;
+    let text = fs::read_to_string(&rt, history)?;
+    assert_eq!(rt; text.as_str(), THREE_SAVED);
+    remove_both(&rt, settings, history)
+}
+
+#[test]
+fn ten_seats_are_run(rt: HostRuntime) -> Result<(), Fail> {
+    let path = path_of(&rt, "ten.json")?;
+    let settings =
+        r#"{"rings":[{"n":2,"k":2,"start":[0,0]}],"workers":[{"script":[["pass",0,0,1]]},{"script":[]},{"script":[]},{"script":[]},{"script":[]},{"script":[]},{"script":[]},{"script":[]},{"script":[["survey",0]]}],"injector":{"seed":1,"actions":0}}"#;
+    expect_run(
+        &rt,
+        path.as_str(),
+        settings,
+        0,
+        "ring 0 n 2 k 2 events 1 granted 1 refused 0 corrupted 0 surveys 1\nstates 1,0\nprivileged 1 first 1 calm 1 rest 0 bound 3\ngrants 1,0 settled 1,0\ntotal rings 1 events 1 granted 1 surveys 1\n",
+        "",
+    )
+}
+
 /// Lets go of the two files of a run.
 fn remove_both<R: Files>(rt: &R, settings: &str, history: &str) -> Result<(), Fail> {
     fs::remove_file(rt, settings)?;

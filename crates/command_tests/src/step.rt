@@ -197,6 +197,22 @@ fn a_fault_of_standard_error_changes_no_status(rt: HostRuntime) -> Result<(), Fa
     Ok(())
 }
 
+#[test]
+fn many_choices_are_taken(rt: HostRuntime) -> Result<(), Fail> {
+    let mut list = "1,".repeat(rt.alloc(), 2999)?;
+    list.push_str("1")?;
+    let mut text = "1 not privileged\n".repeat(rt.alloc(), 3000)?;
+    text.push_str("states 0,0\nprivileged 1 first 0\n")?;
+    expect(
+        &rt,
+        &["step", "2", "2", "0,0", list.as_str()],
+        0,
+        text.as_str(),
+        "",
+    )?;
+    Ok(())
+}
+
 /// Lets machine 1 of the ring 0, 0 ask to pass so often. It is not privileged, so each line has 17 bytes.
 fn pass_often<R: AllocGlobal>(
     rt: &R,

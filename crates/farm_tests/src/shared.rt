@@ -10,7 +10,7 @@ ghost use Rattle.ring_shared.specs.Holding.{MeansLegal};
 ghost use Rattle.ring_shared.specs.Opening.{AreFresh};
 
 use crate::events::{granted, refused, told};
-use calls::{Act, closed_well, handed_back, pass_often, play, seen};
+use calls::{Act, closed_well, handed_back, pass_often, play, seen, told_by};
 use ring_book::{Book, BookError, Till};
 use ring_model::{Event, Op, Receipt, Reply, Survey};
 use ring_shared::{CloseReason, Draft, Entry, Name, Ring, Seat};
@@ -261,18 +261,18 @@ fn call_in_two_threads<N: Name + Send + Sync, W: Threads + Wait + Abort + Sync>(
     requires second { second.number ≡ 1 }
 {
     let (mut first, mut second) = pass_at_once(rt, &ring, first, second);
-    let one = ring.survey(rt, &mut first);
-    let other = ring.survey(rt, &mut second);
+    let one = told_by(rt, &ring, &mut first, Act::Survey);
+    let other = told_by(rt, &ring, &mut second, Act::Survey);
     assert_eq!(rt; one, other);
     assert!(rt;
         matches!(
             one,
-            Ok(Survey {
+            Some(Entry::Survey(Survey {
                 position: 200,
                 privileged: 1,
                 rest: 0,
                 ..
-            })
+            }))
         )
     );
     let seats = both(rt, alloc, first, second);

@@ -8,6 +8,7 @@ pub mod Replaying
 pub mod SurveyLines
 pub mod Blocks
 pub mod BlockLines
+pub mod SavedLines
 pub mod Totals
 pub mod Meanings
 pub mod WrittenTexts

@@ -1,9 +1,12 @@
 -- A saved text as its lines, but for the first one, which is the same in every text (this project's own).
-use Rattle.std.specs.Prelude.{ℕ, List, [], ◌∷◌, ◌++◌, map}
+use Rattle.std.specs.Prelude.{ℕ, ◌+◌, ◌≤◌, ◌<◌, ◌^◌, List, [], ◌∷◌, ◌++◌, map, length, Ok}
 use Rattle.std.specs.List.{flat_map}
 use Rattle.ring_text.specs.declared.saved.SavedEvent.{SavedEvent}
 use Rattle.ring_text.specs.declared.saved.SavedSurvey.{SavedSurvey}
-use Rattle.ring_text.specs.Content.{Content, Block}
+use Rattle.ring_text.specs.declared.saved.Saved.{Saved}
+use Rattle.ring_text.specs.Content.{Content, Block, content}
+use Rattle.ring_text.specs.Spelling.{text}
+use Rattle.ring_text.specs.Meaning.{IsRightRead}
 
 -- a line with what it says: R, N and K; the start values; an event; how many events; a survey; how many blocks
 pub data Line : Type 0 where
@@ -21,3 +24,11 @@ block_lines b = RingLine b.index b.n b.k ∷ StartLine b.start ∷ (map EventLin
 -- the lines of a text from its second line on
 abbrev pub lines : Content → List Line
 lines s = flat_map block_lines s.rings ++ DoneLine s.rings_said ∷ []
+
+-- a text has a byte at least for each of its lines, the first one too
+abbrev pub LinesAreFew : Type 0
+LinesAreFew = (s : Content) → length (lines s) + 1 ≤ length (text s)
+
+-- What was read of bytes in memory, of which there are fewer than 2 to the power 64, has fewer lines than that.
+abbrev pub LinesOfMemoryAreFew : Type 0
+LinesOfMemoryAreFew = (bytes : List ℕ) (saved : Saved) → length bytes < 2 ^ 64 → IsRightRead bytes (Ok saved) → length (lines (content saved)) + 1 < 2 ^ 64

@@ -21,6 +21,8 @@ use std::alloc::Global;
 ///
 /// It takes time in proportion to the length of the text, but for the surveys: each ring is replayed for them at most
 /// ten times more, and each place that a survey names costs a few passes over the machines and the values.
+///
+/// That the text has fewer than 2 to the power 64 lines holds of each that was read ([`lines_law`](crate::lines_law)).
 pub fn check_saved(alloc: Global, saved: &Saved) -> Result<Summary, CheckError>
     requires { length (lines (content saved.now)) + 1 < 2 ^ 64 }
     ensures right { IsRightCheck (content saved.now) result }

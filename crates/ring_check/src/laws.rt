@@ -1,6 +1,7 @@
 //! Laws of the definitions that `check_saved` is told by: functions with an empty body, whose contract is the law.
 
 ghost use Rattle.ring_check.specs.Legal.{AtMostOneIsRight};
+ghost use Rattle.ring_check.specs.Lines.{LinesAreFew, LinesOfMemoryAreFew};
 ghost use Rattle.ring_check.specs.Meaning.{LegalMeans};
 ghost use Rattle.ring_check.specs.Written.{WrittenIsLegal, WrittenIsRight, OutcomeIsLegal, OutcomeIsRight};
 
@@ -14,6 +15,13 @@ pub fn legal_law()
 /// and a bad line exactly where that line is the first bad one.
 pub fn answers_are_apart()
     ensures { AtMostOneIsRight }
+{}
+
+/// A text has no more lines than bytes. So what was read of bytes in memory has fewer than 2 to the power 64 lines, as
+/// [`check_saved`](crate::check_saved) asks.
+pub fn lines_law()
+    ensures few { LinesAreFew }
+    ensures read { LinesOfMemoryAreFew }
 {}
 
 /// The saved text of an outcome is legal, where each ring's history is legal from its start over the till with the amount 0,

@@ -17,4 +17,4 @@ mod surveys;
 
 pub use answers::{CheckError, Kind, Summary};
 pub use check::check_saved;
-pub use laws::{answers_are_apart, legal_law, outcome_law, written_law};
+pub use laws::{answers_are_apart, legal_law, lines_law, outcome_law, written_law};

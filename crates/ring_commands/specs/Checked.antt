@@ -1,5 +1,6 @@
 -- What `check` answers to the bytes of a file.
 use Rattle.std.specs.Prelude.{◌≡◌, ℕ, List, Option, ◌⊎◌}
+use Rattle.std.specs.Io.KnownBytes.{Appends}
 use Rattle.text_lines.specs.Texts.{IsCutShort, IsFirstBadLine}
 use Rattle.ring_text.specs.Content.{Content}
 use Rattle.ring_text.specs.Spelling.{Fits, text}
@@ -45,6 +46,10 @@ IsSavedTextRefusal bytes _ = ⊥
 abbrev pub IsCheckRefusal : List ℕ → Option (List ℕ) → Option (List ℕ) → ToolError → Type 0
 IsCheckRefusal bytes old new tool.Write = (sums : Summary) × IsLegalSavedText bytes sums × AppendsFront old new (legal_line sums)
 IsCheckRefusal bytes old new e = IsSavedTextRefusal bytes e
+
+-- some bytes are legal, and the line of their sums is written
+abbrev pub IsCheckAnswer : Option (List ℕ) → Option (List ℕ) → Type 0
+IsCheckAnswer old new = (bytes : List ℕ) × (sums : Summary) × IsLegalSavedText bytes sums × Appends old new (legal_line sums)
 
 -- Which refusals the check of a file may meet, by what its reader had left before and has now: those of its reading, and those of all the bytes that it gave.
 abbrev pub IsCheckFileRefusal : List ℕ → Option (List ℕ) → Option (List ℕ) → Option (List ℕ) → Option (List ℕ) → ToolError → Type 0

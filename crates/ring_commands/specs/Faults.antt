@@ -1,5 +1,5 @@
 -- What the program refuses.
-use Rattle.std.specs.Prelude.{◌≡◌, ℕ, ◌<◌, cond, ◌==◌, nat_lt, nat_le, List, length, Option, None, Some}
+use Rattle.std.specs.Prelude.{◌≡◌, ℕ, ◌<◌, cond, ◌==◌, nat_lt, nat_le, List, length, Option, None, Some, Result, Ok, Err}
 use Rattle.std.specs.List.{position}
 use Rattle.std.specs.Option.{option_map, option_or}
 use Rattle.ring_state.specs.declared.sizes.ParamsError.{ParamsError}
@@ -25,6 +25,12 @@ use Rattle.ring_commands.specs.declared.faults.ToolError.TheVariants as tool
 abbrev pub status_of : ToolError → ℕ
 status_of tool.BadList = 2
 status_of e = 1
+
+-- the exit status of a command, by what it answered and whether what it printed could leave a buffer
+abbrev pub end_status : {F : Type 0} → Result (Unit {0}) ToolError → Result (Unit {0}) F → ℕ
+end_status (Err e) flushed = status_of e
+end_status (Ok u) (Ok v) = 0
+end_status (Ok u) (Err f) = 1
 
 -- the program's name for each refusal of a library
 abbrev pub fault_of_params : ParamsError → ToolError
@@ -110,6 +116,12 @@ IsStepRefusal n k states choices tool.OutOfMemory = start_fault n k states ≡ N
 IsStepRefusal n k states choices tool.Write = fault_of n k states choices ≡ None
 IsStepRefusal n k states choices tool.HistoryFull = (fault_of n k states choices ≡ None) × (event_limit < length choices)
 IsStepRefusal n k states choices e = fault_of n k states choices ≡ Some e
+
+-- which refusals the reading of a list may meet
+abbrev pub IsListRefusal : ToolError → Type 0
+IsListRefusal tool.BadList = Unit {0}
+IsListRefusal tool.OutOfMemory = Unit {0}
+IsListRefusal _ = ⊥
 
 -- Which refusals the reading of a file may meet, by what its reader had left before and has now: that the file of this name cannot be read, that it
 -- has more bytes than are read, or want of memory.

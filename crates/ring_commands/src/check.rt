@@ -5,7 +5,7 @@ ghost use Rattle.std.specs.Io.KnownBytes.{Appends};
 ghost use Rattle.text_lines.specs.Writing.{Writes};
 ghost use Rattle.ring_check.specs.declared.answers.Summary.{Summary};
 ghost use Rattle.ring_commands.specs.CheckText.{legal_line};
-ghost use Rattle.ring_commands.specs.Checked.{IsLegalSavedText, IsSavedTextRefusal, IsCheckRefusal, IsCheckFileRefusal, IsCheckRunRefusal};
+ghost use Rattle.ring_commands.specs.Checked.{IsLegalSavedText, IsSavedTextRefusal, IsCheckAnswer, IsCheckRefusal, IsCheckFileRefusal, IsCheckRunRefusal};
 ghost use Rattle.ring_commands.specs.Reading.{most_bytes, IsAllOf};
 
 use crate::faults::ToolError;
@@ -127,8 +127,7 @@ pub fn run<'a, R: AllocGlobal + Files, W: Write>(
     words: &CheckWords<'a>,
     out: &mut W,
 ) -> Result<(), ToolError<'a>>
-    ensures ok { OnOk result ((bytes : List ℕ) × (sums : Summary) × IsLegalSavedText bytes sums
-        × Appends (W.contents out.old) (W.contents out.new) (legal_line sums)) }
+    ensures ok { OnOk result (IsCheckAnswer (W.contents out.old) (W.contents out.new)) }
     ensures err { IfErr result (λ e. IsCheckRunRefusal words.now (W.contents out.old) (W.contents out.new) e) }
     ensures nothing { IfErr result (λ e. e ≢ ToolError.Write → out.new ≡ out.old) }
 {

@@ -1,5 +1,8 @@
 //! What the program can be asked for.
 
+ghost use Rattle.std.specs.Prelude.{OnOk, IfErr};
+ghost use Rattle.ring_commands.specs.Answered.{IsAnswer, IsRefusal};
+
 use crate::check::{self, CheckWords};
 use crate::faults::ToolError;
 use crate::run::{self, RunWords};
@@ -26,7 +29,10 @@ pub fn answer<'a, R: AllocGlobal + Files + Threads + Wait + Sync, O: Write>(
     rt: &R,
     request: &Request<'a>,
     out: &mut O,
-) -> Result<(), ToolError<'a>> {
+) -> Result<(), ToolError<'a>>
+    ensures ok { OnOk result (IsAnswer request.now (O.contents out.old) (O.contents out.new)) }
+    ensures err { IfErr result (λ e. IsRefusal request.now (O.contents out.old) (O.contents out.new) e) }
+{
     match request {
         Request::Step(words) => step::run(rt.alloc(), words, out),
         Request::Run(words) => run::run(rt, words, out),

@@ -10,7 +10,7 @@ ghost use Rattle.ring_text.specs.SavedOf.{saved_of};
 ghost use Rattle.ring_text.specs.Spelling.{text};
 ghost use Rattle.ring_commands.specs.Ran.{IsFarmOf, IsFarmOn, IsFarmRefusal, IsFarmFileRefusal, IsSaveRefusal, IsOutcomeRefusal, IsRunRefusal};
 ghost use Rattle.ring_commands.specs.Reading.{most_bytes, IsAllOf};
-ghost use Rattle.ring_commands.specs.Saved.{IsSavedLegal, IsLegalOfFarm};
+ghost use Rattle.ring_commands.specs.Saved.{IsLegalOfFarm, IsRunAnswer};
 
 use crate::faults::ToolError;
 use crate::reading::read_whole;
@@ -196,8 +196,7 @@ pub fn run<'a, R: AllocGlobal + Files + Threads + Wait + Sync, W: Write>(
     words: &RunWords<'a>,
     out: &mut W,
 ) -> Result<(), ToolError<'a>>
-    ensures ok { OnOk result ((settings : SettingsData) × (outcome : Outcome) × IsFarmOf settings outcome
-        × Appends (W.contents out.old) (W.contents out.new) (report outcome) × (IsSome words.now.history → IsSavedLegal outcome)) }
+    ensures ok { OnOk result (IsRunAnswer words.now (W.contents out.old) (W.contents out.new)) }
     ensures err { IfErr result (λ e. IsRunRefusal words.now (W.contents out.old) (W.contents out.new) e) }
     ensures nothing { IfErr result (λ e. e ≢ ToolError.Write → out.new ≡ out.old) }
 {

@@ -1,10 +1,12 @@
 //! `step`: a ring on one thread, from given values, by given choices.
 
 ghost use Rattle.std.specs.Prelude.{◌≡◌, ◌≤◌, [], length, nat_le, position, IsSome, OnOk, OnErr, IfOk, IfErr};
+ghost use Rattle.std.specs.Option.{option_map};
 ghost use Rattle.std.specs.Io.KnownBytes.{Appends};
 ghost use Rattle.ring_book.specs.BookView.{IsFresh};
 ghost use Rattle.ring_book.specs.Limits.{event_limit};
-ghost use Rattle.ring_commands.specs.Faults.{size_fault, start_fault, fault_of, IsRefusalOver, IsOpeningRefusal, IsStepRefusal};
+ghost use Rattle.ring_commands.specs.Stepped.{AreChoices, IsStepAnswer, IsStepWordsRefusal};
+ghost use Rattle.ring_commands.specs.Faults.{IsListRefusal, size_fault, start_fault, fault_of, IsRefusalOver, IsOpeningRefusal, IsStepRefusal};
 ghost use Rattle.ring_commands.specs.StepText.{granted_line, refused_line, reply_line, end_lines, step_text};
 ghost use Rattle.ring_commands.specs.Written.{AppendsFront};
 ghost use Rattle.text_lines.specs.Spelling.{list_text};
@@ -177,6 +179,17 @@ pub fn step_lines<W: Write>(
     Ok(())
 }
 
+/// The numbers of a list that may be left out.
+fn choices_of(alloc: Global, word: Option<&str>) -> Result<Vec<u32>, ToolError<'static>>
+    ensures ok { IfOk result (λ choices. AreChoices (option_map (λ word. word.now) word.entry) choices.items) }
+    ensures err { IfErr result IsListRefusal }
+{
+    match word {
+        Some(text) => read_list(alloc, text),
+        None => Ok(Vec::new(alloc)),
+    }
+}
+
 /// `step`, from its words: reads the lists, the start values first.
 ///
 /// # Errors
@@ -186,12 +199,12 @@ pub fn run<W: Write>(
     alloc: Global,
     words: &StepWords<'_>,
     out: &mut W,
-) -> Result<(), ToolError<'static>> {
+) -> Result<(), ToolError<'static>>
+    ensures ok { OnOk result (IsStepAnswer words.now (W.contents out.old) (W.contents out.new)) }
+    ensures err { IfErr result (λ e. IsStepWordsRefusal words.now (W.contents out.old) (W.contents out.new) e) }
+{
     let states = read_list(alloc, words.states)?;
-    let choices = match words.choices {
-        Some(text) => read_list(alloc, text)?,
-        None => Vec::new(alloc),
-    };
+    let choices = choices_of(alloc, words.choices)?;
     step_lines(
         alloc,
         words.n,
@@ -199,5 +212,6 @@ pub fn run<W: Write>(
         states.as_slice(),
         choices.as_slice(),
         out,
-    )
+    )?;
+    Ok(())
 }

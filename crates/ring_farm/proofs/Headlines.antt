@@ -1,22 +1,18 @@
 -- From what a run of one ring leaves to what is promised of it.
-use Rattle.std.proofs.Common.{◌≡◌, ℕ, suc, ◌+◌, ◌<◌, ◌≤◌, Bool, true, false, cond, List, [], ◌∷◌, length, map, take, Some, slice_get, get_or, ap, sym, ◌∙◌, refl, subst, arith, eqb, ⊎_elim}
-use Rattle.std.specs.Prelude.{filter, All, unwrap_or, IfOk, Option, None, Result, Ok}
+use Rattle.std.proofs.Common.{◌≡◌, ℕ, ◌<◌, ◌≤◌, Bool, true, cond, List, [], ◌∷◌, length, map, Some, slice_get, get_or, ap, sym, ◌∙◌, refl, subst, arith, eqb, ⊎_elim}
+use Rattle.std.specs.Prelude.{filter, unwrap_or, IfOk, Option, None, Result, Ok}
 use Rattle.std.proofs.lemmas.Bool.Decides.{nat_tests}
 use Rattle.std.proofs.lemmas.Option.{slice_get_within, get_or_from_slice_get, slice_get_cases}
-use Rattle.ring_model.specs.Ring.{Ring, bound, is_settled, privileged_count}
+use Rattle.ring_model.specs.Ring.{Ring}
 use Rattle.ring_model.specs.History.{opening, IsLegal}
-use Rattle.ring_model.specs.HistoryLaws.{between, NoCorruption, values_at, Settlement}
 use Rattle.ring_model.specs.Surveys.{calm}
 use Rattle.ring_model.specs.Logs.{Fits, calls_of, receipts_of}
 use Rattle.ring_model.specs.Resources.{till}
 use Rattle.ring_model.specs.declared.events.Op.{Op}
 use Rattle.ring_model.specs.declared.events.Op.TheVariants as op
-use Rattle.ring_model.specs.declared.events.Event.{Event}
 use Rattle.ring_model.specs.declared.events.Entry.{Entry}
 use Rattle.ring_model.specs.declared.events.Entry.TheVariants as entry
-use Rattle.ring_book.specs.BookView.{BookView}
 use Rattle.ring_settings.specs.declared.actions.Action.{Action}
-use Rattle.ring_settings.specs.declared.actions.Action.TheVariants as action
 use Rattle.ring_settings.specs.declared.actions.Plan.{Plan}
 use Rattle.ring_settings.specs.Contents.{SettingsData, RingData, ring_at, plan_of}
 use Rattle.ring_settings.specs.Views.{plan_actions}
@@ -26,8 +22,8 @@ use Rattle.ring_farm.specs.declared.outcomes.Outcome.{Outcome}
 use Rattle.ring_farm.specs.declared.outcomes.RingOutcome.{RingOutcome}
 use Rattle.ring_farm.specs.declared.faults.FarmError.{FarmError}
 use Rattle.ring_farm.proofs.Refusals.{ok_place}
-use Rattle.ring_farm.specs.Plans.{Pairs, actions_of, part, calls_read, action_of_op, is_call}
-use Rattle.ring_farm.specs.Runs.{IsRun, IsLogged, ring_of_data}
+use Rattle.ring_farm.specs.Plans.{actions_of, part, calls_read, action_of_op, is_call}
+use Rattle.ring_farm.specs.Runs.{IsRun, ring_of_data}
 use Rattle.ring_farm.specs.Headline.{EachRing, EachDone, IsOutcomeOf, IsOneHistory, HoldsCalls, HasLogs, AreRight, IsRepaired, TakesTurns}
 
 -- the run of a ring of the settings

@@ -1,5 +1,5 @@
 -- Which actions can be made on a ring of the settings.
-use Rattle.std.proofs.Common.{◌≡◌, ℕ, ◌<◌, List, length, ap, sym, ◌∙◌, arith}
+use Rattle.std.proofs.Common.{◌≡◌, ℕ, List, length, ap, sym, ◌∙◌, arith}
 use Rattle.std.specs.Prelude.{All}
 use Rattle.ring_model.specs.Ring.{Ring}
 use Rattle.ring_state.specs.Sizes.{Size, size_of}

@@ -1,6 +1,6 @@
-use Rattle.std.proofs.Common.{◌≡◌, ℕ, zero, suc, ◌<◌, List, [], ◌∷◌, length, map, take, Some, None, slice_get, get_or, ap, sym, ◌∙◌, refl, subst, arith}
-use Rattle.std.proofs.lemmas.Option.{slice_get-map, get_or_from_slice_get, slice_get_within}
-use Rattle.std.specs.Prelude.{Option, Result, Ok, Err, IfOk}
+use Rattle.std.proofs.Common.{◌≡◌, ℕ, List, [], ◌∷◌, length, map, take, Some, slice_get, ap, ◌∙◌, refl}
+use Rattle.std.proofs.lemmas.Option.{slice_get-map}
+use Rattle.std.specs.Prelude.{Result, Ok, Err, IfOk}
 use Rattle.ring_farm.specs.Runs.{first_refusal}
 
 pub refusal_here : {A E : Type 0} (all : List (Result A E)) (rs : List A) (e : E) → take (length rs) all ≡ map (λ x. Ok x) rs → slice_get all (length rs) ≡ Some (Err e) → first_refusal all ≡ Some e

@@ -1,5 +1,5 @@
 -- Which part of a plan concerns a ring, and what a seat's log says of it.
-use Rattle.std.specs.Prelude.{◌≡◌, ℕ, ◌==◌, ◌<◌, ◌≤◌, Bool, true, false, List, [], ◌∷◌, filter, map, length, All, Some, slice_get, vec_len}
+use Rattle.std.specs.Prelude.{◌≡◌, ℕ, ◌==◌, ◌<◌, Bool, true, false, List, filter, map, length, All, Some, slice_get}
 use Rattle.ring_model.specs.Ring.{Ring}
 use Rattle.ring_model.specs.declared.events.Op.{Op}
 use Rattle.ring_model.specs.declared.events.Op.TheVariants as op
@@ -8,7 +8,6 @@ use Rattle.ring_model.specs.declared.events.Entry.{Entry}
 use Rattle.ring_model.specs.declared.events.Entry.TheVariants as entry
 use Rattle.ring_settings.specs.declared.actions.Action.{Action}
 use Rattle.ring_settings.specs.declared.actions.Action.TheVariants as action
-use Rattle.ring_settings.specs.declared.actions.Plan.{Plan}
 
 -- the ring that an action is for
 abbrev pub ring_of : Action → ℕ

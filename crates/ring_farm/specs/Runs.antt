@@ -1,16 +1,16 @@
 -- What a run of one ring leaves, in the subject's words.
-use Rattle.std.specs.Prelude.{◌≡◌, ℕ, ◌≤◌, List, [], ◌∷◌, All, length, take, filter, Option, Some, None, Result, Ok, Err}
+use Rattle.std.specs.Prelude.{◌≡◌, ℕ, List, [], ◌∷◌, All, length, Option, Some, None, Result, Ok, Err}
 use Rattle.ring_model.specs.Ring.{Ring}
-use Rattle.ring_model.specs.History.{opening, IsLegal}
+use Rattle.ring_model.specs.History.{opening}
 use Rattle.ring_model.specs.HistoryLaws.{Settlement}
-use Rattle.ring_model.specs.Logs.{Fits, calls_of}
+use Rattle.ring_model.specs.Logs.{Fits}
 use Rattle.ring_model.specs.Resources.{till}
 use Rattle.ring_book.specs.BookView.{BookView, IsBook}
 use Rattle.ring_settings.specs.Contents.{RingData}
 use Rattle.ring_settings.specs.declared.actions.Plan.{Plan}
 use Rattle.ring_shared.specs.Holding.{AreOfSeats}
 use Rattle.ring_shared.specs.declared.seats.Log.{Log}
-use Rattle.ring_farm.specs.Plans.{Pairs, actions_of, part, calls_read, is_call}
+use Rattle.ring_farm.specs.Plans.{Pairs, actions_of, part}
 
 -- a ring of the settings, as its machines start
 abbrev pub ring_of_data : RingData → Ring

@@ -116,7 +116,8 @@ impl<N: Name, R: Resource + Drop> Locked<N, R> {
 
     /// The survey at the end of the history.
     pub(crate) fn survey(&self) -> Survey
-        ensures { result ≡ survey_at R.works (opening self.now.start R.first) self.now.history (length self.now.history) }
+        ensures is { result ≡ survey_at R.works (opening self.now.start R.first) self.now.history (length self.now.history) }
+        ensures held { IsHeld R.works R.first N.start N.seats N.legal self.now }
     {
         self.book.survey()
     }

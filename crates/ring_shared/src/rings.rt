@@ -1,7 +1,7 @@
 //! Rings that threads share: how they are opened, and the calls of their seats.
 ghost use Rattle.std.specs.Prelude.{◌≡◌, ◌<◌, ◌≤◌, ◌++◌, ◌∷◌, ◌↔◌, [], ℕ, List, length, map, eqb, IsOk, IfOk, IfErr, OnErr};
 ghost use Rattle.std.specs.List.{IsDistinct};
-ghost use Rattle.ring_shared.specs.Holding.{MeansLegal};
+ghost use Rattle.ring_shared.specs.Holding.{MeansLegal, IsSurveyOfSome};
 ghost use Rattle.ring_shared.specs.Opening.{AreFresh};
 
 use crate::locked::Locked;
@@ -66,6 +66,9 @@ pub struct OpenFault<R: Resource + Drop> {
 /// A ring that threads share. It ends by `close`, and by nothing else.
 ///
 /// Each call waits for the lock; what it then does is one critical section.
+///
+/// A seat of a ring with another name has another type, so it cannot be given to this one. Two rings that one
+/// function opens with one name take each other's seats: `Name` says what holds then.
 pub struct Ring<N: Name, R: Resource + Drop> {
     pub(crate) shared: Mutex<Locked<N, R>>,
     pub(crate) seats: u32,
@@ -166,11 +169,13 @@ impl<N: Name, R: Resource + Drop> Ring<N, R> {
     }
 
     /// Waits for the lock, and answers the survey at the end of the history, which is added to the seat's log.
+    /// It is that of some legal history of the ring's seats; `close` compares it with the ring's own.
     ///
     /// # Errors
     ///
     /// Want of memory for the log alone. Nothing has changed then.
     pub fn survey<W: Wait>(&self, rt: &W, seat: &mut Seat<N>) -> Result<Survey, AllocError>
+        ensures right { IfOk result (λ s. IsSurveyOfSome R.works R.first N.start N.seats s) }
         ensures logged { IfOk result (λ s. seat.new ≡ record { number = seat.old.number; log = seat.old.log ++ Entry.Survey s ∷ [] }) }
         ensures err { OnErr result (seat.new ≡ seat.old) }
     {

@@ -9,7 +9,8 @@ use std::marker::{Model, PhantomData};
 
 /// One client's place at a ring, with what the client was told.
 ///
-/// Contracts see its number and its log. It carries the ring's name `N`, so it serves at that ring alone.
+/// Contracts see its number and its log. It carries the ring's name `N`, so it serves at rings of that name alone:
+/// at one, where no second was opened with it.
 #[derive(Drop)]
 pub struct Seat<N: Name> {
     number: u32,

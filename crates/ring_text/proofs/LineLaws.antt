@@ -1,11 +1,11 @@
 -- The lines are read just as they are spelled.
-use Rattle.std.proofs.Common.{◌≡◌, ◌≢◌, ℕ, ◌^◌, ◌<◌, List, [], ◌∷◌, ◌++◌, length, Option, Some, None, refl, ◌⊎◌, inl, inr, arith}
+use Rattle.std.proofs.Common.{◌≡◌, ◌≢◌, ℕ, ◌^◌, ◌<◌, List, [], ◌∷◌, ◌++◌, length, Option, Some, None, refl, sym, ◌⊎◌, inl, inr, arith}
 use Rattle.std.specs.Prelude.{codes}
-use Rattle.text_lines.specs.Reading.{Reader, Either, this, that, as_at, either_at}
+use Rattle.text_lines.specs.Reading.{Reader, Either, this, that, as_at, branch}
 use Rattle.text_lines.specs.Spelling.{spaced, ended, Below, OfEither, of_either}
-use Rattle.text_lines.specs.Grammar.{Reads, RunFits, many, Repeats}
-use Rattle.text_lines.proofs.Sequences.{both_reads, as_reads, said_reads, after_reads, nothing_reads}
-use Rattle.text_lines.proofs.Choices.{either_reads, or_reads}
+use Rattle.text_lines.specs.Grammar.{Reads, RunFits, many, Repeats, StartsWith, ReadsBranch}
+use Rattle.text_lines.proofs.Sequences.{both_reads, as_reads, after_reads, nothing_reads}
+use Rattle.text_lines.proofs.Choices.{choice_reads, starts_otherwise}
 use Rattle.text_lines.proofs.Repetitions.{Always, many_reads}
 use Rattle.text_lines.proofs.Decimals.{number_reads, positive_reads}
 use Rattle.ring_text.specs.declared.saved.SavedEvent.{SavedEvent}
@@ -13,7 +13,7 @@ use Rattle.ring_text.specs.declared.saved.SavedEvent.TheVariants.{Granted, Refus
 use Rattle.ring_text.specs.declared.saved.SavedSurvey.{SavedSurvey}
 use Rattle.ring_text.specs.declared.saved.Head.{Head}
 use Rattle.ring_text.specs.Spelling.{head_line, event_line, end_line, survey_line, done_line, EventFits, SurveyFits, HeadFits}
-use Rattle.ring_text.specs.Lines.{small, last_small, large, last_large, reply_of, reply_at, pass_of, pass_at, corruption_of, corruption_at, end_at, event_or_end_at, events_at, head_from, head_at, done_at, survey_of, survey_at, survey_or_next_at, surveys_at}
+use Rattle.ring_text.specs.Lines.{small, last_small, large, last_large, grant_branch, refusal_branch, reply_at, pass_of, pass_at, pass_branch, corruption_of, corruption_at, corruption_branch, end_at, end_branch, event_or_end_at, events_at, head_from, head_at, head_branch, done_at, done_branch, survey_of, survey_at, Follow, survey_branch, survey_or_next_at, surveys_at}
 
 abbrev Small : ℕ → Type 0
 Small = Below (2 ^ 32)
@@ -46,37 +46,37 @@ abbrev reply_text : Option (ℕ × ℕ) → List ℕ
 reply_text (Some p) = codes "g " ++ (spaced p.0 ++ ended p.1)
 reply_text None = codes "n\n"
 
-abbrev reply_back : Option (ℕ × ℕ) → Either (ℕ × ℕ) (Unit {0})
-reply_back (Some p) = this p
-reply_back None = that tt
+abbrev grant_back : Option (ℕ × ℕ) → ℕ × ℕ
+grant_back (Some p) = p
+grant_back None = (0, 0)
 
-abbrev ReplyParts : Either (ℕ × ℕ) (Unit {0}) → Type 0
-ReplyParts = OfEither (λ p. Large p.0 × Large p.1) Nothing
+grant_reads : ReadsBranch ReplyFits reply_text grant_branch
+grant_reads = as_reads (λ a. ReplyFits a × StartsWith 103 (reply_text a)) reply_text (λ p. Some p) grant_back (after_reads (codes "g ") (both_reads large_reads last_large_reads))
+    (λ p f. (f, (_, refl))) back same (λ p f. refl)
+  where
+    back : (b : Option (ℕ × ℕ)) → ReplyFits b × StartsWith 103 (reply_text b) → Large (grant_back b).0 × Large (grant_back b).1
+    back (Some p) f = f.0
+    back None f = absurd (starts_otherwise 110 103 _ (λ e. omega arith) f.1)
 
-abbrev reply_parts : Either (ℕ × ℕ) (Unit {0}) → List ℕ
-reply_parts = of_either (λ p. codes "g " ++ (spaced p.0 ++ ended p.1)) (λ u. codes "n\n" ++ [])
+    same : (b : Option (ℕ × ℕ)) → ReplyFits b × StartsWith 103 (reply_text b) → Some (grant_back b) ≡ b
+    same (Some p) f = refl
+    same None f = absurd (starts_otherwise 110 103 _ (λ e. omega arith) f.1)
+
+refusal_reads : ReadsBranch ReplyFits reply_text refusal_branch
+refusal_reads = as_reads (λ a. ReplyFits a × StartsWith 110 (reply_text a)) reply_text (λ u. None) (λ b. tt) (after_reads (codes "n\n") nothing_reads)
+    (λ u f. (tt, (_, refl))) (λ b f. tt) same (λ u f. refl)
+  where
+    same : (b : Option (ℕ × ℕ)) → ReplyFits b × StartsWith 110 (reply_text b) → None ≡ b
+    same (Some p) f = absurd (starts_otherwise 103 110 _ (λ e. omega arith) f.1)
+    same None f = refl
 
 reply_reads : Reads ReplyFits reply_text reply_at
 unfolding reply_at
-reply_reads = as_reads ReplyFits reply_text reply_of reply_back
-    (either_reads (after_reads (codes "g ") (both_reads large_reads last_large_reads)) (after_reads (codes "n\n") nothing_reads) 103 (λ p f. (_, refl)) (λ u f. (110, _, refl, (λ e. omega arith))))
-    fits_to fits_back same spelled
+reply_reads = choice_reads ReplyFits reply_text grant_branch (refusal_branch ∷ []) (grant_reads, (refusal_reads, tt)) (((λ e. omega arith), tt), (tt, tt)) kinds
   where
-    fits_to : (a : Either (ℕ × ℕ) (Unit {0})) → ReplyParts a → ReplyFits (reply_of a)
-    fits_to (this p) f = f
-    fits_to (that u) f = tt
-
-    fits_back : (b : Option (ℕ × ℕ)) → ReplyFits b → ReplyParts (reply_back b)
-    fits_back (Some p) f = f
-    fits_back None f = tt
-
-    same : (b : Option (ℕ × ℕ)) → ReplyFits b → reply_of (reply_back b) ≡ b
-    same (Some p) f = refl
-    same None f = refl
-
-    spelled : (a : Either (ℕ × ℕ) (Unit {0})) → ReplyParts a → reply_text (reply_of a) ≡ reply_parts a
-    spelled (this p) f = refl
-    spelled (that u) f = refl
+    kinds : (b : Option (ℕ × ℕ)) → ReplyFits b → StartsWith 103 (reply_text b) ⊎ (StartsWith 110 (reply_text b) ⊎ ⊥)
+    kinds (Some p) f = inl (_, refl)
+    kinds None f = inr (inl (_, refl))
 
 abbrev PassFits : SavedEvent → Type 0
 PassFits (Granted seat machine order number answer) = EventFits (Granted seat machine order number answer)
@@ -158,98 +158,81 @@ Item = Either SavedEvent ℕ
 abbrev pub item_line : Item → List ℕ
 item_line = of_either event_line end_line
 
--- only an event, of these
-abbrev EventOf : (SavedEvent → Type 0) → Item → Type 0
-EventOf F (this e) = F e
-EventOf F (that n) = ⊥
-
-abbrev EndOf : Item → Type 0
-EndOf (this e) = ⊥
-EndOf (that n) = Large n
+abbrev pub ItemFits : Item → Type 0
+ItemFits = OfEither EventFits Large
 
 abbrev event_back : Item → SavedEvent
 event_back (this e) = e
 event_back (that n) = Refused 0 0 0
 
-event_item_reads : (F : SavedEvent → Type 0) (at : Reader SavedEvent) → Reads F event_line at → Reads (EventOf F) item_line (as_at this at)
-event_item_reads F at reads = as_reads (EventOf F) item_line this event_back reads (λ a f. f) back same (λ a f. refl)
+-- a kind of event, by its byte
+event_branch_reads : (F : SavedEvent → Type 0) (at : Reader SavedEvent) (c : ℕ) → c ≢ 101 → ((e : SavedEvent) → F e → EventFits e × StartsWith c (event_line e))
+    → ((e : SavedEvent) → EventFits e × StartsWith c (event_line e) → F e) → Reads F event_line at → ReadsBranch ItemFits item_line (branch c (as_at this at))
+event_branch_reads F at c no_end to back reads = as_reads (λ a. ItemFits a × StartsWith c (item_line a)) item_line this event_back reads to fits_back same (λ a f. refl)
   where
-    back : (b : Item) → EventOf F b → F (event_back b)
-    back (this e) f = f
-    back (that n) f = absurd f
+    fits_back : (b : Item) → ItemFits b × StartsWith c (item_line b) → F (event_back b)
+    fits_back (this e) f = back e f
+    fits_back (that n) f = absurd (starts_otherwise 101 c _ (λ e. no_end (sym e)) f.1)
 
-    same : (b : Item) → EventOf F b → this (event_back b) ≡ b
+    same : (b : Item) → ItemFits b × StartsWith c (item_line b) → this (event_back b) ≡ b
     same (this e) f = refl
-    same (that n) f = absurd f
+    same (that n) f = absurd (starts_otherwise 101 c _ (λ e. no_end (sym e)) f.1)
+
+pass_branch_reads : ReadsBranch ItemFits item_line pass_branch
+pass_branch_reads = event_branch_reads PassFits pass_at 112 (λ e. omega arith) to back pass_reads
+  where
+    to : (e : SavedEvent) → PassFits e → EventFits e × StartsWith 112 (event_line e)
+    to (Granted s m o n r) f = (f, (_, refl))
+    to (Refused s m o) f = (f, (_, refl))
+    to (Corrupted s m v o) f = absurd f
+
+    back : (e : SavedEvent) → EventFits e × StartsWith 112 (event_line e) → PassFits e
+    back (Granted s m o n r) f = f.0
+    back (Refused s m o) f = f.0
+    back (Corrupted s m v o) f = absurd (starts_otherwise 99 112 _ (λ e. omega arith) f.1)
+
+corruption_branch_reads : ReadsBranch ItemFits item_line corruption_branch
+corruption_branch_reads = event_branch_reads CorruptionFits corruption_at 99 (λ e. omega arith) to back corruption_reads
+  where
+    to : (e : SavedEvent) → CorruptionFits e → EventFits e × StartsWith 99 (event_line e)
+    to (Granted s m o n r) f = absurd f
+    to (Refused s m o) f = absurd f
+    to (Corrupted s m v o) f = (f, (_, refl))
+
+    back : (e : SavedEvent) → EventFits e × StartsWith 99 (event_line e) → CorruptionFits e
+    back (Granted s m o n r) f = absurd (starts_otherwise 112 99 _ (λ e. omega arith) f.1)
+    back (Refused s m o) f = absurd (starts_otherwise 112 99 _ (λ e. omega arith) f.1)
+    back (Corrupted s m v o) f = f.0
 
 abbrev end_back : Item → ℕ
 end_back (this e) = 0
 end_back (that n) = n
 
-end_item_reads : Reads EndOf item_line (as_at that end_at)
-end_item_reads = as_reads EndOf item_line that end_back end_reads (λ a f. f) back same (λ a f. refl)
+no_event : (e : SavedEvent) → StartsWith 101 (event_line e) → ⊥
+no_event (Granted s m o n r) b = starts_otherwise 112 101 _ (λ e. omega arith) b
+no_event (Refused s m o) b = starts_otherwise 112 101 _ (λ e. omega arith) b
+no_event (Corrupted s m v o) b = starts_otherwise 99 101 _ (λ e. omega arith) b
+
+end_branch_reads : ReadsBranch ItemFits item_line end_branch
+end_branch_reads = as_reads (λ a. ItemFits a × StartsWith 101 (item_line a)) item_line that end_back end_reads (λ n f. (f, (_, refl))) back same (λ n f. refl)
   where
-    back : (b : Item) → EndOf b → Large (end_back b)
-    back (this e) f = absurd f
-    back (that n) f = f
+    back : (b : Item) → ItemFits b × StartsWith 101 (item_line b) → Large (end_back b)
+    back (this e) f = absurd (no_event e f.1)
+    back (that n) f = f.0
 
-    same : (b : Item) → EndOf b → that (end_back b) ≡ b
-    same (this e) f = absurd f
+    same : (b : Item) → ItemFits b × StartsWith 101 (item_line b) → that (end_back b) ≡ b
+    same (this e) f = absurd (no_event e f.1)
     same (that n) f = refl
-
-pass_begins : (a : Item) → EventOf PassFits a → (u : List ℕ) × (item_line a ≡ 112 ∷ u)
-pass_begins (this (Granted s m o n r)) f = (_, refl)
-pass_begins (this (Refused s m o)) f = (_, refl)
-pass_begins (this (Corrupted s m v o)) f = absurd f
-pass_begins (that n) f = absurd f
-
-corruption_begins : (a : Item) → EventOf CorruptionFits a → (u : List ℕ) × (item_line a ≡ 99 ∷ u)
-corruption_begins (this (Granted s m o n r)) f = absurd f
-corruption_begins (this (Refused s m o)) f = absurd f
-corruption_begins (this (Corrupted s m v o)) f = (_, refl)
-corruption_begins (that n) f = absurd f
-
-end_begins : (a : Item) → EndOf a → (u : List ℕ) × (item_line a ≡ 101 ∷ u)
-end_begins (this e) f = absurd f
-end_begins (that n) f = (_, refl)
-
-abbrev Behind : Item → Type 0
-Behind a = EventOf CorruptionFits a ⊎ EndOf a
-
-behind_begins : (a : Item) → Behind a → (d : ℕ) × (u : List ℕ) × (item_line a ≡ d ∷ u) × (d ≢ 112)
-behind_begins a (inl f) = let b = corruption_begins a f in (99, b.0, b.1, (λ e. omega arith))
-behind_begins a (inr f) = let b = end_begins a f in (101, b.0, b.1, (λ e. omega arith))
-
-end_not_corruption : (a : Item) → EndOf a → (d : ℕ) × (u : List ℕ) × (item_line a ≡ d ∷ u) × (d ≢ 99)
-end_not_corruption a f = let b = end_begins a f in (101, b.0, b.1, (λ e. omega arith))
-
-abbrev pub ItemFits : Item → Type 0
-ItemFits = OfEither EventFits Large
 
 pub item_reads : Reads ItemFits item_line event_or_end_at
 unfolding event_or_end_at
-item_reads = said_reads ItemFits item_line to back (λ a f. refl)
-    (or_reads (event_item_reads PassFits pass_at pass_reads) (or_reads (event_item_reads CorruptionFits corruption_at corruption_reads) end_item_reads 99 corruption_begins end_not_corruption) 112 pass_begins behind_begins)
+item_reads = choice_reads ItemFits item_line pass_branch (corruption_branch ∷ end_branch ∷ []) (pass_branch_reads, (corruption_branch_reads, (end_branch_reads, tt))) (((λ e. omega arith), ((λ e. omega arith), tt)), (((λ e. omega arith), tt), (tt, tt))) kinds
   where
-    to : (a : Item) → EventOf PassFits a ⊎ Behind a → ItemFits a
-    to (this (Granted s m o n r)) (inl f) = f
-    to (this (Granted s m o n r)) (inr (inl f)) = absurd f
-    to (this (Granted s m o n r)) (inr (inr f)) = absurd f
-    to (this (Refused s m o)) (inl f) = f
-    to (this (Refused s m o)) (inr (inl f)) = absurd f
-    to (this (Refused s m o)) (inr (inr f)) = absurd f
-    to (this (Corrupted s m v o)) (inl f) = absurd f
-    to (this (Corrupted s m v o)) (inr (inl f)) = f
-    to (this (Corrupted s m v o)) (inr (inr f)) = absurd f
-    to (that n) (inl f) = absurd f
-    to (that n) (inr (inl f)) = absurd f
-    to (that n) (inr (inr f)) = f
-
-    back : (a : Item) → ItemFits a → EventOf PassFits a ⊎ Behind a
-    back (this (Granted s m o n r)) f = inl f
-    back (this (Refused s m o)) f = inl f
-    back (this (Corrupted s m v o)) f = inr (inl f)
-    back (that n) f = inr (inr f)
+    kinds : (a : Item) → ItemFits a → StartsWith 112 (item_line a) ⊎ (StartsWith 99 (item_line a) ⊎ (StartsWith 101 (item_line a) ⊎ ⊥))
+    kinds (this (Granted s m o n r)) f = inl (_, refl)
+    kinds (this (Refused s m o)) f = inl (_, refl)
+    kinds (this (Corrupted s m v o)) f = inr (inl (_, refl))
+    kinds (that n) f = inr (inr (inl (_, refl)))
 
 event_long : (st : Unit {0}) (a : SavedEvent) → EventFits a → 0 < length (event_line a)
 event_long st (Granted s m o n r) f = omega arith
@@ -290,16 +273,73 @@ NextFits = OfEither HeadFits Small
 abbrev pub next_line : Either Head ℕ → List ℕ
 next_line = of_either head_line done_line
 
-next_reads : Reads NextFits next_line (either_at 114 head_at done_at)
-next_reads = either_reads head_reads done_reads 114 (λ h f. (_, refl)) (λ n f. (100, _, refl, (λ e. omega arith)))
+abbrev FollowFits : Follow → Type 0
+FollowFits = OfEither SurveyFits NextFits
 
-survey_or_next_reads : Reads (OfEither SurveyFits NextFits) (of_either survey_line next_line) survey_or_next_at
-unfolding survey_or_next_at
-survey_or_next_reads = either_reads survey_reads next_reads 115 (λ v f. (_, refl)) others
+abbrev follow_line : Follow → List ℕ
+follow_line = of_either survey_line next_line
+
+abbrev survey_back : Follow → SavedSurvey
+survey_back (this v) = v
+survey_back (that x) = record { seat = 0; position = 0; privileged = 0; first = 0; calm = 0; rest = 0 }
+
+survey_branch_reads : ReadsBranch FollowFits follow_line survey_branch
+survey_branch_reads = as_reads (λ a. FollowFits a × StartsWith 115 (follow_line a)) follow_line this survey_back survey_reads (λ v f. (f, (_, refl))) back same (λ v f. refl)
   where
-    others : (b : Either Head ℕ) → NextFits b → (d : ℕ) × (u : List ℕ) × (next_line b ≡ d ∷ u) × (d ≢ 115)
-    others (this h) f = (114, _, refl, (λ e. omega arith))
-    others (that n) f = (100, _, refl, (λ e. omega arith))
+    back : (b : Follow) → FollowFits b × StartsWith 115 (follow_line b) → SurveyFits (survey_back b)
+    back (this v) f = f.0
+    back (that (this h)) f = absurd (starts_otherwise 114 115 _ (λ e. omega arith) f.1)
+    back (that (that n)) f = absurd (starts_otherwise 100 115 _ (λ e. omega arith) f.1)
+
+    same : (b : Follow) → FollowFits b × StartsWith 115 (follow_line b) → this (survey_back b) ≡ b
+    same (this v) f = refl
+    same (that (this h)) f = absurd (starts_otherwise 114 115 _ (λ e. omega arith) f.1)
+    same (that (that n)) f = absurd (starts_otherwise 100 115 _ (λ e. omega arith) f.1)
+
+abbrev head_back : Follow → Head
+head_back (this v) = record { index = 0; n = 0; k = 0 }
+head_back (that (this h)) = h
+head_back (that (that n)) = record { index = 0; n = 0; k = 0 }
+
+head_branch_reads : ReadsBranch FollowFits follow_line head_branch
+head_branch_reads = as_reads (λ a. FollowFits a × StartsWith 114 (follow_line a)) follow_line (λ h. that (this h)) head_back head_reads (λ h f. (f, (_, refl))) back same (λ h f. refl)
+  where
+    back : (b : Follow) → FollowFits b × StartsWith 114 (follow_line b) → HeadFits (head_back b)
+    back (this v) f = absurd (starts_otherwise 115 114 _ (λ e. omega arith) f.1)
+    back (that (this h)) f = f.0
+    back (that (that n)) f = absurd (starts_otherwise 100 114 _ (λ e. omega arith) f.1)
+
+    same : (b : Follow) → FollowFits b × StartsWith 114 (follow_line b) → that (this (head_back b)) ≡ b
+    same (this v) f = absurd (starts_otherwise 115 114 _ (λ e. omega arith) f.1)
+    same (that (this h)) f = refl
+    same (that (that n)) f = absurd (starts_otherwise 100 114 _ (λ e. omega arith) f.1)
+
+abbrev done_back : Follow → ℕ
+done_back (this v) = 0
+done_back (that (this h)) = 0
+done_back (that (that n)) = n
+
+done_branch_reads : ReadsBranch FollowFits follow_line done_branch
+done_branch_reads = as_reads (λ a. FollowFits a × StartsWith 100 (follow_line a)) follow_line (λ n. that (that n)) done_back done_reads (λ n f. (f, (_, refl))) back same (λ n f. refl)
+  where
+    back : (b : Follow) → FollowFits b × StartsWith 100 (follow_line b) → Small (done_back b)
+    back (this v) f = absurd (starts_otherwise 115 100 _ (λ e. omega arith) f.1)
+    back (that (this h)) f = absurd (starts_otherwise 114 100 _ (λ e. omega arith) f.1)
+    back (that (that n)) f = f.0
+
+    same : (b : Follow) → FollowFits b × StartsWith 100 (follow_line b) → that (that (done_back b)) ≡ b
+    same (this v) f = absurd (starts_otherwise 115 100 _ (λ e. omega arith) f.1)
+    same (that (this h)) f = absurd (starts_otherwise 114 100 _ (λ e. omega arith) f.1)
+    same (that (that n)) f = refl
+
+survey_or_next_reads : Reads FollowFits follow_line survey_or_next_at
+unfolding survey_or_next_at
+survey_or_next_reads = choice_reads FollowFits follow_line survey_branch (head_branch ∷ done_branch ∷ []) (survey_branch_reads, (head_branch_reads, (done_branch_reads, tt))) (((λ e. omega arith), ((λ e. omega arith), tt)), (((λ e. omega arith), tt), (tt, tt))) kinds
+  where
+    kinds : (a : Follow) → FollowFits a → StartsWith 115 (follow_line a) ⊎ (StartsWith 114 (follow_line a) ⊎ (StartsWith 100 (follow_line a) ⊎ ⊥))
+    kinds (this v) f = inl (_, refl)
+    kinds (that (this h)) f = inr (inl (_, refl))
+    kinds (that (that n)) f = inr (inr (inl (_, refl)))
 
 pub surveys_repeat : Repeats {S = Unit {0}} Always (λ _. SurveyFits) survey_line (λ _. NextFits) next_line (λ _. survey_or_next_at) (λ _. tt)
 surveys_repeat = record { reads = λ st v. survey_or_next_reads; keeps = λ st a f. tt; some = λ st a f. omega arith; final = λ st v. (that 0, omega arith) }

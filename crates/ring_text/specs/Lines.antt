@@ -1,6 +1,6 @@
 -- The readers of the lines, blocks and texts as functions on lists. None of those below `text_at` knows the text's first line.
 use Rattle.std.specs.Prelude.{ℕ, ◌^◌, List, [], ◌∷◌, ◌++◌, codes, map, Option, Some, None}
-use Rattle.text_lines.specs.Reading.{Reader, Either, this, that, number_at, positive_at, row_at, after_at, nothing_at, then_at, as_at, either_at, or_at, many_at}
+use Rattle.text_lines.specs.Reading.{Reader, Either, this, that, number_at, positive_at, row_at, after_at, nothing_at, then_at, as_at, Branch, branch, choice_at, many_at}
 use Rattle.ring_text.specs.declared.saved.SavedEvent.{SavedEvent}
 use Rattle.ring_text.specs.declared.saved.SavedEvent.TheVariants.{Granted, Refused, Corrupted}
 use Rattle.ring_text.specs.declared.saved.SavedSurvey.{SavedSurvey}
@@ -34,13 +34,15 @@ first then second = then_at first (λ _. second)
 
 -- ---- events
 
--- the number and the answer of a grant, or none
-abbrev pub reply_of : Either (ℕ × ℕ) (Unit {0}) → Option (ℕ × ℕ)
-reply_of (this p) = Some p
-reply_of (that u) = None
+abbrev pub grant_branch : Branch (Option (ℕ × ℕ))
+grant_branch = branch 103 (as_at (λ p. Some p) (after_at (codes "g ") (large then last_large)))
 
+abbrev pub refusal_branch : Branch (Option (ℕ × ℕ))
+refusal_branch = branch 110 (as_at (λ u. None) (after_at (codes "n\n") nothing_at))
+
+-- the number and the answer of a grant, or none
 unfoldable pub reply_at : Reader (Option (ℕ × ℕ))
-reply_at = as_at reply_of (either_at 103 (after_at (codes "g ") (large then last_large)) (after_at (codes "n\n") nothing_at))
+reply_at = choice_at (grant_branch ∷ refusal_branch ∷ [])
 
 abbrev pub pass_of : ℕ × (ℕ × (ℕ × Option (ℕ × ℕ))) → SavedEvent
 pass_of (seat, (machine, (order, Some (number, answer)))) = Granted seat machine order number answer
@@ -58,9 +60,18 @@ corruption_at = as_at corruption_of (after_at (codes "c ") (small then small the
 unfoldable pub end_at : Reader ℕ
 end_at = after_at (codes "end ") last_large
 
--- an event's line, or the line that ends them: alternatives by the first byte, one for each kind of line
+abbrev pub pass_branch : Branch (Either SavedEvent ℕ)
+pass_branch = branch 112 (as_at this pass_at)
+
+abbrev pub corruption_branch : Branch (Either SavedEvent ℕ)
+corruption_branch = branch 99 (as_at this corruption_at)
+
+abbrev pub end_branch : Branch (Either SavedEvent ℕ)
+end_branch = branch 101 (as_at that end_at)
+
+-- an event's line, or the line that ends them: a branch for each kind of line
 unfoldable pub event_or_end_at : Reader (Either SavedEvent ℕ)
-event_or_end_at = or_at 112 (as_at this pass_at) (or_at 99 (as_at this corruption_at) (as_at that end_at))
+event_or_end_at = choice_at (pass_branch ∷ corruption_branch ∷ end_branch ∷ [])
 
 unfoldable pub events_at : Reader (List SavedEvent × ℕ)
 events_at = many_at {S = Unit {0}} (λ _. event_or_end_at) (λ _. tt) tt
@@ -84,8 +95,20 @@ survey_of (seat, (position, (privileged, (first, (calm, rest))))) = record { sea
 unfoldable pub survey_at : Reader SavedSurvey
 survey_at = as_at survey_of (after_at (codes "s ") (small then large then small then small then large then last_large))
 
-unfoldable pub survey_or_next_at : Reader (Either SavedSurvey (Either Head ℕ))
-survey_or_next_at = either_at 115 survey_at (either_at 114 head_at done_at)
+abbrev pub Follow : Type 0
+Follow = Either SavedSurvey (Either Head ℕ)
+
+abbrev pub survey_branch : Branch Follow
+survey_branch = branch 115 (as_at this survey_at)
+
+abbrev pub head_branch : Branch Follow
+head_branch = branch 114 (as_at (λ h. that (this h)) head_at)
+
+abbrev pub done_branch : Branch Follow
+done_branch = branch 100 (as_at (λ n. that (that n)) done_at)
+
+unfoldable pub survey_or_next_at : Reader Follow
+survey_or_next_at = choice_at (survey_branch ∷ head_branch ∷ done_branch ∷ [])
 
 unfoldable pub surveys_at : Reader (List SavedSurvey × Either Head ℕ)
 surveys_at = many_at {S = Unit {0}} (λ _. survey_or_next_at) (λ _. tt) tt

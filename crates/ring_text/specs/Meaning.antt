@@ -3,11 +3,9 @@ use Rattle.std.specs.Prelude.{◌≡◌, ℕ, List, [], ◌++◌, Result, Ok, Er
 use Rattle.text_lines.specs.declared.answer.ReadError.{ReadError}
 use Rattle.text_lines.specs.declared.answer.ReadError.TheVariants.{Syntax, Truncated, OutOfMemory}
 use Rattle.text_lines.specs.Texts.{Spells, IsRightAnswer, AnswersAreApart}
-use Rattle.ring_farm.specs.declared.outcomes.Outcome.{Outcome}
 use Rattle.ring_text.specs.declared.saved.Saved.{Saved}
 use Rattle.ring_text.specs.Content.{Content, content}
 use Rattle.ring_text.specs.Spelling.{Fits, text}
-use Rattle.ring_text.specs.SavedOf.{saved_of}
 
 -- the bytes are the text of a content that fits
 abbrev pub IsText : List ℕ → Type 0
@@ -32,6 +30,6 @@ IsReadAs c (Err OutOfMemory) = Unit {0}
 IsReadAs c (Err Truncated) = ⊥
 IsReadAs c (Err (Syntax line)) = ⊥
 
--- What was written of an outcome reads back as what it says: no other answer to its saved text is right.
-abbrev pub OutcomesReadBack : Type 0
-OutcomesReadBack = (o : Outcome) (answer : Result Saved ReadError) → Fits (saved_of o) → IsRightRead (text (saved_of o)) answer → IsReadAs (saved_of o) answer
+-- What fits reads back from its text: no other answer to the text is right.
+abbrev pub TextsReadBack : Type 0
+TextsReadBack = (c : Content) (answer : Result Saved ReadError) → Fits c → IsRightRead (text c) answer → IsReadAs c answer

@@ -20,7 +20,7 @@ pub use put_lines::{
     put_done_line, put_end_line, put_event_line, put_first_line, put_ring_line, put_start_line,
     put_survey_line,
 };
-pub use read::{answers_are_apart, outcomes_read_back, read_saved, texts_are_apart};
+pub use read::{answers_are_apart, read_saved, texts_are_apart, texts_read_back};
 pub use report::write_report;
 pub use saved::{Saved, SavedEvent, SavedRing, SavedSurvey};
 pub use text_lines::{ReadError, WriteFault};

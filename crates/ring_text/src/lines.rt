@@ -41,10 +41,11 @@ fn reply(bytes: &[u8]) -> Result<(Option<(u64, u64)>, &[u8]), Stop>
             let (answer, rest) = number64(rest, b'\n')?;
             Ok((Some((number, answer)), rest))
         }
-        [_, ..] => {
+        [b'n', ..] => {
             let rest = word(bytes, b"n\n")?;
             Ok((None, rest))
         }
+        [_, ..] => Err(Stop::Fault(Fault::Bad(bytes.len()))),
     }
 }
 
@@ -115,10 +116,11 @@ pub fn event_or_end(bytes: &[u8]) -> Result<(EventOrEnd, &[u8]), Stop>
             let (event, rest) = corruption(bytes)?;
             Ok((EventOrEnd::Event(event), rest))
         }
-        [_, ..] => {
+        [b'e', ..] => {
             let (events, rest) = end(bytes)?;
             Ok((EventOrEnd::End(events), rest))
         }
+        [_, ..] => Err(Stop::Fault(Fault::Bad(bytes.len()))),
     }
 }
 
@@ -178,9 +180,10 @@ pub fn survey_or_next(bytes: &[u8]) -> Result<(SurveyOrNext, &[u8]), Stop>
             let (head, rest) = head(bytes)?;
             Ok((SurveyOrNext::Next(Next::Ring(head)), rest))
         }
-        [_, ..] => {
+        [b'd', ..] => {
             let (rings, rest) = done(bytes)?;
             Ok((SurveyOrNext::Next(Next::Done(rings)), rest))
         }
+        [_, ..] => Err(Stop::Fault(Fault::Bad(bytes.len()))),
     }
 }

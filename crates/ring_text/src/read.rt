@@ -1,6 +1,6 @@
 //! The reader of saved texts, and the laws of its answers.
 
-ghost use Rattle.ring_text.specs.Meaning.{IsRightRead, OneAnswerIsRight, OutcomesReadBack, TextsAreApart};
+ghost use Rattle.ring_text.specs.Meaning.{IsRightRead, OneAnswerIsRight, TextsAreApart, TextsReadBack};
 
 use crate::blocks::whole;
 use crate::saved::Saved;
@@ -36,9 +36,9 @@ pub fn answers_are_apart()
     ensures { OneAnswerIsRight }
 {}
 
-/// What [`write_outcome`](crate::write_outcome) wrote of an outcome reads back: the right answer to
-/// the saved text is the value that says what the outcome says, block by block and line by line, or
-/// want of memory, and nothing else. That the text fits is a clause of the writer.
-pub fn outcomes_read_back()
-    ensures { OutcomesReadBack }
+/// The text of a value that fits reads back: the right answer to it is that value, block by block and line by line, or
+/// want of memory, and nothing else. So does what [`write_outcome`](crate::write_outcome) wrote of an outcome, since it
+/// is the text of a value of which a clause of the writer says that it fits.
+pub fn texts_read_back()
+    ensures { TextsReadBack }
 {}

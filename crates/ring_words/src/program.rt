@@ -29,10 +29,10 @@ pub fn run_tool<R: AllocGlobal + Files + Threads + Wait + Sync, O: Write, E: Wri
     match read_words(rt.alloc(), words) {
         Ok(request) => {
             let done = answer(rt, &request, out);
-            finish(done, out, err)
+            finish(done, out.flush(), err)
         }
         Err(error) if error.kind() == ErrorKind::OutOfMemory => {
-            finish(Err(ToolError::OutOfMemory), out, err)
+            finish(Err(ToolError::OutOfMemory), out.flush(), err)
         }
         Err(error) if error.use_stderr() => {
             let _ = write!(err, "{error}");
@@ -40,7 +40,7 @@ pub fn run_tool<R: AllocGlobal + Files + Threads + Wait + Sync, O: Write, E: Wri
         }
         Err(error) => {
             let done = write!(out, "{error}").map_err(|_| ToolError::Write);
-            finish(done, out, err)
+            finish(done, out.flush(), err)
         }
     }
 }

@@ -1,8 +1,8 @@
 -- The law that ties a reader to a spelling (this project's own).
-use Rattle.std.specs.Prelude.{◌≡◌, ℕ, suc, ◌<◌, List, [], ◌∷◌, ◌++◌, length, Ok, Err}
-use Rattle.std.specs.List.{flat_map}
+use Rattle.std.specs.Prelude.{◌≡◌, ◌≢◌, ℕ, suc, ◌<◌, List, [], ◌∷◌, ◌++◌, length, Ok, Err, ◌⊎◌}
+use Rattle.std.specs.List.{flat_map, AllByRecursion}
 use Rattle.text_lines.specs.declared.fault.Fault.TheVariants.{Short, Bad}
-use Rattle.text_lines.specs.Reading.{Reader, Either}
+use Rattle.text_lines.specs.Reading.{Reader, Either, Branch}
 use Rattle.text_lines.specs.Spelling.{OfEither, of_either}
 
 -- The bytes are the beginning of the spelling of something that fits.
@@ -30,6 +30,24 @@ pub record Reads {A : Type 0} (Fits : A → Type 0) (spell : A → List ℕ) (at
   pub again : (a : A) (rest : List ℕ) → Fits a → at (spell a ++ rest) ≡ Ok (a, rest)
   pub short : (bytes : List ℕ) → at bytes ≡ Err Short → ShortOf Fits spell bytes
   pub bad : (bytes : List ℕ) (left : ℕ) → at bytes ≡ Err (Bad left) → BadAt Fits spell at bytes
+
+-- the text begins with the byte
+abbrev pub StartsWith : ℕ → List ℕ → Type 0
+StartsWith c text = (rest : List ℕ) × (text ≡ c ∷ rest)
+
+-- the text begins with the byte of one of the branches
+abbrev pub IsOfBranch : {A : Type 0} → List (Branch A) → List ℕ → Type 0
+IsOfBranch [] text = ⊥
+IsOfBranch (r ∷ rs) text = StartsWith r.byte text ⊎ IsOfBranch rs text
+
+-- What the branch reads, of all that fits: what begins with its byte.
+abbrev pub ReadsBranch : {A : Type 0} → (A → Type 0) → (A → List ℕ) → Branch A → Type 0
+ReadsBranch Fits spell r = Reads (λ a. Fits a × StartsWith r.byte (spell a)) spell r.at
+
+-- no two branches have one byte
+abbrev pub AreApart : {A : Type 0} → List (Branch A) → Type 0
+AreApart [] = Unit {0}
+AreApart (r ∷ rs) = AllByRecursion (λ q. q.byte ≢ r.byte) rs × AreApart rs
 
 -- Each item fits at the state where it stands, and so does what ends them.
 abbrev pub RunFits : {S A E : Type 0} → (S → A → Type 0) → (S → E → Type 0) → (A → S) → S → List A → E → Type 0

@@ -80,15 +80,28 @@ then_at first second bytes = first bytes >>= λ x. second x.0 x.1 >>= λ y. Ok (
 abbrev pub as_at : {A B : Type 0} → (A → B) → Reader A → Reader B
 as_at f at bytes = at bytes >>= λ x. Ok (f x.0, x.1)
 
--- the first reader where the byte c comes, else the second
-abbrev pub either_at : {A B : Type 0} → ℕ → Reader A → Reader B → Reader (Either A B)
-either_at c first second [] = Err Short
-either_at c first second (b ∷ bs) = if b == c then as_at this first (b ∷ bs) else as_at that second (b ∷ bs)
+-- one of several kinds of spelling: the byte with which those of this kind begin, and their reader
+pub record Branch (A : Type 0) : Type 0 where
+  pub byte : ℕ
+  pub at : Reader A
 
--- the same for two readers of one kind of value
+abbrev pub branch : {A : Type 0} → ℕ → Reader A → Branch A
+branch byte at = record { byte = byte; at = at }
+
+-- the first reader where the byte c comes, else the second
 abbrev pub or_at : {A : Type 0} → ℕ → Reader A → Reader A → Reader A
 or_at c first second [] = Err Short
 or_at c first second (b ∷ bs) = if b == c then first (b ∷ bs) else second (b ∷ bs)
+
+-- nothing begins with any byte
+abbrev pub none_at : {A : Type 0} → Reader A
+none_at [] = Err Short
+none_at (b ∷ bs) = Err (Bad (suc (length bs)))
+
+-- the reader of the branch whose byte comes; where there is none, that byte is bad
+abbrev pub choice_at : {A : Type 0} → List (Branch A) → Reader A
+choice_at [] = none_at
+choice_at (r ∷ rs) = or_at r.byte r.at (choice_at rs)
 
 -- an item and the others, or what ends the items
 abbrev pub many_with : {S A E : Type 0} → (S → Result ((List A × E) × List ℕ) Fault) → (A → S) → Either A E → List ℕ → Result ((List A × E) × List ℕ) Fault

@@ -6,9 +6,9 @@ ghost use Rattle.text_lines.specs.Writing.{Writes};
 
 use std::io::Write;
 
-/// The writer failed, or took no byte.
+/// The writer failed, or took no byte. Only [`put`] makes one, so each comes from a writer.
 #[derive(Clone, Copy, Debug, PartialEq, Eq)]
-pub struct WriteFault;
+pub struct WriteFault(());
 
 /// Writes all of the bytes.
 ///
@@ -26,9 +26,9 @@ pub fn put<W: Write>(out: &mut W, bytes: &[u8]) -> Result<(), WriteFault>
     let mut rest = bytes;
     while !rest.is_empty() {
         match out.write(rest) {
-            Ok(0) => return Err(WriteFault),
+            Ok(0) => return Err(WriteFault(())),
             Ok(n) => rest = &rest[n..],
-            Err(_) => return Err(WriteFault),
+            Err(_) => return Err(WriteFault(())),
         }
     }
     Ok(())

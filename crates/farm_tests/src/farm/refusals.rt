@@ -83,10 +83,10 @@ fn want_of_memory_for_a_thread_is_told_before_a_seats_refusal(rt: HostRuntime) {
         came: AtomicU64::new(0),
     };
     let fault = refusal(run_farm(&rt, alloc, &settings, &gate));
-    let want = match gate.came.load(Ordering::SeqCst) {
-        0 => FarmError::OutOfMemory,
-        1 => FarmError::Spawn,
-        _ => FarmError::GateShut,
-    };
-    assert_eq!(rt; fault, Some(want));
+    match gate.came.load(Ordering::SeqCst) {
+        0 => assert_eq!(rt; fault, Some(FarmError::OutOfMemory)),
+        1 => assert_eq!(rt; fault, Some(FarmError::Spawn)),
+        // the list of the rings' results may still have found no memory
+        _ => assert!(rt; matches!(fault, Some(FarmError::GateShut | FarmError::OutOfMemory))),
+    }
 }

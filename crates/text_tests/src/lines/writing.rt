@@ -34,6 +34,40 @@ fn short_writes_go_on(rt: HostRuntime) -> Result<(), Fail> {
 }
 
 #[test]
+fn a_writer_that_did_not_take_is_not_asked_again(rt: HostRuntime) {
+    for then in REFUSALS {
+        for room in 0..4 {
+            let mut out = writer_with(rt.alloc(), room, 1, then);
+            assert!(rt; put(&mut out, b"four").is_err(), "{then:?} at {room}");
+            assert_eq!(rt; out.asked, room + 1, "{then:?} at {room}");
+            let mut out = writer_with(rt.alloc(), room, 1, then);
+            assert!(rt;
+                put_all(&mut out, &[b"fo", b"ur"]).is_err(),
+                "{then:?} at {room}"
+            );
+            assert_eq!(rt; out.asked, room + 1, "{then:?} at {room}");
+        }
+    }
+}
+
+#[test]
+fn a_piece_of_many_bytes_is_written(rt: HostRuntime) -> Result<(), Fail> {
+    let mut piece = Vec::new(rt.alloc());
+    for _ in 0..4096 {
+        for byte in 0..=255u8 {
+            piece.push(byte)?;
+        }
+    }
+    assert_eq!(rt; piece.len(), 1_048_576);
+    for at_most in [1000, 65_536, 2_000_000] {
+        let mut out = writer_with(rt.alloc(), piece.len(), at_most, Refusal::Fails);
+        assert_eq!(rt; put(&mut out, &piece), Ok(()), "{at_most} a call");
+        assert_eq!(rt; out.held, piece, "{at_most} a call");
+    }
+    Ok(())
+}
+
+#[test]
 fn nothing_to_write_asks_nothing(rt: HostRuntime) {
     let mut out = writer_with(rt.alloc(), 0, 1, Refusal::Fails);
     assert_eq!(rt; put(&mut out, b""), Ok(()));

@@ -1,4 +1,4 @@
-use Rattle.std.proofs.Common.{◌≡◌, ◌+◌, ◌≤◌, map, Ok, vec_len, vec_capacity, length}
+use Rattle.std.proofs.Common.{◌≡◌, ◌≤◌, map, Ok, vec_len, vec_capacity}
 use Rattle.ring_farm.proofs.farms.collect.Given as goal
 
 abbrev pub invariant-loop-result : goal.invariant-loop-result

@@ -1,7 +1,6 @@
-use Rattle.std.proofs.Common.{rules, ◌≡◌, ◌∷◌, [], ◌++◌, None, List, length, length-append, map, ap, ◌∙◌, sym, subst, arith}
+use Rattle.std.proofs.Common.{rules, ◌≡◌, ◌∷◌, [], length, length-append, ◌∙◌, arith}
 use Rattle.std.proofs.lemmas.Iterator.Consumers.{YieldsList-end}
 use Rattle.std.proofs.lemmas.Iterator.Adapters.{YieldsList-from_vec}
-use Rattle.ring_farm.specs.Plans.{Pairs}
 use Rattle.ring_farm.specs.Promises.{IsKept}
 use Rattle.ring_farm.proofs.Pairing.{Pairs-map-push, map_same}
 use Rattle.ring_farm.proofs.threads.join_all.Goals as goal

@@ -7,10 +7,9 @@ use Rattle.text_lines.proofs.Answering.{apart, none_begins_another, spellings_ar
 use Rattle.ring_text.specs.declared.saved.Saved.{Saved}
 use Rattle.ring_text.specs.Content.{Content, content}
 use Rattle.ring_text.specs.Spelling.{Fits, text}
-use Rattle.ring_text.specs.SavedOf.{saved_of}
 use Rattle.ring_text.specs.Meaning.{IsText, IsRightRead, IsReadAs}
 use Rattle.ring_text.proofs.TextLaws.{text_reads}
-use Rattle.ring_text.proofs.read.outcomes_read_back.Goals as goal
+use Rattle.ring_text.proofs.read.texts_read_back.Goals as goal
 
 others_are_wrong : (c : Content) → AnswersAreApart IsText (text c)
 others_are_wrong c = apart IsText (none_begins_another text_reads) (text c)
@@ -22,4 +21,4 @@ reads_back c (Err Truncated) f r = ((others_are_wrong c).text (c, f, refl)).0 r
 reads_back c (Err (Syntax line)) f r = ((others_are_wrong c).text (c, f, refl)).1 line r
 
 pub returns : goal.returns
-returns c = λ o answer f r. reads_back (saved_of o) answer f r
+returns c = λ s answer f r. reads_back s answer f r
