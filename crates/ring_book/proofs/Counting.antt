@@ -18,7 +18,7 @@ use Rattle.ring_model.proofs.Below.{sum_same, sum_but_one, sum_zero}
 use Rattle.ring_model.proofs.Settled.{settled_stays}
 use Rattle.ring_model.proofs.QuietRuns.{count_events-cons}
 use Rattle.ring_model.proofs.Histories.{StepOf-next, after-push, calm-push, goes_on, settled_run-push}
-use Rattle.ring_book.specs.Limits.{seat_limit}
+use Rattle.ring_model.specs.Limits.{seat_limit}
 use Rattle.ring_book.specs.GrantsView.{GrantsView, IsGrantsOf, raised, no_grants, one_grant, run_ended}
 use Rattle.ring_book.specs.TallyView.{TallyView, IsTallyOf, after_call, after_grant, after_corruption}
 

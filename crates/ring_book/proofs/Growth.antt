@@ -22,7 +22,7 @@ use Rattle.ring_model.proofs.Places.{set_ring}
 use Rattle.ring_model.proofs.HistoryLaws.{history_fairness}
 use Rattle.ring_model.proofs.Histories.{StepOf-next, after-push, IsLegal-push, grants-after}
 use Rattle.ring_state.specs.Sizes.{Size, IsRingState, size_of}
-use Rattle.ring_book.specs.Limits.{event_limit, seat_limit}
+use Rattle.ring_model.specs.Limits.{event_limit, seat_limit}
 use Rattle.ring_book.specs.EventsView.{EventsView}
 use Rattle.ring_book.specs.GrantsView.{IsGrantsOf, raised, no_grants, one_grant}
 use Rattle.ring_book.specs.GrantCounts.{IsEven}

@@ -6,7 +6,7 @@ use Rattle.ring_model.specs.declared.events.Event.{Event}
 use Rattle.ring_model.specs.declared.events.Op.{Op}
 use Rattle.ring_model.specs.declared.events.Receipt.{Receipt}
 use Rattle.ring_state.specs.Sizes.{IsRingState, size_of}
-use Rattle.ring_book.specs.Limits.{event_limit}
+use Rattle.ring_model.specs.Limits.{event_limit}
 use Rattle.ring_book.specs.EventsView.{EventsView}
 use Rattle.ring_book.specs.TallyView.{TallyView, IsTallyOf}
 

@@ -1,4 +1,3 @@
-pub mod Limits
 pub mod EventsView
 pub mod IdleWorks
 pub mod GrantCounts

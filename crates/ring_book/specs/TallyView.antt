@@ -6,7 +6,7 @@ use Rattle.ring_model.specs.Surveys.{calm}
 use Rattle.ring_model.specs.Grants.{settled_run}
 use Rattle.ring_model.specs.Logs.{calls_of}
 use Rattle.ring_model.specs.declared.events.Event.{Event}
-use Rattle.ring_book.specs.Limits.{seat_limit}
+use Rattle.ring_model.specs.Limits.{seat_limit}
 use Rattle.ring_book.specs.GrantsView.{GrantsView, IsGrantsOf, raised, one_grant, run_ended}
 
 -- the calm, the calls of each seat, whether exactly one machine is privileged now, and the grants

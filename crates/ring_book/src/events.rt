@@ -1,9 +1,9 @@
 ghost use Rattle.std.specs.Prelude.{◌≡◌, ◌≤◌, ◌<◌, ◌+◌, ◌++◌, ◌∷◌, ◌↔◌, [], length, IsOk, OnOk, OnErr, IsErrOf};
-ghost use Rattle.ring_book.specs.Limits.{event_limit};
+ghost use Rattle.ring_model.specs.Limits.{event_limit};
 ghost use Rattle.ring_book.specs.EventsView.{EventsView};
 
-use crate::limits::EVENT_LIMIT;
 use ring_model::Event;
+use ring_model::limits::EVENT_LIMIT;
 use std::alloc::Global;
 use std::marker::Model;
 use thiserror::Error;
@@ -27,7 +27,7 @@ pub(crate) struct Events {
 
 impl Model for Events {
     ghost use Rattle.std.specs.Prelude.{◌≤◌, ◌-◌, length, min, vec_capacity};
-    ghost use Rattle.ring_book.specs.Limits.{event_limit};
+    ghost use Rattle.ring_model.specs.Limits.{event_limit};
 ghost use Rattle.ring_book.specs.EventsView.{EventsView};
 
     ghost Value = { EventsView };

@@ -5,13 +5,11 @@
 mod books;
 mod events;
 mod grants;
-mod limits;
 mod resources;
 mod tallies;
 
 pub use books::{Book, NotMade};
 pub use events::BookError;
 pub use grants::GrantBook;
-pub use limits::{EVENT_LIMIT, SEAT_LIMIT, limits_of_a_book};
 pub use resources::{Idle, Resource, Till};
 pub use ring_model::{Entry, Event, Op, Receipt, Reply, Survey};

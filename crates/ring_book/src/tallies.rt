@@ -1,11 +1,11 @@
 ghost use Rattle.std.specs.Prelude.{◌≡◌, ◌<◌, ◌≤◌, ◌+◌, ◌^◌, ℕ, true, length, slice_index, replicate, IfOk, Bool};
-ghost use Rattle.ring_book.specs.Limits.{seat_limit};
+ghost use Rattle.ring_model.specs.Limits.{seat_limit};
 ghost use Rattle.ring_book.specs.GrantCounts.{IsEven};
 ghost use Rattle.ring_book.specs.GrantsView.{raised, no_grants};
 ghost use Rattle.ring_book.specs.TallyView.{TallyView, after_call, after_grant, after_corruption};
 
 use crate::grants::GrantBook;
-use crate::limits::SEAT_LIMIT;
+use ring_model::limits::SEAT_LIMIT;
 use std::alloc::{AllocError, Global};
 use std::marker::Model;
 
@@ -20,7 +20,7 @@ pub(crate) struct Tally {
 
 impl Model for Tally {
     ghost use Rattle.std.specs.Prelude.{◌≡◌, ◌≤◌, length};
-    ghost use Rattle.ring_book.specs.Limits.{seat_limit};
+    ghost use Rattle.ring_model.specs.Limits.{seat_limit};
     ghost use Rattle.ring_book.specs.TallyView.{TallyView};
 
     ghost Value = { TallyView };

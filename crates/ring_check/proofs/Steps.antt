@@ -3,6 +3,7 @@ use Rattle.std.proofs.Common.{◌≡◌, ℕ, ◌+◌, ◌<◌, ◌≤◌, List,
 use Rattle.std.specs.Prelude.{nat_lt, nat_le, Some, None}
 use Rattle.std.proofs.lemmas.Bool.{cases_Bool, cases_eq}
 use Rattle.std.proofs.lemmas.List.{length-set}
+use Rattle.ring_model.specs.Limits.{seat_limit}
 use Rattle.ring_model.specs.Ring.{written, Ring, IsRing, is_privileged}
 use Rattle.ring_model.proofs.Settled.{move_ring}
 use Rattle.ring_model.proofs.Histories.{calm_next, after-push, StepOf-reply}
@@ -64,17 +65,17 @@ step_range a (Corrupt i v) (Corrupted old) h =
     joined (nat_lt i (length a.ring.values)) (nat_lt v a.ring.k) (lt_true i (length a.ring.values) h.0) (lt_true v a.ring.k h.1)
 
 -- an event has no fault exactly where it is a step by one of the seats
-pub event_means : (n : ℕ) (a : State ℕ) (e : Event) → length a.ring.values ≡ n → event_fault n a e ≡ None → (e.seat ≤ 9) × Step till a e (next till a e.op)
+pub event_means : (n : ℕ) (a : State ℕ) (e : Event) → length a.ring.values ≡ n → event_fault n a e ≡ None → (e.seat < seat_limit) × Step till a e (next till a e.op)
 event_means n a e l h =
     let p = event_right n a e h in
-    let q = both (nat_le e.seat 9) (op_in_range n a.ring.k e.op) p.0 in
-    (at_most e.seat 9 q.0, step_right a e.op e.reply (ap (λ (x : ℕ). op_in_range x a.ring.k e.op) l ∙ q.1) p.1)
+    let q = both (nat_lt e.seat seat_limit) (op_in_range n a.ring.k e.op) p.0 in
+    (below e.seat seat_limit q.0, step_right a e.op e.reply (ap (λ (x : ℕ). op_in_range x a.ring.k e.op) l ∙ q.1) p.1)
 
-pub event_fine : (n : ℕ) (a : State ℕ) (e : Event) → length a.ring.values ≡ n → e.seat ≤ 9 → Step till a e (next till a e.op) → event_fault n a e ≡ None
+pub event_fine : (n : ℕ) (a : State ℕ) (e : Event) → length a.ring.values ≡ n → e.seat < seat_limit → Step till a e (next till a e.op) → event_fault n a e ≡ None
 event_fine n a e l seat step =
     let p = step_range a e.op e.reply step in
     let said : e.reply ≡ reply till a e.op = StepOf-reply till a e.op e.reply (next till a e.op) step in
-    let i : in_range n a.ring.k e ≡ true = joined (nat_le e.seat 9) (op_in_range n a.ring.k e.op) (le_true e.seat 9 seat) (ap (λ (x : ℕ). op_in_range x a.ring.k e.op) (sym l) ∙ p) in
+    let i : in_range n a.ring.k e ≡ true = joined (nat_lt e.seat seat_limit) (op_in_range n a.ring.k e.op) (lt_true e.seat seat_limit seat) (ap (λ (x : ℕ). op_in_range x a.ring.k e.op) (sym l) ∙ p) in
     let r : is_replied a e ≡ true = ap (λ (x : Reply). same_reply x (reply till a e.op)) said ∙ same_self (reply till a e.op) in
     rw (i, r) refl
 

@@ -11,11 +11,9 @@ ghost use Rattle.ring_check.specs.Replays.{state_of, survey_where, StandsAt};
 use crate::answers::Kind;
 use crate::measures::{first_privileged, is_privileged, privileged_count, rest};
 use ring_model::Survey;
+use ring_model::limits::SEAT_LIMIT;
 use ring_text::SavedEvent;
 use std::alloc::{AllocError, Global};
-
-/// The greatest seat number.
-pub(crate) const LAST_SEAT: u32 = 9;
 
 /// A ring over a till as some events of a block leave it.
 #[derive(Drop)]
@@ -50,13 +48,13 @@ impl Replay {
     {
         match *event {
             SavedEvent::Granted { seat, machine, .. } | SavedEvent::Refused { seat, machine, .. } =>
-                { seat <= LAST_SEAT && (machine as usize) < self.values.len() }
+                { (seat as usize) < SEAT_LIMIT && (machine as usize) < self.values.len() }
             SavedEvent::Corrupted {
                 seat,
                 machine,
                 value,
                 ..
-            } => seat <= LAST_SEAT && (machine as usize) < self.values.len() && value < self.k,
+            } => (seat as usize) < SEAT_LIMIT && (machine as usize) < self.values.len() && value < self.k,
         }
     }
 

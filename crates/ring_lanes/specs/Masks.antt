@@ -1,11 +1,8 @@
 -- The privileged machines as bits.
 use Rattle.std.specs.Prelude.{◌≡◌, ◌<◌, ◌/◌, ◌%◌, ◌&&◌, if◌then◌else◌, nat_lt, ℕ, List, length, slice_index}
 use Rattle.std.specs.Int.{bit_at}
+use Rattle.ring_model.specs.Limits.{machine_limit}
 use Rattle.ring_model.specs.Ring.{is_privileged}
-
--- the most machines of a ring (this project's own limit)
-abbrev pub machine_limit : ℕ
-machine_limit = 256
 
 -- bit i % 64 of word i / 64 is set exactly where machine i is privileged, and every bit past the last machine is clear
 abbrev pub IsMaskOf : List ℕ → List ℕ → Type 0

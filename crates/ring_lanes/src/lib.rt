@@ -4,7 +4,8 @@
 
 ghost use Rattle.std.specs.Prelude.{◌≡◌, ◌↔◌, ◌≤◌, ◌<◌, ◌/◌, ◌%◌, ◌&&◌, if◌then◌else◌, not, nat_lt, ℕ, length, slice_index, IsTrue, EachIndex, true};
 ghost use Rattle.ring_model.specs.Ring.{is_privileged, privileged_count, first_privileged, weight, is_absent, first_value_is_prefix, IsPrefix};
-ghost use Rattle.ring_lanes.specs.Masks.{machine_limit, IsMaskOf};
+ghost use Rattle.ring_model.specs.Limits.{machine_limit};
+ghost use Rattle.ring_lanes.specs.Masks.{IsMaskOf};
 
 mod bytes;
 mod kernels;
@@ -16,16 +17,8 @@ use kernels::{any_hit, count_hits, first_hit, weigh_hits, write_hits};
 use limits::are_below;
 use probe::Probe;
 
-/// The most machines of a ring.
-pub const MACHINE_LIMIT: u32 = 256;
-
-/// The limit is that of the definitions.
-pub fn limit_of_machines()
-    ensures { MACHINE_LIMIT ≡ machine_limit }
-{}
-
 /// Writes a bit for each machine into `out`: bit `i % 64` of word `i / 64` is set exactly where
-/// machine `i` is privileged, and every bit past the last machine is clear. For at most `MACHINE_LIMIT` machines.
+/// machine `i` is privileged, and every bit past the last machine is clear. No ring has more machines than bits.
 pub fn privileged_mask(s: &[u8], out: &mut [u64; 4])
     requires low { 2 ≤ length s.now }
     requires high { length s.now ≤ machine_limit }

@@ -4,7 +4,8 @@
 #![tactic(auto)]
 
 ghost use Rattle.std.specs.Prelude.{◌≡◌, ◌↔◌, ◌≤◌, ◌<◌, ◌/◌, ◌%◌, ◌&&◌, if◌then◌else◌, nat_lt, ℕ, length, slice_index, IsTrue, EachIndex};
-ghost use Rattle.ring_lanes.specs.Masks.{machine_limit, IsMaskOf};
+ghost use Rattle.ring_model.specs.Limits.{machine_limit};
+ghost use Rattle.ring_lanes.specs.Masks.{IsMaskOf};
 ghost use Rattle.ring_model.specs.Ring.{is_privileged, privileged_count, first_privileged, weight, first_value_is_prefix};
 
 /// `ring_lanes::privileged_mask`.

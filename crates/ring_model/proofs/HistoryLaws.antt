@@ -40,8 +40,7 @@ pub quiet_round : {C : Type 0} (w : Works C) (a : State C) (es : List Event) →
     (is_settled (after w a es).ring.values ≡ true) × GoesRoundFrom (length a.ring.values) (first_privileged a.ring.values) (granted_machines es)
 quiet_round w a es g l q u =
     let run = quiet_run w a es l q in
-    let r = round a.ring (asked_machines es) g run.below u in
-    (
+    let r = round a.ring (asked_machines es) g run.below u in (
       ap (λ (x : Ring). is_settled x.values) run.state ∙ r.0,
       subst (λ (x : List ℕ). GoesRoundFrom (length a.ring.values) (first_privileged a.ring.values) x) (sym run.grants) r.1,
     )

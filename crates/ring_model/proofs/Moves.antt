@@ -5,6 +5,7 @@ use Rattle.std.specs.Prelude.{◌⊎◌}
 use Rattle.std.proofs.lemmas.Bool.{eq-eqb, eqb-true, ne_eqb, not_from_true}
 use Rattle.ring_model.specs.Numbers.{bit, count_below}
 use Rattle.ring_model.specs.Ring.{Ring, IsRing, is_privileged, moved_value, moved, right_neighbour, privileged_count}
+use Rattle.ring_model.specs.Laws.{Closure, OthersKeep}
 use Rattle.ring_model.proofs.Below.{sum_but_two, bit_le, bit_at, wrap}
 
 pub length_move : (r : Ring) (i : ℕ) → length (moved r i).values ≡ length r.values
@@ -81,3 +82,10 @@ closure r i g l e =
     let one : bit (is_privileged t.values (right_neighbour r.values i)) ≤ 1 = bit_le (is_privileged t.values (right_neighbour r.values i)) in
     let c : privileged_count t.values ≡ count_below (is_privileged t.values) (length r.values) = ap (count_below (is_privileged t.values)) n in
     omega arith
+
+-- all of it
+pub others_keep : OthersKeep
+others_keep r i g l j lj ni nn = others_same r i j g l lj ni nn
+
+pub closed : Closure
+closed r i g l e = record { count = closure r i g l e; mover = mover_loses r i g l e; others = others_keep r i g l }

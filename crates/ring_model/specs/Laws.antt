@@ -1,20 +1,16 @@
 -- The laws of settlement, over the definitions of a ring alone.
 use Rattle.std.specs.Prelude.{◌≡◌, ℕ, ◌+◌, ◌-◌, ◌%◌, ◌<◌, ◌≤◌, ◌≢◌, true, false, List, length, slice_index}
 use Rattle.ring_model.specs.Ring.{Ring, IsRing, is_privileged, moved, right_neighbour, privileged_count, first_privileged, is_settled, is_absent, first_value_is_prefix, IsPrefix, lead, rest, bound}
+use Rattle.ring_model.specs.Closure.{IsClosed, KeepsOthers}
 use Rattle.ring_model.specs.Runs.{after_passes, granted_passes, AreBelow, GoesRoundFrom}
 
--- closure: a move never raises the number of privileged machines (this project's name for Dijkstra's demand that legitimate states stay legitimate)
+-- closure: the move of a privileged machine never raises the number of privileged machines, and takes the mover's privilege
 abbrev pub Closure : Type 0
-Closure = (r : Ring) (i : ℕ) → IsRing r → i < length r.values → is_privileged r.values i ≡ true → privileged_count (moved r i).values ≤ privileged_count r.values
+Closure = (r : Ring) (i : ℕ) → IsRing r → i < length r.values → is_privileged r.values i ≡ true → IsClosed r (moved r i) i
 
--- the machine that moves loses its privilege
-abbrev pub MoverLoses : Type 0
-MoverLoses = (r : Ring) (i : ℕ) → IsRing r → i < length r.values → is_privileged r.values i ≡ true → is_privileged (moved r i).values i ≡ false
-
--- and besides it only its right neighbour's privilege may change
+-- besides the mover's only its right neighbour's privilege may change, also where the mover has none
 abbrev pub OthersKeep : Type 0
-OthersKeep = (r : Ring) (i j : ℕ) → IsRing r → i < length r.values → j < length r.values → j ≢ i → j ≢ right_neighbour r.values i →
-    is_privileged (moved r i).values j ≡ is_privileged r.values j
+OthersKeep = (r : Ring) (i : ℕ) → IsRing r → i < length r.values → KeepsOthers r (moved r i) i
 
 -- some machine is always privileged, and the first privileged machine is one
 abbrev pub SomePrivileged : Type 0

@@ -1,16 +1,12 @@
 -- How large rings may be here.
 use Rattle.std.specs.Prelude.{◌≤◌, ℕ, length}
 use Rattle.ring_model.specs.Ring.{Ring, IsRing}
-use Rattle.ring_lanes.specs.Masks.{machine_limit}
+use Rattle.ring_model.specs.Limits.{machine_limit, value_limit}
 
 -- how many machines there are, and how many values
 pub record Size : Type 0 where
   pub n : ℕ
   pub k : ℕ
-
--- the most values that a machine may hold one of (this project's own limit)
-abbrev pub value_limit : ℕ
-value_limit = 256
 
 -- Dijkstra's solution wants at least as many values as machines (CACM 17(11), 1974); the limits are this project's own
 pub record IsSize (size : Size) : Type 0 where

@@ -4,5 +4,5 @@
 mod sizes;
 mod states;
 
-pub use sizes::{Params, ParamsError, VALUE_LIMIT};
+pub use sizes::{Params, ParamsError};
 pub use states::{RingState, StateError};

@@ -1,17 +1,9 @@
 ghost use Rattle.std.specs.Prelude.{◌≡◌, ◌<◌, ◌≤◌, ◌↔◌, IsErrOf, IfOk, IsOk};
-ghost use Rattle.ring_lanes.specs.Masks.{machine_limit};
-ghost use Rattle.ring_state.specs.Sizes.{value_limit, IsSize};
+ghost use Rattle.ring_model.specs.Limits.{machine_limit, value_limit};
+ghost use Rattle.ring_state.specs.Sizes.{IsSize};
 
-use ring_lanes::MACHINE_LIMIT;
+use ring_model::limits::{MACHINE_LIMIT, VALUE_LIMIT};
 use std::marker::Model;
-
-/// The most values that a machine may hold one of.
-pub const VALUE_LIMIT: u32 = 256;
-
-/// The limit is that of the definitions.
-pub fn limit_of_values()
-    ensures { VALUE_LIMIT ≡ value_limit }
-{}
 
 /// The size of a ring: the number n of its machines, and the number K of the values that each can hold.
 /// Always `2 <= n <= MACHINE_LIMIT` and `n <= K <= VALUE_LIMIT`.

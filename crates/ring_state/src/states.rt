@@ -1,9 +1,9 @@
 ghost use Rattle.std.specs.Prelude.{◌≡◌, ◌↔◌, ◌<◌, ◌≤◌, ◌-◌, ◌/◌, ◌%◌, ◌&&◌, if◌then◌else◌, nat_lt, not, ℕ, List, length, true, false, slice_index, IfOk, IfErr, IsTrue};
 ghost use Rattle.ring_model.specs.Ring.{Ring, IsRing, is_privileged, privileged_count, first_privileged, weight, is_absent, first_value_is_prefix, rest, IsPrefix, moved, written};
+ghost use Rattle.ring_model.specs.Closure.{IsClosed};
 ghost use Rattle.ring_lanes.specs.Masks.{IsMaskOf};
 ghost use Rattle.ring_state.specs.Sizes.{IsRingState, size_of};
 ghost use Rattle.ring_state.specs.StateFault.{IsFaultOf};
-ghost use Rattle.ring_state.specs.Closure.{IsClosed};
 
 use crate::sizes::Params;
 use std::alloc::{AllocError, Global};
@@ -20,7 +20,8 @@ pub struct RingState {
 
 impl Model for RingState {
     ghost use Rattle.ring_model.specs.Ring.{Ring};
-    ghost use Rattle.ring_lanes.specs.Masks.{IsMaskOf};
+    ghost use Rattle.ring_model.specs.Closure.{IsClosed};
+ghost use Rattle.ring_lanes.specs.Masks.{IsMaskOf};
 ghost use Rattle.ring_state.specs.Sizes.{IsRingState};
 
     ghost Value = { Ring };
@@ -156,7 +157,7 @@ impl RingState {
         requires machine { i < length self.old.values }
         requires privileged { is_privileged self.old.values i ≡ true }
         ensures is { self.new ≡ moved self.old i }
-        ensures closure { IsClosed self.old.values self.new.values i }
+        ensures closure { IsClosed self.old self.new i }
         ensures descent { rest self.new ≤ rest self.old - 1 }
     {
         self.take_step(i);

@@ -3,7 +3,7 @@ ghost use Rattle.ring_model.specs.Ring.{is_settled, rest};
 ghost use Rattle.ring_model.specs.History.{opening};
 ghost use Rattle.ring_model.specs.HistoryLaws.{Settlement};
 ghost use Rattle.ring_model.specs.declared.events.Event.{Event};
-ghost use Rattle.ring_book.specs.Limits.{event_limit, seat_limit};
+ghost use Rattle.ring_model.specs.Limits.{event_limit, seat_limit};
 ghost use Rattle.ring_book.specs.BookView.{IsBook, IsRecorded};
 ghost use Rattle.ring_book.specs.Repairs.{IsRepairedBy};
 

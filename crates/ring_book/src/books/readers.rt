@@ -4,7 +4,7 @@ ghost use Rattle.ring_model.specs.History.{opening};
 ghost use Rattle.ring_model.specs.HistoryLaws.{Settlement};
 ghost use Rattle.ring_model.specs.Surveys.{survey_at};
 ghost use Rattle.ring_model.specs.Logs.{calls_of};
-ghost use Rattle.ring_book.specs.Limits.{seat_limit};
+ghost use Rattle.ring_model.specs.Limits.{seat_limit};
 ghost use Rattle.ring_book.specs.GrantsView.{IsGrantsOf};
 ghost use Rattle.ring_book.specs.BookView.{IsBook};
 
