@@ -4,7 +4,7 @@ use Rattle.std.specs.List.{position}
 use Rattle.std.specs.Option.{option_map, option_or}
 use Rattle.ring_state.specs.declared.sizes.ParamsError.{ParamsError}
 use Rattle.ring_state.specs.declared.states.StateError.{StateError}
-use Rattle.ring_book.specs.EventsView.{event_limit}
+use Rattle.ring_model.specs.Limits.{machine_limit, value_limit, event_limit}
 use Rattle.ring_book.specs.declared.events.BookError.{BookError}
 use Rattle.ring_settings.specs.declared.faults.SettingsError.{SettingsError}
 use Rattle.ring_farm.specs.declared.faults.FarmError.{FarmError}
@@ -77,9 +77,9 @@ fault_of_check check.OutOfMemory = tool.OutOfMemory
 abbrev pub size_fault : ℕ → ℕ → Option ToolError
 size_fault n k =
     cond (nat_lt n 2) (Some tool.TooFew)
-    (cond (nat_lt 256 n) (Some tool.TooMany)
+    (cond (nat_lt machine_limit n) (Some tool.TooMany)
     (cond (nat_lt k n) (Some tool.FewValues)
-    (cond (nat_lt 256 k) (Some tool.ManyValues)
+    (cond (nat_lt value_limit k) (Some tool.ManyValues)
     None)))
 
 -- the first that is wrong with the start values

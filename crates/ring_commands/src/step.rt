@@ -4,7 +4,7 @@ ghost use Rattle.std.specs.Prelude.{◌≡◌, ◌≤◌, [], length, nat_le, po
 ghost use Rattle.std.specs.Option.{option_map};
 ghost use Rattle.std.specs.Io.KnownBytes.{Appends};
 ghost use Rattle.ring_book.specs.BookView.{IsFresh};
-ghost use Rattle.ring_book.specs.EventsView.{event_limit};
+ghost use Rattle.ring_model.specs.Limits.{event_limit};
 ghost use Rattle.ring_commands.specs.Stepped.{AreChoices, IsChoicesRefusal, IsStepAnswer, IsStepWordsRefusal};
 ghost use Rattle.ring_commands.specs.Faults.{size_fault, start_fault, fault_of, IsRefusalOver, IsOpeningRefusal, IsStepRefusal};
 ghost use Rattle.ring_commands.specs.StepText.{granted_line, refused_line, reply_line, end_lines, step_text};

@@ -1,6 +1,6 @@
 -- Which part of a plan concerns a ring, and what a seat's log says of it.
 use Rattle.std.specs.Prelude.{◌≡◌, ℕ, ◌==◌, ◌<◌, Bool, true, false, List, filter, map, length, All, Some, slice_get}
-use Rattle.ring_model.specs.History.{Ring}
+use Rattle.ring_model.specs.Ring.{Ring}
 use Rattle.ring_model.specs.declared.events.Op.{Op}
 use Rattle.ring_model.specs.declared.events.Op.TheVariants as op
 use Rattle.ring_model.specs.declared.events.Event.{Event}

@@ -1,6 +1,7 @@
 -- What the threads of a ring promise, and what they hand back.
 use Rattle.std.specs.Prelude.{◌≡◌, ℕ, ◌<◌, ◌≤◌, List, [], All, length, Some, slice_get}
-use Rattle.ring_model.specs.History.{Ring}
+use Rattle.ring_settings.specs.Limits.{action_limit}
+use Rattle.ring_model.specs.Ring.{Ring}
 use Rattle.ring_settings.specs.declared.actions.Plan.{Plan}
 use Rattle.ring_shared.specs.Client.{Client}
 use Rattle.ring_farm.specs.declared.threads.Does.{Does}
@@ -22,6 +23,6 @@ IsDone ring i p s = (s.number ≡ i) × (actions_of ring s.log ≡ part ring p.a
 abbrev pub AreReady : ℕ → Ring → List Plan → List Client → Type 0
 AreReady ring start plans seats =
     (length seats ≡ length plans)
-    × All (λ (p : Plan). length p.actions.items ≤ 1000000) plans
+    × All (λ (p : Plan). length p.actions.items ≤ action_limit) plans
     × All (λ (p : Plan). AreActionsOn ring start p.actions.items) plans
     × ((i : ℕ) → i < length plans → slice_get seats i ≡ Some (record { number = i; log = [] }))

@@ -3,9 +3,9 @@
 #![tactic(auto)]
 
 ghost use Rattle.std.specs.Prelude.{◌≡◌, ◌↔◌, ◌≤◌, ◌<◌, ◌/◌, ◌%◌, ◌&&◌, if◌then◌else◌, not, nat_lt, ℕ, length, slice_index, IsTrue, EachIndex, true};
-ghost use Rattle.ring_model.specs.Ring.{is_privileged, privileged_count, first_privileged, weight, is_absent, first_value_is_prefix};
-ghost use Rattle.ring_model.specs.Laws.{IsPrefix};
-ghost use Rattle.std.specs.Int.{bit_at};
+ghost use Rattle.ring_model.specs.Ring.{is_privileged, privileged_count, first_privileged, weight, is_absent, first_value_is_prefix, IsPrefix};
+ghost use Rattle.ring_model.specs.Limits.{machine_limit};
+ghost use Rattle.ring_lanes.specs.Masks.{IsMaskOf};
 
 mod bytes;
 mod kernels;
@@ -18,11 +18,11 @@ use limits::are_below;
 use probe::Probe;
 
 /// Writes a bit for each machine into `out`: bit `i % 64` of word `i / 64` is set exactly where
-/// machine `i` is privileged, and every bit past the last machine is clear. For at most 256 machines.
+/// machine `i` is privileged, and every bit past the last machine is clear. No ring has more machines than bits.
 pub fn privileged_mask(s: &[u8], out: &mut [u64; 4])
     requires low { 2 ≤ length s.now }
-    requires high { length s.now ≤ 256 }
-    ensures { (i : ℕ) → i < 256 → bit_at (slice_index out.new (i / 64)) (i % 64) ≡ (if nat_lt i (length s.now) && is_privileged s.now i then 1 else 0) }
+    requires high { length s.now ≤ machine_limit }
+    ensures { IsMaskOf s.now out.new }
 {
     write_hits(&Privileged(s), out);
 }

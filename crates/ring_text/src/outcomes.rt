@@ -2,6 +2,7 @@
 
 ghost use Rattle.std.specs.Prelude.{◌≡◌, ◌≤◌, [], ◌∷◌, ◌++◌, IfOk, length, map};
 ghost use Rattle.std.specs.List.{flat_map, AllByRecursion};
+ghost use Rattle.ring_settings.specs.Limits.{ring_limit};
 ghost use Rattle.text_lines.specs.Spelling.{row};
 ghost use Rattle.text_lines.specs.Writing.{Writes};
 ghost use Rattle.ring_text.specs.Spelling.{ring_line, start_line, event_line, end_line, survey_line, block_text, text, EventFits, SurveyFits, BlockFits, Fits};
@@ -186,7 +187,7 @@ fn put_block<W: Write>(out: &mut W, place: u32, ring: &RingOutcome) -> Result<()
 
 /// Writes the blocks of the rings, each with its place from 0.
 fn put_blocks<W: Write>(out: &mut W, rings: &[RingOutcome]) -> Result<(), WriteFault>
-    requires { length rings.now ≤ 16 }
+    requires { length rings.now ≤ ring_limit }
     ensures written { Writes (W.contents out.old) (W.contents out.new) result (flat_map block_text (blocks_from 0 rings.now)) }
     ensures fits { IfOk result (λ _. AllByRecursion BlockFits (blocks_from 0 rings.now)) }
 {
@@ -212,7 +213,7 @@ fn put_blocks<W: Write>(out: &mut W, rings: &[RingOutcome]) -> Result<(), WriteF
 /// there. The writer then holds a beginning of the text, but not all of it, behind what it held.
 pub fn write_outcome<W: Write>(outcome: &Outcome, out: &mut W) -> Result<(), WriteFault>
     requires some { 1 ≤ length outcome.now.rings.items }
-    requires most { length outcome.now.rings.items ≤ 16 }
+    requires most { length outcome.now.rings.items ≤ ring_limit }
     ensures written { Writes (W.contents out.old) (W.contents out.new) result (text (saved_of outcome.now)) }
     ensures fits { IfOk result (λ _. Fits (saved_of outcome.now)) }
 {
