@@ -6,3 +6,4 @@ pub mod Greatest
 pub mod Folding
 pub mod Joined
 pub mod Returning
+pub mod Searching

@@ -4,7 +4,7 @@ use Rattle.std.specs.List.{range_with_len}
 use Rattle.std.proofs.lemmas.List.FromFn.{length-map-range_with_len}
 use Rattle.std.specs.Simd.Lanes.{mask_l, zip2, top, chunk}
 use Rattle.std.proofs.lemmas.Simd.{length-chunk, get_or-chunk, length-replicate, get_or-replicate, mask_l-mod}
-use mir.Syntax.{Width, w8, w16, w32, w64, w128}
+use mir.Syntax.{w8}
 use mir.Val.{bits, hbits}
 use Rattle.ring_lanes.specs.Hits.{returning_at, mask_from}
 use Rattle.ring_lanes.proofs.Blocks.{zip_is_map}
@@ -14,37 +14,21 @@ both_maps : (p q : ℕ → Bool) (xs : List ℕ) → zip2 (λ a b. a && b) (map 
 both_maps p q [] = refl
 both_maps p q (x ∷ xs) = ap (λ (l : List Bool). (p x && q x) ∷ l) (both_maps p q xs)
 
-lane_both : (w : Width) (a b : Bool) → top (hbits w) (bit_and (cond a (2 ^ bits w - 1) 0) (cond b (2 ^ bits w - 1) 0)) ≡ (a && b)
-lane_both w8 true true = refl
-lane_both w8 true false = refl
-lane_both w8 false true = refl
-lane_both w8 false false = refl
-lane_both w16 true true = refl
-lane_both w16 true false = refl
-lane_both w16 false true = refl
-lane_both w16 false false = refl
-lane_both w32 true true = refl
-lane_both w32 true false = refl
-lane_both w32 false true = refl
-lane_both w32 false false = refl
-lane_both w64 true true = refl
-lane_both w64 true false = refl
-lane_both w64 false true = refl
-lane_both w64 false false = refl
-lane_both w128 true true = refl
-lane_both w128 true false = refl
-lane_both w128 false true = refl
-lane_both w128 false false = refl
+lane_both : (a b : Bool) → top (hbits w8) (bit_and (cond a (2 ^ bits w8 - 1) 0) (cond b (2 ^ bits w8 - 1) 0)) ≡ (a && b)
+lane_both true true = refl
+lane_both true false = refl
+lane_both false true = refl
+lane_both false false = refl
 
--- two comparisons of vectors, joined lane by lane
-tops_both : (w : Width) (t u : ℕ → ℕ → Bool) (xs ys zs vs : List ℕ)
-    → map (top (hbits w)) (zip2 (λ a b. bit_and a b) (zip2 (λ x y. cond (t x y) (2 ^ bits w - 1) 0) xs ys) (zip2 (λ x y. cond (u x y) (2 ^ bits w - 1) 0) zs vs))
+-- two comparisons of byte vectors, joined lane by lane
+tops_both : (t u : ℕ → ℕ → Bool) (xs ys zs vs : List ℕ)
+    → map (top (hbits w8)) (zip2 (λ a b. bit_and a b) (zip2 (λ x y. cond (t x y) (2 ^ bits w8 - 1) 0) xs ys) (zip2 (λ x y. cond (u x y) (2 ^ bits w8 - 1) 0) zs vs))
     ≡ zip2 (λ a b. a && b) (zip2 t xs ys) (zip2 u zs vs)
-tops_both w t u [] ys zs vs = refl
-tops_both w t u (x ∷ xs) [] zs vs = refl
-tops_both w t u (x ∷ xs) (y ∷ ys) [] vs = refl
-tops_both w t u (x ∷ xs) (y ∷ ys) (z ∷ zs) [] = refl
-tops_both w t u (x ∷ xs) (y ∷ ys) (z ∷ zs) (v ∷ vs) = rw (lane_both w (t x y) (u z v)) (ap (λ (l : List Bool). (t x y && u z v) ∷ l) (tops_both w t u xs ys zs vs))
+tops_both t u [] ys zs vs = refl
+tops_both t u (x ∷ xs) [] zs vs = refl
+tops_both t u (x ∷ xs) (y ∷ ys) [] vs = refl
+tops_both t u (x ∷ xs) (y ∷ ys) (z ∷ zs) [] = refl
+tops_both t u (x ∷ xs) (y ∷ ys) (z ∷ zs) (v ∷ vs) = rw (lane_both (t x y) (u z v)) (ap (λ (l : List Bool). (t x y && u z v) ∷ l) (tops_both t u xs ys zs vs))
 
 pub returning_next : (s : List ℕ) (i : ℕ) → 1 ≤ i → returning_at s i ≡ (eqb (get_or s i 0) (get_or s 0 0) && not (eqb (get_or s (i - 1) 0) (get_or s 0 0)))
 unfolding returning_at
@@ -55,15 +39,15 @@ pub returning_first : (s : List ℕ) → returning_at s 0 ≡ false
 unfolding returning_at
 returning_first s = refl
 
-pub returning_mask : (w : Width) (s : List ℕ) (i n : ℕ) → n ≤ 64 → 1 ≤ i → i + n ≤ length s
+pub returning_mask : (s : List ℕ) (i n : ℕ) → n ≤ 64 → 1 ≤ i → i + n ≤ length s
     → mask_l
-    (map (top (hbits w))
-    (zip2 (λ a b. bit_and a b) (zip2 (λ x y. cond (eqb x y) (2 ^ bits w - 1) 0) (chunk i n s) (replicate n (get_or s 0 0)))
-    (zip2 (λ x y. cond (not (eqb x y)) (2 ^ bits w - 1) 0) (chunk (i - 1) n s) (replicate n (get_or s 0 0)))))
+    (map (top (hbits w8))
+    (zip2 (λ a b. bit_and a b) (zip2 (λ x y. cond (eqb x y) (2 ^ bits w8 - 1) 0) (chunk i n s) (replicate n (get_or s 0 0)))
+    (zip2 (λ x y. cond (not (eqb x y)) (2 ^ bits w8 - 1) 0) (chunk (i - 1) n s) (replicate n (get_or s 0 0)))))
     % 2 ^ 64
     ≡ mask_from (returning_at s) i n
 unfolding mask_from
-returning_mask w s i n le low room =
+returning_mask s i n le low room =
     let v = get_or s 0 0 in
     let own : ℕ → Bool = λ k. eqb (get_or s k 0) v in
     let left : ℕ → Bool = λ k. not (eqb (get_or s (k - 1) 0) v) in
@@ -78,7 +62,7 @@ returning_mask w s i n le low room =
     let both : List Bool → List Bool → List Bool = zip2 (λ a b. a && b) in
     let size : length (map (λ k. own k && left k) (range_with_len i n)) ≡ n = length-map-range_with_len (λ k. own k && left k) i n in
     ap (λ (ms : List Bool). mask_l ms % 2 ^ 64)
-    (tops_both w eqb (λ x y. not (eqb x y)) (chunk i n s) (replicate n v) (chunk (i - 1) n s) (replicate n v)
+    (tops_both eqb (λ x y. not (eqb x y)) (chunk i n s) (replicate n v) (chunk (i - 1) n s) (replicate n v)
     ∙ ap (λ (ms : List Bool). both ms (zip2 (λ x y. not (eqb x y)) (chunk (i - 1) n s) (replicate n v))) own_is
     ∙ ap (λ (ms : List Bool). both (map own (range_with_len i n)) ms) left_is ∙ both_maps own left (range_with_len i n))
     ∙ mask_l-mod (map (λ k. own k && left k) (range_with_len i n)) 64 (omega arith)

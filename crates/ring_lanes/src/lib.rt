@@ -19,7 +19,7 @@ use bytes::{Holding, Privileged, Returning};
 use kernels::{any_hit, count_hits, first_hit, weigh_hits, write_hits};
 use limits::are_below;
 use probe::Probe;
-use wide::{WideHolding, WidePrivileged, WideReturning};
+use wide::{WideDiffering, WideHolding, WidePrivileged};
 use wide_limits::are_wide_below;
 
 /// Writes a bit for each machine into `out`: bit `i % 64` of word `i / 64` is set exactly where
@@ -171,5 +171,13 @@ pub fn wide_first_value_is_prefix(s: &[u16]) -> bool
     ensures test { result ≡ first_value_is_prefix s.now }
     ensures prefix { IsTrue result ↔ ((p : ℕ) × IsPrefix s.now p) }
 {
-    !any_hit(&WideReturning(s))
+    let value = s[0];
+    let end = first_hit(&WideDiffering { values: s, value }, 1);
+    if end == s.len() {
+        return true;
+    }
+    !any_hit(&WideHolding {
+        values: &s[end..],
+        value,
+    })
 }

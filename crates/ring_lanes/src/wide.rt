@@ -1,6 +1,6 @@
 // The tests of a ring that has two bytes for each machine.
-ghost use Rattle.std.specs.Prelude.{◌==◌, length, slice_index};
-ghost use Rattle.ring_lanes.specs.Hits.{privileged_at, returning_at};
+ghost use Rattle.std.specs.Prelude.{◌==◌, not, length, slice_index};
+ghost use Rattle.ring_lanes.specs.Hits.{privileged_at};
 
 use crate::probe::Probe;
 use std::simd::prelude::*;
@@ -16,9 +16,12 @@ pub(crate) struct WideHolding<'a> {
     pub(crate) value: u16,
 }
 
-// Passes the machines that hold the value of machine 0 though their left neighbours do not.
+// Passes the machines that hold another value than this one.
 #[derive(Clone, Copy)]
-pub(crate) struct WideReturning<'a>(pub(crate) &'a [u16]);
+pub(crate) struct WideDiffering<'a> {
+    pub(crate) values: &'a [u16],
+    pub(crate) value: u16,
+}
 
 impl Probe for WidePrivileged<'_> {
     ghost size = { λ p. length p.0.now };
@@ -70,30 +73,24 @@ impl Probe for WideHolding<'_> {
     }
 }
 
-impl Probe for WideReturning<'_> {
-    ghost size = { λ p. length p.0.now };
+impl Probe for WideDiffering<'_> {
+    ghost size = { λ p. length p.values.now };
 
-    ghost hit = { λ p. returning_at p.0.now };
+    ghost hit = { λ p i. not (slice_index p.values.now i == p.value) };
 
     #[inline(always)]
     fn len(&self) -> usize {
-        self.0.len()
+        self.values.len()
     }
 
     #[inline(always)]
     fn is_hit(&self, i: usize) -> bool {
-        let s = self.0;
-        if i == 0 {
-            return false;
-        }
-        s[i] == s[0] && s[i - 1] != s[0]
+        self.values[i] != self.value
     }
 
     #[inline(always)]
     fn hits(&self, i: usize) -> u64 {
-        let first = u16x32::splat(self.0[0]);
-        let neighbours = u16x32::from_slice(&self.0[i - 1..]);
-        let own = u16x32::from_slice(&self.0[i..]);
-        (own.simd_eq(first) & neighbours.simd_ne(first)).to_bitmask()
+        let own = u16x32::from_slice(&self.values[i..]);
+        own.simd_ne(u16x32::splat(self.value)).to_bitmask()
     }
 }
