@@ -1,5 +1,5 @@
 -- Each move of a ring that is not settled lowers the rest.
-use Rattle.std.proofs.Common.{◌≡◌, ℕ, zero, suc, ◌+◌, ◌*◌, ◌<◌, ◌≤◌, true, false, List, length, ap, arith}
+use Rattle.std.proofs.Common.{◌≡◌, ℕ, zero, suc, ◌+◌, ◌*◌, ◌<◌, ◌≤◌, true, false, length, ap, arith}
 use Rattle.std.proofs.lemmas.Bool.{cond-false, cond_both}
 use Rattle.std.proofs.Math.Nat.{mul-le-mul_left}
 use Rattle.ring_model.specs.Ring.{Ring, IsRing, is_privileged, moved, is_settled, weight, lead, rest}

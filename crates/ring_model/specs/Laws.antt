@@ -1,6 +1,6 @@
 -- The laws of settlement, over the definitions of a ring alone.
-use Rattle.std.specs.Prelude.{◌≡◌, ℕ, ◌+◌, ◌-◌, ◌%◌, ◌<◌, ◌≤◌, ◌≢◌, true, false, List, length, slice_index}
-use Rattle.ring_model.specs.Ring.{Ring, IsRing, is_privileged, moved, right_neighbour, privileged_count, first_privileged, is_settled, is_absent, first_value_is_prefix, IsPrefix, lead, rest, bound}
+use Rattle.std.specs.Prelude.{◌≡◌, ℕ, ◌+◌, ◌-◌, ◌%◌, ◌<◌, ◌≤◌, true, false, List, length, slice_index}
+use Rattle.ring_model.specs.Ring.{Ring, IsRing, is_privileged, moved, privileged_count, first_privileged, is_settled, is_absent, first_value_is_prefix, IsPrefix, lead, rest, bound}
 use Rattle.ring_model.specs.Closure.{IsClosed, KeepsOthers}
 use Rattle.ring_model.specs.Runs.{after_passes, granted_passes, AreBelow, GoesRoundFrom}
 
