@@ -76,6 +76,7 @@ impl Settings {
         ensures is { result ≡ length self.now.rings }
         ensures some { 1 ≤ result }
         ensures most { result ≤ 16 }
+        ensures settings { IsSettings self.now }
     {
         self.rings.len()
     }
