@@ -1,5 +1,6 @@
-// Refuses one request for memory of a process: preloaded, with the number of the request, from 1, in REFUSED_REQUEST.
-// Where it came to that request, it makes the file that REFUSED_MARK names.
+// Refuses requests for memory of a process: preloaded, with the number of the one request, from 1, in REFUSED_REQUEST, or
+// with the largest number of bytes that one request may be for in LARGEST_REQUEST.
+// Where it refused a request, it makes the file that REFUSED_MARK names.
 #define _GNU_SOURCE
 #include <dlfcn.h>
 #include <errno.h>
@@ -11,9 +12,16 @@
 
 static atomic_long requests;
 
-static int is_refused(void) {
+// whether it is the one request, or is for too many bytes
+static int is_named(size_t size) {
     const char *number = getenv("REFUSED_REQUEST");
-    if (!number || atomic_fetch_add(&requests, 1) + 1 != atol(number)) return 0;
+    const char *largest = getenv("LARGEST_REQUEST");
+    if (number && atomic_fetch_add(&requests, 1) + 1 == atol(number)) return 1;
+    return largest && size > strtoull(largest, NULL, 10);
+}
+
+static int is_refused(size_t size) {
+    if (!is_named(size)) return 0;
     const char *mark = getenv("REFUSED_MARK");
     int file = mark ? open(mark, O_CREAT | O_WRONLY, 0600) : -1;
     if (file >= 0) close(file);
@@ -24,11 +32,11 @@ static int is_refused(void) {
 void *malloc(size_t size) {
     static void *(*next)(size_t);
     if (!next) next = (void *(*)(size_t))dlsym(RTLD_NEXT, "malloc");
-    return is_refused() ? NULL : next(size);
+    return is_refused(size) ? NULL : next(size);
 }
 
 void *realloc(void *old, size_t size) {
     static void *(*next)(void *, size_t);
     if (!next) next = (void *(*)(void *, size_t))dlsym(RTLD_NEXT, "realloc");
-    return is_refused() ? NULL : next(old, size);
+    return is_refused(size) ? NULL : next(old, size);
 }

@@ -1,7 +1,8 @@
 #!/bin/sh
 # Refuses each request for memory in turn: in those tests that are written for it (they pass where a refusal is told and
 # what was there before still is), and in the program, which has to answer as ever, or with status 1, a text that names
-# what failed, and nothing on standard output. Words: the crates to try, all of them where there is none.
+# what failed, and nothing on standard output. And runs a test in which no request may be for more than 4 KiB.
+# Words: the crates to try, all of them where there is none.
 # Needs rt and a C compiler.
 set -eu
 . "$(dirname "$0")/common.sh"
@@ -41,6 +42,20 @@ try_crate() {
     done
 }
 
+# a test of a crate, proved and built before, by its full name: it has to pass with no request for more than so many bytes
+try_largest() {
+    rm -f "$mark"
+    status=0
+    LARGEST_REQUEST=$3 REFUSED_MARK=$mark LD_PRELOAD=$out/refuse_memory.so "$top/crates/$1/out/$1_tests" "$2" >"$out/refused.txt" 2>&1 || status=$?
+    if [ "$status" != 0 ] || [ -e "$mark" ]; then
+        echo "$1 $2: a request for more than $3 bytes"
+        tail -1 "$out/refused.txt"
+        failed=1
+    else
+        echo "$1 $2: no request for more than $3 bytes"
+    fi
+}
+
 # the program with these words, in the folder of the outputs
 try_program() {
     (cd "$out" && "$program" "$@" >wanted.txt 2>wanted-fault.txt) || { cat "$out/wanted-fault.txt"; exit 1; }
@@ -65,6 +80,10 @@ crates=${*:-ring_tests farm_tests text_tests check_tests ring_tool}
 for crate in $crates; do
     case $crate in
     ring_tests) try_crate "$crate" "^(book|settle)::|memory" ;;
+    text_tests)
+        try_crate "$crate" memory
+        try_largest "$crate" saved::reading::room_is_asked_for_as_values_are_read 4096
+        ;;
     check_tests) try_crate "$crate" first_text_is_legal ;;
     ring_tool)
         build ring_tool --help

@@ -1,9 +1,10 @@
 -- What the threads of a ring promise, and what they hand back.
-use Rattle.std.specs.Prelude.{◌≡◌, ℕ}
+use Rattle.std.specs.Prelude.{◌≡◌, ℕ, ◌<◌, ◌≤◌, List, [], All, length, Some, slice_get}
+use Rattle.ring_model.specs.History.{Ring}
 use Rattle.ring_settings.specs.declared.actions.Plan.{Plan}
 use Rattle.ring_shared.specs.Client.{Client}
 use Rattle.ring_farm.specs.declared.threads.Does.{Does}
-use Rattle.ring_farm.specs.Plans.{actions_of, part}
+use Rattle.ring_farm.specs.Plans.{actions_of, part, AreActionsOn}
 
 -- the promise is that of the seat with this number, for this plan
 abbrev pub IsPromised : ℕ → ℕ → Plan → Does → Type 0
@@ -16,3 +17,11 @@ IsKept i d s = (s.number ≡ d.number) × (actions_of d.ring s.log ≡ part d.ri
 -- the seat has this number, and its log is the plan's part
 abbrev pub IsDone : ℕ → ℕ → Plan → Client → Type 0
 IsDone ring i p s = (s.number ≡ i) × (actions_of ring s.log ≡ part ring p.actions.items)
+
+-- seats for these plans, numbered in their order and with nothing done, on a ring that each plan's part can be made on
+abbrev pub AreReady : ℕ → Ring → List Plan → List Client → Type 0
+AreReady ring start plans seats =
+    (length seats ≡ length plans)
+    × All (λ (p : Plan). length p.actions.items ≤ 1000000) plans
+    × All (λ (p : Plan). AreActionsOn ring start p.actions.items) plans
+    × ((i : ℕ) → i < length plans → slice_get seats i ≡ Some (record { number = i; log = [] }))

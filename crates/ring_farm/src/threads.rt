@@ -1,7 +1,7 @@
 //! The threads of one ring: one for each plan, all joined.
-ghost use Rattle.std.specs.Prelude.{◌≡◌, ℕ, ◌<◌, ◌≤◌, [], None, All, Some, map, slice_get, length, vec_len, vec_capacity, IfOk, IsTrue};
+ghost use Rattle.std.specs.Prelude.{◌≡◌, ℕ, ◌<◌, ◌≤◌, [], None, All, Some, map, slice_get, length, vec_len, vec_capacity, IfOk, IfSome, IsTrue};
 ghost use Rattle.ring_farm.specs.Plans.{Pairs, actions_of, part, AreActionsOn};
-ghost use Rattle.ring_farm.specs.Promises.{IsPromised, IsKept, IsDone};
+ghost use Rattle.ring_farm.specs.Promises.{IsPromised, IsKept, IsDone, AreReady};
 ghost use Rattle.ring_settings.specs.declared.actions.Plan.{Plan};
 
 use crate::faults::{FarmError, first_fault};
@@ -29,6 +29,41 @@ impl<N: Name> Promise<Work<N>> for Does {
     ghost use Rattle.ring_farm.specs.Plans.{actions_of, part};
 
     ghost kept_by = { λ p w. (w.seat.number ≡ p.number) × (w.fault ≡ None → actions_of p.ring w.seat.log ≡ part p.ring p.plan.value.actions.items) };
+}
+
+/// Starts a thread for the seat, with this plan. None where it could not be started.
+fn spawn_one<
+    's,
+    E: 's,
+    N: Name + Send + Sync + 's,
+    R: Resource + Drop + Send + 's,
+    G: Gate + Sync + 's,
+    W: Threads + Wait + Sync + 's,
+>(
+    scope: &Scope<'s, E>,
+    rt: &'s W,
+    ring: &'s Ring<N, R>,
+    gate: &'s G,
+    number: u32,
+    plan: &'s Plan,
+    seat: Seat<N>,
+) -> Option<PromisedHandle<Work<N>, Does>>
+    requires few { length plan.now.actions.items ≤ 1000000 }
+    requires possible { AreActionsOn number N.start plan.now.actions.items }
+    requires new { seat.log ≡ [] }
+    ensures { IfSome result (λ h. IsPromised number seat.number plan.entry.now h.promise) }
+{
+    let promise = Does {
+        ring: number,
+        number: seat.number(),
+        plan: Snapshot::of(plan),
+    };
+    let job = move || -> Work<N>
+        requires { (length plan.now.actions.items ≤ 1000000) × AreActionsOn number N.start plan.now.actions.items × (seat.log ≡ []) }
+        ensures number { result.seat.number ≡ seat.number }
+        ensures log { result.fault ≡ None → actions_of number result.seat.log ≡ part number plan.entry.now.actions.items }
+    { run_plan(rt, ring, gate, number, plan, seat) };
+    scope.spawn_with(promise, job).ok()
 }
 
 /// Starts a thread for each seat, with the plan of its number. False where one could not be started; the
@@ -64,19 +99,9 @@ fn spawn_all<
     let mut i = 0;
     for seat in seats {
         let plan = &plans[i];
-        let promise = Does {
-            ring: number,
-            number: seat.number(),
-            plan: Snapshot::of(plan),
-        };
-        let job = move || -> Work<N>
-            requires { (length plan.now.actions.items ≤ 1000000) × AreActionsOn number N.start plan.now.actions.items × (seat.log ≡ []) }
-            ensures number { result.seat.number ≡ seat.number }
-            ensures log { result.fault ≡ None → actions_of number result.seat.log ≡ part number plan.entry.now.actions.items }
-        { run_plan(rt, ring, gate, number, plan, seat) };
-        match scope.spawn_with(promise, job) {
-            Ok(handle) => handles.push_reserved(handle),
-            Err(_) => all = false,
+        match spawn_one(scope, rt, ring, gate, number, plan, seat) {
+            Some(handle) => handles.push_reserved(handle),
+            None => all = false,
         }
         i += 1;
     }
@@ -104,6 +129,44 @@ fn join_all<N: Name + Send, W: Threads>(
         Some(fault) => Err(fault),
         None => Ok(seats),
     }
+}
+
+/// Runs each plan's part on a thread of its own, and hands back the seats, by these empty lists of threads and seats.
+fn run_in_scope<
+    N: Name + Send + Sync,
+    R: Resource + Drop + Send,
+    G: Gate + Sync,
+    W: Threads + Wait + Sync,
+>(
+    rt: &W,
+    ring: &Ring<N, R>,
+    gate: &G,
+    number: u32,
+    plans: &Vec<Plan>,
+    seats: Vec<Seat<N>>,
+    handles: Vec<PromisedHandle<Work<N>, Does>>,
+    back: Vec<Seat<N>>,
+) -> Result<Vec<Seat<N>>, FarmError>
+    requires ready { AreReady number N.start plans.now.items seats.items }
+    requires room { (vec_len seats ≤ vec_capacity handles) × (vec_len seats ≤ vec_capacity back) }
+    requires empty { (handles.items ≡ []) × (back.items ≡ []) }
+    ensures { IfOk result (λ v. (vec_len v ≡ vec_len plans.now) × Pairs (IsDone number) plans.now.items v.items) }
+{
+    thread::scope(
+        thread::scope_env(),
+        rt,
+        |scope| -> Result<Vec<Seat<N>>, FarmError>
+            requires { AreReady number N.start plans.now.items seats.items × (vec_len seats ≤ vec_capacity handles) × (vec_len seats ≤ vec_capacity back) × (handles.items ≡ []) × (back.items ≡ []) }
+            ensures { IfOk result (λ v. (vec_len v ≡ vec_len plans.entry.now) × Pairs (IsDone number) plans.entry.now.items v.items) }
+        {
+            let (handles, all) = spawn_all(scope, rt, ring, gate, number, plans, seats, handles);
+            let joined = join_all(rt, handles, back);
+            if !all {
+                return Err(FarmError::Spawn);
+            }
+            joined
+        },
+    )
 }
 
 /// Runs each plan's part for the ring of this number on a thread of its own, and hands back the seats.
@@ -139,26 +202,5 @@ pub(crate) fn run_threads<
     let Ok(back) = Vec::with_capacity(alloc, plans.len()) else {
         return Err(FarmError::OutOfMemory);
     };
-    thread::scope(
-        thread::scope_env(),
-        rt,
-        |scope| -> Result<Vec<Seat<N>>, FarmError>
-            requires { (vec_len seats ≡ vec_len plans.now)
-                × (vec_len seats ≤ vec_capacity handles)
-                × (vec_len seats ≤ vec_capacity back)
-                × (handles.items ≡ [])
-                × (back.items ≡ [])
-                × All (λ p. length p.actions.items ≤ 1000000) plans.now.items
-                × All (λ p. AreActionsOn number N.start p.actions.items) plans.now.items
-                × ((i : ℕ) → i < vec_len plans.now → slice_get seats.items i ≡ Some (record { number = i; log = [] })) }
-            ensures { IfOk result (λ v. (vec_len v ≡ vec_len plans.entry.now) × Pairs (IsDone number) plans.entry.now.items v.items) }
-        {
-            let (handles, all) = spawn_all(scope, rt, ring, gate, number, plans, seats, handles);
-            let joined = join_all(rt, handles, back);
-            if !all {
-                return Err(FarmError::Spawn);
-            }
-            joined
-        },
-    )
+    run_in_scope(rt, ring, gate, number, plans, seats, handles, back)
 }

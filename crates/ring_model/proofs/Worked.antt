@@ -1,6 +1,7 @@
 -- The worked history computes to what its statements say; a log that does not fit breaks one of the demands.
 use Rattle.std.proofs.Common.{◌≡◌, ℕ, ◌≤◌, List, [], ◌∷◌, length, refl, ap, arith}
 use Rattle.std.specs.Prelude.{Option, Some, None}
+use Rattle.ring_model.specs.Runs.{GoesRoundFrom}
 use Rattle.ring_model.specs.Logs.{IsFollowed}
 use Rattle.ring_model.specs.Resources.{till}
 use Rattle.ring_model.specs.Worked.{worked_start, worked_history, worked_survey, zeroth_event, first_event, second_event, fifth_event, seen, called, looked, FitsWorked, WorkedPlaces, WorkedGrants, WorkedLogs}
@@ -31,6 +32,9 @@ worked_places = record {
   at_end = refl;
 }
 
+goes_back_round : GoesRoundFrom 3 2 (2 ∷ 1 ∷ []) → ⊥
+goes_back_round g = let h : ◌≡◌ {A = ℕ} 1 0 = g.1.0 in omega arith
+
 pub worked_grants : WorkedGrants
 worked_grants = record {
   machines = refl;
@@ -38,6 +42,8 @@ worked_grants = record {
   of_one = refl;
   of_two = refl;
   run = refl;
+  round = (refl, (refl, tt));
+  not_back = goes_back_round;
   settled_of_zero = refl;
   settled_of_one = refl;
   settled_of_two = refl;

@@ -1,5 +1,6 @@
 -- A history worked by hand: three machines with three values over the till, and the calls of two seats.
 use Rattle.std.specs.Prelude.{◌≡◌, ℕ, List, [], ◌∷◌}
+use Rattle.ring_model.specs.Runs.{GoesRoundFrom}
 use Rattle.ring_model.specs.History.{State, after, IsLegal}
 use Rattle.ring_model.specs.Surveys.{survey_at}
 use Rattle.ring_model.specs.Grants.{grants_of, granted_machines, settled_run, settled_grants_of}
@@ -77,6 +78,9 @@ pub record WorkedGrants : Type 0 where
   pub of_one : grants_of 1 worked_history ≡ 1
   pub of_two : grants_of 2 worked_history ≡ 2
   pub run : settled_run till worked_start worked_history ≡ fifth_event ∷ sixth_event ∷ []
+  -- from machine 2 they go to machine 0, and not back to machine 1
+  pub round : GoesRoundFrom 3 2 (granted_machines (settled_run till worked_start worked_history))
+  pub not_back : ¬ GoesRoundFrom 3 2 (2 ∷ 1 ∷ [])
   pub settled_of_zero : settled_grants_of till worked_start 0 worked_history ≡ 1
   pub settled_of_one : settled_grants_of till worked_start 1 worked_history ≡ 0
   pub settled_of_two : settled_grants_of till worked_start 2 worked_history ≡ 1

@@ -89,23 +89,12 @@ impl<N: Name, R: Resource + Drop> Ring<N, R> {
         ensures mismatch { IfErr result (λ f. f.reason ≡ CloseReason.Mismatch → All (λ s. Fits R.works (opening N.start R.first) f.book.history s.number s.log) seats.items → ⊥) }
         ensures fault { IfErr result (λ f. (f.book.start ≡ N.start) × IsBook R.works R.first f.book × AreOfSeats N.seats f.book.history × (f.seats.items ≡ seats.items)) }
     {
-        let Ring {
-            shared,
-            seats: count,
-        } = self;
+        let Ring { shared, seats: all } = self;
         let book = shared.into_inner().into_book();
-        if seats.len() < count as usize {
-            return Err(refused(CloseReason::SeatsMissing, book, seats));
-        }
-        let Ok(logs) = Vec::with_capacity(alloc, seats.len()) else {
-            return Err(refused(CloseReason::OutOfMemory, book, seats));
+        let logs = match room_for_logs(alloc, &book, all, seats.as_slice()) {
+            Ok(logs) => logs,
+            Err(reason) => return Err(refused(reason, book, seats)),
         };
-        let Ok(fit) = all_fit(alloc, &book, seats.as_slice()) else {
-            return Err(refused(CloseReason::OutOfMemory, book, seats));
-        };
-        if !fit {
-            return Err(refused(CloseReason::Mismatch, book, seats));
-        }
         all_given(seats.as_slice());
         sort(&mut seats);
         Ok(Closed {
@@ -113,6 +102,35 @@ impl<N: Name, R: Resource + Drop> Ring<N, R> {
             logs: into_logs(seats, logs),
         })
     }
+}
+
+/// Room for the logs of these seats, where they are as many as the ring has and each one's log fits the history.
+fn room_for_logs<N: Name, R: Resource + Drop>(
+    alloc: Global,
+    book: &Book<R>,
+    count: u32,
+    seats: &[Seat<N>],
+) -> Result<Vec<Log>, CloseReason>
+    requires { count ≡ N.seats }
+    ensures room { IfOk result (λ v. (length seats.now ≤ vec_capacity v) × (v.items ≡ [])) }
+    ensures all { IfOk result (λ _. N.seats ≤ length seats.now) }
+    ensures fits { IfOk result (λ _. All (λ s. Fits R.works (opening book.now.start R.first) book.now.history s.number s.log) seats.now) }
+    ensures missing { MatchResult result (λ _. ⊥) (λ e. e ≡ CloseReason.SeatsMissing) ↔ length seats.now < N.seats }
+    ensures mismatch { IfErr result (λ e. e ≡ CloseReason.Mismatch → All (λ s. Fits R.works (opening book.now.start R.first) book.now.history s.number s.log) seats.now → ⊥) }
+{
+    if seats.len() < count as usize {
+        return Err(CloseReason::SeatsMissing);
+    }
+    let Ok(logs) = Vec::with_capacity(alloc, seats.len()) else {
+        return Err(CloseReason::OutOfMemory);
+    };
+    let Ok(fit) = all_fit(alloc, book, seats) else {
+        return Err(CloseReason::OutOfMemory);
+    };
+    if !fit {
+        return Err(CloseReason::Mismatch);
+    }
+    Ok(logs)
 }
 
 /// Whether each seat's log fits the history of the book.

@@ -81,43 +81,42 @@ fn check_ring(rt: &impl Abort, s: &[u8])
     }
 }
 
-// All 0 but a 1 at machine d of n.
-fn check_lone(rt: &impl Abort, n: usize, d: usize)
+// The count, the first, the weight and the prefix test of n machines, all 0 but a 1 at machine d.
+fn lone_answers(n: usize, d: usize) -> (usize, usize, u64, bool)
     requires low { 2 ≤ n }
     requires high { n ≤ 256 }
     requires place { d < n }
 {
-    let mut values = [0u8; 256];
-    values[d] = 1;
-    let s = &values[..n];
-    let (count, first, sum, prefix) = if d == 0 {
-        (1, 1, n - 1, true)
+    if d == 0 {
+        (1, 1, (n - 1) as u64, true)
     } else if d < n - 1 {
-        (3, 0, (n - d) + (n - d - 1), false)
+        (3, 0, ((n - d) + (n - d - 1)) as u64, false)
     } else {
         (1, n - 1, 1, true)
-    };
-    assert_eq!(rt;
-        (
-            privileged_count(s),
-            first_privileged(s),
-            weight(s),
-            first_value_is_prefix(s)
-        ),
-        (count, first, sum as u64, prefix),
-        "at {n} and {d}"
-    );
-    assert_eq!(rt;
-        (all_below(s, 1), holds_past_first(s, 1)),
-        (false, d >= 1),
-        "the value 1 at {n} and {d}"
-    );
-    for limit in [2, 256, u32::MAX] {
-        assert!(rt;
-            all_below(s, limit),
-            "no value from {limit} on at {n} and {d}"
-        );
     }
+}
+
+// The kernels on such a ring; past the first, machine d alone holds the value 1.
+fn check_lone(rt: &impl Abort, s: &[u8], d: usize)
+    requires low { 2 ≤ length s.now }
+    requires high { length s.now ≤ 256 }
+    requires place { d < length s.now }
+{
+    let got = (
+        privileged_count(s),
+        first_privileged(s),
+        weight(s),
+        first_value_is_prefix(s),
+    );
+    assert_eq!(rt; got, lone_answers(s.len(), d), "1 at {d} of {s:?}");
+    let below = (
+        all_below(s, 1),
+        all_below(s, 2),
+        all_below(s, 256),
+        all_below(s, u32::MAX),
+    );
+    assert_eq!(rt; below, (false, true, true, true), "1 at {d} of {s:?}");
+    assert_eq!(rt; holds_past_first(s, 1), d >= 1, "1 at {d} of {s:?}");
     check_ring(rt, s);
 }
 
@@ -126,7 +125,9 @@ fn a_lone_value(rt: HostRuntime) {
     for n in [2usize, 31, 32, 33, 34, 64, 65, 255, 256] {
         assert!(rt; n >= 2 && n <= 256);
         for d in 0..n {
-            check_lone(&rt, n, d);
+            let mut values = [0u8; 256];
+            values[d] = 1;
+            check_lone(&rt, &values[..n], d);
         }
     }
 }

@@ -1,7 +1,7 @@
 //! Walks through all states of small rings: each law, compared with the plain program at each state and
 //! each move, and the longest repair.
 
-ghost use Rattle.std.specs.Prelude.{◌<◌, ◌≤◌, length};
+ghost use Rattle.std.specs.Prelude.{◌≡◌, ◌<◌, ◌≤◌, length};
 
 use ring_model::plain;
 use std::process::Abort;
@@ -27,6 +27,46 @@ fn write_state(k: u32, number: usize, ring: &mut [u32])
     }
 }
 
+/// Besides the mover only its right neighbour may gain or lose its privilege.
+fn check_others(rt: &impl Abort, ring: &[u32], moved: &[u32], machine: usize)
+    requires same { length moved.now ≡ length ring.now }
+    requires within { machine < length ring.now }
+    requires short { length ring.now ≤ 5 }
+{
+    let right = (machine + 1) % ring.len();
+    for other in 0..ring.len() {
+        if other != machine && other != right {
+            assert_eq!(rt;
+                plain::is_privileged(moved, other),
+                plain::is_privileged(ring, other),
+                "{other} after {machine} of {ring:?}"
+            );
+        }
+    }
+}
+
+/// A settled ring stays settled and goes round; the rest of another falls.
+fn check_repair(rt: &impl Abort, k: u32, ring: &[u32], moved: &[u32], machine: usize)
+    requires positive { 0 < k }
+    requires same { length moved.now ≡ length ring.now }
+    requires within { machine < length ring.now }
+    requires short { length ring.now ≤ 5 }
+{
+    if plain::is_settled(ring) {
+        assert_eq!(rt; machine, plain::first_privileged(ring));
+        assert_eq!(rt;
+            (plain::is_settled(moved), plain::first_privileged(moved)),
+            (true, (machine + 1) % ring.len()),
+            "after {machine} of {ring:?}"
+        );
+    } else {
+        assert!(rt;
+            plain::rest(k, moved) < plain::rest(k, ring),
+            "descent after {machine} of {ring:?}"
+        );
+    }
+}
+
 /// The laws of one move from one state.
 fn check_move(rt: &impl Abort, k: u32, ring: &[u32], machine: usize)
     requires positive { 0 < k }
@@ -34,10 +74,8 @@ fn check_move(rt: &impl Abort, k: u32, ring: &[u32], machine: usize)
     requires short { length ring.now ≤ 5 }
     requires within { machine < length ring.now }
 {
-    let n = ring.len();
-    let right = (machine + 1) % n;
     let mut room = [0u32; 5];
-    let moved = &mut room[..n];
+    let moved = &mut room[..ring.len()];
     moved.copy_from_slice(ring);
     plain::move_machine(k, moved, machine);
 
@@ -50,28 +88,8 @@ fn check_move(rt: &impl Abort, k: u32, ring: &[u32], machine: usize)
         (true, true, false),
         "after {machine} of {ring:?}"
     );
-    for other in 0..n {
-        if other != machine && other != right {
-            assert_eq!(rt;
-                plain::is_privileged(moved, other),
-                plain::is_privileged(ring, other),
-                "{other} after {machine} of {ring:?}"
-            );
-        }
-    }
-    if plain::is_settled(ring) {
-        assert_eq!(rt; machine, plain::first_privileged(ring));
-        assert_eq!(rt;
-            (plain::is_settled(moved), plain::first_privileged(moved)),
-            (true, right),
-            "after {machine} of {ring:?}"
-        );
-    } else {
-        assert!(rt;
-            plain::rest(k, moved) < plain::rest(k, ring),
-            "descent after {machine} of {ring:?}"
-        );
-    }
+    check_others(rt, ring, moved, machine);
+    check_repair(rt, k, ring, moved, machine);
 }
 
 /// The laws of one state, and of each move from it.

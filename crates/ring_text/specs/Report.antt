@@ -71,12 +71,19 @@ totals_of rings = record {
 
 -- ---- the lines
 
--- a ring's place, its size, and what is counted of it
+-- a ring's place and its size
+abbrev pub size_words : ℕ → ℕ → ℕ → List ℕ
+size_words place n k = codes "ring " ++ (decimal place ++ (codes " n " ++ (decimal n ++ (codes " k " ++ decimal k))))
+
+-- what is counted of it, and the end of the line
+abbrev pub count_words : Counts → List ℕ
+count_words c =
+    codes " events " ++ (decimal c.events ++ (codes " granted " ++ (decimal c.granted ++ (codes " refused " ++ (decimal c.refused
+    ++ (codes " corrupted " ++ (decimal c.corrupted ++ (codes " surveys " ++ (decimal c.surveys ++ codes "\n")))))))))
+
+-- the first line of a ring
 abbrev pub counts_line : ℕ → ℕ → ℕ → Counts → List ℕ
-counts_line place n k c =
-    codes "ring " ++ (decimal place ++ (codes " n " ++ (decimal n ++ (codes " k " ++ (decimal k
-    ++ (codes " events " ++ (decimal c.events ++ (codes " granted " ++ (decimal c.granted ++ (codes " refused " ++ (decimal c.refused
-    ++ (codes " corrupted " ++ (decimal c.corrupted ++ (codes " surveys " ++ (decimal c.surveys ++ codes "\n")))))))))))))))
+counts_line place n k c = size_words place n k ++ count_words c
 
 -- the values of its machines
 abbrev pub states_line : List ℕ → List ℕ

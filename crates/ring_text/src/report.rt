@@ -5,7 +5,7 @@ ghost use Rattle.text_lines.specs.Spelling.{list_text};
 ghost use Rattle.text_lines.specs.Writing.{AreAnswers, Writes};
 ghost use Rattle.ring_model.specs.History.{after, opening};
 ghost use Rattle.ring_model.specs.Resources.{till};
-ghost use Rattle.ring_text.specs.Report.{entries_in, counts_of, counts_line, states_line, standing_line, grants_line, end_lines, ring_lines, total_line, report};
+ghost use Rattle.ring_text.specs.Report.{entries_in, counts_of, size_words, count_words, counts_line, states_line, standing_line, grants_line, end_lines, ring_lines, total_line, report};
 
 use crate::counts::{Counts, Totals, counted};
 use itoa::Buffer;
@@ -16,41 +16,31 @@ use ring_state::RingState;
 use std::io::Write;
 use text_lines::{WriteFault, put, put_all, put_list};
 
-/// The line of a ring's place, its size and what is counted of it.
-fn put_counts_line<W: Write>(
-    out: &mut W,
-    place: u32,
-    n: u32,
-    k: u32,
-    counts: Counts,
-) -> Result<(), WriteFault>
-    ensures { Writes (W.contents out.old) (W.contents out.new) result (counts_line place n k counts) }
+/// A ring's place and its size.
+fn put_size<W: Write>(out: &mut W, place: u32, n: u32, k: u32) -> Result<(), WriteFault>
+    ensures { Writes (W.contents out.old) (W.contents out.new) result (size_words place n k) }
 {
-    let mut sizes = (Buffer::new(), Buffer::new(), Buffer::new());
-    let mut buffers = (
-        Buffer::new(),
-        Buffer::new(),
-        Buffer::new(),
-        Buffer::new(),
-        Buffer::new(),
-    );
-    let place = sizes.0.format(place).as_bytes();
-    let n = sizes.1.format(n).as_bytes();
-    let k = sizes.2.format(k).as_bytes();
-    let events = buffers.0.format(counts.events).as_bytes();
-    let granted = buffers.1.format(counts.granted).as_bytes();
-    let refused = buffers.2.format(counts.refused).as_bytes();
-    let corrupted = buffers.3.format(counts.corrupted).as_bytes();
-    let surveys = buffers.4.format(counts.surveys).as_bytes();
+    let mut buffers = (Buffer::new(), Buffer::new(), Buffer::new());
+    let place = buffers.0.format(place).as_bytes();
+    let n = buffers.1.format(n).as_bytes();
+    let k = buffers.2.format(k).as_bytes();
+    put_all(out, &[b"ring ", place, b" n ", n, b" k ", k])
+}
+
+/// What is counted of a ring, and the end of the line.
+fn put_counts<W: Write>(out: &mut W, counts: Counts) -> Result<(), WriteFault>
+    ensures { Writes (W.contents out.old) (W.contents out.new) result (count_words counts) }
+{
+    let mut calls = (Buffer::new(), Buffer::new(), Buffer::new());
+    let mut others = (Buffer::new(), Buffer::new());
+    let events = calls.0.format(counts.events).as_bytes();
+    let granted = calls.1.format(counts.granted).as_bytes();
+    let refused = calls.2.format(counts.refused).as_bytes();
+    let corrupted = others.0.format(counts.corrupted).as_bytes();
+    let surveys = others.1.format(counts.surveys).as_bytes();
     put_all(
         out,
         &[
-            b"ring ",
-            place,
-            b" n ",
-            n,
-            b" k ",
-            k,
             b" events ",
             events,
             b" granted ",
@@ -64,6 +54,23 @@ fn put_counts_line<W: Write>(
             b"\n",
         ],
     )
+}
+
+/// The line of a ring's place, its size and what is counted of it.
+#[tactic(auto, using(text_lines::proofs::Writing::writes_then))]
+fn put_counts_line<W: Write>(
+    out: &mut W,
+    place: u32,
+    n: u32,
+    k: u32,
+    counts: Counts,
+) -> Result<(), WriteFault>
+    ensures { Writes (W.contents out.old) (W.contents out.new) result (counts_line place n k counts) }
+{
+    match put_size(out, place, n, k) {
+        Ok(()) => put_counts(out, counts),
+        Err(fault) => Err(fault),
+    }
 }
 
 /// A word, and a list of so many numbers behind it, the one at place `i` as `number` answers it.

@@ -113,6 +113,32 @@ fn want_of_memory_is_told_as_such(rt: HostRuntime) -> Result<(), Fail> {
     Ok(())
 }
 
+// Passes too where each request for more than 4 KiB is refused, as `bench/refused_memory.sh` has it.
+#[test]
+fn room_is_asked_for_as_values_are_read(rt: HostRuntime) {
+    let cases: [(&[u8], ReadError); 3] = [
+        (
+            b"ringfarm 1\nring 0 4294967295 3\nstart 0 2 0",
+            ReadError::Truncated,
+        ),
+        (
+            b"ringfarm 1\nring 0 4294967295 3\nstart 0 2 0 ",
+            ReadError::Truncated,
+        ),
+        (
+            b"ringfarm 1\nring 0 4294967295 3\nstart 0 2 0\n",
+            ReadError::Syntax(3),
+        ),
+    ];
+    for (bytes, want) in cases {
+        assert_eq!(rt;
+            answer(read_saved(rt.alloc(), bytes)),
+            Err(want),
+            "{bytes:?}"
+        );
+    }
+}
+
 #[test]
 fn the_two_rings_are_read(rt: HostRuntime) -> Result<(), Fail> {
     let saved = read_saved(rt.alloc(), TWO_RINGS)?;

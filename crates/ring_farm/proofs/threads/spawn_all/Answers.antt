@@ -3,10 +3,9 @@ use Rattle.std.proofs.lemmas.Iterator.Consumers.{YieldsList-turn}
 use Rattle.std.proofs.lemmas.Iterator.Adapters.{YieldsList-from_vec}
 use Rattle.std.proofs.lemmas.Option.{slice_get_read, get_or_from_slice_get}
 use Rattle.ring_shared.specs.Client.{Client}
-use Rattle.ring_farm.specs.declared.threads.Does.{Does}
 use Rattle.ring_farm.specs.Promises.{IsPromised}
 use Rattle.ring_farm.proofs.Pairing.{Pairs-map-next}
-use Rattle.ring_farm.proofs.threads.spawn_all.Goals.{in-Ok, in-Err}
+use Rattle.ring_farm.proofs.threads.spawn_all.Goals.{in-Some-spawn_one, in-None-spawn_one}
 use Rattle.ring_farm.proofs.threads.spawn_all.Goals as goal
 
 pub loop-seat-preserved : goal.loop-seat-preserved
@@ -14,8 +13,8 @@ loop-seat-preserved g c =
     let i = c.loop-seat.invariant in
     let one = length-append c.loop-seat.yielded (c.in-Some.seat ∷ []) in
     let t = YieldsList-turn (YieldsList-from_vec {s = c.into_iter-seat-iterator.result} c.args.seats.items (search rules) (search rules)) c.loop-seat.yielded c.loop-seat.seat-iterator c.loop-seat.yielded_by c.next.result c.next.new.self c.in-Some.seat c.in-Some.is c.next.ensures.steps in
-    elim c.match-spawn_with.branch [
-      | in-Ok w ↦
+    elim c.match-spawn_one.branch [
+      | in-Some-spawn_one w ↦
           (let p = w.push_reserved.ensures in
           let cap = p.capacity in let len = p.len in let i1 = i.1 in let i2 = i.2 in let i0 = i.0 in
           rw (w.handles-is, w.all-is) (
@@ -25,7 +24,7 @@ loop-seat-preserved g c =
             (λ all.
                 let k = i.3 all in
                 let k0 = k.0 in
-                let m = w.in-Ok.ensures.ok in
+                let m = w.in-Some-spawn_one.ensures in
                 let n : length c.loop-seat.handles.items ≡ c.loop-seat.i = omega arith in
                 let count = c.requires.count in
                 let within : c.loop-seat.i < length c.args.plans.now.items = (let t0 = t.0 in omega arith) in
@@ -35,11 +34,11 @@ loop-seat-preserved g c =
                 let seat = t.1 ∙ get_or_from_slice_get c.args.seats.items (length c.loop-seat.yielded) _ c.in-Some.seat this in
                 let number = ap (λ (s : Client). s.number) seat in (
                   omega arith,
-                  rw p.items (Pairs-map-next (λ h. h.promise) (IsPromised c.args.number) c.args.plans.now.items c.loop-seat.handles.items c.index-plan.result.now w.in-Ok.handle at k.1
-                      (ap (λ (d : Does). d.ring) m, ap (λ (d : Does). d.number) m ∙ (c.number.ensures.is ∙ (number ∙ (sym i0 ∙ sym n))), ap (λ (d : Does). d.plan.value) m ∙ c.of.ensures)),
+                  rw p.items (Pairs-map-next (λ h. h.promise) (IsPromised c.args.number) c.args.plans.now.items c.loop-seat.handles.items c.index-plan.result.now w.in-Some-spawn_one.handle at k.1
+                      (m.0, m.1 ∙ (number ∙ (sym i0 ∙ sym n)), m.2)),
                 )),
           ))
-      | in-Err w ↦
+      | in-None-spawn_one w ↦
           (let i1 = i.1 in let i2 = i.2 in let i0 = i.0 in
           rw (w.handles-is, w.all-is) (omega arith, omega arith, omega arith, λ none. cc))
     ]

@@ -1,4 +1,4 @@
-use Rattle.std.proofs.Common.{◌<◌, sym, subst, All, List, arith}
+use Rattle.std.proofs.Common.{◌<◌, ap, length, sym, subst, All, List, arith}
 use Rattle.std.proofs.lemmas.List.Sorted.{length_permutation}
 use Rattle.ring_model.specs.History.{Ring, opening}
 use Rattle.ring_model.specs.HistoryLaws.{Settlement}
@@ -10,7 +10,7 @@ use Rattle.ring_shared.proofs.Numbers.{in_order}
 use Rattle.ring_shared.proofs.rings.Ring.close.Goals as goal
 
 pub into_logs-requires-clause-room : goal.into_logs-requires-clause-room
-into_logs-requires-clause-room g c = let n = length_permutation _ _ c.sort.ensures.permutation in let m = c.in-Ok.ensures.capacity in let k = c.len-2.ensures in omega arith
+into_logs-requires-clause-room g c = let n = length_permutation _ _ c.sort.ensures.permutation in let m = c.in-Ok.ensures.room.0 in let k = ap length c.as_slice.ensures.value in omega arith
 
 pub returns-clause-settlement : goal.returns-clause-settlement
 returns-clause-settlement g c =
@@ -21,18 +21,18 @@ returns-clause-settlement g c =
 pub returns-clause-fits : goal.returns-clause-fits
 returns-clause-fits g c =
     let all = λ (ss : List Client). All (λ (s : Client). Fits g.R.Resource.works (opening c.into_book-book.result.start g.R.Resource.first) c.into_book-book.result.history s.number s.log) ss in
-    let fit = subst all c.as_slice.ensures.value (c.in-Ok-all_fit.ensures.0 c.if-not-fit.false) in
+    let fit = subst all c.as_slice.ensures.value c.in-Ok.ensures.fits in
     rw (sym c.into_book-book.ensures.begins) (fits_of _ _ _ _ _ _ c.sort.ensures.permutation c.into_logs.ensures fit)
 
 pub returns-clause-calls : goal.returns-clause-calls
 returns-clause-calls g c =
     let all = λ (ss : List Client). All (λ (s : Client). Fits g.R.Resource.works (opening c.into_book-book.result.start g.R.Resource.first) c.into_book-book.result.history s.number s.log) ss in
-    let fit = subst all c.as_slice.ensures.value (c.in-Ok-all_fit.ensures.0 c.if-not-fit.false) in
+    let fit = subst all c.as_slice.ensures.value c.in-Ok.ensures.fits in
     calls_of_fits g.R.Resource.works (opening c.into_book-book.result.start g.R.Resource.first) c.into_book-book.result.history _ (fits_of _ _ _ _ _ _ c.sort.ensures.permutation c.into_logs.ensures fit)
 
 pub returns-clause-logs : goal.returns-clause-logs
 returns-clause-logs g c =
-    let t = in_order g.N.Name.seats _ _ c.sort.ensures.permutation c.sort.ensures.sorted c.requires (subst (λ (ss : List Client). All (λ (s : Client). s.number < g.N.Name.seats) ss) c.as_slice-2.ensures.value c.all_given.ensures) (let m = c.if-len-count.false in let k = c.len.ensures in let s = c.args.self.counted in omega arith) in (
+    let t = in_order g.N.Name.seats _ _ c.sort.ensures.permutation c.sort.ensures.sorted c.requires (subst (λ (ss : List Client). All (λ (s : Client). s.number < g.N.Name.seats) ss) c.as_slice-2.ensures.value c.all_given.ensures) (let m = c.in-Ok.ensures.all in let k = ap length c.as_slice.ensures.value in omega arith) in (
       (let a = logs_length _ _ c.into_logs.ensures in let b = t.0 in omega arith),
       are_numbered _ _ t.1 c.into_logs.ensures,
       has_logs _ _ _ c.sort.ensures.permutation t.1 c.into_logs.ensures,

@@ -1,4 +1,4 @@
-use Rattle.std.proofs.Common.{◌∙◌, length, ap, subst}
+use Rattle.std.proofs.Common.{◌≡◌, length, subst}
 use Rattle.ring_model.specs.History.{Ring, IsLegal, opening}
 use Rattle.ring_model.specs.Surveys.{survey_at}
 use Rattle.ring_shared.proofs.rings.Ring.survey.Goals as goal
@@ -10,5 +10,5 @@ returns-clause-right g c =
       h,
       subst (λ (s : Ring). IsLegal g.R.Resource.works (opening s g.R.Resource.first) h) held.begins held.book.legal,
       held.of_seats,
-      c.survey-survey.ensures.is ∙ ap (λ (s : Ring). survey_at g.R.Resource.works (opening s g.R.Resource.first) h (length h)) held.begins,
+      subst (λ (s : Ring). c.survey-survey.result ≡ survey_at g.R.Resource.works (opening s g.R.Resource.first) h (length h)) held.begins c.survey-survey.ensures.is,
     )

@@ -1,12 +1,12 @@
 use Rattle.std.proofs.Common.{◌≡◌, map, length, ◌∙◌, arith}
 use Rattle.std.proofs.lemmas.List.{length-map}
 use Rattle.ring_farm.proofs.Pairing.{done_of, ok_both}
-use Rattle.ring_farm.proofs.threads.fn.run_threads.scope.Goals as goal
+use Rattle.ring_farm.proofs.threads.fn.run_in_scope.scope.Goals as goal
 
 pub join_all-joined-requires-clause-room : goal.join_all-joined-requires-clause-room
 join_all-joined-requires-clause-room g c κs within =
     let h = c.spawn_all-handles.ensures.room in
-    let a = c.requires.0 in let b = c.requires.2 in omega arith
+    let a = c.requires.0.0 in let b = c.requires.2 in omega arith
 
 pub returns : goal.returns
 returns g c =
