@@ -1,9 +1,10 @@
 //! All rings of the settings.
 ghost use Rattle.std.specs.Prelude.{◌≡◌, ℕ, ◌<◌, ◌≤◌, [], All, Some, map, length, slice_index_or, vec_len, vec_capacity, IfOk, IfErr};
 ghost use Rattle.ring_state.specs.Sizes.{size_of};
-ghost use Rattle.ring_settings.specs.Actions.{IsActionFor, size_at};
+ghost use Rattle.ring_settings.specs.Actions.{size_at};
 ghost use Rattle.ring_settings.specs.Contents.{ring_at, sizes_of, plan_of, plans_of, IsSettings};
 ghost use Rattle.ring_settings.specs.Views.{plan_actions};
+ghost use Rattle.ring_farm.specs.Plans.{IsShort, IsPlanFor};
 ghost use Rattle.ring_farm.specs.Runs.{IsRun, ring_of_data, first_refusal};
 ghost use Rattle.ring_farm.specs.Headline.{EachDone, IsFarmOf};
 
@@ -49,8 +50,8 @@ fn run_at<G: Gate + Sync, W: Threads + Wait + Sync>(
     requires most { length settings.now.rings ≤ 16 }
     requires some { 1 ≤ vec_len plans.now }
     requires count { vec_len plans.now ≤ 10 }
-    requires few { All (λ p. length p.actions.items ≤ 1000000) plans.now.items }
-    requires fits { All (λ p. All (IsActionFor (sizes_of settings.now.rings)) p.actions.items) plans.now.items }
+    requires few { All IsShort plans.now.items }
+    requires fits { All (IsPlanFor (sizes_of settings.now.rings)) plans.now.items }
     ensures { IfOk result (λ o. IsRun plans.now.items ring (ring_of_data (ring_at settings.now ring)) o.book o.logs.items) }
 {
     let book = book_of(alloc, settings, ring)?;
@@ -86,15 +87,15 @@ fn run_each<G: Gate + Sync, W: Threads + Wait + Sync>(
 ) -> Result<Vec<Result<RingOutcome, FarmError>>, AllocError>
     requires some { 1 ≤ vec_len plans.now }
     requires count { vec_len plans.now ≤ 10 }
-    requires few { All (λ p. length p.actions.items ≤ 1000000) plans.now.items }
-    requires fits { All (λ p. All (IsActionFor (sizes_of settings.now.rings)) p.actions.items) plans.now.items }
+    requires few { All IsShort plans.now.items }
+    requires fits { All (IsPlanFor (sizes_of settings.now.rings)) plans.now.items }
     ensures settings { IsSettings settings.now }
     ensures len { IfOk result (λ v. vec_len v ≡ length settings.now.rings) }
     ensures each { IfOk result (λ v. (i : ℕ) (d : _) → i < length settings.now.rings → IfOk (slice_index_or v.items i d) (λ o. IsRun plans.now.items i (ring_of_data (ring_at settings.now i)) o.book o.logs.items)) }
 {
     let rings = settings.ring_count();
     let run = |ring: usize| -> Result<RingOutcome, FarmError>
-        requires { (ring < length settings.now.rings) × (length settings.now.rings ≤ 16) × (1 ≤ vec_len plans.now) × (vec_len plans.now ≤ 10) × All (λ p. length p.actions.items ≤ 1000000) plans.now.items × All (λ p. All (IsActionFor (sizes_of settings.now.rings)) p.actions.items) plans.now.items }
+        requires { (ring < length settings.now.rings) × (length settings.now.rings ≤ 16) × (1 ≤ vec_len plans.now) × (vec_len plans.now ≤ 10) × All IsShort plans.now.items × All (IsPlanFor (sizes_of settings.now.rings)) plans.now.items }
         ensures { IfOk result (λ o. IsRun plans.entry.now.items ring (ring_of_data (ring_at settings.entry.now ring)) o.book o.logs.items) }
     { run_at(rt, alloc, gate, ring, settings, plans) };
     thread::map_indices(rt, alloc, rings, &run)
