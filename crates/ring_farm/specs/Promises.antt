@@ -3,6 +3,7 @@ use Rattle.std.specs.Prelude.{◌≡◌, ℕ, ◌<◌, List, [], All, length, So
 use Rattle.ring_model.specs.History.{Ring}
 use Rattle.ring_settings.specs.declared.actions.Plan.{Plan}
 use Rattle.ring_shared.specs.Client.{Client}
+use Rattle.ring_shared.specs.Opening.{AreFresh}
 use Rattle.ring_farm.specs.declared.threads.Does.{Does}
 use Rattle.ring_farm.specs.Plans.{actions_of, part, IsShort, IsPlanOn}
 
@@ -21,7 +22,6 @@ IsDone ring i p s = (s.number ≡ i) × (actions_of ring s.log ≡ part ring p.a
 -- seats for these plans, numbered in their order and with nothing done, on a ring that each plan's part can be made on
 abbrev pub AreReady : ℕ → Ring → List Plan → List Client → Type 0
 AreReady ring start plans seats =
-    (length seats ≡ length plans)
-    × All IsShort plans
+    All IsShort plans
     × All (IsPlanOn ring start) plans
-    × ((i : ℕ) → i < length plans → slice_get seats i ≡ Some (record { number = i; log = [] }))
+    × AreFresh (length plans) seats

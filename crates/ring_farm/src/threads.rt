@@ -1,5 +1,6 @@
 //! The threads of one ring: one for each plan, all joined.
 ghost use Rattle.std.specs.Prelude.{◌≡◌, ℕ, ◌<◌, ◌≤◌, [], None, All, Some, map, slice_get, length, vec_len, vec_capacity, IfOk, IfSome, IsTrue};
+ghost use Rattle.ring_shared.specs.Opening.{AreFresh};
 ghost use Rattle.ring_farm.specs.Plans.{Pairs, actions_of, part, IsShort, IsPlanOn};
 ghost use Rattle.ring_farm.specs.Promises.{IsPromised, IsKept, IsDone, AreReady};
 ghost use Rattle.ring_settings.specs.declared.actions.Plan.{Plan};
@@ -85,12 +86,11 @@ fn spawn_all<
     seats: Vec<Seat<N>>,
     mut handles: Vec<PromisedHandle<Work<N>, Does>>,
 ) -> (Vec<PromisedHandle<Work<N>, Does>>, bool)
-    requires count { vec_len seats ≡ vec_len plans.now }
     requires room { vec_len seats ≤ vec_capacity handles }
     requires empty { handles.items ≡ [] }
     requires few { All IsShort plans.now.items }
     requires possible { All (IsPlanOn number N.start) plans.now.items }
-    requires each { (i : ℕ) → i < vec_len plans.now → slice_get seats.items i ≡ Some (record { number = i; log = [] }) }
+    requires fresh { AreFresh (length plans.now.items) seats.items }
     ensures room { vec_len result.0 ≤ vec_len plans.entry.now }
     ensures all { IsTrue result.1 → vec_len result.0 ≡ vec_len plans.entry.now }
     ensures promises { IsTrue result.1 → Pairs (IsPromised number) plans.entry.now.items (map (λ h. h.promise) result.0.items) }
@@ -189,10 +189,9 @@ pub(crate) fn run_threads<
     plans: &Vec<Plan>,
     seats: Vec<Seat<N>>,
 ) -> Result<Vec<Seat<N>>, FarmError>
-    requires count { vec_len seats ≡ vec_len plans.now }
     requires few { All IsShort plans.now.items }
     requires possible { All (IsPlanOn number N.start) plans.now.items }
-    requires each { (i : ℕ) → i < vec_len plans.now → slice_get seats.items i ≡ Some (record { number = i; log = [] }) }
+    requires fresh { AreFresh (length plans.now.items) seats.items }
     ensures count { IfOk result (λ v. vec_len v ≡ vec_len plans.now) }
     ensures each { IfOk result (λ v. Pairs (IsDone number) plans.now.items v.items) }
 {
