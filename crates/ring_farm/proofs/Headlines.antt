@@ -6,7 +6,6 @@ use Rattle.std.proofs.lemmas.Option.{slice_get_within, get_or_from_slice_get, sl
 use Rattle.ring_model.specs.History.{Ring, opening, IsLegal}
 use Rattle.ring_model.specs.Surveys.{calm}
 use Rattle.ring_model.specs.Logs.{Fits, calls_of, receipts_of}
-use Rattle.ring_model.specs.HistoryLaws.{Settlement}
 use Rattle.ring_model.specs.Resources.{till}
 use Rattle.ring_model.specs.declared.events.Op.{Op}
 use Rattle.ring_model.specs.declared.events.Op.TheVariants as op
