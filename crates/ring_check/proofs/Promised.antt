@@ -2,7 +2,9 @@
 use Rattle.std.proofs.Common.{◌≡◌, ℕ, ◌<◌, ◌≤◌, [], length, get_or, sym, subst, arith}
 use Rattle.std.specs.Prelude.{All, Some, slice_get}
 use Rattle.std.proofs.lemmas.Option.{slice_get-get_or}
-use Rattle.ring_model.specs.History.{Ring, opening, IsLegal}
+use Rattle.ring_model.specs.Limits.{seat_limit}
+use Rattle.ring_model.specs.Ring.{Ring}
+use Rattle.ring_model.specs.History.{opening, IsLegal}
 use Rattle.ring_model.specs.Logs.{Fits}
 use Rattle.ring_model.specs.Resources.{till}
 use Rattle.ring_state.specs.Sizes.{IsRingState}
@@ -22,10 +24,10 @@ ring_allowed d h =
     let long = h.one_each in
     let two = h.size.machines in
     let enough = h.size.values in
-    record { ring = record { two = omega arith; enough = omega arith; below = λ i l. h.below i 0 l }; most = h.size.most }
+    record { ring = record { two = omega arith; enough = omega arith; below = λ i l. h.below i 0 l }; most_machines = omega (arith, h.size.most_machines); most = h.size.most }
 
 -- what a farm with at most ten seats hands out of a ring of its settings
-promised_run : (settings : SettingsData) (ring : ℕ) (d : RingData) (r : RingOutcome) → IsRingSetting d → length settings.seats ≤ 10 →
+promised_run : (settings : SettingsData) (ring : ℕ) (d : RingData) (r : RingOutcome) → IsRingSetting d → length settings.seats ≤ seat_limit →
     IsFarmRing settings ring d r → IsRightRun r
 promised_run settings ring d r is most farm =
     let start : ring_of_data d ≡ r.book.start = sym farm.one_history.0 in
@@ -33,6 +35,7 @@ promised_run settings ring d r is most farm =
     let count = farm.logs.count in
     record {
       ring = allowed.ring;
+      most_machines = allowed.most_machines;
       most = allowed.most;
       legal = subst (λ (s : Ring). IsLegal till (opening s 0) r.book.history) start farm.one_history.1;
       few = omega arith;

@@ -2,7 +2,7 @@
 use Rattle.std.proofs.Common.{◌≡◌, ℕ, ◌+◌, ◌<◌, ◌≤◌, List, [], ◌∷◌, ◌++◌, length, take, drop, get_or, map, refl, sym, ◌∙◌, ap, subst, arith}
 use Rattle.std.proofs.lemmas.List.{take_more, drop_more, take-append-drop, take-map, map-append}
 use Rattle.ring_model.specs.declared.events.Event.{Event}
-use Rattle.ring_model.specs.Ring.{IsRing}
+use Rattle.ring_model.specs.Ring.{ring_with, IsRing}
 use Rattle.ring_model.specs.History.{State, Step, next, after, IsLegal}
 use Rattle.ring_model.specs.Resources.{till}
 use Rattle.ring_model.specs.Surveys.{calm, survey_at}
@@ -26,7 +26,7 @@ pub record IsFresh (k : ℕ) (start : List ℕ) (r : Replay) : Type 0 where
   pub grants : r.grants ≡ 0
   pub calm : r.calm ≡ 0
 
-pub stands_first : (k : ℕ) (start : List ℕ) (es : List SavedEvent) (r : Replay) → IsRing k start → IsFresh k start r → StandsAt k start es 0 r
+pub stands_first : (k : ℕ) (start : List ℕ) (es : List SavedEvent) (r : Replay) → IsRing (ring_with k start) → IsFresh k start r → StandsAt k start es 0 r
 stands_first k start es r ring f =
     let a = f.same_k in
     let b = f.values in
@@ -59,7 +59,7 @@ stands_more k start h r t e s step f =
       state = after-push till (first_state k start) h e ∙ ap (λ (x : State ℕ). next till x e.op) s.state ∙ sym f.state;
       same_k = ap (λ (x : State ℕ). x.ring.k) f.state ∙ kept.same_k ∙ s.same_k;
       calm = f.calm ∙ ap (λ (x : ℕ). calm_next x e.reply) s.calm ∙ sym (calm-push h e);
-      ring = subst (λ (x : State ℕ). IsRing x.ring.k x.ring.values) (sym f.state) kept.ring;
+      ring = subst (λ (x : State ℕ). IsRing x.ring) (sym f.state) kept.ring;
     }
 
 -- one event further, by a step

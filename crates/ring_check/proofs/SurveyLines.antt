@@ -2,6 +2,7 @@
 use Rattle.std.proofs.Common.{◌≡◌, ℕ, ◌+◌, ◌<◌, ◌≤◌, List, length, take, get_or, map, Bool, true, false, Some, None, refl, sym, ◌∙◌, ap, subst, arith, ◌&&◌}
 use Rattle.std.specs.Prelude.{nat_le}
 use Rattle.std.proofs.lemmas.List.{length-map, take_all}
+use Rattle.ring_model.specs.Limits.{seat_limit}
 use Rattle.ring_model.specs.declared.events.Event.{Event}
 use Rattle.ring_model.specs.declared.events.Survey.{Survey}
 use Rattle.ring_model.specs.Resources.{till}
@@ -15,7 +16,7 @@ use Rattle.ring_check.specs.Lines.{SurveyLine}
 use Rattle.ring_check.specs.Table.{Before, event_of, first_state, fault, after_lines, is_onward, is_surveyed, same_survey}
 use Rattle.ring_check.specs.Scan.{first_fault, in_block}
 use Rattle.ring_check.specs.Replays.{IsReading}
-use Rattle.ring_check.proofs.Booleans.{joined, and_left, and_right, le_true, le_false}
+use Rattle.ring_check.proofs.Booleans.{joined, and_left, and_right, lt_true, lt_false, le_true, le_false}
 use Rattle.ring_check.proofs.Replaying.{survey_is}
 use Rattle.ring_check.proofs.Walk.{walk_bad, walk_good, walk_on}
 
@@ -28,26 +29,26 @@ abbrev pub blank : SavedSurvey
 blank = record { seat = 0; position = 0; privileged = 0; first = 0; calm = 0; rest = 0 }
 
 -- what is wrong with a survey line, and what is not
-pub seat_bad : (b : Before) (s : SavedSurvey) → 9 < s.seat → fault b (SurveyLine s) ≡ Some Range
-seat_bad b s l = let e : nat_le s.seat 9 ≡ false = le_false s.seat 9 l in rw e refl
+pub seat_bad : (b : Before) (s : SavedSurvey) → seat_limit ≤ s.seat → fault b (SurveyLine s) ≡ Some Range
+seat_bad b s l = let e : nat_lt s.seat seat_limit ≡ false = lt_false s.seat seat_limit l in rw e refl
 
-survey_bad : (b : Before) (s : SavedSurvey) → s.seat ≤ 9 → (is_onward b.seat b.position s && is_surveyed b s) ≡ false → fault b (SurveyLine s) ≡ Some SurveyKind
-survey_bad b s l e = let t : nat_le s.seat 9 ≡ true = le_true s.seat 9 l in rw (t, e) refl
+survey_bad : (b : Before) (s : SavedSurvey) → s.seat < seat_limit → (is_onward b.seat b.position s && is_surveyed b s) ≡ false → fault b (SurveyLine s) ≡ Some SurveyKind
+survey_bad b s l e = let t : nat_lt s.seat seat_limit ≡ true = lt_true s.seat seat_limit l in rw (t, e) refl
 
-pub place_bad : (b : Before) (s : SavedSurvey) → s.seat ≤ 9 → length b.events < s.position → fault b (SurveyLine s) ≡ Some SurveyKind
+pub place_bad : (b : Before) (s : SavedSurvey) → s.seat < seat_limit → length b.events < s.position → fault b (SurveyLine s) ≡ Some SurveyKind
 place_bad b s l w =
     let e : nat_le s.position (length b.events) ≡ false = le_false s.position (length b.events) w in
     survey_bad b s l (and_right (is_onward b.seat b.position s) (is_surveyed b s) (and_left (nat_le s.position (length b.events)) _ e))
 
-pub back_bad : (b : Before) (s : SavedSurvey) → s.seat ≤ 9 → is_onward b.seat b.position s ≡ false → fault b (SurveyLine s) ≡ Some SurveyKind
+pub back_bad : (b : Before) (s : SavedSurvey) → s.seat < seat_limit → is_onward b.seat b.position s ≡ false → fault b (SurveyLine s) ≡ Some SurveyKind
 back_bad b s l w = survey_bad b s l (and_left (is_onward b.seat b.position s) (is_surveyed b s) w)
 
-pub answer_bad : (b : Before) (s : SavedSurvey) → s.seat ≤ 9 → is_surveyed b s ≡ false → fault b (SurveyLine s) ≡ Some SurveyKind
+pub answer_bad : (b : Before) (s : SavedSurvey) → s.seat < seat_limit → is_surveyed b s ≡ false → fault b (SurveyLine s) ≡ Some SurveyKind
 answer_bad b s l w = survey_bad b s l (and_right (is_onward b.seat b.position s) (is_surveyed b s) w)
 
-pub survey_fine : (b : Before) (s : SavedSurvey) → s.seat ≤ 9 → is_onward b.seat b.position s ≡ true → is_surveyed b s ≡ true → fault b (SurveyLine s) ≡ None
+pub survey_fine : (b : Before) (s : SavedSurvey) → s.seat < seat_limit → is_onward b.seat b.position s ≡ true → is_surveyed b s ≡ true → fault b (SurveyLine s) ≡ None
 survey_fine b s l w v =
-    let t : nat_le s.seat 9 ≡ true = le_true s.seat 9 l in
+    let t : nat_lt s.seat seat_limit ≡ true = lt_true s.seat seat_limit l in
     let e : (is_onward b.seat b.position s && is_surveyed b s) ≡ true = joined (is_onward b.seat b.position s) (is_surveyed b s) w v in
     rw (t, e) refl
 

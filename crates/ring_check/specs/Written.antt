@@ -1,6 +1,7 @@
 -- What a farm promises of what it hands out, and that the saved text of that is legal (this project's own).
 use Rattle.std.specs.Prelude.{◌≡◌, ℕ, ◌≤◌, length, slice_get, Some}
 use Rattle.std.specs.List.{All}
+use Rattle.ring_model.specs.Limits.{machine_limit, value_limit, seat_limit}
 use Rattle.ring_model.specs.Ring.{IsRing}
 use Rattle.ring_model.specs.History.{opening, IsLegal}
 use Rattle.ring_model.specs.Resources.{till}
@@ -16,14 +17,15 @@ use Rattle.ring_text.specs.SavedOf.{saved_of}
 use Rattle.ring_check.specs.Legal.{IsLegalText}
 use Rattle.ring_check.specs.Meaning.{IsRightText}
 
--- A ring of an allowed size (K is at most 256, this project's own limit). Its history is a legal one of a one-thread ring over the till
--- from the start values and the amount 0, the logs are at most ten and stand by the numbers of their seats, each event's seat is that of
+-- A ring of an allowed size. Its history is a legal one of a one-thread ring over the till
+-- from the start values and the amount 0, the logs are no more than the seats may be and stand by the numbers of their seats, each event's seat is that of
 -- one of them, and each log fits the history.
 pub record IsRightRun (r : RingOutcome) : Type 0 where
-  pub ring : IsRing r.book.start.k r.book.start.values
-  pub most : r.book.start.k ≤ 256
+  pub ring : IsRing r.book.start
+  pub most_machines : length r.book.start.values ≤ machine_limit
+  pub most : r.book.start.k ≤ value_limit
   pub legal : IsLegal till (opening r.book.start 0) r.book.history
-  pub few : length r.logs.items ≤ 10
+  pub few : length r.logs.items ≤ seat_limit
   pub by_number : (seat : ℕ) (l : Log) → slice_get r.logs.items seat ≡ Some l → l.seat ≡ seat
   pub seats : AreOfSeats (length r.logs.items) r.book.history
   pub fits : All (λ (l : Log). Fits till (opening r.book.start 0) r.book.history l.seat l.entries.items) r.logs.items

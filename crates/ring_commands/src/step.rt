@@ -4,9 +4,9 @@ ghost use Rattle.std.specs.Prelude.{◌≡◌, ◌≤◌, [], length, nat_le, po
 ghost use Rattle.std.specs.Option.{option_map};
 ghost use Rattle.std.specs.Io.KnownBytes.{Appends};
 ghost use Rattle.ring_book.specs.BookView.{IsFresh};
-ghost use Rattle.ring_book.specs.EventsView.{event_limit};
-ghost use Rattle.ring_commands.specs.Stepped.{AreChoices, IsStepAnswer, IsStepWordsRefusal};
-ghost use Rattle.ring_commands.specs.Faults.{IsListRefusal, size_fault, start_fault, fault_of, IsRefusalOver, IsOpeningRefusal, IsStepRefusal};
+ghost use Rattle.ring_model.specs.Limits.{event_limit};
+ghost use Rattle.ring_commands.specs.Stepped.{AreChoices, IsChoicesRefusal, IsStepAnswer, IsStepWordsRefusal};
+ghost use Rattle.ring_commands.specs.Faults.{size_fault, start_fault, fault_of, IsRefusalOver, IsOpeningRefusal, IsStepRefusal};
 ghost use Rattle.ring_commands.specs.StepText.{granted_line, refused_line, reply_line, end_lines, step_text};
 ghost use Rattle.ring_commands.specs.Written.{AppendsFront};
 ghost use Rattle.text_lines.specs.Spelling.{list_text};
@@ -182,7 +182,7 @@ pub fn step_lines<W: Write>(
 /// The numbers of a list that may be left out.
 fn choices_of(alloc: Global, word: Option<&str>) -> Result<Vec<u32>, ToolError<'static>>
     ensures ok { IfOk result (λ choices. AreChoices (option_map (λ word. word.now) word.entry) choices.items) }
-    ensures err { IfErr result IsListRefusal }
+    ensures err { IfErr result (λ e. IsChoicesRefusal (option_map (λ word. word.now) word.entry) e) }
 {
     match word {
         Some(text) => read_list(alloc, text),

@@ -3,7 +3,8 @@ use Rattle.std.proofs.Common.{◌≡◌, ℕ, ◌<◌, ◌≤◌, Bool, true, co
 use Rattle.std.specs.Prelude.{filter, unwrap_or, IfOk, Option, None, Result, Ok}
 use Rattle.std.proofs.lemmas.Bool.Decides.{nat_tests}
 use Rattle.std.proofs.lemmas.Option.{slice_get_within, get_or_from_slice_get, slice_get_cases}
-use Rattle.ring_model.specs.History.{Ring, opening, IsLegal}
+use Rattle.ring_model.specs.Ring.{Ring}
+use Rattle.ring_model.specs.History.{opening, IsLegal}
 use Rattle.ring_model.specs.Surveys.{calm}
 use Rattle.ring_model.specs.Logs.{Fits, calls_of, receipts_of}
 use Rattle.ring_model.specs.Resources.{till}

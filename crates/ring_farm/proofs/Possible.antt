@@ -1,7 +1,7 @@
 -- Which actions can be made on a ring of the settings.
 use Rattle.std.proofs.Common.{◌≡◌, ℕ, List, length, ap, sym, ◌∙◌, arith}
 use Rattle.std.specs.Prelude.{All}
-use Rattle.ring_model.specs.History.{Ring}
+use Rattle.ring_model.specs.Ring.{Ring}
 use Rattle.ring_state.specs.Sizes.{Size, size_of}
 use Rattle.ring_settings.specs.Actions.{IsActionFor, size_at}
 use Rattle.ring_settings.specs.declared.actions.Action.{Action}

@@ -1,6 +1,6 @@
 -- What the threads of a ring promise, and what they hand back.
 use Rattle.std.specs.Prelude.{◌≡◌, ℕ, List, All, length}
-use Rattle.ring_model.specs.History.{Ring}
+use Rattle.ring_model.specs.Ring.{Ring}
 use Rattle.ring_settings.specs.declared.actions.Plan.{Plan}
 use Rattle.ring_shared.specs.Client.{Client}
 use Rattle.ring_shared.specs.Opening.{AreFresh}

@@ -1,5 +1,7 @@
 //! All rings of the settings.
 ghost use Rattle.std.specs.Prelude.{◌≡◌, ℕ, ◌<◌, ◌≤◌, [], All, Some, map, length, slice_index_or, vec_len, vec_capacity, IfOk, IfErr};
+ghost use Rattle.ring_settings.specs.Limits.{ring_limit};
+ghost use Rattle.ring_model.specs.Limits.{seat_limit};
 ghost use Rattle.ring_state.specs.Sizes.{size_of};
 ghost use Rattle.ring_settings.specs.Actions.{size_at};
 ghost use Rattle.ring_settings.specs.Contents.{ring_at, sizes_of, plan_of, plans_of, IsSettings};
@@ -47,9 +49,9 @@ fn run_at<G: Gate + Sync, W: Threads + Wait + Sync>(
     plans: &Vec<Plan>,
 ) -> Result<RingOutcome, FarmError>
     requires within { ring < length settings.now.rings }
-    requires most { length settings.now.rings ≤ 16 }
+    requires most { length settings.now.rings ≤ ring_limit }
     requires some { 1 ≤ vec_len plans.now }
-    requires count { vec_len plans.now ≤ 10 }
+    requires count { vec_len plans.now ≤ seat_limit }
     requires few { All IsShort plans.now.items }
     requires fits { All (IsPlanFor (sizes_of settings.now.rings)) plans.now.items }
     ensures { IfOk result (λ o. IsRun plans.now.items ring (ring_of_data (ring_at settings.now ring)) o.book o.logs.items) }
@@ -86,7 +88,7 @@ fn run_each<G: Gate + Sync, W: Threads + Wait + Sync>(
     plans: &Vec<Plan>,
 ) -> Result<Vec<Result<RingOutcome, FarmError>>, AllocError>
     requires some { 1 ≤ vec_len plans.now }
-    requires count { vec_len plans.now ≤ 10 }
+    requires count { vec_len plans.now ≤ seat_limit }
     requires few { All IsShort plans.now.items }
     requires fits { All (IsPlanFor (sizes_of settings.now.rings)) plans.now.items }
     ensures settings { IsSettings settings.now }
@@ -95,7 +97,7 @@ fn run_each<G: Gate + Sync, W: Threads + Wait + Sync>(
 {
     let rings = settings.ring_count();
     let run = |ring: usize| -> Result<RingOutcome, FarmError>
-        requires { (ring < length settings.now.rings) × (length settings.now.rings ≤ 16) × (1 ≤ vec_len plans.now) × (vec_len plans.now ≤ 10) × All IsShort plans.now.items × All (IsPlanFor (sizes_of settings.now.rings)) plans.now.items }
+        requires { (ring < length settings.now.rings) × (length settings.now.rings ≤ ring_limit) × (1 ≤ vec_len plans.now) × (vec_len plans.now ≤ seat_limit) × All IsShort plans.now.items × All (IsPlanFor (sizes_of settings.now.rings)) plans.now.items }
         ensures { IfOk result (λ o. IsRun plans.entry.now.items ring (ring_of_data (ring_at settings.entry.now ring)) o.book o.logs.items) }
     { run_at(rt, alloc, gate, ring, settings, plans) };
     thread::map_indices(rt, alloc, rings, &run)

@@ -1,5 +1,6 @@
 //! One ring from its opening to its closing.
 ghost use Rattle.std.specs.Prelude.{◌≡◌, ◌≤◌, [], All, vec_len, IfOk};
+ghost use Rattle.ring_model.specs.Limits.{seat_limit};
 ghost use Rattle.ring_model.specs.History.{opening};
 ghost use Rattle.ring_shared.specs.Holding.{MeansLegal};
 ghost use Rattle.ring_farm.specs.Plans.{IsShort, IsPlanOn};
@@ -75,7 +76,7 @@ pub(crate) fn run_ring<G: Gate + Sync, W: Threads + Wait + Sync>(
 ) -> Result<RingOutcome, FarmError>
     requires empty { book.history ≡ [] }
     requires some { 1 ≤ vec_len plans.now }
-    requires count { vec_len plans.now ≤ 10 }
+    requires count { vec_len plans.now ≤ seat_limit }
     requires few { All IsShort plans.now.items }
     requires possible { All (IsPlanOn number book.start) plans.now.items }
     ensures { IfOk result (λ o. IsRun plans.now.items number book.start o.book o.logs.items) }

@@ -1,4 +1,6 @@
 ghost use Rattle.std.specs.Prelude.{◌≡◌, ◌<◌, ◌≤◌, length, All, IfOk, Some, slice_get, map};
+ghost use Rattle.ring_settings.specs.Limits.{ring_limit};
+ghost use Rattle.ring_model.specs.Limits.{seat_limit};
 ghost use Rattle.ring_state.specs.Sizes.{IsSize};
 ghost use Rattle.ring_settings.specs.Actions.{size_at};
 ghost use Rattle.ring_settings.specs.Contents.{ring_at, sizes_of, IsSettings};
@@ -75,7 +77,7 @@ impl Settings {
     pub fn ring_count(&self) -> usize
         ensures is { result ≡ length self.now.rings }
         ensures some { 1 ≤ result }
-        ensures most { result ≤ 16 }
+        ensures most { result ≤ ring_limit }
         ensures settings { IsSettings self.now }
     {
         self.rings.len()
@@ -105,7 +107,7 @@ impl Settings {
     pub fn seat_count(&self) -> usize
         ensures is { result ≡ length self.now.seats }
         ensures some { 1 ≤ result }
-        ensures most { result ≤ 10 }
+        ensures most { result ≤ seat_limit }
     {
         self.seats.len()
     }

@@ -6,13 +6,11 @@ ghost use Rattle.ring_settings.specs.Walk.{each_from};
 
 use crate::contents::RingSetting;
 use crate::faults::{Field, RingCause, SettingsError};
+use crate::limits::RING_LIMIT;
 use crate::members::read_u32;
 use ring_state::{Params, ParamsError};
 use serde_json::Value;
 use std::alloc::Global;
-
-/// The most rings of a farm.
-const MOST_RINGS: usize = 16;
 
 /// The whole numbers of `start`.
 fn read_numbers(alloc: Global, list: &[Value]) -> Result<Vec<u64>, SettingsError>
@@ -145,7 +143,7 @@ pub(crate) fn read_rings(alloc: Global, document: &Value) -> Result<Vec<RingSett
     let Some(list) = document.get("rings").and_then(Value::as_array) else {
         return Err(SettingsError::Shape(Field::Rings));
     };
-    if list.is_empty() || list.len() > MOST_RINGS {
+    if list.is_empty() || list.len() > RING_LIMIT {
         return Err(SettingsError::Limit(Field::Rings));
     }
     let rings = read_each_ring(alloc, list.as_slice())?;

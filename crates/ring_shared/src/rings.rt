@@ -1,6 +1,7 @@
 //! Rings that threads share: how they are opened, and the calls of their seats.
 ghost use Rattle.std.specs.Prelude.{◌≡◌, ◌<◌, ◌≤◌, ◌++◌, ◌∷◌, ◌↔◌, [], ℕ, List, length, map, eqb, IsOk, IfOk, IfErr, OnErr};
 ghost use Rattle.std.specs.List.{IsDistinct};
+ghost use Rattle.ring_model.specs.Limits.{seat_limit};
 ghost use Rattle.ring_shared.specs.Holding.{MeansLegal, IsSurveyOfSome};
 ghost use Rattle.ring_shared.specs.Opening.{AreFresh};
 
@@ -40,7 +41,7 @@ impl<R: Resource + Drop> Draft<R> {
     /// None today: what takes memory is made when the ring is opened.
     pub fn new(book: Book<R>, seats: u32) -> Result<Draft<R>, OpenFault<R>>
         requires some { 1 ≤ seats }
-        requires most { seats ≤ 10 }
+        requires most { seats ≤ seat_limit }
         requires empty { book.history ≡ [] }
         ensures always { IsOk result }
         ensures ok { IfOk result (λ d. d ≡ record { book = book; seats = seats }) }
@@ -78,7 +79,7 @@ pub struct Ring<N: Name, R: Resource + Drop> {
 /// This many seats, with empty logs.
 fn seats_of<N: Name>(alloc: Global, count: u32) -> Result<Vec<Seat<N>>, AllocError>
     requires count { count ≡ N.seats }
-    requires most { count ≤ 10 }
+    requires most { count ≤ seat_limit }
     ensures { IfOk result (λ v. AreFresh N.seats v.items) }
 {
     let mut seats = Vec::new(alloc);

@@ -1,7 +1,7 @@
 use Rattle.std.proofs.Common.{◌≡◌, ◌∙◌, [], length, length-append, drop, ap, arith, refl, Ok, Err}
 use Rattle.std.proofs.lemmas.List.{drop_all}
 use Rattle.std.proofs.lemmas.Result.{err_from_is_err_and}
-use Rattle.ring_model.specs.History.{Ring}
+use Rattle.ring_model.specs.Ring.{Ring}
 use Rattle.ring_state.specs.Sizes.{Size}
 use Rattle.ring_commands.specs.StepText.{step_text, step_opening, lines_from, end_lines}
 use Rattle.ring_commands.proofs.FirstFaults.{choices_allowed}
