@@ -32,9 +32,8 @@ pub fn written_law()
     ensures right { WrittenIsRight }
 {}
 
-/// Where an outcome has what `run_farm` promises, its saved text is legal. The premises are the clauses of that call on the
-/// number of rings, the histories, the calls in them, the logs and what stands in them, and what is true of all settings.
-/// The second clause says the same in the subject's words.
+/// Where an outcome has what `run_farm` promises, its saved text is legal. The premise is the record that that call's
+/// clause names. The second clause says the same in the subject's words.
 pub fn outcome_law()
     ensures legal { OutcomeIsLegal }
     ensures right { OutcomeIsRight }

@@ -11,11 +11,10 @@ use Rattle.ring_settings.specs.declared.actions.Action.{Action}
 use Rattle.ring_settings.proofs.PlanLaws.{plan_of-few}
 use Rattle.ring_shared.specs.declared.seats.Log.{Log}
 use Rattle.ring_farm.specs.Plans.{part, action_of, actions_of, ring_of}
-use Rattle.ring_farm.specs.Headline.{HasLogs}
+use Rattle.ring_farm.specs.Headline.{HasLogs, IsFarmOf}
 use Rattle.ring_farm.specs.declared.outcomes.Outcome.{Outcome}
 use Rattle.ring_farm.specs.declared.outcomes.RingOutcome.{RingOutcome}
 use Rattle.ring_text.specs.Report.{entries_of, entries_in}
-use Rattle.ring_commands.specs.Ran.{IsFarmOf}
 
 -- a client's log of a ring has no more entries than its plan has actions
 log_few : (settings : SettingsData) (ring seat : ℕ) (l : Log) → IsSettings settings → seat < length settings.seats →
@@ -40,7 +39,7 @@ entries_few settings o farm =
     let each : All (λ (r : RingOutcome). entries_of r.logs.items ≤ seat_limit * action_limit) o.rings.items = λ i d there.
     let within : i < length settings.rings = omega (arith, farm.count) in
     logs_few settings i (get_or o.rings.items i d) farm.allowed
-    (farm.logs i (get_or settings.rings i none) (get_or o.rings.items i d) (slice_get-get_or settings.rings i none within) (slice_get-get_or o.rings.items i d there)) in
+    (farm.rings i (get_or settings.rings i none) (get_or o.rings.items i d) (slice_get-get_or settings.rings i none within) (slice_get-get_or o.rings.items i d there)).logs in
     omega (arith, sum_by-le (λ (r : RingOutcome). entries_of r.logs.items) (seat_limit * action_limit) o.rings.items each, farm.count, farm.allowed.most_rings)
 
 -- from one ring on

@@ -9,7 +9,7 @@ ghost use Rattle.ring_farm.specs.declared.outcomes.Outcome.{Outcome};
 ghost use Rattle.ring_text.specs.Report.{entries_in, report};
 ghost use Rattle.ring_text.specs.SavedOf.{saved_of};
 ghost use Rattle.ring_text.specs.Spelling.{text};
-ghost use Rattle.ring_commands.specs.Ran.{IsFarmOf, IsFarmOn, IsFarmRefusal, IsFarmFileRefusal, IsSaveRefusal, IsOutcomeRefusal, IsRunRefusal};
+ghost use Rattle.ring_commands.specs.Ran.{IsFarmOn, IsFarmRefusal, IsFarmFileRefusal, IsSaveRefusal, IsOutcomeRefusal, IsRunRefusal};
 ghost use Rattle.ring_commands.specs.Reading.{most_bytes, IsAllOf};
 ghost use Rattle.ring_commands.specs.Saved.{IsLegalOfFarm, IsRunAnswer};
 
@@ -17,7 +17,7 @@ use crate::faults::ToolError;
 use crate::reading::read_whole;
 use ring_farm::{Open, Outcome, run_farm};
 use ring_settings::read_settings;
-use ring_text::{outcomes_read_back, write_outcome, write_report};
+use ring_text::{texts_read_back, write_outcome, write_report};
 use std::alloc::Global;
 use std::fs;
 use std::io::{BufWriter, Read, Write};
@@ -84,7 +84,7 @@ fn save_to<W: Write + Drop>(alloc: Global, outcome: &Outcome, out: W) -> Result<
     ensures written { IfOk result (λ after. Appends (W.contents out) (W.contents after) (text (saved_of outcome.now))) }
     ensures legal { OnOk result (IsLegalOfFarm outcome.now) }
 {
-    outcomes_read_back();
+    texts_read_back();
     let Ok(mut buffer) = BufWriter::new(alloc, out) else {
         return Err(SaveFault::OutOfMemory);
     };

@@ -1,10 +1,9 @@
 //! One ring from its opening to its closing.
-ghost use Rattle.std.specs.Prelude.{◌≡◌, ◌≤◌, [], All, length, vec_len, IfOk};
-ghost use Rattle.ring_settings.specs.Limits.{action_limit};
+ghost use Rattle.std.specs.Prelude.{◌≡◌, ◌≤◌, [], All, vec_len, IfOk};
 ghost use Rattle.ring_model.specs.Limits.{seat_limit};
 ghost use Rattle.ring_model.specs.History.{opening};
 ghost use Rattle.ring_shared.specs.Holding.{MeansLegal};
-ghost use Rattle.ring_farm.specs.Plans.{AreActionsOn};
+ghost use Rattle.ring_farm.specs.Plans.{IsShort, IsPlanOn};
 ghost use Rattle.ring_farm.specs.Runs.{IsRun};
 
 use crate::faults::FarmError;
@@ -32,8 +31,8 @@ fn run_named<N: Name + Send + Sync, G: Gate + Sync, W: Threads + Wait + Sync>(
     requires seats { draft.seats ≡ N.seats }
     requires legal { MeansLegal ⟦<Till as Resource>⟧.works ⟦<Till as Resource>⟧.first N.start N.legal }
     requires count { draft.seats ≡ vec_len plans.now }
-    requires few { All (λ p. length p.actions.items ≤ action_limit) plans.now.items }
-    requires possible { All (λ p. AreActionsOn number N.start p.actions.items) plans.now.items }
+    requires few { All IsShort plans.now.items }
+    requires possible { All (IsPlanOn number N.start) plans.now.items }
     ensures { IfOk result (λ o. IsRun plans.now.items number draft.book.start o.book o.logs.items) }
 {
     let (ring, seats) = match Ring::<N, Till>::open(alloc, draft) {
@@ -78,8 +77,8 @@ pub(crate) fn run_ring<G: Gate + Sync, W: Threads + Wait + Sync>(
     requires empty { book.history ≡ [] }
     requires some { 1 ≤ vec_len plans.now }
     requires count { vec_len plans.now ≤ seat_limit }
-    requires few { All (λ p. length p.actions.items ≤ action_limit) plans.now.items }
-    requires possible { All (λ p. AreActionsOn number book.start p.actions.items) plans.now.items }
+    requires few { All IsShort plans.now.items }
+    requires possible { All (IsPlanOn number book.start) plans.now.items }
     ensures { IfOk result (λ o. IsRun plans.now.items number book.start o.book o.logs.items) }
 {
     let seats = plans.len() as u32;

@@ -2,7 +2,7 @@
 ghost use Rattle.std.specs.Prelude.{◌≡◌, ◌==◌, ◌≤◌, ◌<◌, ◌++◌, ◌∷◌, ◌+◌, [], None, Some, IfSome, IsTrue, IsFalse, length, vec_len};
 ghost use Rattle.ring_settings.specs.Limits.{action_limit};
 ghost use Rattle.ring_farm.specs.Refusals.{told_as, IsCallFault, IsSeatFault};
-ghost use Rattle.ring_farm.specs.Plans.{ring_of, part, actions_of, IsActionOn, AreActionsOn};
+ghost use Rattle.ring_farm.specs.Plans.{ring_of, part, actions_of, IsActionOn, IsShort, IsPlanOn};
 
 use crate::faults::FarmError;
 use crate::gates::Gate;
@@ -126,8 +126,8 @@ pub(crate) fn run_plan<N: Name, R: Resource + Drop, G: Gate, W: Wait>(
     plan: &Plan,
     seat: Seat<N>,
 ) -> Work<N>
-    requires few { length plan.now.actions.items ≤ action_limit }
-    requires possible { AreActionsOn number N.start plan.now.actions.items }
+    requires few { IsShort plan.now }
+    requires possible { IsPlanOn number N.start plan.now }
     requires new { seat.log ≡ [] }
     ensures number { result.seat.number ≡ seat.number }
     ensures log { result.fault ≡ None → actions_of number result.seat.log ≡ part number plan.now.actions.items }

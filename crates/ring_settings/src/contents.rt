@@ -78,6 +78,7 @@ impl Settings {
         ensures is { result ≡ length self.now.rings }
         ensures some { 1 ≤ result }
         ensures most { result ≤ ring_limit }
+        ensures settings { IsSettings self.now }
     {
         self.rings.len()
     }
