@@ -28,7 +28,7 @@ pub(crate) struct Events {
 impl Model for Events {
     ghost use Rattle.std.specs.Prelude.{◌≤◌, ◌-◌, length, min, vec_capacity};
     ghost use Rattle.ring_model.specs.Limits.{event_limit};
-ghost use Rattle.ring_book.specs.EventsView.{EventsView};
+    ghost use Rattle.ring_book.specs.EventsView.{EventsView};
 
     ghost Value = { EventsView };
 

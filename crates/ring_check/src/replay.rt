@@ -54,7 +54,9 @@ impl Replay {
                 machine,
                 value,
                 ..
-            } => (seat as usize) < SEAT_LIMIT && (machine as usize) < self.values.len() && value < self.k,
+            } => (seat as usize) < SEAT_LIMIT
+                && (machine as usize) < self.values.len()
+                && value < self.k,
         }
     }
 
