@@ -15,7 +15,7 @@ def clauses_of_item(lines, at, indent):
     found = []
     while at < len(lines):
         line = lines[at]
-        if line == indent + "{" or line == indent + "}":
+        if line in (indent + "{", indent + "}", indent + "{}"):
             return found, at
         if CLAUSE.match(line):
             found.append(line.strip())
@@ -54,7 +54,7 @@ def main(top):
     rows = set()
     for crate in sorted(os.listdir(top)):
         for folder, _, files in os.walk(f"{top}/{crate}/src"):
-            if "/tests" in folder:
+            if "/tests" in folder or crate.endswith("_tests"):
                 continue
             for name in files:
                 if name.endswith(".rt") and name != "tests.rt":

@@ -156,6 +156,7 @@ fn help_of_run_has_an_example(rt: HostRuntime) -> Result<(), Fail> {
             &[
                 "Usage: ring_tool run [OPTIONS] <SETTINGS>",
                 "--history <FILE>",
+                "Where FILE is the settings file",
                 "$ ring_tool run settings.json --history saved.txt",
             ],
         )?;

@@ -10,9 +10,9 @@ ghost use Rattle.ring_shared.specs.Holding.{MeansLegal};
 ghost use Rattle.ring_shared.specs.Opening.{AreFresh};
 
 use crate::events::{granted, refused, told};
-use calls::{Act, closed_well, handed_back, pass_often, play, seen, told_by};
+use calls::{Act, closed_well, handed_back, is_told, pass_often, play, seen, told_by};
 use ring_book::{Book, BookError, Till};
-use ring_model::{Event, Op, Receipt, Reply, Survey};
+use ring_model::{Event, Op, Reply, Survey};
 use ring_shared::{CloseReason, Draft, Entry, Name, Ring, Seat};
 use ring_state::{Params, RingState};
 use std::alloc::Global;
@@ -278,11 +278,13 @@ fn call_in_two_threads<N: Name + Send + Sync, W: Threads + Wait + Abort + Sync>(
     let seats = both(rt, alloc, first, second);
     match ring.close(rt, alloc, seats) {
         Ok(closed) => {
-            assert_eq!(rt; closed.book.calls_of(0), 100);
-            assert_eq!(rt; closed.book.calls_of(1), 100);
+            assert_eq!(rt;
+                (closed.book.calls_of(0), closed.book.calls_of(1)),
+                (100, 100)
+            );
             assert_eq!(rt; closed.logs.len(), 2);
-            assert_eq!(rt; closed.logs[0].entries.len(), 101);
-            assert_eq!(rt; closed.logs[1].entries.len(), 101);
+            let entries = (closed.logs[0].entries.len(), closed.logs[1].entries.len());
+            assert_eq!(rt; entries, (101, 101));
         }
         Err(fault) => panic!(rt; "{:?}", fault.reason),
     }
@@ -292,21 +294,19 @@ fn close_one_seat_short<N: Name, W: Wait + Abort>(
     rt: &W,
     alloc: Global,
     ring: Ring<N, Till>,
-    mut first: Seat<N>,
+    first: Seat<N>,
     _second: Seat<N>,
 )
     requires machines { 2 ≤ length N.start.values }
     requires values { 2 ≤ N.start.k }
 {
-    let passed = ring.pass(rt, &mut first, 1, 5);
     let idle = refused(0, 1, 5);
-    assert_eq!(rt;
-        passed,
-        Ok(Receipt {
-            position: 0,
-            event: idle
-        })
-    );
+    let passing = Act::Pass {
+        machine: 1,
+        order: 5,
+    };
+    let calls = [(passing, told(0, idle))];
+    let first = play(rt, &ring, first, &calls, false);
     let seats = alone(rt, alloc, first);
     match ring.close(rt, alloc, seats) {
         Ok(_) => panic!(rt; "a seat is missing"),
@@ -315,16 +315,19 @@ fn close_one_seat_short<N: Name, W: Wait + Abort>(
             assert_eq!(rt; fault.book.history(), [idle].as_slice());
             assert_eq!(rt; fault.seats.len(), 1);
             assert_eq!(rt; fault.seats[0].number(), 0);
-            assert_eq!(rt;
-                fault.seats[0].log(),
-                [Entry::Receipt(Receipt {
-                    position: 0,
-                    event: idle
-                })]
-                .as_slice()
-            );
+            is_told(rt, fault.seats[0].log(), &calls);
         }
     }
+}
+
+/// No further call is taken, and each is told why.
+fn is_full<N: Name, W: Wait + Abort>(rt: &W, ring: &Ring<N, Till>, seat: &mut Seat<N>)
+    requires machines { 2 ≤ length N.start.values }
+    requires values { 2 ≤ N.start.k }
+    ensures { seat.new.number ≡ seat.old.number }
+{
+    assert_eq!(rt; ring.pass(rt, seat, 0, 1), Err(BookError::HistoryFull));
+    assert_eq!(rt; ring.corrupt(rt, seat, 0, 1), Err(BookError::HistoryFull));
 }
 
 fn call_until_full<N: Name, W: Wait + Abort>(
@@ -340,18 +343,17 @@ fn call_until_full<N: Name, W: Wait + Abort>(
     requires second { second.number ≡ 1 }
 {
     let mut first = pass_often(rt, &ring, first, 0, 1_000_000);
-    let passed = ring.pass(rt, &mut first, 0, 1);
-    assert_eq!(rt; passed, Err(BookError::HistoryFull));
-    let corrupted = ring.corrupt(rt, &mut first, 0, 1);
-    assert_eq!(rt; corrupted, Err(BookError::HistoryFull));
+    is_full(rt, &ring, &mut first);
     assert_eq!(rt; first.log().len(), 1_000_000);
     let seats = both(rt, alloc, first, second);
     match ring.close(rt, alloc, seats) {
         Ok(closed) => {
-            assert_eq!(rt; closed.book.history().len(), 1_000_000);
             assert_eq!(rt; closed.logs.len(), 2);
-            assert_eq!(rt; closed.logs[0].entries.len(), 1_000_000);
-            assert_eq!(rt; closed.logs[1].entries.len(), 0);
+            let entries = (closed.logs[0].entries.len(), closed.logs[1].entries.len());
+            assert_eq!(rt;
+                (closed.book.history().len(), entries),
+                (1_000_000, (1_000_000, 0))
+            );
         }
         Err(fault) => panic!(rt; "{:?}", fault.reason),
     }

@@ -1,5 +1,5 @@
 -- How the running counts grow with a history.
-use Rattle.std.proofs.Common.{◌≡◌, ℕ, ◌+◌, ◌<◌, ◌≤◌, Bool, true, false, cond, List, [], ◌∷◌, ◌++◌, length, get_or, replicate, refl, sym, ◌∙◌, ap, inl, inr, arith, get_or-set_same, get_or-set_other}
+use Rattle.std.proofs.Common.{◌≡◌, ℕ, ◌+◌, ◌<◌, Bool, true, false, cond, List, [], ◌∷◌, ◌++◌, length, get_or, replicate, refl, sym, ◌∙◌, ap, inl, inr, arith, get_or-set_same, get_or-set_other}
 use Rattle.std.specs.Prelude.{◌&&◌, ◌==◌, slice_index}
 use Rattle.std.specs.List.{count_by, filter}
 use Rattle.std.proofs.lemmas.Bool.{cases_Bool, cases_eq, eq-eqb, ne_eqb, both_ways}
@@ -18,6 +18,7 @@ use Rattle.ring_model.proofs.Below.{sum_same, sum_but_one, sum_zero}
 use Rattle.ring_model.proofs.Settled.{settled_stays}
 use Rattle.ring_model.proofs.QuietRuns.{count_events-cons}
 use Rattle.ring_model.proofs.Histories.{StepOf-next, after-push, calm-push, goes_on, settled_run-push}
+use Rattle.ring_model.specs.Limits.{seat_limit}
 use Rattle.ring_book.specs.GrantsView.{GrantsView, IsGrantsOf, raised, no_grants, one_grant, run_ended}
 use Rattle.ring_book.specs.TallyView.{TallyView, IsTallyOf, after_call, after_grant, after_corruption}
 
@@ -78,11 +79,11 @@ run_is_broken w a h e q =
 
 -- no events
 pub IsTallyOf-new : {C : Type 0} (w : Works C) (a : State C) (settled : Bool) → settled ≡ is_settled a.ring.values →
-    IsTallyOf w a [] (record { calm = 0; calls = replicate 10 0; settled = settled; grants = no_grants (length a.ring.values) })
+    IsTallyOf w a [] (record { calm = 0; calls = replicate seat_limit 0; settled = settled; grants = no_grants (length a.ring.values) })
 IsTallyOf-new w a settled s = record {
   calm = refl;
-  seats = length-replicate {A = ℕ} 10 0;
-  calls = λ seat l. get_or-replicate {A = ℕ} 10 seat 0 0 l;
+  seats = length-replicate {A = ℕ} seat_limit 0;
+  calls = λ seat l. get_or-replicate {A = ℕ} seat_limit seat 0 0 l;
   settled = s;
   no_run = λ _. refl;
   grants = record {
@@ -172,8 +173,8 @@ grants-corruption w a h n g seat m value old was =
     }
 
 -- the calls of each seat
-calls-more : (h : List Event) (e : Event) (calls : List ℕ) (seat : ℕ) → length calls ≡ 10 → ((k : ℕ) → k < 10 → slice_index calls k ≡ length (calls_of k h)) → e.seat ≡ seat → seat < 10 →
-    (k : ℕ) → k < 10 → slice_index (raised calls seat) k ≡ length (calls_of k (h ++ e ∷ []))
+calls-more : (h : List Event) (e : Event) (calls : List ℕ) (seat : ℕ) → length calls ≡ seat_limit → ((k : ℕ) → k < seat_limit → slice_index calls k ≡ length (calls_of k h)) → e.seat ≡ seat → seat < seat_limit →
+    (k : ℕ) → k < seat_limit → slice_index (raised calls seat) k ≡ length (calls_of k (h ++ e ∷ []))
 calls-more h e calls seat size was q l k lk =
     let at : slice_index (raised calls seat) k ≡ slice_index calls k + bit (seat == k) = raised_at calls seat k (omega arith) in
     let more : length (calls_of k (h ++ e ∷ [])) ≡ length (calls_of k h) + bit (e.seat == k) = calls-push k h e in
@@ -189,7 +190,7 @@ settled-step w a h e b step = ap (λ (s : State _). is_settled s.ring.values) (S
 -- all counts after a granted pass
 pub IsTallyOf-grant : {C : Type 0} (w : Works C) (a : State C) (h : List Event) (t : TallyView) (b : State C) (seat m order number result : ℕ) (settled : Bool) →
     IsTallyOf w a h t → StepOf w (after w a h) (Pass m order) (Granted number result) b →
-    IsRing (after w a h).ring.k (after w a h).ring.values → length (after w a h).ring.values ≡ length a.ring.values → seat ≤ 9 →
+    IsRing (after w a h).ring → length (after w a h).ring.values ≡ length a.ring.values → seat < seat_limit →
     settled ≡ is_settled b.ring.values →
     IsTallyOf w a (h ++ record { seat = seat; op = Pass m order; reply = Granted number result } ∷ []) (after_call (after_grant t m settled) seat)
 IsTallyOf-grant w a h t b seat m order number result settled was step ring size few s =
@@ -203,7 +204,7 @@ IsTallyOf-grant w a h t b seat m order number result settled was step ring size 
       settled = s ∙ settled-step w a h e b step;
       no_run = λ f. elim (cases_Bool (is_settled (after w a h).ring.values)) [
         | inl y ↦
-            let stays : is_settled b.ring.values ≡ true = ap (λ (x : State _). is_settled x.ring.values) step.4 ∙ settled_stays (after w a h).ring.k (after w a h).ring.values m ring step.0 step.1 y in
+            let stays : is_settled b.ring.values ≡ true = ap (λ (x : State _). is_settled x.ring.values) step.4 ∙ settled_stays (after w a h).ring m ring step.0 step.1 y in
             absurd (both_ways settled f (s ∙ stays))
         | inr n ↦ run_is_over w a h e n
       ];
@@ -212,7 +213,7 @@ IsTallyOf-grant w a h t b seat m order number result settled was step ring size 
 
 -- all counts after a pass that was not granted
 pub IsTallyOf-idle : {C : Type 0} (w : Works C) (a : State C) (h : List Event) (t : TallyView) (b : State C) (seat m order : ℕ) →
-    IsTallyOf w a h t → StepOf w (after w a h) (Pass m order) NotPrivileged b → seat ≤ 9 →
+    IsTallyOf w a h t → StepOf w (after w a h) (Pass m order) NotPrivileged b → seat < seat_limit →
     IsTallyOf w a (h ++ record { seat = seat; op = Pass m order; reply = NotPrivileged } ∷ []) (after_call t seat)
 IsTallyOf-idle w a h t b seat m order was step few =
     let e : Event = record { seat = seat; op = Pass m order; reply = NotPrivileged } in
@@ -227,7 +228,7 @@ IsTallyOf-idle w a h t b seat m order was step few =
 
 -- all counts after a corruption
 pub IsTallyOf-corruption : {C : Type 0} (w : Works C) (a : State C) (h : List Event) (t : TallyView) (b : State C) (seat m value old : ℕ) (settled : Bool) →
-    IsTallyOf w a h t → StepOf w (after w a h) (Corrupt m value) (Corrupted old) b → seat ≤ 9 → settled ≡ is_settled b.ring.values →
+    IsTallyOf w a h t → StepOf w (after w a h) (Corrupt m value) (Corrupted old) b → seat < seat_limit → settled ≡ is_settled b.ring.values →
     IsTallyOf w a (h ++ record { seat = seat; op = Corrupt m value; reply = Corrupted old } ∷ []) (after_call (after_corruption t settled) seat)
 IsTallyOf-corruption w a h t b seat m value old settled was step few s =
     let e : Event = record { seat = seat; op = Corrupt m value; reply = Corrupted old } in

@@ -4,8 +4,8 @@ use Rattle.std.specs.Prelude.{◌==◌, slice_index}
 use Rattle.std.specs.List.{count_by}
 use Rattle.std.proofs.lemmas.List.{length-set, take_all}
 use Rattle.std.proofs.lemmas.List.Sums.{length-filter, count_by-le-length}
-use Rattle.ring_model.specs.Ring.{is_privileged, moved, moved_value, is_settled, privileged_count, first_privileged, rest}
-use Rattle.ring_model.specs.History.{Ring, Works, State, opening, granted_state, Step, StepOf, next, after, IsLegal}
+use Rattle.ring_model.specs.Ring.{Ring, is_privileged, moved, moved_value, is_settled, privileged_count, first_privileged, rest}
+use Rattle.ring_model.specs.History.{Works, State, opening, granted_state, Step, StepOf, next, after, IsLegal}
 use Rattle.ring_model.specs.Surveys.{survey_at, calm}
 use Rattle.ring_model.specs.Grants.{settled_grants_of}
 use Rattle.ring_model.specs.HistoryLaws.{IsFair}
@@ -16,12 +16,14 @@ use Rattle.ring_model.specs.declared.events.Reply.{Reply}
 use Rattle.ring_model.specs.declared.events.Reply.TheVariants.{Granted, NotPrivileged, Corrupted}
 use Rattle.ring_model.specs.declared.events.Event.{Event}
 use Rattle.ring_model.specs.declared.events.Survey.{Survey}
+use Rattle.ring_model.proofs.Moves.{length_move}
 use Rattle.ring_model.proofs.Settled.{move_ring, settled_stays}
 use Rattle.ring_model.proofs.Places.{set_ring}
 use Rattle.ring_model.proofs.HistoryLaws.{history_fairness}
 use Rattle.ring_model.proofs.Histories.{StepOf-next, after-push, IsLegal-push, grants-after}
 use Rattle.ring_state.specs.Sizes.{Size, IsRingState, size_of}
-use Rattle.ring_book.specs.EventsView.{EventsView, event_limit}
+use Rattle.ring_model.specs.Limits.{event_limit, seat_limit}
+use Rattle.ring_book.specs.EventsView.{EventsView}
 use Rattle.ring_book.specs.GrantsView.{IsGrantsOf, raised, no_grants, one_grant}
 use Rattle.ring_book.specs.GrantCounts.{IsEven}
 use Rattle.ring_book.specs.TallyView.{TallyView, after_call, after_grant, after_corruption}
@@ -31,17 +33,17 @@ use Rattle.ring_book.proofs.Counting.{grants-grant, IsTallyOf-new, IsTallyOf-gra
 -- a step keeps a ring, and its size
 pub ring_kept : {C : Type 0} (w : Works C) (a b : State C) (o : Op) (r : Reply) → StepOf w a o r b → IsRingState a.ring → IsRingState b.ring
 ring_kept w a b (Pass i order) (Granted number result) h g =
-    subst (λ (s : State _). IsRingState s.ring) (sym h.4) (record { ring = move_ring a.ring.k a.ring.values i g.ring h.0; most = g.most })
+    subst (λ (s : State _). IsRingState s.ring) (sym h.4) (record { ring = move_ring a.ring i g.ring h.0; most_machines = rw (length_move a.ring i) g.most_machines; most = g.most })
 ring_kept w a b (Pass i order) NotPrivileged h g = subst (λ (s : State _). IsRingState s.ring) (sym h.2) g
 ring_kept w a b (Pass i order) (Corrupted old) h g = absurd h
 ring_kept w a b (Corrupt i v) (Granted number result) h g = absurd h
 ring_kept w a b (Corrupt i v) NotPrivileged h g = absurd h
 ring_kept w a b (Corrupt i v) (Corrupted old) h g =
-    subst (λ (s : State _). IsRingState s.ring) (sym h.3) (record { ring = set_ring a.ring.k a.ring.values i v g.ring h.0 h.1; most = g.most })
+    subst (λ (s : State _). IsRingState s.ring) (sym h.3) (record { ring = set_ring a.ring i v g.ring h.0 h.1; most_machines = rw (length-set a.ring.values i v) g.most_machines; most = g.most })
 
 pub same_size-step : {C : Type 0} (w : Works C) (a b : State C) (o : Op) (r : Reply) → StepOf w a o r b → size_of b.ring ≡ size_of a.ring
 same_size-step w a b (Pass i order) (Granted number result) h =
-    ap (λ (s : State _). size_of s.ring) h.4 ∙ ap (λ (n : ℕ). let s : Size = record { n = n; k = a.ring.k } in s) (length-set a.ring.values i (moved_value a.ring.k a.ring.values i))
+    ap (λ (s : State _). size_of s.ring) h.4 ∙ ap (λ (n : ℕ). let s : Size = record { n = n; k = a.ring.k } in s) (length-set a.ring.values i (moved_value a.ring i))
 same_size-step w a b (Pass i order) NotPrivileged h = ap (λ (s : State _). size_of s.ring) h.2
 same_size-step w a b (Pass i order) (Corrupted old) h = absurd h
 same_size-step w a b (Corrupt i v) (Granted number result) h = absurd h
@@ -73,14 +75,14 @@ calls_few seat h =
     let few : count_by (λ (e : Event). e.seat == seat) h ≤ length h = count_by-le-length (λ (e : Event). e.seat == seat) h in
     omega arith
 
-pub calls_fit : {C : Type 0} (w : Works C) (first : C) (b : BookView C) (t : TallyView) (seat : ℕ) → IsKept w first b t → seat ≤ 9 → slice_index t.calls seat ≤ 1000000
+pub calls_fit : {C : Type 0} (w : Works C) (first : C) (b : BookView C) (t : TallyView) (seat : ℕ) → IsKept w first b t → seat < seat_limit → slice_index t.calls seat ≤ event_limit
 calls_fit w first b t seat k few =
     let same : slice_index t.calls seat ≡ length (calls_of seat b.history) = k.tally.calls seat (omega arith) in
     let le : length (calls_of seat b.history) ≤ length b.history = calls_few seat b.history in
     let bounded = k.book.bounded in
     omega arith
 
-pub grants_fit : {C : Type 0} (w : Works C) (first : C) (b : BookView C) → IsBook w first b → b.now.grants ≤ 1000000
+pub grants_fit : {C : Type 0} (w : Works C) (first : C) (b : BookView C) → IsBook w first b → b.now.grants ≤ event_limit
 grants_fit w first b k =
     let most : (after w (opening b.start first) b.history).grants ≤ 0 + length b.history = grants-after w (opening b.start first) b.history in
     let same : (after w (opening b.start first) b.history).grants ≡ b.now.grants = ap (λ (s : State _). s.grants) k.current in
@@ -93,7 +95,7 @@ same_length w first b k = ap (λ (s : State _). length s.ring.values) k.current 
 
 -- a book and its counts grow by a granted pass
 pub IsKept-grant : {C : Type 0} (w : Works C) (first : C) (old : BookView C) (t : TallyView) (b : State C) (seat m order number result room : ℕ) (settled : Bool) →
-    IsKept w first old t → length old.history + 1 + room ≤ event_limit → StepOf w old.now (Pass m order) (Granted number result) b → seat ≤ 9 →
+    IsKept w first old t → length old.history + 1 + room ≤ event_limit → StepOf w old.now (Pass m order) (Granted number result) b → seat < seat_limit →
     settled ≡ is_settled b.ring.values →
     IsKept w first (record { start = old.start; now = b; history = old.history ++ record { seat = seat; op = Pass m order; reply = Granted number result } ∷ []; room = room })
     (after_call (after_grant t m settled) seat)
@@ -105,7 +107,7 @@ IsKept-grant w first old t b seat m order number result room settled k fits step
 
 -- by a pass that was not granted
 pub IsKept-idle : {C : Type 0} (w : Works C) (first : C) (old : BookView C) (t : TallyView) (b : State C) (seat m order room : ℕ) →
-    IsKept w first old t → length old.history + 1 + room ≤ event_limit → StepOf w old.now (Pass m order) NotPrivileged b → seat ≤ 9 →
+    IsKept w first old t → length old.history + 1 + room ≤ event_limit → StepOf w old.now (Pass m order) NotPrivileged b → seat < seat_limit →
     IsKept w first (record { start = old.start; now = b; history = old.history ++ record { seat = seat; op = Pass m order; reply = NotPrivileged } ∷ []; room = room })
     (after_call t seat)
 IsKept-idle w first old t b seat m order room k fits step few = record {
@@ -115,7 +117,7 @@ IsKept-idle w first old t b seat m order room k fits step few = record {
 
 -- and by a corruption
 pub IsKept-corruption : {C : Type 0} (w : Works C) (first : C) (old : BookView C) (t : TallyView) (b : State C) (seat m value was room : ℕ) (settled : Bool) →
-    IsKept w first old t → length old.history + 1 + room ≤ event_limit → StepOf w old.now (Corrupt m value) (Corrupted was) b → seat ≤ 9 →
+    IsKept w first old t → length old.history + 1 + room ≤ event_limit → StepOf w old.now (Corrupt m value) (Corrupted was) b → seat < seat_limit →
     settled ≡ is_settled b.ring.values →
     IsKept w first (record { start = old.start; now = b; history = old.history ++ record { seat = seat; op = Corrupt m value; reply = Corrupted was } ∷ []; room = room })
     (after_call (after_corruption t settled) seat)
@@ -126,10 +128,10 @@ IsKept-corruption w first old t b seat m value was room settled k fits step few 
 
 -- a settled ring stays settled by a move, so the counted mark and the look at the new values together are right
 pub settled_mark : {C : Type 0} (w : Works C) (first : C) (old : BookView C) (t : TallyView) (m : ℕ) → IsKept w first old t → m < length old.now.ring.values →
-    is_privileged old.now.ring.values m ≡ true → t.settled ≡ true → is_settled (moved old.now.ring.k old.now.ring.values m) ≡ true
+    is_privileged old.now.ring.values m ≡ true → t.settled ≡ true → is_settled (moved old.now.ring m).values ≡ true
 settled_mark w first old t m k l e y =
     let now : is_settled old.now.ring.values ≡ true = sym (k.tally.settled ∙ ap (λ (s : State _). is_settled s.ring.values) k.book.current) ∙ y in
-    settled_stays old.now.ring.k old.now.ring.values m k.book.now_ring.ring l e now
+    settled_stays old.now.ring m k.book.now_ring.ring l e now
 
 -- a survey behind all events
 pub survey_end : {C : Type 0} (w : Works C) (a : State C) (h : List Event) → survey_at w a h (length h) ≡ record {
@@ -137,20 +139,20 @@ pub survey_end : {C : Type 0} (w : Works C) (a : State C) (h : List Event) → s
   privileged = privileged_count (after w a h).ring.values;
   first = first_privileged (after w a h).ring.values;
   calm = calm h;
-  rest = rest (after w a h).ring.k (after w a h).ring.values;
+  rest = rest (after w a h).ring;
 }
 survey_end w a h = ap (λ (front : List Event). let s : Survey = record {
   position = length h;
   privileged = privileged_count (after w a front).ring.values;
   first = first_privileged (after w a front).ring.values;
   calm = calm front;
-  rest = rest (after w a front).ring.k (after w a front).ring.values;
+  rest = rest (after w a front).ring;
 } in s) (take_all (length h) h (omega arith))
 
 -- a book with no events
 pub IsKept-new : {C : Type 0} (w : Works C) (first : C) (start ring : Ring) (content : C) (events : EventsView) (t : TallyView) (n : ℕ) (settled : Bool) →
     IsRingState ring → start ≡ ring → content ≡ first → events ≡ record { list = []; room = 0 } → n ≡ length ring.values → settled ≡ is_settled ring.values →
-    t ≡ record { calm = 0; calls = replicate 10 0; settled = settled; grants = no_grants n } → IsKept w first (book_view start ring content events t) t
+    t ≡ record { calm = 0; calls = replicate seat_limit 0; settled = settled; grants = no_grants n } → IsKept w first (book_view start ring content events t) t
 IsKept-new w first start ring content events t n settled g q r e m s u = rw (q, r, e, u, m) (record {
   book = record {
     legal = tt;

@@ -22,19 +22,19 @@ pub book_settlement : {C : Type 0} (w : Works C) (first : C) (b : BookView C) �
 book_settlement w first b k = settlement w (opening b.start first) b.history k.start_ring.ring k.legal
 
 -- the rest is at most the bound less the calm
-pub book_calm : {C : Type 0} (w : Works C) (first : C) (b : BookView C) → IsBook w first b → rest b.now.ring.k b.now.ring.values ≤ bound (length b.start.values) - calm b.history
+pub book_calm : {C : Type 0} (w : Works C) (first : C) (b : BookView C) → IsBook w first b → rest b.now.ring ≤ bound (length b.start.values) - calm b.history
 book_calm w first b k =
-    subst (λ (s : State _). rest s.ring.k s.ring.values ≤ bound (length b.start.values) - calm b.history) k.current
+    subst (λ (s : State _). rest s.ring ≤ bound (length b.start.values) - calm b.history) k.current
     (calm_after w (opening b.start first) k.start_ring.ring b.history k.legal)
 
 -- so exactly one machine is privileged where the calm has reached the bound
 pub calm_settles : {C : Type 0} (w : Works C) (first : C) (b : BookView C) → IsBook w first b → bound (length b.start.values) ≤ calm b.history →
-    (privileged_count b.now.ring.values ≡ 1) × (rest b.now.ring.k b.now.ring.values ≡ 0)
+    (privileged_count b.now.ring.values ≡ 1) × (rest b.now.ring ≡ 0)
 calm_settles w first b k le =
-    let falls : rest b.now.ring.k b.now.ring.values ≤ bound (length b.start.values) - calm b.history = book_calm w first b k in
+    let falls : rest b.now.ring ≤ bound (length b.start.values) - calm b.history = book_calm w first b k in
     let two = k.now_ring.ring.two in
-    let none : rest b.now.ring.k b.now.ring.values ≡ 0 = omega arith in
-    (eqb-true (privileged_count b.now.ring.values) 1 (rest_zero b.now.ring.k b.now.ring.values (omega arith) none), none)
+    let none : rest b.now.ring ≡ 0 = omega arith in
+    (eqb-true (privileged_count b.now.ring.values) 1 (rest_zero b.now.ring (omega arith) none), none)
 
 -- one repair more
 AreRepairs-push : {C : Type 0} (w : Works C) (a : State C) (seat : ℕ) (es : List Event) (e : Event) → AreRepairs w a seat es →
@@ -48,7 +48,7 @@ no_repairs w old seat = record { repairs = tt; grown = sym (append-nil old.histo
 -- what a recorded pass of the first privileged machine of an unsettled ring is
 pub record IsTurn {C : Type 0} (w : Works C) (old b c : BookView C) (seat : ℕ) (passes : List Event) : Type 0 where
   pub made : IsRepairedBy w old c seat passes
-  pub falls : rest c.now.ring.k c.now.ring.values < rest b.now.ring.k b.now.ring.values
+  pub falls : rest c.now.ring < rest b.now.ring
 
 pub repair_turn : {C : Type 0} (w : Works C) (first : C) (old b c : BookView C) (seat : ℕ) (es : List Event) (r : Receipt) (m : ℕ) →
     IsBook w first b → IsRepairedBy w old b seat es → is_settled b.now.ring.values ≡ false → m ≡ first_privileged b.now.ring.values →
@@ -72,17 +72,17 @@ repair_turn {C = C} w first old b c seat es r m k done unsettled q rec =
         same_start = rec.same_start ∙ done.same_start;
       };
       falls =
-          let d : rest b.now.ring.k (moved b.now.ring.k b.now.ring.values m) < rest b.now.ring.k b.now.ring.values =
-          descent b.now.ring.k b.now.ring.values m k.now_ring.ring inside on unsettled in
-          let s : rest c.now.ring.k c.now.ring.values ≡ rest b.now.ring.k (moved b.now.ring.k b.now.ring.values m) = ap (λ (s : State C). rest s.ring.k s.ring.values) moves in
+          let d : rest (moved b.now.ring m) < rest b.now.ring =
+          descent b.now.ring m k.now_ring.ring inside on unsettled in
+          let s : rest c.now.ring ≡ rest (moved b.now.ring m) = ap (λ (s : State C). rest s.ring) moves in
           omega arith;
     }
 
 -- a ring that is not settled has a rest
-pub rest_left : {C : Type 0} (w : Works C) (first : C) (b : BookView C) → IsBook w first b → is_settled b.now.ring.values ≡ false → 1 ≤ rest b.now.ring.k b.now.ring.values
-rest_left w first b k u = elim (cases_lt (rest b.now.ring.k b.now.ring.values) 1) [
+pub rest_left : {C : Type 0} (w : Works C) (first : C) (b : BookView C) → IsBook w first b → is_settled b.now.ring.values ≡ false → 1 ≤ rest b.now.ring
+rest_left w first b k u = elim (cases_lt (rest b.now.ring) 1) [
   | inl none ↦
       let two = k.now_ring.ring.two in
-      absurd (both_ways (is_settled b.now.ring.values) u (rest_zero b.now.ring.k b.now.ring.values (omega arith) (omega arith)))
+      absurd (both_ways (is_settled b.now.ring.values) u (rest_zero b.now.ring (omega arith) (omega arith)))
   | inr some ↦ some
 ]

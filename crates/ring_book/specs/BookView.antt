@@ -1,11 +1,13 @@
 -- What contracts see of a book.
 use Rattle.std.specs.Prelude.{◌≡◌, ◌++◌, ◌∷◌, ◌+◌, ◌≤◌, ℕ, List, [], length}
-use Rattle.ring_model.specs.History.{Ring, Works, State, Step, opening, after, IsLegal}
+use Rattle.ring_model.specs.Ring.{Ring}
+use Rattle.ring_model.specs.History.{Works, State, Step, opening, after, IsLegal}
 use Rattle.ring_model.specs.declared.events.Event.{Event}
 use Rattle.ring_model.specs.declared.events.Op.{Op}
 use Rattle.ring_model.specs.declared.events.Receipt.{Receipt}
 use Rattle.ring_state.specs.Sizes.{IsRingState, size_of}
-use Rattle.ring_book.specs.EventsView.{EventsView, event_limit}
+use Rattle.ring_model.specs.Limits.{event_limit}
+use Rattle.ring_book.specs.EventsView.{EventsView}
 use Rattle.ring_book.specs.TallyView.{TallyView, IsTallyOf}
 
 -- the ring at the start, the state now, the events between the two, and how many more can be added without asking for memory

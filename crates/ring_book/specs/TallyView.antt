@@ -6,6 +6,7 @@ use Rattle.ring_model.specs.Surveys.{calm}
 use Rattle.ring_model.specs.Grants.{settled_run}
 use Rattle.ring_model.specs.Logs.{calls_of}
 use Rattle.ring_model.specs.declared.events.Event.{Event}
+use Rattle.ring_model.specs.Limits.{seat_limit}
 use Rattle.ring_book.specs.GrantsView.{GrantsView, IsGrantsOf, raised, one_grant, run_ended}
 
 -- the calm, the calls of each seat, whether exactly one machine is privileged now, and the grants
@@ -18,8 +19,8 @@ pub record TallyView : Type 0 where
 -- the counts are those of a history from the state a
 pub record IsTallyOf {C : Type 0} (w : Works C) (a : State C) (h : List Event) (t : TallyView) : Type 0 where
   pub calm : t.calm ≡ calm h
-  pub seats : length t.calls ≡ 10
-  pub calls : (seat : ℕ) → seat < 10 → slice_index t.calls seat ≡ length (calls_of seat h)
+  pub seats : length t.calls ≡ seat_limit
+  pub calls : (seat : ℕ) → seat < seat_limit → slice_index t.calls seat ≡ length (calls_of seat h)
   pub settled : t.settled ≡ is_settled (after w a h).ring.values
   pub no_run : t.settled ≡ false → settled_run w a h ≡ []
   pub grants : IsGrantsOf w a h (length a.ring.values) t.grants

@@ -1,13 +1,12 @@
 ghost use Rattle.std.specs.Prelude.{◌≡◌, ◌≤◌, ◌<◌, ◌+◌, ◌++◌, ◌∷◌, ◌↔◌, [], length, IsOk, OnOk, OnErr, IsErrOf};
-ghost use Rattle.ring_book.specs.EventsView.{EventsView, event_limit};
+ghost use Rattle.ring_model.specs.Limits.{event_limit};
+ghost use Rattle.ring_book.specs.EventsView.{EventsView};
 
 use ring_model::Event;
+use ring_model::limits::EVENT_LIMIT;
 use std::alloc::Global;
 use std::marker::Model;
 use thiserror::Error;
-
-/// The most events of a history.
-const EVENT_LIMIT: usize = 1_000_000;
 
 /// Why a book refuses a call.
 #[derive(Clone, Copy, Debug, Drop, Error, PartialEq, Eq)]
@@ -18,7 +17,7 @@ pub enum BookError {
     OutOfMemory,
 }
 
-/// The events of a history, which are at most 1,000,000.
+/// The events of a history, which are at most `EVENT_LIMIT`.
 ///
 /// Contracts see the events and the room: how many more can be added without asking for memory.
 #[derive(Drop)]
@@ -28,7 +27,8 @@ pub(crate) struct Events {
 
 impl Model for Events {
     ghost use Rattle.std.specs.Prelude.{◌≤◌, ◌-◌, length, min, vec_capacity};
-    ghost use Rattle.ring_book.specs.EventsView.{EventsView, event_limit};
+    ghost use Rattle.ring_model.specs.Limits.{event_limit};
+    ghost use Rattle.ring_book.specs.EventsView.{EventsView};
 
     ghost Value = { EventsView };
 

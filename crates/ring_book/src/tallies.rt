@@ -1,44 +1,44 @@
 ghost use Rattle.std.specs.Prelude.{◌≡◌, ◌<◌, ◌≤◌, ◌+◌, ◌^◌, ℕ, true, length, slice_index, replicate, IfOk, Bool};
+ghost use Rattle.ring_model.specs.Limits.{seat_limit};
 ghost use Rattle.ring_book.specs.GrantCounts.{IsEven};
 ghost use Rattle.ring_book.specs.GrantsView.{raised, no_grants};
 ghost use Rattle.ring_book.specs.TallyView.{TallyView, after_call, after_grant, after_corruption};
 
 use crate::grants::GrantBook;
+use ring_model::limits::SEAT_LIMIT;
 use std::alloc::{AllocError, Global};
 use std::marker::Model;
-
-/// The most seats of a ring.
-const SEATS: usize = 10;
 
 /// The running counts of a book.
 #[derive(Drop)]
 pub(crate) struct Tally {
     calm: u64,
-    calls: [u64; SEATS],
+    calls: [u64; SEAT_LIMIT],
     settled: bool,
     grants: GrantBook,
 }
 
 impl Model for Tally {
     ghost use Rattle.std.specs.Prelude.{◌≡◌, ◌≤◌, length};
+    ghost use Rattle.ring_model.specs.Limits.{seat_limit};
     ghost use Rattle.ring_book.specs.TallyView.{TallyView};
 
     ghost Value = { TallyView };
 
     ghost view = { λ t. record { calm = t.calm; calls = t.calls; settled = t.settled; grants = t.grants } };
 
-    ghost invariant = { λ t. length t.calls ≡ 10 };
+    ghost invariant = { λ t. length t.calls ≡ seat_limit };
 }
 
 impl Tally {
     /// The counts of no events on `machines` machines, where exactly one is privileged or not.
     pub(crate) fn new(alloc: Global, machines: u32, settled: bool) -> Result<Tally, AllocError>
-        ensures { IfOk result (λ t. t ≡ record { calm = 0; calls = replicate 10 0; settled = settled; grants = no_grants machines }) }
+        ensures { IfOk result (λ t. t ≡ record { calm = 0; calls = replicate seat_limit 0; settled = settled; grants = no_grants machines }) }
     {
         let grants = GrantBook::new(alloc, machines)?;
         Ok(Tally {
             calm: 0,
-            calls: [0; SEATS],
+            calls: [0; SEAT_LIMIT],
             settled,
             grants,
         })
@@ -51,9 +51,9 @@ impl Tally {
         self.calm
     }
 
-    /// The events of `seat`, which is at most 9.
+    /// The events of `seat`, which is below `SEAT_LIMIT`.
     pub(crate) fn calls_of(&self, seat: u32) -> u64
-        requires { seat ≤ 9 }
+        requires { seat < seat_limit }
         ensures { result ≡ slice_index self.now.calls seat }
     {
         self.calls[seat as usize]
@@ -73,9 +73,9 @@ impl Tally {
         &self.grants
     }
 
-    /// Counts a call of `seat`, which is at most 9.
+    /// Counts a call of `seat`, which is below `SEAT_LIMIT`.
     pub(crate) fn add_call(&mut self, seat: u32)
-        requires seat { seat ≤ 9 }
+        requires seat { seat < seat_limit }
         requires fits { slice_index self.old.calls seat + 1 < 2 ^ 64 }
         ensures { self.new ≡ after_call self.old seat }
     {

@@ -3,7 +3,8 @@ use Rattle.std.proofs.Common.{◌≡◌, ℕ, ◌+◌, ◌<◌, ◌≤◌, List,
 use Rattle.std.specs.Prelude.{IsErr, IsErrAnd, nat_le, nat_lt}
 use Rattle.std.specs.List.{list_all}
 use Rattle.std.proofs.lemmas.List.{length-map}
-use Rattle.ring_model.specs.Ring.{IsRing}
+use Rattle.ring_model.specs.Limits.{machine_limit, value_limit}
+use Rattle.ring_model.specs.Ring.{ring_with, IsRing}
 use Rattle.ring_text.specs.declared.saved.SavedEvent.{SavedEvent}
 use Rattle.ring_text.specs.declared.saved.SavedSurvey.{SavedSurvey}
 use Rattle.ring_text.specs.Content.{Block}
@@ -23,14 +24,14 @@ below_at k [] e i l = absurd (omega arith)
 below_at k (v ∷ s) e zero l = below v k (both (nat_lt v k) (list_all (λ v. nat_lt v k) s) e).0
 below_at k (v ∷ s) e (suc i) l = let p = both (nat_lt v k) (list_all (λ v. nat_lt v k) s) e in below_at k s p.1 i (omega arith)
 
-pub parameters_mean : (n k : ℕ) → are_parameters n k ≡ true → (2 ≤ n) × (n ≤ 256) × (n ≤ k) × (k ≤ 256)
+pub parameters_mean : (n k : ℕ) → are_parameters n k ≡ true → (2 ≤ n) × (n ≤ machine_limit) × (n ≤ k) × (k ≤ value_limit)
 parameters_mean n k e =
-    let p = both (nat_le 2 n) (nat_le n 256 && (nat_le n k && nat_le k 256)) e in
-    let q = both (nat_le n 256) (nat_le n k && nat_le k 256) p.1 in
-    let r = both (nat_le n k) (nat_le k 256) q.1 in
-    (at_most 2 n p.0, at_most n 256 q.0, at_most n k r.0, at_most k 256 r.1)
+    let p = both (nat_le 2 n) (nat_le n machine_limit && (nat_le n k && nat_le k value_limit)) e in
+    let q = both (nat_le n machine_limit) (nat_le n k && nat_le k value_limit) p.1 in
+    let r = both (nat_le n k) (nat_le k value_limit) q.1 in
+    (at_most 2 n p.0, at_most n machine_limit q.0, at_most n k r.0, at_most k value_limit r.1)
 
-pub ring_of : (n k : ℕ) (s : List ℕ) → are_parameters n k ≡ true → list_all (λ v. nat_lt v k) s ≡ true → length s ≡ n → IsRing k s
+pub ring_of : (n k : ℕ) (s : List ℕ) → are_parameters n k ≡ true → list_all (λ v. nat_lt v k) s ≡ true → length s ≡ n → IsRing (ring_with k s)
 ring_of n k s p b e =
     let q = parameters_mean n k p in
     let two = q.0 in

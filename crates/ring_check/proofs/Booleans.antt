@@ -40,6 +40,9 @@ eq_true a b e = grind (arith, nat_tests)
 pub lt_true : (a b : ℕ) → a < b → nat_lt a b ≡ true
 lt_true a b l = grind (arith, nat_tests)
 
+pub lt_false : (a b : ℕ) → b ≤ a → nat_lt a b ≡ false
+lt_false a b l = grind (arith, nat_tests)
+
 pub le_true : (a b : ℕ) → a ≤ b → nat_le a b ≡ true
 le_true a b l = grind (arith, nat_tests)
 

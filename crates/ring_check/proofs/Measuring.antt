@@ -5,7 +5,7 @@ use Rattle.std.proofs.lemmas.List.{get_or-replicate, length-set, length-replicat
 use Rattle.std.proofs.Math.ListN.{get_or-eq_default}
 use Rattle.std.proofs.lemmas.Bool.{cases_eq, cases_lt, cases_Bool, both_ways, cond-true, cond-false, false_from_ne_true}
 use Rattle.ring_model.specs.Numbers.{sum_below, bit, count_below, least}
-use Rattle.ring_model.specs.Ring.{IsRing, is_privileged, first_privileged, weight_at, weight, is_absent, is_settled, first_value_is_prefix, lead, rest}
+use Rattle.ring_model.specs.Ring.{Ring, IsRing, is_privileged, first_privileged, weight_at, weight, is_absent, is_settled, first_value_is_prefix, lead, rest}
 use Rattle.ring_model.proofs.Below.{least_le, least_passes, least_from}
 use Rattle.ring_model.proofs.Bound.{lead_le}
 use Rattle.ring_model.proofs.Settled.{first_is}
@@ -53,10 +53,10 @@ prefix_not s (suc i) o l ne e =
     sym (false_from_ne_true (first_value_is_prefix s) (λ q. ne (let at : suc i - 1 ≡ i = omega arith in ap (λ x. get_or s x 0) at ∙ front_true s q i l e)))
 
 -- the flags of the values that the machines from 1 to i - 1 have
-pub record AreFlags (K : ℕ) (s : List ℕ) (i : ℕ) (held : List Bool) : Type 0 where
-  pub long : length held ≡ K
-  pub only : (v : ℕ) → get_or held v false ≡ true → (j : ℕ) × (1 ≤ j) × (j < i) × (get_or s j 0 ≡ v)
-  pub all : (j : ℕ) → 1 ≤ j → j < i → get_or held (get_or s j 0) false ≡ true
+pub record AreFlags (r : Ring) (i : ℕ) (held : List Bool) : Type 0 where
+  pub long : length held ≡ r.k
+  pub only : (v : ℕ) → get_or held v false ≡ true → (j : ℕ) × (1 ≤ j) × (j < i) × (get_or r.values j 0 ≡ v)
+  pub all : (j : ℕ) → 1 ≤ j → j < i → get_or held (get_or r.values j 0) false ≡ true
 
 none_set : (K v : ℕ) → get_or (replicate K false) v false ≡ false
 none_set K v = elim (cases_lt v K) [
@@ -64,72 +64,72 @@ none_set K v = elim (cases_lt v K) [
   | inr g ↦ get_or-eq_default (replicate K false) false (let n = length-replicate K false in omega arith)
 ]
 
-pub flags_none : (K : ℕ) (s : List ℕ) (held : List Bool) → held ≡ replicate K false → AreFlags K s 1 held
-flags_none K s held e = record {
-  long = ap (λ (x : List Bool). length x) e ∙ length-replicate K false;
-  only = λ v q. absurd (both_ways (get_or held v false) (ap (λ (x : List Bool). get_or x v false) e ∙ none_set K v) q);
+pub flags_none : (r : Ring) (held : List Bool) → held ≡ replicate r.k false → AreFlags r 1 held
+flags_none r held e = record {
+  long = ap (λ (x : List Bool). length x) e ∙ length-replicate r.k false;
+  only = λ v q. absurd (both_ways (get_or held v false) (ap (λ (x : List Bool). get_or x v false) e ∙ none_set r.k v) q);
   all = λ j o l. absurd (omega arith);
 }
 
-pub flags_more : (K : ℕ) (s : List ℕ) (i : ℕ) (held new : List Bool) → IsRing K s → 1 ≤ i → i < length s → new ≡ set held (get_or s i 0) true →
-    AreFlags K s i held → AreFlags K s (i + 1) new
-flags_more K s i held new ring o l e h =
-    let within : get_or s i 0 < length held = let b = ring.below i l in let n = h.long in omega arith in
-    let on : get_or new (get_or s i 0) false ≡ true =
-    ap (λ (x : List Bool). get_or x (get_or s i 0) false) e ∙ get_or-set_same held (get_or s i 0) true false within in
-    let off : (v : ℕ) → v ≢ get_or s i 0 → get_or new v false ≡ get_or held v false =
-    λ v ne. ap (λ (x : List Bool). get_or x v false) e ∙ get_or-set_other held (get_or s i 0) v true false ne in
+pub flags_more : (r : Ring) (i : ℕ) (held new : List Bool) → IsRing r → 1 ≤ i → i < length r.values → new ≡ set held (get_or r.values i 0) true →
+    AreFlags r i held → AreFlags r (i + 1) new
+flags_more r i held new ring o l e h =
+    let within : get_or r.values i 0 < length held = let b = ring.below i l in let n = h.long in omega arith in
+    let on : get_or new (get_or r.values i 0) false ≡ true =
+    ap (λ (x : List Bool). get_or x (get_or r.values i 0) false) e ∙ get_or-set_same held (get_or r.values i 0) true false within in
+    let off : (v : ℕ) → v ≢ get_or r.values i 0 → get_or new v false ≡ get_or held v false =
+    λ v ne. ap (λ (x : List Bool). get_or x v false) e ∙ get_or-set_other held (get_or r.values i 0) v true false ne in
     record {
-      long = ap (λ (x : List Bool). length x) e ∙ length-set held (get_or s i 0) true ∙ h.long;
-      only = λ v q. elim (cases_eq v (get_or s i 0)) [
+      long = ap (λ (x : List Bool). length x) e ∙ length-set held (get_or r.values i 0) true ∙ h.long;
+      only = λ v q. elim (cases_eq v (get_or r.values i 0)) [
         | inl same ↦ (i, o, omega arith, sym same)
         | inr ne ↦ let w = h.only v (sym (off v ne) ∙ q) in let lt = w.2 in (w.0, w.1, omega arith, w.3)
       ];
-      all = λ j o lj. elim (cases_eq (get_or s j 0) (get_or s i 0)) [
+      all = λ j o lj. elim (cases_eq (get_or r.values j 0) (get_or r.values i 0)) [
         | inl same ↦ ap (λ (x : ℕ). get_or new x false) same ∙ on
-        | inr ne ↦ off (get_or s j 0) ne ∙ h.all j o (elim (cases_lt j i) [ inl lt ↦ lt | inr ge ↦ let at : j ≡ i = omega arith in absurd (ne (ap (λ (x : ℕ). get_or s x 0) at)) ])
+        | inr ne ↦ off (get_or r.values j 0) ne ∙ h.all j o (elim (cases_lt j i) [ inl lt ↦ lt | inr ge ↦ let at : j ≡ i = omega arith in absurd (ne (ap (λ (x : ℕ). get_or r.values x 0) at)) ])
       ];
     }
 
 -- with all machines seen, they tell which values are absent
-pub flags_tell : (K : ℕ) (s : List ℕ) (i : ℕ) (held : List Bool) → length s ≤ i → i ≤ length s → AreFlags K s i held → (v : ℕ) → v < K →
-    is_absent s v ≡ not (get_or held v false)
-flags_tell K s i held g l h v lv = elim (cases_Bool (get_or held v false)) [
+pub flags_tell : (r : Ring) (i : ℕ) (held : List Bool) → length r.values ≤ i → i ≤ length r.values → AreFlags r i held → (v : ℕ) → v < r.k →
+    is_absent r.values v ≡ not (get_or held v false)
+flags_tell r i held g l h v lv = elim (cases_Bool (get_or held v false)) [
   | inl t ↦
       let w = h.only v t in
       let lt = w.2 in
-      present_at s v w.0 w.1 (omega arith) w.3 ∙ sym (ap (λ (x : Bool). not x) t)
+      present_at r.values v w.0 w.1 (omega arith) w.3 ∙ sym (ap (λ (x : Bool). not x) t)
   | inr f ↦
-      absent_from s v (λ k lk same.
+      absent_from r.values v (λ k lk same.
       both_ways (get_or held v false) f (ap (λ (x : ℕ). get_or held x false) (sym same) ∙ h.all (suc k) (omega arith) (omega arith)))
       ∙ sym (ap (λ (x : Bool). not x) f)
 ]
 
 -- the lead
-pub lead_prefix : (K : ℕ) (s : List ℕ) → first_value_is_prefix s ≡ true → 0 ≡ lead K s
-lead_prefix K s f = sym (cond-true (first_value_is_prefix s) 0 (least (λ j. is_absent s ((get_or s 0 0 + j) % K)) 1 K) f)
+pub lead_prefix : (r : Ring) → first_value_is_prefix r.values ≡ true → 0 ≡ lead r
+lead_prefix r f = sym (cond-true (first_value_is_prefix r.values) 0 (least (λ j. is_absent r.values ((get_or r.values 0 0 + j) % r.k)) 1 r.k) f)
 
-pub lead_at : (K : ℕ) (s : List ℕ) (j : ℕ) → first_value_is_prefix s ≡ false → 1 ≤ j → is_absent s ((get_or s 0 0 + j) % K) ≡ true → j ≤ K →
-    ((i : ℕ) → 1 ≤ i → i < j → is_absent s ((get_or s 0 0 + i) % K) ≡ false) → j ≡ lead K s
-lead_at K s j f one e le h =
-    let p : ℕ → Bool = λ i. is_absent s ((get_or s 0 0 + i) % K) in
-    let a : lead K s ≡ least p 1 K = cond-false (first_value_is_prefix s) 0 (least p 1 K) f in
-    let top : least p 1 K ≤ j = least_le p 1 K j one e in
-    let low : 1 ≤ least p 1 K = least_from p 1 K in
-    let on : p (least p 1 K) ≡ true = least_passes p 1 K (omega arith) in
-    let ge : least p 1 K < j → ⊥ = λ q. both_ways (p (least p 1 K)) (h (least p 1 K) low q) on in
+pub lead_at : (r : Ring) (j : ℕ) → first_value_is_prefix r.values ≡ false → 1 ≤ j → is_absent r.values ((get_or r.values 0 0 + j) % r.k) ≡ true → j ≤ r.k →
+    ((i : ℕ) → 1 ≤ i → i < j → is_absent r.values ((get_or r.values 0 0 + i) % r.k) ≡ false) → j ≡ lead r
+lead_at r j f one e le h =
+    let p : ℕ → Bool = λ i. is_absent r.values ((get_or r.values 0 0 + i) % r.k) in
+    let a : lead r ≡ least p 1 r.k = cond-false (first_value_is_prefix r.values) 0 (least p 1 r.k) f in
+    let top : least p 1 r.k ≤ j = least_le p 1 r.k j one e in
+    let low : 1 ≤ least p 1 r.k = least_from p 1 r.k in
+    let on : p (least p 1 r.k) ≡ true = least_passes p 1 r.k (omega arith) in
+    let ge : least p 1 r.k < j → ⊥ = λ q. both_ways (p (least p 1 r.k)) (h (least p 1 r.k) low q) on in
     omega arith
 
-pub some_lead : (K : ℕ) (s : List ℕ) → IsRing K s → first_value_is_prefix s ≡ false →
-    ((i : ℕ) → 1 ≤ i → i < K → is_absent s ((get_or s 0 0 + i) % K) ≡ false) → ⊥
-some_lead K s r f h =
-    let p : ℕ → Bool = λ i. is_absent s ((get_or s 0 0 + i) % K) in
-    let enough = r.enough in
-    let a : lead K s ≡ least p 1 K = cond-false (first_value_is_prefix s) 0 (least p 1 K) f in
-    let small : lead K s + 1 ≤ length s = lead_le K s r in
-    let low : 1 ≤ least p 1 K = least_from p 1 K in
-    let on : p (least p 1 K) ≡ true = least_passes p 1 K (omega arith) in
-    both_ways (p (least p 1 K)) (h (least p 1 K) low (omega arith)) on
+pub some_lead : (r : Ring) → IsRing r → first_value_is_prefix r.values ≡ false →
+    ((i : ℕ) → 1 ≤ i → i < r.k → is_absent r.values ((get_or r.values 0 0 + i) % r.k) ≡ false) → ⊥
+some_lead r g f h =
+    let p : ℕ → Bool = λ i. is_absent r.values ((get_or r.values 0 0 + i) % r.k) in
+    let enough = g.enough in
+    let a : lead r ≡ least p 1 r.k = cond-false (first_value_is_prefix r.values) 0 (least p 1 r.k) f in
+    let small : lead r + 1 ≤ length r.values = lead_le r g in
+    let low : 1 ≤ least p 1 r.k = least_from p 1 r.k in
+    let on : p (least p 1 r.k) ≡ true = least_passes p 1 r.k (omega arith) in
+    both_ways (p (least p 1 r.k)) (h (least p 1 r.k) low (omega arith)) on
 
-pub rest_open : (K : ℕ) (s : List ℕ) → is_settled s ≡ false → rest K s ≡ weight s + length s * lead K s
-rest_open K s u = cond-false (is_settled s) 0 (weight s + length s * lead K s) u
+pub rest_open : (r : Ring) → is_settled r.values ≡ false → rest r ≡ weight r.values + length r.values * lead r
+rest_open r u = cond-false (is_settled r.values) 0 (weight r.values + length r.values * lead r) u

@@ -3,7 +3,8 @@ use Rattle.std.proofs.Common.{◌≡◌, ℕ, ◌+◌, ◌<◌, ◌≤◌, List,
 use Rattle.std.specs.Prelude.{nat_lt, nat_le, Some, None}
 use Rattle.std.proofs.lemmas.Bool.{cases_Bool, cases_eq}
 use Rattle.std.proofs.lemmas.List.{length-set}
-use Rattle.ring_model.specs.Ring.{IsRing, is_privileged}
+use Rattle.ring_model.specs.Limits.{seat_limit}
+use Rattle.ring_model.specs.Ring.{ring_with, written, Ring, IsRing, is_privileged}
 use Rattle.ring_model.proofs.Settled.{move_ring}
 use Rattle.ring_model.proofs.Histories.{calm_next, after-push, StepOf-reply}
 use Rattle.ring_model.specs.declared.events.Op.{Op}
@@ -64,48 +65,48 @@ step_range a (Corrupt i v) (Corrupted old) h =
     joined (nat_lt i (length a.ring.values)) (nat_lt v a.ring.k) (lt_true i (length a.ring.values) h.0) (lt_true v a.ring.k h.1)
 
 -- an event has no fault exactly where it is a step by one of the seats
-pub event_means : (n : ℕ) (a : State ℕ) (e : Event) → length a.ring.values ≡ n → event_fault n a e ≡ None → (e.seat ≤ 9) × Step till a e (next till a e.op)
+pub event_means : (n : ℕ) (a : State ℕ) (e : Event) → length a.ring.values ≡ n → event_fault n a e ≡ None → (e.seat < seat_limit) × Step till a e (next till a e.op)
 event_means n a e l h =
     let p = event_right n a e h in
-    let q = both (nat_le e.seat 9) (op_in_range n a.ring.k e.op) p.0 in
-    (at_most e.seat 9 q.0, step_right a e.op e.reply (ap (λ (x : ℕ). op_in_range x a.ring.k e.op) l ∙ q.1) p.1)
+    let q = both (nat_lt e.seat seat_limit) (op_in_range n a.ring.k e.op) p.0 in
+    (below e.seat seat_limit q.0, step_right a e.op e.reply (ap (λ (x : ℕ). op_in_range x a.ring.k e.op) l ∙ q.1) p.1)
 
-pub event_fine : (n : ℕ) (a : State ℕ) (e : Event) → length a.ring.values ≡ n → e.seat ≤ 9 → Step till a e (next till a e.op) → event_fault n a e ≡ None
+pub event_fine : (n : ℕ) (a : State ℕ) (e : Event) → length a.ring.values ≡ n → e.seat < seat_limit → Step till a e (next till a e.op) → event_fault n a e ≡ None
 event_fine n a e l seat step =
     let p = step_range a e.op e.reply step in
     let said : e.reply ≡ reply till a e.op = StepOf-reply till a e.op e.reply (next till a e.op) step in
-    let i : in_range n a.ring.k e ≡ true = joined (nat_le e.seat 9) (op_in_range n a.ring.k e.op) (le_true e.seat 9 seat) (ap (λ (x : ℕ). op_in_range x a.ring.k e.op) (sym l) ∙ p) in
+    let i : in_range n a.ring.k e ≡ true = joined (nat_lt e.seat seat_limit) (op_in_range n a.ring.k e.op) (lt_true e.seat seat_limit seat) (ap (λ (x : ℕ). op_in_range x a.ring.k e.op) (sym l) ∙ p) in
     let r : is_replied a e ≡ true = ap (λ (x : Reply). same_reply x (reply till a e.op)) said ∙ same_self (reply till a e.op) in
     rw (i, r) refl
 
 -- a ring with one value written
-set_ring : (K : ℕ) (s : List ℕ) (i v : ℕ) → IsRing K s → i < length s → v < K → IsRing K (set s i v)
-set_ring K s i v r l small =
-    let two = r.two in
-    let enough = r.enough in
-    let n : length (set s i v) ≡ length s = length-set s i v in
+set_ring : (r : Ring) (i v : ℕ) → IsRing r → i < length r.values → v < r.k → IsRing (written r i v)
+set_ring r i v g l small =
+    let two = g.two in
+    let enough = g.enough in
+    let n : length (set r.values i v) ≡ length r.values = length-set r.values i v in
     record {
       two = omega arith;
       enough = omega arith;
       below = λ k lk. elim (cases_eq k i) [
-        | inl e ↦ let a : get_or (set s i v) k 0 ≡ v = ap (λ (x : ℕ). get_or (set s i v) x 0) e ∙ get_or-set_same s i v 0 l in omega arith
+        | inl e ↦ let a : get_or (set r.values i v) k 0 ≡ v = ap (λ (x : ℕ). get_or (set r.values i v) x 0) e ∙ get_or-set_same r.values i v 0 l in omega arith
         | inr ne ↦
-            let a : get_or (set s i v) k 0 ≡ get_or s k 0 = get_or-set_other s i k v 0 ne in
-            let b : get_or s k 0 < K = r.below k (omega arith) in
+            let a : get_or (set r.values i v) k 0 ≡ get_or r.values k 0 = get_or-set_other r.values i k v 0 ne in
+            let b : get_or r.values k 0 < r.k = g.below k (omega arith) in
             omega arith
       ];
     }
 
 -- what a step keeps
 pub record IsKept (a b : State ℕ) : Type 0 where
-  pub ring : IsRing b.ring.k b.ring.values
+  pub ring : IsRing b.ring
   pub long : length b.ring.values ≡ length a.ring.values
   pub same_k : b.ring.k ≡ a.ring.k
   pub grants : b.grants ≤ a.grants + 1
 
-pub step_keeps : (a : State ℕ) (o : Op) (r : Reply) → IsRing a.ring.k a.ring.values → StepOf till a o r (next till a o) → IsKept a (next till a o)
+pub step_keeps : (a : State ℕ) (o : Op) (r : Reply) → IsRing a.ring → StepOf till a o r (next till a o) → IsKept a (next till a o)
 step_keeps a (Pass i order) (Granted number result) ring h = rw h.1 (record {
-  ring = move_ring a.ring.k a.ring.values i ring h.0;
+  ring = move_ring a.ring i ring h.0;
   long = length-set a.ring.values i _;
   same_k = refl;
   grants = omega arith;
@@ -115,7 +116,7 @@ step_keeps a (Pass i order) (Corrupted old) ring h = absurd h
 step_keeps a (Corrupt i v) (Granted number result) ring h = absurd h
 step_keeps a (Corrupt i v) NotPrivileged ring h = absurd h
 step_keeps a (Corrupt i v) (Corrupted old) ring h = record {
-  ring = set_ring a.ring.k a.ring.values i v ring h.0 h.1;
+  ring = set_ring a.ring i v ring h.0 h.1;
   long = length-set a.ring.values i v;
   same_k = refl;
   grants = omega arith;
@@ -128,16 +129,16 @@ calm_next_le c (Corrupted old) = omega arith
 
 -- a ring of as many machines as the start, where a history has led
 pub record IsWell (k : ℕ) (start : List ℕ) (h : List Event) : Type 0 where
-  pub ring : IsRing (after till (first_state k start) h).ring.k (after till (first_state k start) h).ring.values
-  pub long : length (after till (first_state k start) h).ring.values ≡ length start
+  pub ring : IsRing (after till (first_state (ring_with k start)) h).ring
+  pub long : length (after till (first_state (ring_with k start)) h).ring.values ≡ length start
 
 pub well_push : (k : ℕ) (start : List ℕ) (h : List Event) (e : Event) → IsWell k start h →
-    Step till (after till (first_state k start) h) e (next till (after till (first_state k start) h) e.op) → IsWell k start (h ++ e ∷ [])
+    Step till (after till (first_state (ring_with k start)) h) e (next till (after till (first_state (ring_with k start)) h) e.op) → IsWell k start (h ++ e ∷ [])
 well_push k start h e w step =
-    let a = after till (first_state k start) h in
+    let a = after till (first_state (ring_with k start)) h in
     let kept = step_keeps a e.op e.reply w.ring step in
-    let on = after-push till (first_state k start) h e in
+    let on = after-push till (first_state (ring_with k start)) h e in
     record {
-      ring = subst (λ (x : State ℕ). IsRing x.ring.k x.ring.values) (sym on) kept.ring;
+      ring = subst (λ (x : State ℕ). IsRing x.ring) (sym on) kept.ring;
       long = ap (λ (x : State ℕ). length x.ring.values) on ∙ kept.long ∙ w.long;
     }

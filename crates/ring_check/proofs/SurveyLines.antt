@@ -1,7 +1,9 @@
 -- A block's survey lines, one after the other.
-use Rattle.std.proofs.Common.{◌≡◌, ℕ, ◌+◌, ◌<◌, ◌≤◌, List, length, take, get_or, map, Bool, true, false, Some, None, refl, sym, ◌∙◌, ap, subst, arith, ◌&&◌}
+use Rattle.std.proofs.Common.{nat_lt, ◌≡◌, ℕ, ◌+◌, ◌<◌, ◌≤◌, List, length, take, get_or, map, Bool, true, false, Some, None, refl, sym, ◌∙◌, ap, subst, arith, ◌&&◌}
 use Rattle.std.specs.Prelude.{nat_le}
 use Rattle.std.proofs.lemmas.List.{length-map, take_all}
+use Rattle.ring_model.specs.Ring.{ring_with}
+use Rattle.ring_model.specs.Limits.{seat_limit}
 use Rattle.ring_model.specs.declared.events.Event.{Event}
 use Rattle.ring_model.specs.declared.events.Survey.{Survey}
 use Rattle.ring_model.specs.Resources.{till}
@@ -15,7 +17,7 @@ use Rattle.ring_check.specs.Lines.{SurveyLine}
 use Rattle.ring_check.specs.Table.{Before, event_of, first_state, fault, after_lines, is_onward, is_surveyed, same_survey}
 use Rattle.ring_check.specs.Scan.{first_fault, in_block}
 use Rattle.ring_check.specs.Replays.{IsReading}
-use Rattle.ring_check.proofs.Booleans.{joined, and_left, and_right, le_true, le_false}
+use Rattle.ring_check.proofs.Booleans.{joined, and_left, and_right, lt_true, lt_false, le_true, le_false}
 use Rattle.ring_check.proofs.Replaying.{survey_is}
 use Rattle.ring_check.proofs.Walk.{walk_bad, walk_good, walk_on}
 
@@ -28,44 +30,44 @@ abbrev pub blank : SavedSurvey
 blank = record { seat = 0; position = 0; privileged = 0; first = 0; calm = 0; rest = 0 }
 
 -- what is wrong with a survey line, and what is not
-pub seat_bad : (b : Before) (s : SavedSurvey) → 9 < s.seat → fault b (SurveyLine s) ≡ Some Range
-seat_bad b s l = let e : nat_le s.seat 9 ≡ false = le_false s.seat 9 l in rw e refl
+pub seat_bad : (b : Before) (s : SavedSurvey) → seat_limit ≤ s.seat → fault b (SurveyLine s) ≡ Some Range
+seat_bad b s l = let e : nat_lt s.seat seat_limit ≡ false = lt_false s.seat seat_limit l in rw e refl
 
-survey_bad : (b : Before) (s : SavedSurvey) → s.seat ≤ 9 → (is_onward b.seat b.position s && is_surveyed b s) ≡ false → fault b (SurveyLine s) ≡ Some SurveyKind
-survey_bad b s l e = let t : nat_le s.seat 9 ≡ true = le_true s.seat 9 l in rw (t, e) refl
+survey_bad : (b : Before) (s : SavedSurvey) → s.seat < seat_limit → (is_onward b.seat b.position s && is_surveyed b s) ≡ false → fault b (SurveyLine s) ≡ Some SurveyKind
+survey_bad b s l e = let t : nat_lt s.seat seat_limit ≡ true = lt_true s.seat seat_limit l in rw (t, e) refl
 
-pub place_bad : (b : Before) (s : SavedSurvey) → s.seat ≤ 9 → length b.events < s.position → fault b (SurveyLine s) ≡ Some SurveyKind
+pub place_bad : (b : Before) (s : SavedSurvey) → s.seat < seat_limit → length b.events < s.position → fault b (SurveyLine s) ≡ Some SurveyKind
 place_bad b s l w =
     let e : nat_le s.position (length b.events) ≡ false = le_false s.position (length b.events) w in
     survey_bad b s l (and_right (is_onward b.seat b.position s) (is_surveyed b s) (and_left (nat_le s.position (length b.events)) _ e))
 
-pub back_bad : (b : Before) (s : SavedSurvey) → s.seat ≤ 9 → is_onward b.seat b.position s ≡ false → fault b (SurveyLine s) ≡ Some SurveyKind
+pub back_bad : (b : Before) (s : SavedSurvey) → s.seat < seat_limit → is_onward b.seat b.position s ≡ false → fault b (SurveyLine s) ≡ Some SurveyKind
 back_bad b s l w = survey_bad b s l (and_left (is_onward b.seat b.position s) (is_surveyed b s) w)
 
-pub answer_bad : (b : Before) (s : SavedSurvey) → s.seat ≤ 9 → is_surveyed b s ≡ false → fault b (SurveyLine s) ≡ Some SurveyKind
+pub answer_bad : (b : Before) (s : SavedSurvey) → s.seat < seat_limit → is_surveyed b s ≡ false → fault b (SurveyLine s) ≡ Some SurveyKind
 answer_bad b s l w = survey_bad b s l (and_right (is_onward b.seat b.position s) (is_surveyed b s) w)
 
-pub survey_fine : (b : Before) (s : SavedSurvey) → s.seat ≤ 9 → is_onward b.seat b.position s ≡ true → is_surveyed b s ≡ true → fault b (SurveyLine s) ≡ None
+pub survey_fine : (b : Before) (s : SavedSurvey) → s.seat < seat_limit → is_onward b.seat b.position s ≡ true → is_surveyed b s ≡ true → fault b (SurveyLine s) ≡ None
 survey_fine b s l w v =
-    let t : nat_le s.seat 9 ≡ true = le_true s.seat 9 l in
+    let t : nat_lt s.seat seat_limit ≡ true = lt_true s.seat seat_limit l in
     let e : (is_onward b.seat b.position s && is_surveyed b s) ≡ true = joined (is_onward b.seat b.position s) (is_surveyed b s) w v in
     rw (t, e) refl
 
 -- a survey line is right where it says what a reading at its position says
 pub surveyed_by : (line rings k : ℕ) (start : List ℕ) (es : List SavedEvent) (seat position : ℕ) (s : SavedSurvey) (t : Reading) (said : Bool) →
-    IsReading k start es t → t.survey.position ≡ s.position → said ≡ same_survey s t.survey →
+    IsReading (ring_with k start) es t → t.survey.position ≡ s.position → said ≡ same_survey s t.survey →
     is_surveyed (in_surveys line rings k start (map event_of es) seat position) s ≡ said
 surveyed_by line rings k start es seat position s t said r at e =
     let n : length (map event_of es) ≡ length es = length-map es event_of in
     let w = r.within in
     let i : nat_le s.position (length (map event_of es)) ≡ true = le_true s.position (length (map event_of es)) (omega arith) in
-    let here : survey_at till (first_state k start) (map event_of es) s.position ≡ t.survey =
-    ap (λ (x : ℕ). survey_at till (first_state k start) (map event_of es) x) (sym at) ∙ survey_is k start es t.survey.position t.replay r.stands ∙ sym r.right in
+    let here : survey_at till (first_state (ring_with k start)) (map event_of es) s.position ≡ t.survey =
+    ap (λ (x : ℕ). survey_at till (first_state (ring_with k start)) (map event_of es) x) (sym at) ∙ survey_is k start es t.survey.position t.replay r.stands ∙ sym r.right in
     rw i (ap (λ (x : Survey). same_survey s x) here ∙ sym e)
 
 -- the first i surveys have no fault, and a reading stands at the last of them
 pub record AreRight (line k : ℕ) (start : List ℕ) (es : List SavedEvent) (ss : List SavedSurvey) (i seat position : ℕ) (r : Reading) : Type 0 where
-  pub reading : IsReading k start es r
+  pub reading : IsReading (ring_with k start) es r
   pub same_k : r.replay.k ≡ k
   pub none : (rings : ℕ) → first_fault (in_block line rings (length start) k start (map event_of es)) (map SurveyLine (take i ss)) ≡ None
   pub here : (rings : ℕ) → after_lines (in_block line rings (length start) k start (map event_of es)) (map SurveyLine (take i ss))
@@ -80,7 +82,7 @@ module _ (line k : ℕ) (start : List ℕ) (es : List SavedEvent) (ss : List Sav
       (good.none rings) (good.here rings) kind (h rings)
 
   pub surveys_good : (t : Reading) → ((rings : ℕ) → fault (in_surveys (line + i) rings k start (map event_of es) seat position) (SurveyLine (get_or ss i d)) ≡ None) →
-      IsReading k start es t → AreRight line k start es ss (i + 1) (get_or ss i d).seat (get_or ss i d).position t
+      IsReading (ring_with k start) es t → AreRight line k start es ss (i + 1) (get_or ss i d).seat (get_or ss i d).position t
   surveys_good t h reading =
       let at : ℕ → Before = λ rings. in_surveys (line + i) rings k start (map event_of es) seat position in
       let b : ℕ → Before = λ rings. in_block line rings (length start) k start (map event_of es) in
@@ -99,5 +101,5 @@ surveys_end line k start es ss i seat position r l good rings =
     subst (λ (u : List SavedSurvey). first_fault (in_block line rings (length start) k start (map event_of es)) (map SurveyLine u) ≡ None) (take_all i ss l) (good.none rings)
 
 -- a reading of a ring with this K
-pub reading_of : (j k : ℕ) (start : List ℕ) (es : List SavedEvent) (r : Reading) → j ≡ k → IsReading j start es r → IsReading k start es r
-reading_of j k start es r e h = subst (λ (x : ℕ). IsReading x start es r) e h
+pub reading_of : (j k : ℕ) (start : List ℕ) (es : List SavedEvent) (r : Reading) → j ≡ k → IsReading (ring_with j start) es r → IsReading (ring_with k start) es r
+reading_of j k start es r e h = subst (λ (x : ℕ). IsReading (ring_with x start) es r) e h

@@ -5,6 +5,7 @@ use Rattle.std.specs.List.{All, flat_map}
 use Rattle.std.proofs.lemmas.List.{length-map}
 use Rattle.std.proofs.lemmas.List.Elements.{All-cons, All-head, All-tail}
 use Rattle.std.proofs.lemmas.Option.{slice_get_within, get_or_from_slice_get}
+use Rattle.ring_model.specs.Limits.{seat_limit}
 use Rattle.ring_model.specs.declared.events.Op.{Op}
 use Rattle.ring_model.specs.declared.events.Op.TheVariants.{Pass, Corrupt}
 use Rattle.ring_model.specs.declared.events.Reply.{Reply}
@@ -82,7 +83,7 @@ module _ (place : ℕ) (r : RingOutcome) (legal : IsLegal till (opening r.book.s
   told : history (block_at place r) ≡ r.book.history
   told = lines_tell (opening r.book.start 0) r.book.history legal
 
-  log_right : (seat front : ℕ) (log : List Entry) (tail : List SavedSurvey) → seat ≤ 9 → IsFollowed till (opening r.book.start 0) r.book.history front log →
+  log_right : (seat front : ℕ) (log : List Entry) (tail : List SavedSurvey) → seat < seat_limit → IsFollowed till (opening r.book.start 0) r.book.history front log →
       All (IsRightSurvey (block_at place r)) tail → All (IsRightSurvey (block_at place r)) (entry_surveys seat log ++ tail)
   log_right seat front [] tail l fits more = more
   log_right seat front (entry.Receipt t ∷ log) tail l fits more = log_right seat (t.position + 1) log tail l fits.2 more
@@ -91,7 +92,7 @@ module _ (place : ℕ) (r : RingOutcome) (legal : IsLegal till (opening r.book.s
       (record { seat = l; right = subst (λ (h : List Event). IsSurvey till (opening r.book.start 0) h s) (sym told) fits.1 })
       (log_right seat s.position log tail l fits.2 more)
 
-  logs_right : (seat : ℕ) (logs : List Log) → seat + length logs ≤ 10 → ArePlaced (opening r.book.start 0) r.book.history seat logs →
+  logs_right : (seat : ℕ) (logs : List Log) → seat + length logs ≤ seat_limit → ArePlaced (opening r.book.start 0) r.book.history seat logs →
       All (IsRightSurvey (block_at place r)) (flat_map log_surveys logs)
   logs_right seat [] l are = λ k d m. absurd (omega arith)
   logs_right seat (log ∷ logs) l are =
@@ -117,14 +118,15 @@ run_right : (place : ℕ) (r : RingOutcome) → IsRightRun r → IsRightBlock pl
 run_right place r h =
     let same : history (block_at place r) ≡ r.book.history = told place r h.legal in
     let few = h.few in
-    let seats : All (λ (e : Event). e.seat ≤ 9) r.book.history = λ k d l. let s = h.seats k d l in omega arith in
+    let seats : All (λ (e : Event). e.seat < seat_limit) r.book.history = λ k d l. let s = h.seats k d l in omega arith in
     record {
       index = refl;
       two = h.ring.two;
       enough = h.ring.enough;
+      most_machines = h.most_machines;
       most = h.most;
       below = values_below r.book.start.k r.book.start.values h.ring.below;
-      seats = subst (λ (x : List Event). All (λ (e : Event). e.seat ≤ 9) x) (sym same) seats;
+      seats = subst (λ (x : List Event). All (λ (e : Event). e.seat < seat_limit) x) (sym same) seats;
       legal = subst (λ (x : List Event). IsLegal till (opening r.book.start 0) x) (sym same) h.legal;
       events_said = sym (length-map r.book.history saved_event);
       surveys = logs_right place r h.legal 0 r.logs.items (omega arith) (run_placed r h);

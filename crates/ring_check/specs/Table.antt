@@ -1,12 +1,14 @@
 -- What the checker refuses: the fault of a line, where the lines before it are known (this project's own).
 use Rattle.std.specs.Prelude.{ℕ, ◌+◌, cond, ◌==◌, nat_lt, nat_le, ◌&&◌, ◌||◌, List, [], ◌∷◌, ◌++◌, length, Option, Some, None, Bool, true, false}
 use Rattle.std.specs.List.{list_all}
+use Rattle.ring_model.specs.Limits.{machine_limit, value_limit, seat_limit}
 use Rattle.ring_model.specs.declared.events.Op.{Op}
 use Rattle.ring_model.specs.declared.events.Op.TheVariants.{Pass, Corrupt}
 use Rattle.ring_model.specs.declared.events.Reply.{Reply}
 use Rattle.ring_model.specs.declared.events.Reply.TheVariants.{Granted, NotPrivileged, Corrupted}
 use Rattle.ring_model.specs.declared.events.Event.{Event}
 use Rattle.ring_model.specs.declared.events.Survey.{Survey}
+use Rattle.ring_model.specs.Ring.{Ring, ring_with}
 use Rattle.ring_model.specs.History.{State, opening, after, reply}
 use Rattle.ring_model.specs.Resources.{till}
 use Rattle.ring_model.specs.Surveys.{survey_at}
@@ -23,9 +25,9 @@ event_of (saved.Granted seat machine order number result) = record { seat = seat
 event_of (saved.Refused seat machine order) = record { seat = seat; op = Pass machine order; reply = NotPrivileged }
 event_of (saved.Corrupted seat machine value old) = record { seat = seat; op = Corrupt machine value; reply = Corrupted old }
 
--- the one-thread ring before any event: K, these values, and a till with the amount 0
-abbrev pub first_state : ℕ → List ℕ → State ℕ
-first_state k start = opening (record { k = k; values = start }) 0
+-- the one-thread ring before any event, and a till with the amount 0
+abbrev pub first_state : Ring → State ℕ
+first_state ring = opening ring 0
 
 -- What the lines before a line say.
 pub record Before : Type 0 where
@@ -60,22 +62,22 @@ abbrev pub after_lines : Before → List Line → Before
 after_lines b [] = b
 after_lines b (l ∷ ls) = after_lines (after_line b l) ls
 
--- a ring may have n machines and K values: 2 to 256 machines, and n to 256 values
+-- a ring may have n machines and K values: 2 machines or more, as many values or more, and neither past its limit
 abbrev pub are_parameters : ℕ → ℕ → Bool
-are_parameters n k = nat_le 2 n && (nat_le n 256 && (nat_le n k && nat_le k 256))
+are_parameters n k = nat_le 2 n && (nat_le n machine_limit && (nat_le n k && nat_le k value_limit))
 
 -- the one-thread ring's state after the events of the block so far
 abbrev pub now : Before → State ℕ
-now b = after till (first_state b.k b.start) b.events
+now b = after till (first_state (ring_with b.k b.start)) b.events
 
 -- the call is one of a ring with n machines and K values
 abbrev pub op_in_range : ℕ → ℕ → Op → Bool
 op_in_range n k (Pass machine order) = nat_lt machine n
 op_in_range n k (Corrupt machine value) = nat_lt machine n && nat_lt value k
 
--- and it is made by one of the seats, which are 0 to 9
+-- and it is made by one of the seats
 abbrev pub in_range : ℕ → ℕ → Event → Bool
-in_range n k e = nat_le e.seat 9 && op_in_range n k e.op
+in_range n k e = nat_lt e.seat seat_limit && op_in_range n k e.op
 
 -- whether two replies are the same
 abbrev pub same_reply : Reply → Reply → Bool
@@ -102,7 +104,7 @@ same_survey s r = (s.privileged == r.privileged) && ((s.first == r.first) && ((s
 
 -- the survey is the ring's after its first POSITION events, and so many there are
 abbrev pub is_surveyed : Before → SavedSurvey → Bool
-is_surveyed b s = nat_le s.position (length b.events) && same_survey s (survey_at till (first_state b.k b.start) b.events s.position)
+is_surveyed b s = nat_le s.position (length b.events) && same_survey s (survey_at till (first_state (ring_with b.k b.start)) b.events s.position)
 
 -- the table: what is wrong with a line; where two things are, the kind with the lower number
 abbrev pub fault : Before → Line → Option Kind
@@ -110,5 +112,5 @@ fault b (RingLine index n k) = cond (are_parameters n k) (cond (index == b.rings
 fault b (StartLine s) = cond (list_all (λ v. nat_lt v b.k) s) None (Some Range)
 fault b (EventLine e) = event_fault b.n (now b) (event_of e)
 fault b (EndLine said) = cond (said == length b.events) None (Some Count)
-fault b (SurveyLine s) = cond (nat_le s.seat 9) (cond (is_onward b.seat b.position s && is_surveyed b s) None (Some SurveyKind)) (Some Range)
+fault b (SurveyLine s) = cond (nat_lt s.seat seat_limit) (cond (is_onward b.seat b.position s && is_surveyed b s) None (Some SurveyKind)) (Some Range)
 fault b (DoneLine said) = cond (said == b.rings) None (Some Count)

@@ -1,29 +1,31 @@
 -- What a farm promises of what it hands out, and that the saved text of that is legal (this project's own).
-use Rattle.std.specs.Prelude.{◌≡◌, ℕ, ◌≤◌, length, slice_get, Some, vec_len}
+use Rattle.std.specs.Prelude.{◌≡◌, ℕ, ◌≤◌, length, slice_get, Some}
 use Rattle.std.specs.List.{All}
+use Rattle.ring_model.specs.Limits.{machine_limit, value_limit, seat_limit}
 use Rattle.ring_model.specs.Ring.{IsRing}
 use Rattle.ring_model.specs.History.{opening, IsLegal}
 use Rattle.ring_model.specs.Resources.{till}
 use Rattle.ring_model.specs.Logs.{Fits}
-use Rattle.ring_settings.specs.Contents.{SettingsData, IsSettings}
+use Rattle.ring_settings.specs.Contents.{SettingsData}
 use Rattle.ring_shared.specs.Holding.{AreOfSeats}
 use Rattle.ring_shared.specs.declared.seats.Log.{Log}
 use Rattle.ring_farm.specs.declared.outcomes.Outcome.{Outcome}
 use Rattle.ring_farm.specs.declared.outcomes.RingOutcome.{RingOutcome}
-use Rattle.ring_farm.specs.Headline.{EachRing, IsOneHistory, HoldsCalls, HasLogs, AreRight}
+use Rattle.ring_farm.specs.Headline.{IsFarmOf}
 use Rattle.ring_text.specs.Content.{Content}
 use Rattle.ring_text.specs.SavedOf.{saved_of}
 use Rattle.ring_check.specs.Legal.{IsLegalText}
 use Rattle.ring_check.specs.Meaning.{IsRightText}
 
--- A ring of an allowed size (K is at most 256, this project's own limit). Its history is a legal one of a one-thread ring over the till
--- from the start values and the amount 0, the logs are at most ten and stand by the numbers of their seats, each event's seat is that of
+-- A ring of an allowed size. Its history is a legal one of a one-thread ring over the till
+-- from the start values and the amount 0, the logs are no more than the seats may be and stand by the numbers of their seats, each event's seat is that of
 -- one of them, and each log fits the history.
 pub record IsRightRun (r : RingOutcome) : Type 0 where
-  pub ring : IsRing r.book.start.k r.book.start.values
-  pub most : r.book.start.k ≤ 256
+  pub ring : IsRing r.book.start
+  pub most_machines : length r.book.start.values ≤ machine_limit
+  pub most : r.book.start.k ≤ value_limit
   pub legal : IsLegal till (opening r.book.start 0) r.book.history
-  pub few : length r.logs.items ≤ 10
+  pub few : length r.logs.items ≤ seat_limit
   pub by_number : (seat : ℕ) (l : Log) → slice_get r.logs.items seat ≡ Some l → l.seat ≡ seat
   pub seats : AreOfSeats (length r.logs.items) r.book.history
   pub fits : All (λ (l : Log). Fits till (opening r.book.start 0) r.book.history l.seat l.entries.items) r.logs.items
@@ -36,18 +38,9 @@ WrittenIsLegal = (o : Outcome) → All IsRightRun o.rings.items → IsLegalText 
 abbrev pub WrittenIsRight : Type 0
 WrittenIsRight = (o : Outcome) → All IsRightRun o.rings.items → IsRightText (saved_of o)
 
--- A fact of the saved text of each outcome that has what `run_farm` promises on settings that a farm can run. The premises behind
--- `IsSettings`, which is true of all settings that are read, are clauses of `run_farm`, word for word: as many outcomes as rings,
--- of each ring one legal history, each client's calls in it, a log for each seat by number, and each receipt and survey right.
+-- a fact of the saved text of each outcome of a farm: of what `run_farm` promises, by the record that its clause names
 abbrev pub WherePromised : (Content → Type 0) → Type 0
-WherePromised holds =
-    (settings : SettingsData) (o : Outcome) → IsSettings settings
-    → vec_len o.rings ≡ length settings.rings
-    → EachRing IsOneHistory settings o
-    → EachRing (HoldsCalls settings) settings o
-    → EachRing (λ i _ r. HasLogs settings i r) settings o
-    → EachRing (λ _ d r. AreRight d r) settings o
-    → holds (saved_of o)
+WherePromised holds = (settings : SettingsData) (o : Outcome) → IsFarmOf settings o → holds (saved_of o)
 
 -- there it is legal by the table of what is refused
 abbrev pub OutcomeIsLegal : Type 0

@@ -1,7 +1,7 @@
 //! The event lines of a block.
 
 ghost use Rattle.std.specs.Prelude.{◌≡◌, ℕ, ◌+◌, ◌<◌, ◌^◌, [], length, map, IfOk};
-ghost use Rattle.ring_model.specs.Ring.{IsRing};
+ghost use Rattle.ring_model.specs.Ring.{ring_with, IsRing};
 ghost use Rattle.ring_model.specs.History.{IsLegal};
 ghost use Rattle.ring_model.specs.Resources.{till};
 ghost use Rattle.ring_check.specs.Lines.{EventLine};
@@ -21,10 +21,10 @@ pub(crate) fn check_events(
     events: &[SavedEvent],
     line: u64,
 ) -> Result<(), CheckError>
-    requires ring { IsRing k start.now }
+    requires ring { IsRing (ring_with k start.now) }
     requires room { line + length events.now + 1 < 2 ^ 64 }
     ensures finds { (rings : ℕ) → Finds (first_fault (in_block line rings (length start.now) k start.now []) (map EventLine events.now)) result }
-    ensures legal { IfOk result (λ u. IsLegal till (first_state k start.now) (map event_of events.now)) }
+    ensures legal { IfOk result (λ u. IsLegal till (first_state (ring_with k start.now)) (map event_of events.now)) }
 {
     let Ok(mut replay) = Replay::begin(alloc, k, start) else {
         return Err(CheckError::OutOfMemory);

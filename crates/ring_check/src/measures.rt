@@ -1,7 +1,7 @@
 //! What is told of a ring's values, by plain loops over them.
 
 ghost use Rattle.std.specs.Prelude.{◌≡◌, ℕ, ◌<◌, ◌≤◌, length, not, IfOk, vec_len, slice_index_or, false};
-ghost use Rattle.ring_model.specs.Ring.{IsRing, is_privileged, privileged_count, first_privileged, is_settled, weight, is_absent, first_value_is_prefix, lead, rest};
+ghost use Rattle.ring_model.specs.Ring.{ring_with, IsRing, is_privileged, privileged_count, first_privileged, is_settled, weight, is_absent, first_value_is_prefix, lead, rest};
 
 use std::alloc::{AllocError, Global};
 
@@ -76,7 +76,7 @@ fn first_value_is_prefix(values: &[u32]) -> bool
 
 /// A flag for each value below K: whether some machine but machine 0 has it.
 fn held_past_first(alloc: Global, values: &[u32], k: u32) -> Result<Vec<bool>, AllocError>
-    requires { IsRing k values.now }
+    requires { IsRing (ring_with k values.now) }
     ensures len { IfOk result (λ held. vec_len held ≡ k) }
     ensures flags { IfOk result (λ held. (v : ℕ) → v < k → is_absent values.now v ≡ not (slice_index_or held.items v false)) }
 {
@@ -89,9 +89,9 @@ fn held_past_first(alloc: Global, values: &[u32], k: u32) -> Result<Vec<bool>, A
 
 /// How far machine 0 has to step until no other machine has its value, and 0 where these values are a prefix.
 fn lead(alloc: Global, values: &[u32], k: u32) -> Result<u32, AllocError>
-    requires ring { IsRing k values.now }
+    requires ring { IsRing (ring_with k values.now) }
     requires small { k ≤ 65536 }
-    ensures { IfOk result (λ l. l ≡ lead k values.now) }
+    ensures { IfOk result (λ l. l ≡ lead (ring_with k values.now)) }
 {
     if first_value_is_prefix(values) {
         return Ok(0);
@@ -107,9 +107,9 @@ fn lead(alloc: Global, values: &[u32], k: u32) -> Result<u32, AllocError>
 
 /// An upper bound of the granted passes that are left until the ring is settled.
 pub(crate) fn rest(alloc: Global, values: &[u32], k: u32) -> Result<u64, AllocError>
-    requires ring { IsRing k values.now }
+    requires ring { IsRing (ring_with k values.now) }
     requires small { k ≤ 65536 }
-    ensures { IfOk result (λ r. r ≡ rest k values.now) }
+    ensures { IfOk result (λ r. r ≡ rest (ring_with k values.now)) }
 {
     if privileged_count(values) == 1 {
         return Ok(0);

@@ -1,7 +1,7 @@
 //! A ring, replayed event by event.
 
 ghost use Rattle.std.specs.Prelude.{◌≡◌, ◌+◌, ◌<◌, ◌≤◌, ◌^◌, length, map, true, IfOk};
-ghost use Rattle.ring_model.specs.Ring.{IsRing};
+ghost use Rattle.ring_model.specs.Ring.{ring_with, IsRing};
 ghost use Rattle.ring_model.specs.History.{Step, next, IsLegal};
 ghost use Rattle.ring_model.specs.Resources.{till};
 ghost use Rattle.ring_model.proofs.Histories.{calm_next};
@@ -11,11 +11,9 @@ ghost use Rattle.ring_check.specs.Replays.{state_of, survey_where, StandsAt};
 use crate::answers::Kind;
 use crate::measures::{first_privileged, is_privileged, privileged_count, rest};
 use ring_model::Survey;
+use ring_model::limits::SEAT_LIMIT;
 use ring_text::SavedEvent;
 use std::alloc::{AllocError, Global};
-
-/// The greatest seat number.
-pub(crate) const LAST_SEAT: u32 = 9;
 
 /// A ring over a till as some events of a block leave it.
 #[derive(Drop)]
@@ -50,13 +48,15 @@ impl Replay {
     {
         match *event {
             SavedEvent::Granted { seat, machine, .. } | SavedEvent::Refused { seat, machine, .. } =>
-                { seat <= LAST_SEAT && (machine as usize) < self.values.len() }
+                { (seat as usize) < SEAT_LIMIT && (machine as usize) < self.values.len() }
             SavedEvent::Corrupted {
                 seat,
                 machine,
                 value,
                 ..
-            } => seat <= LAST_SEAT && (machine as usize) < self.values.len() && value < self.k,
+            } => (seat as usize) < SEAT_LIMIT
+                && (machine as usize) < self.values.len()
+                && value < self.k,
         }
     }
 
@@ -99,7 +99,7 @@ impl Replay {
 
     /// Does what an event without a fault says.
     pub(crate) fn apply(&mut self, event: &SavedEvent)
-        requires ring { IsRing self.old.k self.old.values.items }
+        requires ring { IsRing (state_of self.old).ring }
         requires step { Step till (state_of self.old) (event_of event.now) (next till (state_of self.old) (event_of event.now).op) }
         requires room { (self.old.grants + 1 < 2 ^ 64) × (self.old.calm + 1 < 2 ^ 64) }
         ensures state { state_of self.new ≡ next till (state_of self.old) (event_of event.now).op }
@@ -135,12 +135,12 @@ impl Replay {
         from: usize,
         to: usize,
     ) -> Result<(), AllocError>
-        requires ring { IsRing self.old.k start.now }
-        requires stands { StandsAt self.old.k start.now events.now from self.old }
+        requires ring { IsRing (ring_with self.old.k start.now) }
+        requires stands { StandsAt (ring_with self.old.k start.now) events.now from self.old }
         requires within { to ≤ length events.now }
         requires room { length events.now + 1 < 2 ^ 64 }
-        requires legal { IsLegal till (first_state self.old.k start.now) (map event_of events.now) }
-        ensures { IfOk result (λ u. StandsAt self.old.k start.now events.now to self.new) }
+        requires legal { IsLegal till (first_state (ring_with self.old.k start.now)) (map event_of events.now) }
+        ensures { IfOk result (λ u. StandsAt (ring_with self.old.k start.now) events.now to self.new) }
     {
         let first = if to < from {
             *self = Replay::begin(alloc, self.k, start)?;
@@ -156,7 +156,7 @@ impl Replay {
 
     /// What a survey of the ring says at this point.
     pub(crate) fn survey(&self, alloc: Global, position: u64) -> Result<Survey, AllocError>
-        requires ring { IsRing self.now.k self.now.values.items }
+        requires ring { IsRing (state_of self.now).ring }
         requires small { self.now.k ≤ 65536 }
         ensures { IfOk result (λ s. s ≡ survey_where self.now position) }
     {

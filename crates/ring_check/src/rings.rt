@@ -10,17 +10,15 @@ ghost use Rattle.ring_check.specs.Scan.{first_fault, Finds};
 use crate::answers::{CheckError, Kind};
 use crate::events::check_events;
 use crate::surveys::check_surveys;
+use ring_model::limits::{MACHINE_LIMIT, VALUE_LIMIT};
 use ring_text::SavedRing;
 use std::alloc::Global;
-
-/// The most machines, and the most values.
-const MOST: u32 = 256;
 
 /// Whether a ring may have n machines and K values.
 fn are_parameters(n: u32, k: u32) -> bool
     ensures { result ≡ are_parameters n k }
 {
-    2 <= n && n <= MOST && n <= k && k <= MOST
+    2 <= n && n <= MACHINE_LIMIT && n <= k && k <= VALUE_LIMIT
 }
 
 /// Whether each value is below the limit.

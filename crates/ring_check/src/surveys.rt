@@ -1,7 +1,8 @@
 //! The survey lines of a block.
 
 ghost use Rattle.std.specs.Prelude.{◌≡◌, ℕ, ◌+◌, ◌<◌, ◌≤◌, ◌^◌, List, length, map, IfOk};
-ghost use Rattle.ring_model.specs.Ring.{IsRing};
+ghost use Rattle.ring_model.specs.Limits.{value_limit};
+ghost use Rattle.ring_model.specs.Ring.{ring_with, IsRing};
 ghost use Rattle.ring_model.specs.History.{IsLegal};
 ghost use Rattle.ring_model.specs.Resources.{till};
 ghost use Rattle.ring_text.specs.declared.saved.SavedEvent.{SavedEvent};
@@ -11,8 +12,9 @@ ghost use Rattle.ring_check.specs.Scan.{first_fault, Finds, in_block};
 ghost use Rattle.ring_check.specs.Replays.{IsReading};
 
 use crate::answers::{CheckError, Kind};
-use crate::replay::{LAST_SEAT, Replay};
+use crate::replay::Replay;
 use ring_model::Survey;
+use ring_model::limits::SEAT_LIMIT;
 use ring_text::{SavedEvent, SavedSurvey};
 use std::alloc::{AllocError, Global};
 
@@ -26,9 +28,9 @@ pub(crate) struct Reading {
 impl Reading {
     /// The ring before any event.
     fn begin(alloc: Global, k: u32, start: &[u32]) -> Result<Reading, AllocError>
-        requires ring { IsRing k start.now }
-        requires small { k ≤ 256 }
-        ensures { IfOk result (λ r. (r.survey.position ≡ 0) × ((events : List SavedEvent) → IsReading k start.now events r)) }
+        requires ring { IsRing (ring_with k start.now) }
+        requires small { k ≤ value_limit }
+        ensures { IfOk result (λ r. (r.survey.position ≡ 0) × ((events : List SavedEvent) → IsReading (ring_with k start.now) events r)) }
     {
         let replay = Replay::begin(alloc, k, start)?;
         let survey = replay.survey(alloc, 0)?;
@@ -43,13 +45,13 @@ impl Reading {
         events: &[SavedEvent],
         position: u64,
     ) -> Result<(), AllocError>
-        requires ring { IsRing self.old.replay.k start.now }
-        requires small { self.old.replay.k ≤ 256 }
-        requires reading { IsReading self.old.replay.k start.now events.now self.old }
+        requires ring { IsRing (ring_with self.old.replay.k start.now) }
+        requires small { self.old.replay.k ≤ value_limit }
+        requires reading { IsReading (ring_with self.old.replay.k start.now) events.now self.old }
         requires within { position ≤ length events.now }
         requires room { length events.now + 1 < 2 ^ 64 }
-        requires legal { IsLegal till (first_state self.old.replay.k start.now) (map event_of events.now) }
-        ensures { IfOk result (λ u. IsReading self.old.replay.k start.now events.now self.new × (self.new.survey.position ≡ position)) }
+        requires legal { IsLegal till (first_state (ring_with self.old.replay.k start.now)) (map event_of events.now) }
+        ensures { IfOk result (λ u. IsReading (ring_with self.old.replay.k start.now) events.now self.new × (self.new.survey.position ≡ position)) }
     {
         let from = self.survey.position;
         if position == from {
@@ -89,9 +91,9 @@ pub(crate) fn check_surveys(
     surveys: &[SavedSurvey],
     line: u64,
 ) -> Result<(), CheckError>
-    requires ring { IsRing k start.now }
-    requires small { k ≤ 256 }
-    requires legal { IsLegal till (first_state k start.now) (map event_of events.now) }
+    requires ring { IsRing (ring_with k start.now) }
+    requires small { k ≤ value_limit }
+    requires legal { IsLegal till (first_state (ring_with k start.now)) (map event_of events.now) }
     requires room { (length events.now + 1 < 2 ^ 64) × (line + length surveys.now + 1 < 2 ^ 64) }
     ensures { (rings : ℕ) → Finds (first_fault (in_block line rings (length start.now) k start.now (map event_of events.now)) (map SurveyLine surveys.now)) result }
 {
@@ -105,7 +107,7 @@ pub(crate) fn check_surveys(
     let mut position: u64 = 0;
     for (i, survey) in surveys.iter().enumerate() {
         let here = line + i as u64 + 1;
-        if survey.seat > LAST_SEAT {
+        if survey.seat as usize >= SEAT_LIMIT {
             return Err(CheckError::Bad {
                 line: here,
                 kind: Kind::Range,

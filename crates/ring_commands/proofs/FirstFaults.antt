@@ -5,7 +5,7 @@ use Rattle.std.specs.List.{position, position_from}
 use Rattle.std.proofs.lemmas.Iterator.Adapters.{position_from-zero}
 use Rattle.std.proofs.lemmas.Bool.Decides.{nat_tests}
 use Rattle.std.specs.Option.{option_map, option_or}
-use Rattle.ring_model.specs.History.{Ring}
+use Rattle.ring_model.specs.Ring.{Ring}
 use Rattle.ring_state.specs.Sizes.{IsRingState}
 use Rattle.ring_state.specs.StateFault.{IsFaultOf}
 use Rattle.ring_state.specs.declared.states.StateError.{StateError}

@@ -1,15 +1,16 @@
 -- What the program refuses.
-use Rattle.std.specs.Prelude.{◌≡◌, ℕ, ◌<◌, cond, ◌==◌, nat_lt, nat_le, List, length, Option, None, Some, Result, Ok, Err}
+use Rattle.std.specs.Prelude.{◌≡◌, ◌≢◌, ℕ, ◌<◌, ◌^◌, decimal, cond, ◌==◌, nat_lt, nat_le, List, length, Option, None, Some, Result, Ok, Err, ◌⊎◌}
 use Rattle.std.specs.List.{position}
 use Rattle.std.specs.Option.{option_map, option_or}
 use Rattle.ring_state.specs.declared.sizes.ParamsError.{ParamsError}
 use Rattle.ring_state.specs.declared.states.StateError.{StateError}
-use Rattle.ring_book.specs.EventsView.{event_limit}
+use Rattle.ring_model.specs.Limits.{machine_limit, value_limit, event_limit}
 use Rattle.ring_book.specs.declared.events.BookError.{BookError}
 use Rattle.ring_settings.specs.declared.faults.SettingsError.{SettingsError}
 use Rattle.ring_farm.specs.declared.faults.FarmError.{FarmError}
 use Rattle.text_lines.specs.declared.answer.ReadError.{ReadError}
 use Rattle.ring_check.specs.declared.answers.CheckError.{CheckError}
+use Rattle.ring_commands.specs.ListWords.{IsNoList}
 use Rattle.ring_commands.specs.Reading.{most_bytes, IsOver}
 use Rattle.ring_commands.specs.declared.faults.ToolError.{ToolError}
 use Rattle.ring_state.specs.declared.sizes.ParamsError.TheVariants as params
@@ -76,9 +77,9 @@ fault_of_check check.OutOfMemory = tool.OutOfMemory
 abbrev pub size_fault : ℕ → ℕ → Option ToolError
 size_fault n k =
     cond (nat_lt n 2) (Some tool.TooFew)
-    (cond (nat_lt 256 n) (Some tool.TooMany)
+    (cond (nat_lt machine_limit n) (Some tool.TooMany)
     (cond (nat_lt k n) (Some tool.FewValues)
-    (cond (nat_lt 256 k) (Some tool.ManyValues)
+    (cond (nat_lt value_limit k) (Some tool.ManyValues)
     None)))
 
 -- the first that is wrong with the start values
@@ -117,11 +118,13 @@ IsStepRefusal n k states choices tool.Write = fault_of n k states choices ≡ No
 IsStepRefusal n k states choices tool.HistoryFull = (fault_of n k states choices ≡ None) × (event_limit < length choices)
 IsStepRefusal n k states choices e = fault_of n k states choices ≡ Some e
 
--- which refusals the reading of a list may meet
-abbrev pub IsListRefusal : ToolError → Type 0
-IsListRefusal tool.BadList = Unit {0}
-IsListRefusal tool.OutOfMemory = Unit {0}
-IsListRefusal _ = ⊥
+-- which refusals the reading of a piece of a list may meet: it is the text of no number below 2 ^ 32, or there is no memory
+abbrev pub IsPieceRefusal : List ℕ → ToolError → Type 0
+IsPieceRefusal piece e = ((e ≡ tool.BadList) × ((n : ℕ) → n < 2 ^ 32 → decimal n ≢ piece)) ⊎ (e ≡ tool.OutOfMemory)
+
+-- which refusals the reading of a list may meet: it is the text of no such numbers, or there is no memory
+abbrev pub IsListRefusal : List ℕ → ToolError → Type 0
+IsListRefusal word e = ((e ≡ tool.BadList) × IsNoList word) ⊎ (e ≡ tool.OutOfMemory)
 
 -- Which refusals the reading of a file may meet, by what its reader had left before and has now: that the file of this name cannot be read, that it
 -- has more bytes than are read, or want of memory.

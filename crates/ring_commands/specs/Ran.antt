@@ -1,10 +1,10 @@
--- What `run` answers: what the farm promises of its outcome, and which refusals there are.
-use Rattle.std.specs.Prelude.{◌≡◌, ℕ, List, length, Option, Some, Ok, Err, ◌⊎◌}
+-- What `run` answers: what a farm hands out, and which refusals there are.
+use Rattle.std.specs.Prelude.{◌≡◌, ℕ, List, Option, Some, Ok, Err, ◌⊎◌}
 use Rattle.std.specs.Option.{option_map}
-use Rattle.ring_settings.specs.Contents.{SettingsData, IsSettings}
+use Rattle.ring_settings.specs.Contents.{SettingsData}
 use Rattle.ring_settings.specs.Seats.{settings_of}
 use Rattle.ring_settings.specs.declared.faults.SettingsError.{SettingsError}
-use Rattle.ring_farm.specs.Headline.{EachRing, IsOneHistory, HoldsCalls, HasLogs, AreRight, IsRepaired, TakesTurns}
+use Rattle.ring_farm.specs.Headline.{IsFarmOf}
 use Rattle.ring_farm.specs.declared.outcomes.Outcome.{Outcome}
 use Rattle.ring_text.specs.Report.{report}
 use Rattle.ring_commands.specs.Faults.{fault_of_settings, IsReadRefusal}
@@ -13,18 +13,6 @@ use Rattle.ring_commands.specs.Written.{AppendsFront}
 use Rattle.ring_commands.specs.declared.run.RunWords.{RunWords}
 use Rattle.ring_commands.specs.declared.faults.ToolError.{ToolError}
 use Rattle.ring_commands.specs.declared.faults.ToolError.TheVariants as tool
-
--- All that a farm promises of an outcome of these settings: one for each ring; its history is one legal history of the one-thread ring, and holds
--- each client's calls; its logs are the clients' plans, and right; it is repaired, and its machines take turns.
-pub record IsFarmOf (settings : SettingsData) (o : Outcome) : Type 0 where
-  pub allowed : IsSettings settings
-  pub count : length o.rings.items ≡ length settings.rings
-  pub one_history : EachRing IsOneHistory settings o
-  pub calls : EachRing (HoldsCalls settings) settings o
-  pub logs : EachRing (λ i _ r. HasLogs settings i r) settings o
-  pub right : EachRing (λ _ d r. AreRight d r) settings o
-  pub repaired : EachRing (λ _ d r. IsRepaired d r) settings o
-  pub turns : EachRing (λ _ d r. TakesTurns d r) settings o
 
 -- the bytes are settings, and the outcome is one of their farm
 abbrev pub IsFarmOn : List ℕ → Outcome → Type 0

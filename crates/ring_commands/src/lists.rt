@@ -1,8 +1,8 @@
 //! Lists of numbers, as `step` takes them.
 
 ghost use Rattle.std.specs.Prelude.{◌≡◌, ◌≢◌, ℕ, [], ◌∷◌, ◌++◌, ◌<◌, ◌^◌, decimal, IsNone, IfSome, OnOk, IfOk, IfErr};
-ghost use Rattle.text_lines.specs.Spelling.{list_text};
-ghost use Rattle.ring_commands.specs.Faults.{IsListRefusal};
+ghost use Rattle.ring_commands.specs.Faults.{IsPieceRefusal, IsListRefusal};
+ghost use Rattle.ring_commands.specs.ListWords.{IsListText};
 
 use crate::faults::ToolError;
 use itoa::Buffer;
@@ -11,8 +11,11 @@ use std::alloc::Global;
 /// The number that a text spells with no sign and no leading zero, below 2 to the power 32.
 fn read_decimal(text: &str) -> Option<u32>
     ensures some { IfSome result (λ n. decimal n ≡ text.now) }
+    ensures none { IsNone result → (n : ℕ) → n < 2 ^ 32 → decimal n ≢ text.now }
 {
-    let number: u32 = text.parse().ok()?;
+    let Ok(number) = text.parse::<u32>() else {
+        return None;
+    };
     // `parse` takes a plus and leading zeros too: only the number's own spelling is well written.
     let mut buffer = Buffer::new();
     if buffer.format(number) == text {
@@ -24,8 +27,8 @@ fn read_decimal(text: &str) -> Option<u32>
 
 /// Adds the number that a piece of a list spells.
 fn add_number(numbers: &mut Vec<u32>, piece: &str) -> Result<(), ToolError<'static>>
-    ensures ok { OnOk result ((n : ℕ) × (decimal n ≡ piece.now) × (numbers.new.items ≡ numbers.old.items ++ n ∷ [])) }
-    ensures err { IfErr result IsListRefusal }
+    ensures ok { OnOk result ((n : ℕ) × (n < 2 ^ 32) × (decimal n ≡ piece.now) × (numbers.new.items ≡ numbers.old.items ++ n ∷ [])) }
+    ensures err { IfErr result (λ e. IsPieceRefusal piece.now e) }
 {
     let Some(number) = read_decimal(piece) else {
         return Err(ToolError::BadList);
@@ -42,8 +45,8 @@ fn add_number(numbers: &mut Vec<u32>, piece: &str) -> Result<(), ToolError<'stat
 ///
 /// `BadList` where the text is no such list, and `OutOfMemory`.
 pub fn read_list(alloc: Global, text: &str) -> Result<Vec<u32>, ToolError<'static>>
-    ensures ok { IfOk result (λ numbers. list_text numbers.items ≡ text.now) }
-    ensures err { IfErr result IsListRefusal }
+    ensures ok { IfOk result (λ numbers. IsListText text.now numbers.items) }
+    ensures err { IfErr result (λ e. IsListRefusal text.now e) }
 {
     let mut numbers = Vec::new(alloc);
     let mut rest = text;

@@ -3,12 +3,13 @@
 ghost use Rattle.std.specs.Prelude.{◌≡◌, ◌≢◌, ℕ, ◌<◌, ◌≤◌, ◌^◌, List, length, Some, IsSome, OnOk, IfOk, IfErr};
 ghost use Rattle.std.specs.Option.{option_map};
 ghost use Rattle.std.specs.Io.KnownBytes.{Appends};
+ghost use Rattle.ring_settings.specs.Limits.{ring_limit};
 ghost use Rattle.ring_settings.specs.Contents.{SettingsData};
 ghost use Rattle.ring_farm.specs.declared.outcomes.Outcome.{Outcome};
 ghost use Rattle.ring_text.specs.Report.{entries_in, report};
 ghost use Rattle.ring_text.specs.SavedOf.{saved_of};
 ghost use Rattle.ring_text.specs.Spelling.{text};
-ghost use Rattle.ring_commands.specs.Ran.{IsFarmOf, IsFarmOn, IsFarmRefusal, IsFarmFileRefusal, IsSaveRefusal, IsOutcomeRefusal, IsRunRefusal};
+ghost use Rattle.ring_commands.specs.Ran.{IsFarmOn, IsFarmRefusal, IsFarmFileRefusal, IsSaveRefusal, IsOutcomeRefusal, IsRunRefusal};
 ghost use Rattle.ring_commands.specs.Reading.{most_bytes, IsAllOf};
 ghost use Rattle.ring_commands.specs.Saved.{IsLegalOfFarm, IsRunAnswer};
 
@@ -16,7 +17,7 @@ use crate::faults::ToolError;
 use crate::reading::read_whole;
 use ring_farm::{Open, Outcome, run_farm};
 use ring_settings::read_settings;
-use ring_text::{outcomes_read_back, write_outcome, write_report};
+use ring_text::{texts_read_back, write_outcome, write_report};
 use std::alloc::Global;
 use std::fs;
 use std::io::{BufWriter, Read, Write};
@@ -79,11 +80,11 @@ pub fn farm_of_file<'a, R: AllocGlobal + Threads + Wait + Sync, I: Read>(
 /// Writes the saved text of an outcome through a buffer, of which all leaves, and hands the writer back.
 fn save_to<W: Write + Drop>(alloc: Global, outcome: &Outcome, out: W) -> Result<W, SaveFault>
     requires some { 1 ≤ length outcome.now.rings.items }
-    requires most { length outcome.now.rings.items ≤ 16 }
+    requires most { length outcome.now.rings.items ≤ ring_limit }
     ensures written { IfOk result (λ after. Appends (W.contents out) (W.contents after) (text (saved_of outcome.now))) }
     ensures legal { OnOk result (IsLegalOfFarm outcome.now) }
 {
-    outcomes_read_back();
+    texts_read_back();
     let Ok(mut buffer) = BufWriter::new(alloc, out) else {
         return Err(SaveFault::OutOfMemory);
     };
@@ -111,7 +112,7 @@ fn save_file<'a, H: Write + Drop>(
     history: H,
 ) -> Result<H, ToolError<'a>>
     requires some { 1 ≤ length outcome.now.rings.items }
-    requires most { length outcome.now.rings.items ≤ 16 }
+    requires most { length outcome.now.rings.items ≤ ring_limit }
     ensures written { IfOk result (λ after. Appends (H.contents history) (H.contents after) (text (saved_of outcome.now))) }
     ensures legal { OnOk result (IsLegalOfFarm outcome.now) }
     ensures err { IfErr result (λ e. IsSaveRefusal file.now e) }
@@ -139,7 +140,7 @@ pub fn save_and_report<'a, H: Write + Drop, W: Write>(
     out: &mut W,
 ) -> Result<H, ToolError<'a>>
     requires some { 1 ≤ length outcome.now.rings.items }
-    requires most { length outcome.now.rings.items ≤ 16 }
+    requires most { length outcome.now.rings.items ≤ ring_limit }
     requires few { entries_in outcome.now < 2 ^ 64 }
     ensures written { IfOk result (λ after. Appends (H.contents history) (H.contents after) (text (saved_of outcome.now))) }
     ensures legal { OnOk result (IsLegalOfFarm outcome.now) }
@@ -165,7 +166,7 @@ fn hand_out<'a, R: AllocGlobal + Files, W: Write>(
     out: &mut W,
 ) -> Result<(), ToolError<'a>>
     requires some { 1 ≤ length outcome.now.rings.items }
-    requires most { length outcome.now.rings.items ≤ 16 }
+    requires most { length outcome.now.rings.items ≤ ring_limit }
     requires few { entries_in outcome.now < 2 ^ 64 }
     ensures legal { OnOk result (IsSome history.entry → IsLegalOfFarm outcome.now) }
     ensures told { OnOk result (Appends (W.contents out.old) (W.contents out.new) (report outcome.now)) }

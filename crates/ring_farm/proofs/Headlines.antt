@@ -3,7 +3,8 @@ use Rattle.std.proofs.Common.{◌≡◌, ℕ, ◌<◌, ◌≤◌, Bool, true, co
 use Rattle.std.specs.Prelude.{filter, unwrap_or, IfOk, Option, None, Result, Ok}
 use Rattle.std.proofs.lemmas.Bool.Decides.{nat_tests}
 use Rattle.std.proofs.lemmas.Option.{slice_get_within, get_or_from_slice_get, slice_get_cases}
-use Rattle.ring_model.specs.History.{Ring, opening, IsLegal}
+use Rattle.ring_model.specs.Ring.{Ring}
+use Rattle.ring_model.specs.History.{opening, IsLegal}
 use Rattle.ring_model.specs.Surveys.{calm}
 use Rattle.ring_model.specs.Logs.{Fits, calls_of, receipts_of}
 use Rattle.ring_model.specs.Resources.{till}
@@ -13,7 +14,8 @@ use Rattle.ring_model.specs.declared.events.Entry.{Entry}
 use Rattle.ring_model.specs.declared.events.Entry.TheVariants as entry
 use Rattle.ring_settings.specs.declared.actions.Action.{Action}
 use Rattle.ring_settings.specs.declared.actions.Plan.{Plan}
-use Rattle.ring_settings.specs.Contents.{SettingsData, RingData, ring_at, plan_of}
+use Rattle.std.proofs.lemmas.List.{length-map}
+use Rattle.ring_settings.specs.Contents.{SettingsData, RingData, ring_at, plan_of, IsSettings}
 use Rattle.ring_settings.specs.Views.{plan_actions}
 use Rattle.ring_shared.specs.declared.seats.Log.{Log}
 use Rattle.ring_shared.specs.Holding.{AreOfSeats}
@@ -23,7 +25,7 @@ use Rattle.ring_farm.specs.declared.faults.FarmError.{FarmError}
 use Rattle.ring_farm.proofs.Refusals.{ok_place}
 use Rattle.ring_farm.specs.Plans.{actions_of, part, calls_read, action_of_op, is_call}
 use Rattle.ring_farm.specs.Runs.{IsRun, ring_of_data}
-use Rattle.ring_farm.specs.Headline.{EachRing, EachDone, IsOutcomeOf, IsOneHistory, HoldsCalls, HasLogs, AreRight, IsRepaired, TakesTurns}
+use Rattle.ring_farm.specs.Headline.{EachRing, EachDone, IsFarmRing, IsFarmOf, IsOneHistory, HoldsCalls, HasLogs, AreRight, IsRepaired, TakesTurns, HasReceipts}
 
 -- the run of a ring of the settings
 abbrev pub RunOf : List Plan → ℕ → RingData → RingOutcome → Type 0
@@ -66,17 +68,22 @@ plan_is : (settings : SettingsData) (plans : List Plan) (seat : ℕ) (p : Plan) 
 plan_is settings plans seat p are at =
     sym (ap plan_actions (get_or_from_slice_get plans seat p p at)) ∙ are seat p (slice_get_within plans seat p at)
 
+-- the log at a place is that of the seat of this number, and its receipts are that seat's calls
+receipts_are : (plans : List Plan) (ring : ℕ) (d : RingData) (r : RingOutcome) (seat : ℕ) (p : Plan) (l : Log) → RunOf plans ring d r →
+    slice_get plans seat ≡ Some p → slice_get r.logs.items seat ≡ Some l → receipts_of l.entries.items ≡ calls_of seat r.book.history
+receipts_are plans ring d r seat p l run at_p at_l =
+    let fits : Fits till (opening (ring_of_data d) 0) r.book.history l.seat l.entries.items =
+    subst (λ (x : Log). Fits till (opening (ring_of_data d) 0) r.book.history x.seat x.entries.items) (get_or_from_slice_get r.logs.items seat l l at_l)
+    (run.fits seat l (slice_get_within r.logs.items seat l at_l)) in
+    fits.calls ∙ ap (λ (k : ℕ). calls_of k r.book.history) (run.logged seat p l at_p at_l).0
+
 -- a seat's calls in the history are the calls of its plan's part
 calls_of_plan : (settings : SettingsData) (plans : List Plan) (ring : ℕ) (d : RingData) (r : RingOutcome) (seat : ℕ) (p : Plan) (l : Log) → RunOf plans ring d r → ArePlansOf settings plans →
     slice_get plans seat ≡ Some p → slice_get r.logs.items seat ≡ Some l →
     calls_read ring (calls_of seat r.book.history) ≡ filter is_call (part ring (plan_of settings seat))
 calls_of_plan settings plans ring d r seat p l run are at_p at_l =
     let logged = run.logged seat p l at_p at_l in
-    let fits : Fits till (opening (ring_of_data d) 0) r.book.history l.seat l.entries.items =
-    subst (λ (x : Log). Fits till (opening (ring_of_data d) 0) r.book.history x.seat x.entries.items) (get_or_from_slice_get r.logs.items seat l l at_l)
-    (run.fits seat l (slice_get_within r.logs.items seat l at_l)) in
-    ap (λ (k : ℕ). calls_read ring (calls_of k r.book.history)) (sym logged.0)
-    ∙ ap (calls_read ring) (sym fits.calls)
+    ap (calls_read ring) (sym (receipts_are plans ring d r seat p l run at_p at_l))
     ∙ calls_read-receipts_of ring l.entries.items
     ∙ ap (filter is_call) logged.1
     ∙ ap (λ (xs : List Action). filter is_call (part ring xs)) (plan_is settings plans seat p are at_p)
@@ -113,31 +120,53 @@ takes_turns : (plans : List Plan) (ring : ℕ) (d : RingData) (r : RingOutcome) 
 takes_turns plans ring d r run p q order within quiet calm =
     (run.settlement.stays_round p q order within quiet (run.settlement.calm_settles p (omega arith) calm)).1
 
+has_receipts : (plans : List Plan) (ring : ℕ) (d : RingData) (r : RingOutcome) → RunOf plans ring d r → HasReceipts r
+has_receipts plans ring d r run seat l at =
+    let long = run.count in
+    let within = slice_get_within r.logs.items seat l at in
+    let found = log_at plans ring d r seat run (omega arith) in
+    sym (ap length (receipts_are plans ring d r seat found.0 l run found.2 at))
+
 -- a run of a ring keeps all that is promised of it
 outcome_of : (settings : SettingsData) (plans : List Plan) (ring : ℕ) (d : RingData) (r : RingOutcome) → RunOf plans ring d r → ArePlansOf settings plans → length plans ≡ length settings.seats →
-    IsOutcomeOf settings ring d r
-outcome_of settings plans ring d r run are count = record {
+    length d.start ≡ d.size.n → IsFarmRing settings ring d r
+outcome_of settings plans ring d r run are count size = record {
   one_history = one_history plans ring d r run;
   calls = holds_calls settings plans ring d r run are count;
   logs = has_logs settings plans ring d r run are count;
   right = are_right plans ring d r run;
   repaired = is_repaired plans ring d r run;
   turns = takes_turns plans ring d r run;
+  size = size;
+  settlement = run.settlement;
+  receipts = has_receipts plans ring d r run;
 }
 
 -- each ring that was not refused has its run
-pub each_done : (plans : List Plan) (settings : SettingsData) (results : List (Result RingOutcome FarmError)) → ArePlansOf settings plans → length plans ≡ length settings.seats →
+pub each_done : (plans : List Plan) (settings : SettingsData) (results : List (Result RingOutcome FarmError)) → IsSettings settings → ArePlansOf settings plans → length plans ≡ length settings.seats →
     ((i : ℕ) (d : Result RingOutcome FarmError) → i < length settings.rings → IfOk (get_or results i d) (λ (r : RingOutcome). IsRun plans i (ring_of_data (ring_at settings i)) r.book r.logs.items)) →
     EachDone settings results
-each_done plans settings results are count each i d res at_d at_r r is =
+each_done plans settings results allowed are count each i d res at_d at_r r is =
     let within = slice_get_within settings.rings i d at_d in
     let there : slice_get results i ≡ Some (Ok r) = at_r ∙ ap (λ (x : Result RingOutcome FarmError). Some x) is in
     let run : IsRun plans i (ring_of_data (ring_at settings i)) r.book r.logs.items = subst (λ (x : Result RingOutcome FarmError). IfOk x (λ (r : RingOutcome). IsRun plans i (ring_of_data (ring_at settings i)) r.book r.logs.items))
     (get_or_from_slice_get results i (Ok r) (Ok r) there) (each i (Ok r) within) in
     let same : ring_at settings i ≡ d = ap (λ (x : Option RingData). unwrap_or x (record { size = record { n = 0; k = 0 }; start = [] })) at_d in
     outcome_of settings plans i d r (subst (λ (x : RingData). IsRun plans i (ring_of_data x) r.book r.logs.items) same run) are count
+    (subst (λ (x : RingData). length x.start ≡ x.size.n) (get_or_from_slice_get settings.rings i d d at_d) (allowed.rings i d within).one_each)
 
 -- where no ring was refused, each has its outcome
 pub each_ring : (settings : SettingsData) (results : List (Result RingOutcome FarmError)) (o : Outcome) → EachDone settings results → results ≡ map (λ r. Ok r) o.rings.items →
-    EachRing (IsOutcomeOf settings) settings o
+    EachRing (IsFarmRing settings) settings o
 each_ring settings results o done is i d r at_d at_r = done i d (Ok r) at_d (ok_place results o.rings.items i r is at_r) r refl
+
+-- and all of them are what the farm hands out
+pub farm_of : (settings : SettingsData) (results : List (Result RingOutcome FarmError)) (o : Outcome) → IsSettings settings → length results ≡ length settings.rings →
+    EachDone settings results → results ≡ map (λ r. Ok r) o.rings.items → IsFarmOf settings o
+farm_of settings results o allowed long done is =
+    let as_result : RingOutcome → Result RingOutcome FarmError = λ r. Ok r in
+    record {
+      allowed = allowed;
+      count = sym (length-map o.rings.items as_result) ∙ sym (ap length is) ∙ long;
+      rings = each_ring settings results o done is;
+    }

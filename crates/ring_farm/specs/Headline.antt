@@ -1,14 +1,14 @@
--- What a farm promises of each of its rings, clause by clause.
+-- What a farm hands out: of each ring of its settings the same promises, by name.
 use Rattle.std.specs.Prelude.{◌≡◌, ℕ, ◌<◌, ◌≤◌, All, length, take, filter, List, Some, slice_get, Result, Ok}
 use Rattle.ring_model.specs.Ring.{privileged_count, bound}
 use Rattle.ring_model.specs.Runs.{GoesRound}
 use Rattle.ring_model.specs.History.{opening, IsLegal}
-use Rattle.ring_model.specs.HistoryLaws.{between, NoCorruption, values_at}
+use Rattle.ring_model.specs.HistoryLaws.{between, NoCorruption, values_at, Settlement}
 use Rattle.ring_model.specs.Surveys.{calm}
 use Rattle.ring_model.specs.Grants.{granted_machines}
-use Rattle.ring_model.specs.Logs.{Fits, calls_of}
+use Rattle.ring_model.specs.Logs.{Fits, calls_of, receipts_of}
 use Rattle.ring_model.specs.Resources.{till}
-use Rattle.ring_settings.specs.Contents.{SettingsData, RingData, plan_of}
+use Rattle.ring_settings.specs.Contents.{SettingsData, RingData, IsSettings, plan_of}
 use Rattle.ring_shared.specs.Holding.{AreOfSeats}
 use Rattle.ring_shared.specs.declared.seats.Log.{Log}
 use Rattle.ring_farm.specs.declared.faults.FarmError.{FarmError}
@@ -50,15 +50,37 @@ abbrev pub TakesTurns : RingData → RingOutcome → Type 0
 TakesTurns d r = (p q : ℕ) → p ≤ q → q ≤ length r.book.history → NoCorruption r.book.history p q → bound (length d.start) ≤ calm (take p r.book.history) →
     GoesRound (length d.start) (granted_machines (between r.book.history p q))
 
--- all that is promised of one ring
-pub record IsOutcomeOf (settings : SettingsData) (ring : ℕ) (d : RingData) (r : RingOutcome) : Type 0 where
+-- there is a start value for each machine, so n is that of the settings
+abbrev pub IsOfSize : RingData → Type 0
+IsOfSize d = length d.start ≡ d.size.n
+
+-- the laws of settlement, from every place of the ring's history: the rest falls, one machine is privileged once the grants since the place reach
+-- the rest there, a settled ring stays settled and grants go round it, and they are fair
+abbrev pub IsSettling : RingData → RingOutcome → Type 0
+IsSettling d r = Settlement till (opening (ring_of_data d) 0) r.book.history
+
+-- each seat's calls in the history are as many as its log has receipts
+abbrev pub HasReceipts : RingOutcome → Type 0
+HasReceipts r = (seat : ℕ) (l : Log) → slice_get r.logs.items seat ≡ Some l → length (calls_of seat r.book.history) ≡ length (receipts_of l.entries.items)
+
+-- all that is promised of one ring of the settings
+pub record IsFarmRing (settings : SettingsData) (ring : ℕ) (d : RingData) (r : RingOutcome) : Type 0 where
   pub one_history : IsOneHistory ring d r
   pub calls : HoldsCalls settings ring d r
   pub logs : HasLogs settings ring r
   pub right : AreRight d r
   pub repaired : IsRepaired d r
   pub turns : TakesTurns d r
+  pub size : IsOfSize d
+  pub settlement : IsSettling d r
+  pub receipts : HasReceipts r
+
+-- and of all of them: the settings are such as a farm can run, and there is one outcome for each ring, in their order
+pub record IsFarmOf (settings : SettingsData) (o : Outcome) : Type 0 where
+  pub allowed : IsSettings settings
+  pub count : length o.rings.items ≡ length settings.rings
+  pub rings : EachRing (IsFarmRing settings) settings o
 
 -- each ring of the settings that was not refused keeps the promises
 abbrev pub EachDone : SettingsData → List (Result RingOutcome FarmError) → Type 0
-EachDone settings results = Pairs (λ i d res. (r : RingOutcome) → res ≡ Ok r → IsOutcomeOf settings i d r) settings.rings results
+EachDone settings results = Pairs (λ i d res. (r : RingOutcome) → res ≡ Ok r → IsFarmRing settings i d r) settings.rings results

@@ -1,11 +1,15 @@
 -- Which part of a plan concerns a ring, and what a seat's log says of it.
-use Rattle.std.specs.Prelude.{◌≡◌, ℕ, ◌==◌, ◌<◌, Bool, true, false, List, filter, map, length, All, Some, slice_get}
-use Rattle.ring_model.specs.History.{Ring}
+use Rattle.std.specs.Prelude.{◌≡◌, ℕ, ◌==◌, ◌<◌, ◌≤◌, Bool, true, false, List, filter, map, length, All, Some, slice_get}
+use Rattle.ring_model.specs.Ring.{Ring}
 use Rattle.ring_model.specs.declared.events.Op.{Op}
 use Rattle.ring_model.specs.declared.events.Op.TheVariants as op
 use Rattle.ring_model.specs.declared.events.Event.{Event}
 use Rattle.ring_model.specs.declared.events.Entry.{Entry}
 use Rattle.ring_model.specs.declared.events.Entry.TheVariants as entry
+use Rattle.ring_state.specs.Sizes.{Size}
+use Rattle.ring_settings.specs.Limits.{action_limit}
+use Rattle.ring_settings.specs.Actions.{IsActionFor}
+use Rattle.ring_settings.specs.declared.actions.Plan.{Plan}
 use Rattle.ring_settings.specs.declared.actions.Action.{Action}
 use Rattle.ring_settings.specs.declared.actions.Action.TheVariants as action
 
@@ -24,6 +28,18 @@ IsActionOn r (action.Survey ring) = Unit {0}
 -- each action for this ring can be made there
 abbrev pub AreActionsOn : ℕ → Ring → List Action → Type 0
 AreActionsOn ring r actions = All (λ (a : Action). ring_of a ≡ ring → IsActionOn r a) actions
+
+-- a plan has no more actions than the limit
+abbrev pub IsShort : Plan → Type 0
+IsShort p = length p.actions.items ≤ action_limit
+
+-- its actions for this ring can be made there
+abbrev pub IsPlanOn : ℕ → Ring → Plan → Type 0
+IsPlanOn ring r p = AreActionsOn ring r p.actions.items
+
+-- each of its actions is for a ring of these sizes that is there, and can be made there
+abbrev pub IsPlanFor : List Size → Plan → Type 0
+IsPlanFor sizes p = All (IsActionFor sizes) p.actions.items
 
 -- the part of a plan that concerns a ring
 abbrev pub part : ℕ → List Action → List Action

@@ -1,10 +1,11 @@
 -- What the threads of a ring promise, and what they hand back.
-use Rattle.std.specs.Prelude.{◌≡◌, ℕ, ◌<◌, ◌≤◌, List, [], All, length, Some, slice_get}
-use Rattle.ring_model.specs.History.{Ring}
+use Rattle.std.specs.Prelude.{◌≡◌, ℕ, List, All, length}
+use Rattle.ring_model.specs.Ring.{Ring}
 use Rattle.ring_settings.specs.declared.actions.Plan.{Plan}
 use Rattle.ring_shared.specs.Client.{Client}
+use Rattle.ring_shared.specs.Opening.{AreFresh}
 use Rattle.ring_farm.specs.declared.threads.Does.{Does}
-use Rattle.ring_farm.specs.Plans.{actions_of, part, AreActionsOn}
+use Rattle.ring_farm.specs.Plans.{actions_of, part, IsShort, IsPlanOn}
 
 -- the promise is that of the seat with this number, for this plan
 abbrev pub IsPromised : ℕ → ℕ → Plan → Does → Type 0
@@ -21,7 +22,6 @@ IsDone ring i p s = (s.number ≡ i) × (actions_of ring s.log ≡ part ring p.a
 -- seats for these plans, numbered in their order and with nothing done, on a ring that each plan's part can be made on
 abbrev pub AreReady : ℕ → Ring → List Plan → List Client → Type 0
 AreReady ring start plans seats =
-    (length seats ≡ length plans)
-    × All (λ (p : Plan). length p.actions.items ≤ 1000000) plans
-    × All (λ (p : Plan). AreActionsOn ring start p.actions.items) plans
-    × ((i : ℕ) → i < length plans → slice_get seats i ≡ Some (record { number = i; log = [] }))
+    All IsShort plans
+    × All (IsPlanOn ring start) plans
+    × AreFresh (length plans) seats

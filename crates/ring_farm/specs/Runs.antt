@@ -1,6 +1,7 @@
 -- What a run of one ring leaves, in the subject's words.
 use Rattle.std.specs.Prelude.{◌≡◌, ℕ, List, [], ◌∷◌, All, length, Option, Some, None, Result, Ok, Err}
-use Rattle.ring_model.specs.History.{Ring, opening}
+use Rattle.ring_model.specs.Ring.{Ring}
+use Rattle.ring_model.specs.History.{opening}
 use Rattle.ring_model.specs.HistoryLaws.{Settlement}
 use Rattle.ring_model.specs.Logs.{Fits}
 use Rattle.ring_model.specs.Resources.{till}

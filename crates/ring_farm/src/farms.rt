@@ -1,11 +1,14 @@
 //! All rings of the settings.
 ghost use Rattle.std.specs.Prelude.{◌≡◌, ℕ, ◌<◌, ◌≤◌, [], All, Some, map, length, slice_index_or, vec_len, vec_capacity, IfOk, IfErr};
+ghost use Rattle.ring_settings.specs.Limits.{ring_limit};
+ghost use Rattle.ring_model.specs.Limits.{seat_limit};
 ghost use Rattle.ring_state.specs.Sizes.{size_of};
-ghost use Rattle.ring_settings.specs.Actions.{IsActionFor, size_at};
-ghost use Rattle.ring_settings.specs.Contents.{ring_at, sizes_of, plan_of, plans_of};
+ghost use Rattle.ring_settings.specs.Actions.{size_at};
+ghost use Rattle.ring_settings.specs.Contents.{ring_at, sizes_of, plan_of, plans_of, IsSettings};
 ghost use Rattle.ring_settings.specs.Views.{plan_actions};
+ghost use Rattle.ring_farm.specs.Plans.{IsShort, IsPlanFor};
 ghost use Rattle.ring_farm.specs.Runs.{IsRun, ring_of_data, first_refusal};
-ghost use Rattle.ring_farm.specs.Headline.{EachRing, EachDone, IsOneHistory, HoldsCalls, HasLogs, AreRight, IsRepaired, TakesTurns};
+ghost use Rattle.ring_farm.specs.Headline.{EachDone, IsFarmOf};
 
 use crate::faults::FarmError;
 use crate::gates::Gate;
@@ -46,11 +49,11 @@ fn run_at<G: Gate + Sync, W: Threads + Wait + Sync>(
     plans: &Vec<Plan>,
 ) -> Result<RingOutcome, FarmError>
     requires within { ring < length settings.now.rings }
-    requires most { length settings.now.rings ≤ 16 }
+    requires most { length settings.now.rings ≤ ring_limit }
     requires some { 1 ≤ vec_len plans.now }
-    requires count { vec_len plans.now ≤ 10 }
-    requires few { All (λ p. length p.actions.items ≤ 1000000) plans.now.items }
-    requires fits { All (λ p. All (IsActionFor (sizes_of settings.now.rings)) p.actions.items) plans.now.items }
+    requires count { vec_len plans.now ≤ seat_limit }
+    requires few { All IsShort plans.now.items }
+    requires fits { All (IsPlanFor (sizes_of settings.now.rings)) plans.now.items }
     ensures { IfOk result (λ o. IsRun plans.now.items ring (ring_of_data (ring_at settings.now ring)) o.book o.logs.items) }
 {
     let book = book_of(alloc, settings, ring)?;
@@ -85,15 +88,16 @@ fn run_each<G: Gate + Sync, W: Threads + Wait + Sync>(
     plans: &Vec<Plan>,
 ) -> Result<Vec<Result<RingOutcome, FarmError>>, AllocError>
     requires some { 1 ≤ vec_len plans.now }
-    requires count { vec_len plans.now ≤ 10 }
-    requires few { All (λ p. length p.actions.items ≤ 1000000) plans.now.items }
-    requires fits { All (λ p. All (IsActionFor (sizes_of settings.now.rings)) p.actions.items) plans.now.items }
+    requires count { vec_len plans.now ≤ seat_limit }
+    requires few { All IsShort plans.now.items }
+    requires fits { All (IsPlanFor (sizes_of settings.now.rings)) plans.now.items }
+    ensures settings { IsSettings settings.now }
     ensures len { IfOk result (λ v. vec_len v ≡ length settings.now.rings) }
     ensures each { IfOk result (λ v. (i : ℕ) (d : _) → i < length settings.now.rings → IfOk (slice_index_or v.items i d) (λ o. IsRun plans.now.items i (ring_of_data (ring_at settings.now i)) o.book o.logs.items)) }
 {
     let rings = settings.ring_count();
     let run = |ring: usize| -> Result<RingOutcome, FarmError>
-        requires { (ring < length settings.now.rings) × (length settings.now.rings ≤ 16) × (1 ≤ vec_len plans.now) × (vec_len plans.now ≤ 10) × All (λ p. length p.actions.items ≤ 1000000) plans.now.items × All (λ p. All (IsActionFor (sizes_of settings.now.rings)) p.actions.items) plans.now.items }
+        requires { (ring < length settings.now.rings) × (length settings.now.rings ≤ ring_limit) × (1 ≤ vec_len plans.now) × (vec_len plans.now ≤ seat_limit) × All IsShort plans.now.items × All (IsPlanFor (sizes_of settings.now.rings)) plans.now.items }
         ensures { IfOk result (λ o. IsRun plans.entry.now.items ring (ring_of_data (ring_at settings.entry.now ring)) o.book o.logs.items) }
     { run_at(rt, alloc, gate, ring, settings, plans) };
     thread::map_indices(rt, alloc, rings, &run)
@@ -124,7 +128,9 @@ pub fn run_rings<G: Gate + Sync, W: Threads + Wait + Sync>(
 /// corruptions form one history of a one-thread ring, which holds each client's calls once, in its order;
 /// every reply and survey is that ring's at its point; and wherever 3n(n-1)/2 granted passes have followed
 /// the last corruption, exactly one machine is privileged, and grants go round the ring until the next one.
-/// The clauses below say it part by part, of each ring of the settings.
+/// The record `IsFarmOf` says it part by part: that there is one outcome for each ring of the settings (`count`), and
+/// of each (`IsFarmRing`): `one_history`, `calls` and `logs` by the plans, `right` receipts and surveys, `repaired`,
+/// `turns`, the `size` of the settings, the laws of `settlement` from every place, and as many `receipts` as calls.
 ///
 /// # Errors
 ///
@@ -138,13 +144,7 @@ pub fn run_farm<G: Gate + Sync, W: Threads + Wait + Sync>(
     settings: &Settings,
     gate: &G,
 ) -> Result<Outcome, FarmError>
-    ensures count { IfOk result (λ o. vec_len o.rings ≡ length settings.now.rings) }
-    ensures one_history { IfOk result (λ o. EachRing IsOneHistory settings.now o) }
-    ensures calls { IfOk result (λ o. EachRing (HoldsCalls settings.now) settings.now o) }
-    ensures logs { IfOk result (λ o. EachRing (λ i _ r. HasLogs settings.now i r) settings.now o) }
-    ensures right { IfOk result (λ o. EachRing (λ _ d r. AreRight d r) settings.now o) }
-    ensures repaired { IfOk result (λ o. EachRing (λ _ d r. IsRepaired d r) settings.now o) }
-    ensures turns { IfOk result (λ o. EachRing (λ _ d r. TakesTurns d r) settings.now o) }
+    ensures headline { IfOk result (IsFarmOf settings.now) }
 {
     let Ok(rings) = Vec::with_capacity(alloc, settings.ring_count()) else {
         return Err(FarmError::OutOfMemory);

@@ -1,8 +1,9 @@
 //! One ring from its opening to its closing.
-ghost use Rattle.std.specs.Prelude.{◌≡◌, ◌≤◌, [], All, length, vec_len, IfOk};
+ghost use Rattle.std.specs.Prelude.{◌≡◌, ◌≤◌, [], All, vec_len, IfOk};
+ghost use Rattle.ring_model.specs.Limits.{seat_limit};
 ghost use Rattle.ring_model.specs.History.{opening};
 ghost use Rattle.ring_shared.specs.Holding.{MeansLegal};
-ghost use Rattle.ring_farm.specs.Plans.{AreActionsOn};
+ghost use Rattle.ring_farm.specs.Plans.{IsShort, IsPlanOn};
 ghost use Rattle.ring_farm.specs.Runs.{IsRun};
 
 use crate::faults::FarmError;
@@ -30,8 +31,8 @@ fn run_named<N: Name + Send + Sync, G: Gate + Sync, W: Threads + Wait + Sync>(
     requires seats { draft.seats ≡ N.seats }
     requires legal { MeansLegal ⟦<Till as Resource>⟧.works ⟦<Till as Resource>⟧.first N.start N.legal }
     requires count { draft.seats ≡ vec_len plans.now }
-    requires few { All (λ p. length p.actions.items ≤ 1000000) plans.now.items }
-    requires possible { All (λ p. AreActionsOn number N.start p.actions.items) plans.now.items }
+    requires few { All IsShort plans.now.items }
+    requires possible { All (IsPlanOn number N.start) plans.now.items }
     ensures { IfOk result (λ o. IsRun plans.now.items number draft.book.start o.book o.logs.items) }
 {
     let (ring, seats) = match Ring::<N, Till>::open(alloc, draft) {
@@ -75,9 +76,9 @@ pub(crate) fn run_ring<G: Gate + Sync, W: Threads + Wait + Sync>(
 ) -> Result<RingOutcome, FarmError>
     requires empty { book.history ≡ [] }
     requires some { 1 ≤ vec_len plans.now }
-    requires count { vec_len plans.now ≤ 10 }
-    requires few { All (λ p. length p.actions.items ≤ 1000000) plans.now.items }
-    requires possible { All (λ p. AreActionsOn number book.start p.actions.items) plans.now.items }
+    requires count { vec_len plans.now ≤ seat_limit }
+    requires few { All IsShort plans.now.items }
+    requires possible { All (IsPlanOn number book.start) plans.now.items }
     ensures { IfOk result (λ o. IsRun plans.now.items number book.start o.book o.logs.items) }
 {
     let seats = plans.len() as u32;

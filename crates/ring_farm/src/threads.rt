@@ -1,6 +1,7 @@
 //! The threads of one ring: one for each plan, all joined.
 ghost use Rattle.std.specs.Prelude.{◌≡◌, ℕ, ◌<◌, ◌≤◌, [], None, All, Some, map, slice_get, length, vec_len, vec_capacity, IfOk, IfSome, IsTrue};
-ghost use Rattle.ring_farm.specs.Plans.{Pairs, actions_of, part, AreActionsOn};
+ghost use Rattle.ring_shared.specs.Opening.{AreFresh};
+ghost use Rattle.ring_farm.specs.Plans.{Pairs, actions_of, part, IsShort, IsPlanOn};
 ghost use Rattle.ring_farm.specs.Promises.{IsPromised, IsKept, IsDone, AreReady};
 ghost use Rattle.ring_settings.specs.declared.actions.Plan.{Plan};
 
@@ -48,8 +49,8 @@ fn spawn_one<
     plan: &'s Plan,
     seat: Seat<N>,
 ) -> Option<PromisedHandle<Work<N>, Does>>
-    requires few { length plan.now.actions.items ≤ 1000000 }
-    requires possible { AreActionsOn number N.start plan.now.actions.items }
+    requires few { IsShort plan.now }
+    requires possible { IsPlanOn number N.start plan.now }
     requires new { seat.log ≡ [] }
     ensures { IfSome result (λ h. IsPromised number seat.number plan.entry.now h.promise) }
 {
@@ -59,7 +60,7 @@ fn spawn_one<
         plan: Snapshot::of(plan),
     };
     let job = move || -> Work<N>
-        requires { (length plan.now.actions.items ≤ 1000000) × AreActionsOn number N.start plan.now.actions.items × (seat.log ≡ []) }
+        requires { IsShort plan.now × IsPlanOn number N.start plan.now × (seat.log ≡ []) }
         ensures number { result.seat.number ≡ seat.number }
         ensures log { result.fault ≡ None → actions_of number result.seat.log ≡ part number plan.entry.now.actions.items }
     { run_plan(rt, ring, gate, number, plan, seat) };
@@ -85,12 +86,11 @@ fn spawn_all<
     seats: Vec<Seat<N>>,
     mut handles: Vec<PromisedHandle<Work<N>, Does>>,
 ) -> (Vec<PromisedHandle<Work<N>, Does>>, bool)
-    requires count { vec_len seats ≡ vec_len plans.now }
     requires room { vec_len seats ≤ vec_capacity handles }
     requires empty { handles.items ≡ [] }
-    requires few { All (λ p. length p.actions.items ≤ 1000000) plans.now.items }
-    requires possible { All (λ p. AreActionsOn number N.start p.actions.items) plans.now.items }
-    requires each { (i : ℕ) → i < vec_len plans.now → slice_get seats.items i ≡ Some (record { number = i; log = [] }) }
+    requires few { All IsShort plans.now.items }
+    requires possible { All (IsPlanOn number N.start) plans.now.items }
+    requires fresh { AreFresh (length plans.now.items) seats.items }
     ensures room { vec_len result.0 ≤ vec_len plans.entry.now }
     ensures all { IsTrue result.1 → vec_len result.0 ≡ vec_len plans.entry.now }
     ensures promises { IsTrue result.1 → Pairs (IsPromised number) plans.entry.now.items (map (λ h. h.promise) result.0.items) }
@@ -189,10 +189,9 @@ pub(crate) fn run_threads<
     plans: &Vec<Plan>,
     seats: Vec<Seat<N>>,
 ) -> Result<Vec<Seat<N>>, FarmError>
-    requires count { vec_len seats ≡ vec_len plans.now }
-    requires few { All (λ p. length p.actions.items ≤ 1000000) plans.now.items }
-    requires possible { All (λ p. AreActionsOn number N.start p.actions.items) plans.now.items }
-    requires each { (i : ℕ) → i < vec_len plans.now → slice_get seats.items i ≡ Some (record { number = i; log = [] }) }
+    requires few { All IsShort plans.now.items }
+    requires possible { All (IsPlanOn number N.start) plans.now.items }
+    requires fresh { AreFresh (length plans.now.items) seats.items }
     ensures count { IfOk result (λ v. vec_len v ≡ vec_len plans.now) }
     ensures each { IfOk result (λ v. Pairs (IsDone number) plans.now.items v.items) }
 {

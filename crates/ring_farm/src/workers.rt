@@ -1,7 +1,8 @@
 //! A worker: the actions of one plan on one ring, in order.
 ghost use Rattle.std.specs.Prelude.{◌≡◌, ◌==◌, ◌≤◌, ◌<◌, ◌++◌, ◌∷◌, ◌+◌, [], None, Some, IfSome, IsTrue, IsFalse, length, vec_len};
+ghost use Rattle.ring_settings.specs.Limits.{action_limit};
 ghost use Rattle.ring_farm.specs.Refusals.{told_as, IsCallFault, IsSeatFault};
-ghost use Rattle.ring_farm.specs.Plans.{ring_of, part, actions_of, IsActionOn, AreActionsOn};
+ghost use Rattle.ring_farm.specs.Plans.{ring_of, part, actions_of, IsActionOn, IsShort, IsPlanOn};
 
 use crate::faults::FarmError;
 use crate::gates::Gate;
@@ -88,7 +89,7 @@ fn refused_by(on: bool) -> Option<FarmError>
 /// Comes to the gate; the refusal where it is shut. The call has the number of the answers that the worker has:
 /// call c comes just before action c, and the last one after the last answer.
 fn comes<N: Name, G: Gate>(gate: &G, number: u32, seat: &Seat<N>) -> Option<FarmError>
-    requires { length seat.now.log ≤ 1000000 }
+    requires { length seat.now.log ≤ action_limit }
     ensures { IfSome result (λ e. e ≡ FarmError.GateShut) }
 {
     refused_by(gate.arrive(number, seat.number(), seat.log().len() as u32))
@@ -103,7 +104,7 @@ fn make<N: Name, R: Resource + Drop, G: Gate, W: Wait>(
     action: Action,
     seat: &mut Seat<N>,
 ) -> Option<FarmError>
-    requires few { length seat.old.log ≤ 1000000 }
+    requires few { length seat.old.log ≤ action_limit }
     requires possible { IsActionOn N.start action }
     ensures number { seat.new.number ≡ seat.old.number }
     ensures log { result ≡ None → actions_of (ring_of action) seat.new.log ≡ actions_of (ring_of action) seat.old.log ++ action ∷ [] }
@@ -125,8 +126,8 @@ pub(crate) fn run_plan<N: Name, R: Resource + Drop, G: Gate, W: Wait>(
     plan: &Plan,
     seat: Seat<N>,
 ) -> Work<N>
-    requires few { length plan.now.actions.items ≤ 1000000 }
-    requires possible { AreActionsOn number N.start plan.now.actions.items }
+    requires few { IsShort plan.now }
+    requires possible { IsPlanOn number N.start plan.now }
     requires new { seat.log ≡ [] }
     ensures number { result.seat.number ≡ seat.number }
     ensures log { result.fault ≡ None → actions_of number result.seat.log ≡ part number plan.now.actions.items }

@@ -2,8 +2,7 @@
 use Rattle.std.proofs.Common.{◌≡◌, ℕ, zero, suc, ◌+◌, ◌-◌, ◌<◌, ◌≤◌, Bool, true, false, cond, not, eqb, List, length, get_or, refl, sym, ap, ◌∙◌, arith, inl, inr, ◌&&◌, ◌||◌}
 use Rattle.std.proofs.lemmas.Bool.{cases_eq, both_ways, not-true, false_from_ne_true}
 use Rattle.ring_model.specs.Numbers.{sum_below, bit, count_below, least}
-use Rattle.ring_model.specs.Ring.{is_privileged, privileged_count, first_privileged, weight_at, weight, is_absent, first_value_is_prefix}
-use Rattle.ring_model.specs.Laws.{IsPrefix}
+use Rattle.ring_model.specs.Ring.{is_privileged, privileged_count, first_privileged, weight_at, weight, is_absent, first_value_is_prefix, IsPrefix}
 use Rattle.ring_model.proofs.Below.{least_le, least_passes, every_at, every_from}
 use Rattle.ring_model.proofs.Meaning.{front_means, prefix_front}
 use Rattle.ring_lanes.specs.Hits.{privileged_at, returning_at, count_from, weight_from}

@@ -4,7 +4,7 @@ use Rattle.std.proofs.lemmas.Bool.{cases_Bool, cond-true, cond-false, false_from
 use Rattle.std.proofs.lemmas.Nat.{le-div}
 use Rattle.std.proofs.Math.Nat.{mul-le-mul_left, div-le_self}
 use Rattle.ring_model.specs.Numbers.{sum_below, least}
-use Rattle.ring_model.specs.Ring.{is_absent, first_value_is_prefix, IsRing, weight_at, weight, lead, rest, bound}
+use Rattle.ring_model.specs.Ring.{Ring, is_absent, first_value_is_prefix, IsRing, weight_at, weight, lead, rest, bound}
 use Rattle.ring_model.proofs.Below.{least_le}
 use Rattle.ring_model.proofs.Weight.{pull_le}
 use Rattle.ring_model.proofs.Lead.{some_absent, not_front, absent_true}
@@ -17,39 +17,39 @@ pulls_le s (suc m) l =
     let p : weight_at s (suc m) ≤ length s - suc m = pull_le s (suc m) in
     omega arith
 
-pub lead_le : (K : ℕ) (s : List ℕ) → IsRing K s → lead K s + 1 ≤ length s
-lead_le K s r =
-    let two = r.two in
-    let small : get_or s 0 0 < K = r.below 0 (omega arith) in
-    let found : ℕ = least (λ j. is_absent s ((get_or s 0 0 + j) % K)) 1 K in
-    elim (cases_Bool (first_value_is_prefix s)) [
-      | inl f ↦ let a : lead K s ≡ 0 = cond-true (first_value_is_prefix s) 0 found f in omega arith
+pub lead_le : (r : Ring) → IsRing r → lead r + 1 ≤ length r.values
+lead_le r g =
+    let two = g.two in
+    let small : get_or r.values 0 0 < r.k = g.below 0 (omega arith) in
+    let found : ℕ = least (λ j. is_absent r.values ((get_or r.values 0 0 + j) % r.k)) 1 r.k in
+    elim (cases_Bool (first_value_is_prefix r.values)) [
+      | inl f ↦ let a : lead r ≡ 0 = cond-true (first_value_is_prefix r.values) 0 found f in omega arith
       | inr f ↦
-          let a : lead K s ≡ found = cond-false (first_value_is_prefix s) 0 found f in
-          let w = not_front s f in
-          let there : is_absent s (get_or s 0 0) ≡ false = false_from_ne_true (is_absent s (get_or s 0 0)) (λ q. absent_true s (get_or s 0 0) q w.0 w.1 w.2) in
-          let free = some_absent K (get_or s 0 0) s small r.enough (omega arith) there in
-          let high : found ≤ free.0 = least_le (λ j. is_absent s ((get_or s 0 0 + j) % K)) 1 K free.0 free.1 free.3 in
-          let below : free.0 < length s = free.2 in
+          let a : lead r ≡ found = cond-false (first_value_is_prefix r.values) 0 found f in
+          let w = not_front r.values f in
+          let there : is_absent r.values (get_or r.values 0 0) ≡ false = false_from_ne_true (is_absent r.values (get_or r.values 0 0)) (λ q. absent_true r.values (get_or r.values 0 0) q w.0 w.1 w.2) in
+          let free = some_absent r.k (get_or r.values 0 0) r.values small g.enough (omega arith) there in
+          let high : found ≤ free.0 = least_le (λ j. is_absent r.values ((get_or r.values 0 0 + j) % r.k)) 1 r.k free.0 free.1 free.3 in
+          let below : free.0 < length r.values = free.2 in
           omega arith
     ]
 
-pub potential_bounded : (K : ℕ) (s : List ℕ) → IsRing K s → weight s + length s * lead K s ≤ bound (length s)
-potential_bounded K s r =
-    let two = r.two in
-    let m : ℕ = length s - 1 in
-    let n : suc m ≡ length s = omega arith in
-    let w : 2 * sum_below (weight_at s) (suc m) + suc m * m ≤ 2 * length s * m = pulls_le s m (omega arith) in
-    let w' : sum_below (weight_at s) (suc m) ≡ weight s = ap (sum_below (weight_at s)) n in
-    let q : suc m * m ≡ length s * m = ap (λ x. x * m) n in
-    let j : lead K s ≤ m = let k : lead K s + 1 ≤ length s = lead_le K s r in omega arith in
-    let p : length s * lead K s ≤ length s * m = mul-le-mul_left (length s) j in
-    le-div (weight s + length s * lead K s) (3 * length s * m) 2 (omega arith) (omega arith)
+pub potential_bounded : (r : Ring) → IsRing r → weight r.values + length r.values * lead r ≤ bound (length r.values)
+potential_bounded r g =
+    let two = g.two in
+    let m : ℕ = length r.values - 1 in
+    let n : suc m ≡ length r.values = omega arith in
+    let w : 2 * sum_below (weight_at r.values) (suc m) + suc m * m ≤ 2 * length r.values * m = pulls_le r.values m (omega arith) in
+    let w' : sum_below (weight_at r.values) (suc m) ≡ weight r.values = ap (sum_below (weight_at r.values)) n in
+    let q : suc m * m ≡ length r.values * m = ap (λ x. x * m) n in
+    let j : lead r ≤ m = let k : lead r + 1 ≤ length r.values = lead_le r g in omega arith in
+    let p : length r.values * lead r ≤ length r.values * m = mul-le-mul_left (length r.values) j in
+    le-div (weight r.values + length r.values * lead r) (3 * length r.values * m) 2 (omega arith) (omega arith)
 
-pub rest_bounded : (K : ℕ) (s : List ℕ) → IsRing K s → rest K s ≤ bound (length s)
-rest_bounded K s r =
-    let a : rest K s ≤ weight s + length s * lead K s = rest_le K s in
-    let p : weight s + length s * lead K s ≤ bound (length s) = potential_bounded K s r in
+pub rest_bounded : (r : Ring) → IsRing r → rest r ≤ bound (length r.values)
+rest_bounded r g =
+    let a : rest r ≤ weight r.values + length r.values * lead r = rest_le r in
+    let p : weight r.values + length r.values * lead r ≤ bound (length r.values) = potential_bounded r g in
     omega arith
 
 pub bound_small : (n : ℕ) → n ≤ 65536 → bound n < 2 ^ 40

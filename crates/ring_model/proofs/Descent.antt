@@ -1,36 +1,36 @@
 -- Each move of a ring that is not settled lowers the rest.
-use Rattle.std.proofs.Common.{◌≡◌, ℕ, zero, suc, ◌+◌, ◌*◌, ◌<◌, ◌≤◌, true, false, List, length, ap, arith}
+use Rattle.std.proofs.Common.{◌≡◌, ℕ, zero, suc, ◌+◌, ◌*◌, ◌<◌, ◌≤◌, true, false, length, ap, arith}
 use Rattle.std.proofs.lemmas.Bool.{cond-false, cond_both}
 use Rattle.std.proofs.Math.Nat.{mul-le-mul_left}
-use Rattle.ring_model.specs.Ring.{IsRing, is_privileged, moved, is_settled, weight, lead, rest}
+use Rattle.ring_model.specs.Ring.{Ring, IsRing, is_privileged, moved, is_settled, weight, lead, rest}
 use Rattle.ring_model.proofs.Moves.{length_move}
 use Rattle.ring_model.proofs.Weight.{weight_copy, weight_step}
 use Rattle.ring_model.proofs.Lead.{lead_copy, lead_step}
 
-pub rest_le : (K : ℕ) (s : List ℕ) → rest K s ≤ weight s + length s * lead K s
-rest_le K s = cond_both (is_settled s) 0 (weight s + length s * lead K s) (λ x. x ≤ weight s + length s * lead K s) (λ _. omega arith) (λ _. omega arith)
+pub rest_le : (r : Ring) → rest r ≤ weight r.values + length r.values * lead r
+rest_le r = cond_both (is_settled r.values) 0 (weight r.values + length r.values * lead r) (λ x. x ≤ weight r.values + length r.values * lead r) (λ _. omega arith) (λ _. omega arith)
 
 -- weight + n * lead falls at each move of a ring that is not settled
-pub potential_falls : (K : ℕ) (s : List ℕ) (i : ℕ) → IsRing K s → i < length s → is_privileged s i ≡ true → is_settled s ≡ false →
-    weight (moved K s i) + length s * lead K (moved K s i) + 1 ≤ weight s + length s * lead K s
-potential_falls K s zero r l e u =
-    let w : weight (moved K s 0) + 1 ≤ weight s + length s = weight_step K s r in
-    let j : lead K (moved K s 0) + 1 ≤ lead K s = lead_step K s r e u in
-    let m : length s * (lead K (moved K s 0) + 1) ≤ length s * lead K s = mul-le-mul_left (length s) j in
+pub potential_falls : (r : Ring) (i : ℕ) → IsRing r → i < length r.values → is_privileged r.values i ≡ true → is_settled r.values ≡ false →
+    weight (moved r i).values + length r.values * lead (moved r i) + 1 ≤ weight r.values + length r.values * lead r
+potential_falls r zero g l e u =
+    let w : weight (moved r 0).values + 1 ≤ weight r.values + length r.values = weight_step r g in
+    let j : lead (moved r 0) + 1 ≤ lead r = lead_step r g e u in
+    let m : length r.values * (lead (moved r 0) + 1) ≤ length r.values * lead r = mul-le-mul_left (length r.values) j in
     omega arith
-potential_falls K s (suc i) r l e u =
-    let w : weight (moved K s (suc i)) + 1 ≤ weight s = weight_copy K s i r l e in
-    let j : lead K (moved K s (suc i)) ≤ lead K s = lead_copy K s i l in
-    let m : length s * lead K (moved K s (suc i)) ≤ length s * lead K s = mul-le-mul_left (length s) j in
+potential_falls r (suc i) g l e u =
+    let w : weight (moved r (suc i)).values + 1 ≤ weight r.values = weight_copy r i g l e in
+    let j : lead (moved r (suc i)) ≤ lead r = lead_copy r i l in
+    let m : length r.values * lead (moved r (suc i)) ≤ length r.values * lead r = mul-le-mul_left (length r.values) j in
     omega arith
 
-pub descent : (K : ℕ) (s : List ℕ) (i : ℕ) → IsRing K s → i < length s → is_privileged s i ≡ true → is_settled s ≡ false →
-    rest K (moved K s i) < rest K s
-descent K s i r l e u =
-    let t = moved K s i in
-    let n : length t ≡ length s = length_move K s i in
-    let a : rest K t ≤ weight t + length t * lead K t = rest_le K t in
-    let a' : length t * lead K t ≡ length s * lead K t = ap (λ x. x * lead K t) n in
-    let b : rest K s ≡ weight s + length s * lead K s = cond-false (is_settled s) 0 (weight s + length s * lead K s) u in
-    let p : weight t + length s * lead K t + 1 ≤ weight s + length s * lead K s = potential_falls K s i r l e u in
+pub descent : (r : Ring) (i : ℕ) → IsRing r → i < length r.values → is_privileged r.values i ≡ true → is_settled r.values ≡ false →
+    rest (moved r i) < rest r
+descent r i g l e u =
+    let t = moved r i in
+    let n : length t.values ≡ length r.values = length_move r i in
+    let a : rest t ≤ weight t.values + length t.values * lead t = rest_le t in
+    let a' : length t.values * lead t ≡ length r.values * lead t = ap (λ x. x * lead t) n in
+    let b : rest r ≡ weight r.values + length r.values * lead r = cond-false (is_settled r.values) 0 (weight r.values + length r.values * lead r) u in
+    let p : weight t.values + length r.values * lead t + 1 ≤ weight r.values + length r.values * lead r = potential_falls r i g l e u in
     omega arith

@@ -3,12 +3,12 @@ use Rattle.std.proofs.Common.{◌≡◌, ℕ, ◌+◌, ◌-◌, ◌<◌, ◌≤�
 use Rattle.std.specs.Prelude.{◌&&◌}
 use Rattle.std.proofs.lemmas.Bool.{cases_Bool, cond-true, cond-false, eqb-true, and_parts}
 use Rattle.ring_model.specs.Numbers.{bit}
-use Rattle.ring_model.specs.Ring.{IsRing, is_privileged, privileged_count, is_settled, first_privileged, rest, bound}
+use Rattle.ring_model.specs.Ring.{Ring, IsRing, is_privileged, privileged_count, is_settled, first_privileged, rest, bound}
 use Rattle.ring_model.specs.Runs.{after_passes, granted_passes, GoesRoundFrom}
 use Rattle.ring_model.specs.History.{Works, State, next, after, IsLegal}
 use Rattle.ring_model.specs.Surveys.{is_corrupted, granted_count, corrupted_count, calm}
-use Rattle.ring_model.specs.Grants.{is_grant_of, grants_of, and_granted, granted_machines, is_settled_run, settled_run, settled_grants_of}
-use Rattle.ring_model.specs.HistoryLaws.{values_at, rest_at, between, asked_machines, Settlement, HistoryDescent, HistorySettles, HistoryCalm, HistoryRound, HistoryFairness, HistorySurveys, HistoryKeepsRing}
+use Rattle.ring_model.specs.Grants.{is_grant_of, grants_of, asked_machines, and_granted, granted_machines, is_settled_run, settled_run, settled_grants_of}
+use Rattle.ring_model.specs.HistoryLaws.{values_at, rest_at, between, Settlement, HistoryDescent, HistorySettles, HistoryCalm, HistoryRound, HistoryFairness, HistorySurveys, HistoryKeepsRing}
 use Rattle.ring_model.specs.declared.events.Op.{Op}
 use Rattle.ring_model.specs.declared.events.Op.TheVariants.{Pass, Corrupt}
 use Rattle.ring_model.specs.declared.events.Reply.{Reply}
@@ -24,29 +24,26 @@ use Rattle.ring_model.proofs.Fairness.{times, fair_round, round_from}
 -- quiet runs
 
 -- a run without a corruption lowers the rest by its granted passes, down to 0
-pub quiet_descent : {C : Type 0} (w : Works C) (a : State C) (es : List Event) → IsRing a.ring.k a.ring.values → IsLegal w a es → corrupted_count es ≡ 0 →
-    rest (after w a es).ring.k (after w a es).ring.values ≤ rest a.ring.k a.ring.values - granted_count es
+pub quiet_descent : {C : Type 0} (w : Works C) (a : State C) (es : List Event) → IsRing a.ring → IsLegal w a es → corrupted_count es ≡ 0 →
+    rest (after w a es).ring ≤ rest a.ring - granted_count es
 quiet_descent w a es g l q =
-    let k : ℕ = a.ring.k in
-    let s : List ℕ = a.ring.values in
     let run = quiet_run w a es l q in
-    let d : rest k (after_passes k s (asked_machines es)) ≤ rest k s - length (granted_passes k s (asked_machines es)) =
-    run_descent k s (asked_machines es) g run.below in
-    let n : granted_count es ≡ length (granted_passes k s (asked_machines es)) = run.count ∙ ap (λ (x : List ℕ). length x) run.grants in
-    let e : rest (after w a es).ring.k (after w a es).ring.values ≡ rest k (after_passes k s (asked_machines es)) =
-    ap (λ m. rest m (after w a es).ring.values) run.same ∙ ap (rest k) run.values in
+    let d : rest (after_passes a.ring (asked_machines es)) ≤ rest a.ring - length (granted_passes a.ring (asked_machines es)) =
+    run_descent a.ring (asked_machines es) g run.below in
+    let n : granted_count es ≡ length (granted_passes a.ring (asked_machines es)) = run.count ∙ ap (λ (x : List ℕ). length x) run.grants in
+    let e : rest (after w a es).ring ≡ rest (after_passes a.ring (asked_machines es)) = ap rest run.state in
     omega arith
 
 -- from a settled state on it stays settled, and its granted passes go round from the privileged machine
-pub quiet_round : {C : Type 0} (w : Works C) (a : State C) (es : List Event) → IsRing a.ring.k a.ring.values → IsLegal w a es → corrupted_count es ≡ 0 →
+pub quiet_round : {C : Type 0} (w : Works C) (a : State C) (es : List Event) → IsRing a.ring → IsLegal w a es → corrupted_count es ≡ 0 →
     is_settled a.ring.values ≡ true →
     (is_settled (after w a es).ring.values ≡ true) × GoesRoundFrom (length a.ring.values) (first_privileged a.ring.values) (granted_machines es)
 quiet_round w a es g l q u =
-    let k : ℕ = a.ring.k in
-    let s : List ℕ = a.ring.values in
     let run = quiet_run w a es l q in
-    let r = round k s (asked_machines es) g run.below u in
-    (ap is_settled run.values ∙ r.0, subst (λ (x : List ℕ). GoesRoundFrom (length s) (first_privileged s) x) (sym run.grants) r.1)
+    let r = round a.ring (asked_machines es) g run.below u in (
+      ap (λ (x : Ring). is_settled x.values) run.state ∙ r.0,
+      subst (λ (x : List ℕ). GoesRoundFrom (length a.ring.values) (first_privileged a.ring.values) x) (sym run.grants) r.1,
+    )
 
 -- a machine's granted passes are its places among the granted machines
 pub grants_of_times : (i : ℕ) (es : List Event) → grants_of i es ≡ times i (granted_machines es)
@@ -82,7 +79,7 @@ settled_quiet w a (e ∷ es) u =
     off false n = refl
 
 -- in a legal settled run two machines' granted passes differ by at most 1
-pub run_fair : {C : Type 0} (w : Works C) (a : State C) (es : List Event) (i j : ℕ) → IsRing a.ring.k a.ring.values → IsLegal w a es →
+pub run_fair : {C : Type 0} (w : Works C) (a : State C) (es : List Event) (i j : ℕ) → IsRing a.ring → IsLegal w a es →
     is_settled_run w a es ≡ true → i < length a.ring.values → j < length a.ring.values → grants_of i es ≤ grants_of j es + 1
 run_fair w a [] i j g l u li lj = omega arith
 run_fair w a (e ∷ es) i j g l u li lj =
@@ -96,7 +93,7 @@ run_fair w a (e ∷ es) i j g l u li lj =
     let gj = grants_of_times j (e ∷ es) in
     omega arith
 
-pub settled_fair : {C : Type 0} (w : Works C) (a : State C) (h : List Event) (n i j : ℕ) → IsRing a.ring.k a.ring.values → IsLegal w a h →
+pub settled_fair : {C : Type 0} (w : Works C) (a : State C) (h : List Event) (n i j : ℕ) → IsRing a.ring → IsLegal w a h →
     length a.ring.values ≡ n → i < n → j < n → settled_grants_of w a i h ≤ settled_grants_of w a j h + 1
 settled_fair w a [] n i j g l s li lj = omega arith
 settled_fair w a (e ∷ es) n i j g l s li lj = elim (cases_Bool (is_settled_run w a (e ∷ es))) [
@@ -115,7 +112,7 @@ settled_fair w a (e ∷ es) n i j g l s li lj = elim (cases_Bool (is_settled_run
 pub history_keeps_ring : {C : Type 0} → HistoryKeepsRing C
 history_keeps_ring w a h g l p le =
     let kept = kept_after w a (take p h) g (front_legal w a h p l) in
-    (kept.same, kept.size, subst (λ k. IsRing k (values_at w a h p)) kept.same kept.ring)
+    (kept.same, kept.size, kept.ring)
 
 pub history_descent : {C : Type 0} → HistoryDescent C
 history_descent w a h g l p q le lq quiet =
@@ -123,12 +120,12 @@ history_descent w a h g l p q le lq quiet =
     rw (between_after w a h p q le) (quiet_descent w (after w a (take p h)) (between h p q) kept.ring (between_legal w a h p q le l) quiet)
 
 -- where the rest is 0 the ring is settled
-pub settled_at : {C : Type 0} (w : Works C) (a : State C) (h : List Event) (q : ℕ) → IsRing a.ring.k a.ring.values → IsLegal w a h →
+pub settled_at : {C : Type 0} (w : Works C) (a : State C) (h : List Event) (q : ℕ) → IsRing a.ring → IsLegal w a h →
     rest_at w a h q ≡ 0 → is_settled (values_at w a h q) ≡ true
 settled_at w a h q g l z =
     let kept = kept_after w a (take q h) g (front_legal w a h q l) in
     let two = kept.ring.two in
-    rest_zero (after w a (take q h)).ring.k (values_at w a h q) (omega arith) z
+    rest_zero (after w a (take q h)).ring (omega arith) z
 
 pub history_calm : {C : Type 0} → HistoryCalm C
 history_calm w a h g l q lq = calm_after w a g (take q h) (front_legal w a h q l)
@@ -168,7 +165,7 @@ history_surveys w a h g l p lp =
     (some, omega arith, omega arith, d, λ many. (eqb-true (privileged_count s) 1 ((history_settles w a h g l).1 p lp many), omega arith))
 
 -- all of them
-pub settlement : {C : Type 0} (w : Works C) (a : State C) (h : List Event) → IsRing a.ring.k a.ring.values → IsLegal w a h → Settlement w a h
+pub settlement : {C : Type 0} (w : Works C) (a : State C) (h : List Event) → IsRing a.ring → IsLegal w a h → Settlement w a h
 settlement w a h g l = record {
   descends = history_descent w a h g l;
   settles = (history_settles w a h g l).0;

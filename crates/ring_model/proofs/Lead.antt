@@ -4,7 +4,7 @@ use Rattle.std.proofs.Common.{◌≡◌, ℕ, zero, suc, ◌+◌, ◌-◌, ◌%�
 use Rattle.std.proofs.lemmas.Bool.{cases_eq, cases_lt, cases_Bool, eq-eqb, eqb-true, eqb-false, ne_eqb, cond-true, cond-false, cond_both, not_from_true, not_from_false, not-true, not-false, or_cases, or_left, or_right, or_parts, both_ways, false_from_ne_true}
 use Rattle.std.proofs.Math.Nat.{add-mod_left, mod-eq_of_lt}
 use Rattle.ring_model.specs.Numbers.{every_below, sum_below, bit, count_below, least}
-use Rattle.ring_model.specs.Ring.{IsRing, is_privileged, moved, privileged_count, is_settled, is_absent, first_value_is_prefix, lead}
+use Rattle.ring_model.specs.Ring.{Ring, IsRing, is_privileged, moved, privileged_count, is_settled, is_absent, first_value_is_prefix, lead}
 use Rattle.ring_model.proofs.Below.{sum_only, sum_zero, sum_le, sum_add, bit_at, wrap, wrap_injective, every_at, every_from, every_fails, count_fails, count_one, least_from, least_le, least_passes, least_more}
 use Rattle.ring_model.proofs.Moves.{length_move, at_mover, at_other, last_is_first}
 
@@ -92,29 +92,29 @@ some_absent K v s lv ln one there =
 
 -- a copy keeps a front, and brings no value past machine 0 but S0
 
-pub front_copy : (K : ℕ) (s : List ℕ) (i : ℕ) → suc i < length s → IsFront s → IsFront (moved K s (suc i))
-front_copy K s i l f k lk q =
-    let t = moved K s (suc i) in
-    let n : length t ≡ length s = length_move K s (suc i) in
-    let zero' : get_or t 0 0 ≡ get_or s 0 0 = at_other K s (suc i) 0 (omega arith) in
-    let mover : get_or t (suc i) 0 ≡ get_or s i 0 = at_mover K s (suc i) l in
+pub front_copy : (r : Ring) (i : ℕ) → suc i < length r.values → IsFront r.values → IsFront (moved r (suc i)).values
+front_copy r i l f k lk q =
+    let t = moved r (suc i) in
+    let n : length t.values ≡ length r.values = length_move r (suc i) in
+    let zero' : get_or t.values 0 0 ≡ get_or r.values 0 0 = at_other r (suc i) 0 (omega arith) in
+    let mover : get_or t.values (suc i) 0 ≡ get_or r.values i 0 = at_mover r (suc i) l in
     elim (cases_eq k i) [
       | inl e ↦
-          let a : get_or t k 0 ≡ get_or s k 0 = at_other K s (suc i) k (omega arith) in
-          let b : get_or t (suc k) 0 ≡ get_or s i 0 = ap (λ x. get_or t (suc x) 0) e ∙ mover in
-          let c : get_or s k 0 ≡ get_or s i 0 = ap (λ x. get_or s x 0) e in
+          let a : get_or t.values k 0 ≡ get_or r.values k 0 = at_other r (suc i) k (omega arith) in
+          let b : get_or t.values (suc k) 0 ≡ get_or r.values i 0 = ap (λ x. get_or t.values (suc x) 0) e ∙ mover in
+          let c : get_or r.values k 0 ≡ get_or r.values i 0 = ap (λ x. get_or r.values x 0) e in
           cc
       | inr ne ↦
-          let b : get_or t (suc k) 0 ≡ get_or s (suc k) 0 = at_other K s (suc i) (suc k) (omega arith) in
-          let left : get_or s k 0 ≡ get_or s 0 0 = f k (omega arith) (cc) in
+          let b : get_or t.values (suc k) 0 ≡ get_or r.values (suc k) 0 = at_other r (suc i) (suc k) (omega arith) in
+          let left : get_or r.values k 0 ≡ get_or r.values 0 0 = f k (omega arith) (cc) in
           elim (cases_eq k (suc i)) [
             | inl e ↦
-                let a : get_or t k 0 ≡ get_or s i 0 = ap (λ x. get_or t x 0) e ∙ mover in
-                let c : get_or s (suc i) 0 ≡ get_or s 0 0 = sym (ap (λ x. get_or s x 0) e) ∙ left in
-                let d : get_or s i 0 ≡ get_or s 0 0 = f i l c in
+                let a : get_or t.values k 0 ≡ get_or r.values i 0 = ap (λ x. get_or t.values x 0) e ∙ mover in
+                let c : get_or r.values (suc i) 0 ≡ get_or r.values 0 0 = sym (ap (λ x. get_or r.values x 0) e) ∙ left in
+                let d : get_or r.values i 0 ≡ get_or r.values 0 0 = f i l c in
                 cc
             | inr ne' ↦
-                let a : get_or t k 0 ≡ get_or s k 0 = at_other K s (suc i) k ne' in
+                let a : get_or t.values k 0 ≡ get_or r.values k 0 = at_other r (suc i) k ne' in
                 cc
           ]
     ]
@@ -123,42 +123,42 @@ pub absent_all : (s : List ℕ) (v : ℕ) → get_or s 0 0 ≢ v → IsAbsent s 
 absent_all s v ne h zero l q = ne q
 absent_all s v ne h (suc k) l q = h k l q
 
-pub absent_copy : (K : ℕ) (s : List ℕ) (i v : ℕ) → suc i < length s → get_or s 0 0 ≢ v → IsAbsent s v → IsAbsent (moved K s (suc i)) v
-absent_copy K s i v l ne h k lk q =
-    let t = moved K s (suc i) in
-    let n : length t ≡ length s = length_move K s (suc i) in
+pub absent_copy : (r : Ring) (i v : ℕ) → suc i < length r.values → get_or r.values 0 0 ≢ v → IsAbsent r.values v → IsAbsent (moved r (suc i)).values v
+absent_copy r i v l ne h k lk q =
+    let t = moved r (suc i) in
+    let n : length t.values ≡ length r.values = length_move r (suc i) in
     elim (cases_eq k i) [
       | inl e ↦
-          let mover : get_or t (suc i) 0 ≡ get_or s i 0 = at_mover K s (suc i) l in
-          let b : get_or s i 0 ≡ v = sym mover ∙ (sym (ap (λ x. get_or t (suc x) 0) e) ∙ q) in
-          absent_all s v ne h i (omega arith) b
+          let mover : get_or t.values (suc i) 0 ≡ get_or r.values i 0 = at_mover r (suc i) l in
+          let b : get_or r.values i 0 ≡ v = sym mover ∙ (sym (ap (λ x. get_or t.values (suc x) 0) e) ∙ q) in
+          absent_all r.values v ne h i (omega arith) b
       | inr nk ↦
-          let b : get_or t (suc k) 0 ≡ get_or s (suc k) 0 = at_other K s (suc i) (suc k) (omega arith) in
+          let b : get_or t.values (suc k) 0 ≡ get_or r.values (suc k) 0 = at_other r (suc i) (suc k) (omega arith) in
           h k (omega arith) (sym b ∙ q)
     ]
 
 -- a copy does not raise the lead
-pub lead_copy : (K : ℕ) (s : List ℕ) (i : ℕ) → suc i < length s → lead K (moved K s (suc i)) ≤ lead K s
-lead_copy K s i l =
-    let t = moved K s (suc i) in
-    let from_s : ℕ = least (λ j. is_absent s ((get_or s 0 0 + j) % K)) 1 K in
-    let from_t : ℕ = least (λ j. is_absent t ((get_or t 0 0 + j) % K)) 1 K in
-    let n : length t ≡ length s = length_move K s (suc i) in
-    let zero' : get_or t 0 0 ≡ get_or s 0 0 = at_other K s (suc i) 0 (omega arith) in
-    elim (cases_Bool (first_value_is_prefix s)) [
+pub lead_copy : (r : Ring) (i : ℕ) → suc i < length r.values → lead (moved r (suc i)) ≤ lead r
+lead_copy r i l =
+    let t = moved r (suc i) in
+    let from_s : ℕ = least (λ j. is_absent r.values ((get_or r.values 0 0 + j) % r.k)) 1 r.k in
+    let from_t : ℕ = least (λ j. is_absent t.values ((get_or t.values 0 0 + j) % r.k)) 1 r.k in
+    let n : length t.values ≡ length r.values = length_move r (suc i) in
+    let zero' : get_or t.values 0 0 ≡ get_or r.values 0 0 = at_other r (suc i) 0 (omega arith) in
+    elim (cases_Bool (first_value_is_prefix r.values)) [
       | inl f ↦
-          let a : lead K t ≡ 0 = cond-true (first_value_is_prefix t) 0 from_t (front_from t (front_copy K s i l (front_true s f))) in
+          let a : lead t ≡ 0 = cond-true (first_value_is_prefix t.values) 0 from_t (front_from t.values (front_copy r i l (front_true r.values f))) in
           omega arith
       | inr f ↦
-          let a : lead K s ≡ from_s = cond-false (first_value_is_prefix s) 0 from_s f in
-          let w = not_front s f in
-          let more : from_t ≤ from_s = least_more (λ j. is_absent s ((get_or s 0 0 + j) % K)) (λ j. is_absent t ((get_or t 0 0 + j) % K)) 1 K
+          let a : lead r ≡ from_s = cond-false (first_value_is_prefix r.values) 0 from_s f in
+          let w = not_front r.values f in
+          let more : from_t ≤ from_s = least_more (λ j. is_absent r.values ((get_or r.values 0 0 + j) % r.k)) (λ j. is_absent t.values ((get_or t.values 0 0 + j) % r.k)) 1 r.k
           (λ j e.
-          let h : IsAbsent s ((get_or s 0 0 + j) % K) = absent_true s ((get_or s 0 0 + j) % K) e in
-          let ne : get_or s 0 0 ≢ (get_or s 0 0 + j) % K = λ q. h w.0 w.1 (w.2 ∙ q) in
-          let there : is_absent t ((get_or s 0 0 + j) % K) ≡ true = absent_from t ((get_or s 0 0 + j) % K) (absent_copy K s i ((get_or s 0 0 + j) % K) l ne h) in
-          ap (λ x. is_absent t ((x + j) % K)) zero' ∙ there) in
-          let b : lead K t ≤ from_t = cond_both (first_value_is_prefix t) 0 from_t (λ x. x ≤ from_t) (λ _. omega arith) (λ _. omega arith) in
+          let h : IsAbsent r.values ((get_or r.values 0 0 + j) % r.k) = absent_true r.values ((get_or r.values 0 0 + j) % r.k) e in
+          let ne : get_or r.values 0 0 ≢ (get_or r.values 0 0 + j) % r.k = λ q. h w.0 w.1 (w.2 ∙ q) in
+          let there : is_absent t.values ((get_or r.values 0 0 + j) % r.k) ≡ true = absent_from t.values ((get_or r.values 0 0 + j) % r.k) (absent_copy r i ((get_or r.values 0 0 + j) % r.k) l ne h) in
+          ap (λ x. is_absent t.values ((x + j) % r.k)) zero' ∙ there) in
+          let b : lead t ≤ from_t = cond_both (first_value_is_prefix t.values) 0 from_t (λ x. x ≤ from_t) (λ _. omega arith) (λ _. omega arith) in
           omega arith
     ]
 
@@ -186,10 +186,10 @@ step_not_front s one e u = false_from_ne_true (first_value_is_prefix s)
     (λ f. both_ways (is_settled s) u (all_settled s one e
     (λ k l. front_all s (front_true s f) (last_is_first s e) (length s - suc k) k (omega arith))))
 
-pub absent_step : (K : ℕ) (s : List ℕ) (x : ℕ) → is_absent s x ≡ true → is_absent (moved K s 0) x ≡ true
-absent_step K s x e =
-    let n : length (moved K s 0) ≡ length s = length_move K s 0 in
-    absent_from (moved K s 0) x (λ k l q. absent_true s x e k (omega arith) (sym (at_other K s 0 (suc k) (omega arith)) ∙ q))
+pub absent_step : (r : Ring) (x : ℕ) → is_absent r.values x ≡ true → is_absent (moved r 0).values x ≡ true
+absent_step r x e =
+    let n : length (moved r 0).values ≡ length r.values = length_move r 0 in
+    absent_from (moved r 0).values x (λ k l q. absent_true r.values x e k (omega arith) (sym (at_other r 0 (suc k) (omega arith)) ∙ q))
 
 -- (v + 1) + (j - 1) is v + j, round K
 pub step_round : (K v j : ℕ) → v < K → 1 ≤ j → ((v + 1) % K + (j - 1)) % K ≡ (v + j) % K
@@ -202,38 +202,38 @@ step_round K v j l one = elim (wrap K v 1 l (omega arith)) [
 ]
 
 -- and lowers the lead
-pub lead_step : (K : ℕ) (s : List ℕ) → IsRing K s → is_privileged s 0 ≡ true → is_settled s ≡ false → lead K (moved K s 0) + 1 ≤ lead K s
-lead_step K s r e u =
-    let two = r.two in
-    let enough = r.enough in
-    let small : get_or s 0 0 < K = r.below 0 (omega arith) in
-    let t = moved K s 0 in
-    let n : length t ≡ length s = length_move K s 0 in
-    let v : ℕ = get_or s 0 0 in
-    let found : ℕ = least (λ j. is_absent s ((v + j) % K)) 1 K in
-    let f : first_value_is_prefix s ≡ false = step_not_front s (omega arith) e u in
-    let a : lead K s ≡ found = cond-false (first_value_is_prefix s) 0 found f in
-    let w = not_front s f in
-    let there : is_absent s v ≡ false = false_from_ne_true (is_absent s v) (λ q. absent_true s v q w.0 w.1 w.2) in
-    let free = some_absent K v s small enough (omega arith) there in
-    let low : 1 ≤ found = least_from (λ j. is_absent s ((v + j) % K)) 1 K in
-    let high : found ≤ free.0 = least_le (λ j. is_absent s ((v + j) % K)) 1 K free.0 free.1 free.3 in
-    let below : free.0 < length s = free.2 in
-    let gone : is_absent s ((v + found) % K) ≡ true = least_passes (λ j. is_absent s ((v + j) % K)) 1 K (omega arith) in
-    let head : get_or t 0 0 ≡ (v + 1) % K = at_mover K s 0 (omega arith) in
-    let tail : (x : ℕ) → is_absent s x ≡ true → is_absent t x ≡ true = λ x q. absent_step K s x q in
+pub lead_step : (r : Ring) → IsRing r → is_privileged r.values 0 ≡ true → is_settled r.values ≡ false → lead (moved r 0) + 1 ≤ lead r
+lead_step r g e u =
+    let two = g.two in
+    let enough = g.enough in
+    let small : get_or r.values 0 0 < r.k = g.below 0 (omega arith) in
+    let t = moved r 0 in
+    let n : length t.values ≡ length r.values = length_move r 0 in
+    let v : ℕ = get_or r.values 0 0 in
+    let found : ℕ = least (λ j. is_absent r.values ((v + j) % r.k)) 1 r.k in
+    let f : first_value_is_prefix r.values ≡ false = step_not_front r.values (omega arith) e u in
+    let a : lead r ≡ found = cond-false (first_value_is_prefix r.values) 0 found f in
+    let w = not_front r.values f in
+    let there : is_absent r.values v ≡ false = false_from_ne_true (is_absent r.values v) (λ q. absent_true r.values v q w.0 w.1 w.2) in
+    let free = some_absent r.k v r.values small enough (omega arith) there in
+    let low : 1 ≤ found = least_from (λ j. is_absent r.values ((v + j) % r.k)) 1 r.k in
+    let high : found ≤ free.0 = least_le (λ j. is_absent r.values ((v + j) % r.k)) 1 r.k free.0 free.1 free.3 in
+    let below : free.0 < length r.values = free.2 in
+    let gone : is_absent r.values ((v + found) % r.k) ≡ true = least_passes (λ j. is_absent r.values ((v + j) % r.k)) 1 r.k (omega arith) in
+    let head : get_or t.values 0 0 ≡ (v + 1) % r.k = at_mover r 0 (omega arith) in
+    let tail : (x : ℕ) → is_absent r.values x ≡ true → is_absent t.values x ≡ true = λ x q. absent_step r x q in
     elim (cases_lt found 2) [
       | inl one ↦
           let at : found ≡ 1 = omega arith in
-          let no_other : is_absent t (get_or t 0 0) ≡ true =
-          ap (is_absent t) head ∙ tail ((v + 1) % K) (sym (ap (λ j. is_absent s ((v + j) % K)) at) ∙ gone) in
-          let front : first_value_is_prefix t ≡ true = front_from t (λ k lk q. absurd (absent_true t (get_or t 0 0) no_other k lk q)) in
-          let b : lead K t ≡ 0 = cond-true (first_value_is_prefix t) 0 (least (λ j. is_absent t ((get_or t 0 0 + j) % K)) 1 K) front in
+          let no_other : is_absent t.values (get_or t.values 0 0) ≡ true =
+          ap (is_absent t.values) head ∙ tail ((v + 1) % r.k) (sym (ap (λ j. is_absent r.values ((v + j) % r.k)) at) ∙ gone) in
+          let front : first_value_is_prefix t.values ≡ true = front_from t.values (λ k lk q. absurd (absent_true t.values (get_or t.values 0 0) no_other k lk q)) in
+          let b : lead t ≡ 0 = cond-true (first_value_is_prefix t.values) 0 (least (λ j. is_absent t.values ((get_or t.values 0 0 + j) % r.k)) 1 r.k) front in
           omega arith
       | inr more ↦
-          let same : (get_or t 0 0 + (found - 1)) % K ≡ (v + found) % K = ap (λ x. (x + (found - 1)) % K) head ∙ step_round K v found small low in
-          let b : least (λ j. is_absent t ((get_or t 0 0 + j) % K)) 1 K ≤ found - 1 =
-          least_le (λ j. is_absent t ((get_or t 0 0 + j) % K)) 1 K (found - 1) (omega arith) (ap (is_absent t) same ∙ tail ((v + found) % K) gone) in
-          let c : lead K t ≤ found - 1 = cond_both (first_value_is_prefix t) 0 (least (λ j. is_absent t ((get_or t 0 0 + j) % K)) 1 K) (λ x. x ≤ found - 1) (λ _. omega arith) (λ _. b) in
+          let same : (get_or t.values 0 0 + (found - 1)) % r.k ≡ (v + found) % r.k = ap (λ x. (x + (found - 1)) % r.k) head ∙ step_round r.k v found small low in
+          let b : least (λ j. is_absent t.values ((get_or t.values 0 0 + j) % r.k)) 1 r.k ≤ found - 1 =
+          least_le (λ j. is_absent t.values ((get_or t.values 0 0 + j) % r.k)) 1 r.k (found - 1) (omega arith) (ap (is_absent t.values) same ∙ tail ((v + found) % r.k) gone) in
+          let c : lead t ≤ found - 1 = cond_both (first_value_is_prefix t.values) 0 (least (λ j. is_absent t.values ((get_or t.values 0 0 + j) % r.k)) 1 r.k) (λ x. x ≤ found - 1) (λ _. omega arith) (λ _. b) in
           omega arith
     ]

@@ -2,8 +2,8 @@
 use Rattle.std.proofs.Common.{◌≡◌, ℕ, zero, suc, ◌+◌, ◌-◌, ◌%◌, ◌<◌, ◌≤◌, Bool, true, List, length, get_or, ◌∙◌, ap, inl, inr, arith}
 use Rattle.std.proofs.lemmas.Bool.{cases_eq, cases_lt, cond-false}
 use Rattle.ring_model.specs.Numbers.{least}
-use Rattle.ring_model.specs.Ring.{is_absent, first_value_is_prefix, lead}
-use Rattle.ring_model.specs.Laws.{IsPrefix, SomePrivileged, RestIsZero, FrontMeans, LeadMeans}
+use Rattle.ring_model.specs.Ring.{is_absent, first_value_is_prefix, lead, IsPrefix}
+use Rattle.ring_model.specs.Laws.{SomePrivileged, RestIsZero, FrontMeans, LeadMeans}
 use Rattle.ring_model.proofs.Below.{least_from, least_passes, least_below_fails}
 use Rattle.ring_model.proofs.Lead.{IsFront, front_true, front_from}
 use Rattle.ring_model.proofs.Bound.{lead_le}
@@ -48,23 +48,23 @@ front_means s one = (
 )
 
 pub lead_means : LeadMeans
-lead_means K s r f =
-    let p : ℕ → Bool = λ j. is_absent s ((get_or s 0 0 + j) % K) in
-    let enough = r.enough in
-    let a : lead K s ≡ least p 1 K = cond-false (first_value_is_prefix s) 0 (least p 1 K) f in
-    let low : 1 ≤ least p 1 K = least_from p 1 K in
-    let small : lead K s + 1 ≤ length s = lead_le K s r in (
+lead_means r g f =
+    let p : ℕ → Bool = λ j. is_absent r.values ((get_or r.values 0 0 + j) % r.k) in
+    let enough = g.enough in
+    let a : lead r ≡ least p 1 r.k = cond-false (first_value_is_prefix r.values) 0 (least p 1 r.k) f in
+    let low : 1 ≤ least p 1 r.k = least_from p 1 r.k in
+    let small : lead r + 1 ≤ length r.values = lead_le r g in (
       omega arith,
       omega arith,
-      ap p a ∙ least_passes p 1 K (omega arith),
-      λ j o l. least_below_fails p 1 K j o (omega arith),
+      ap p a ∙ least_passes p 1 r.k (omega arith),
+      λ j o l. least_below_fails p 1 r.k j o (omega arith),
     )
 
 pub some_privileged : SomePrivileged
-some_privileged K s r =
-    let two = r.two in
-    let f = first_is s (omega arith) in
-    (count_positive s (omega arith), f.0, f.1)
+some_privileged r g =
+    let two = g.two in
+    let f = first_is r.values (omega arith) in
+    (count_positive r.values (omega arith), f.0, f.1)
 
 pub rest_is_zero : RestIsZero
-rest_is_zero K s r = let two = r.two in ((λ z. rest_zero K s (omega arith) z), λ u. rest_settled K s u)
+rest_is_zero r g = let two = g.two in ((λ z. rest_zero r (omega arith) z), λ u. rest_settled r u)

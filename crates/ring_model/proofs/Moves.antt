@@ -4,17 +4,18 @@ use Rattle.std.proofs.lemmas.List.{length-set}
 use Rattle.std.specs.Prelude.{◌⊎◌}
 use Rattle.std.proofs.lemmas.Bool.{eq-eqb, eqb-true, ne_eqb, not_from_true}
 use Rattle.ring_model.specs.Numbers.{bit, count_below}
-use Rattle.ring_model.specs.Ring.{IsRing, is_privileged, moved_value, moved, right_neighbour, privileged_count}
+use Rattle.ring_model.specs.Ring.{Ring, IsRing, is_privileged, moved_value, moved, right_neighbour, privileged_count}
+use Rattle.ring_model.specs.Laws.{Closure, OthersKeep}
 use Rattle.ring_model.proofs.Below.{sum_but_two, bit_le, bit_at, wrap}
 
-pub length_move : (K : ℕ) (s : List ℕ) (i : ℕ) → length (moved K s i) ≡ length s
-length_move K s i = length-set s i (moved_value K s i)
+pub length_move : (r : Ring) (i : ℕ) → length (moved r i).values ≡ length r.values
+length_move r i = length-set r.values i (moved_value r i)
 
-pub at_mover : (K : ℕ) (s : List ℕ) (i : ℕ) → i < length s → get_or (moved K s i) i 0 ≡ moved_value K s i
-at_mover K s i l = get_or-set_same s i (moved_value K s i) 0 l
+pub at_mover : (r : Ring) (i : ℕ) → i < length r.values → get_or (moved r i).values i 0 ≡ moved_value r i
+at_mover r i l = get_or-set_same r.values i (moved_value r i) 0 l
 
-pub at_other : (K : ℕ) (s : List ℕ) (i k : ℕ) → k ≢ i → get_or (moved K s i) k 0 ≡ get_or s k 0
-at_other K s i k ne = get_or-set_other s i k (moved_value K s i) 0 ne
+pub at_other : (r : Ring) (i k : ℕ) → k ≢ i → get_or (moved r i).values k 0 ≡ get_or r.values k 0
+at_other r i k ne = get_or-set_other r.values i k (moved_value r i) 0 ne
 
 -- privilege, in equations
 
@@ -31,53 +32,60 @@ next_is s i l = elim (wrap (length s) i 1 l (omega arith)) [ inl a ↦ inl (a.0,
 
 -- pointwise: the mover loses its privilege, and only its right neighbour's may change besides
 
-pub mover_loses : (K : ℕ) (s : List ℕ) (i : ℕ) → IsRing K s → i < length s → is_privileged s i ≡ true → is_privileged (moved K s i) i ≡ false
-mover_loses K s zero r l e =
-    let n : length (moved K s 0) ≡ length s = length_move K s 0 in
-    let two = r.two in
-    let a : get_or (moved K s 0) (length s - 1) 0 ≡ get_or s (length s - 1) 0 = at_other K s 0 (length s - 1) (omega arith) in
-    let a' : get_or (moved K s 0) (length (moved K s 0) - 1) 0 ≡ get_or s (length s - 1) 0 = ap (λ x. get_or (moved K s 0) (x - 1) 0) n ∙ a in
-    let b : get_or (moved K s 0) 0 0 ≡ (get_or s 0 0 + 1) % K = at_mover K s 0 l in
-    let c : get_or s (length s - 1) 0 ≡ get_or s 0 0 = last_is_first s e in
-    let small : get_or s 0 0 < K = r.below 0 l in
-    let big = r.enough in
-    ne_eqb (get_or (moved K s 0) (length (moved K s 0) - 1) 0) (get_or (moved K s 0) 0 0)
-    (λ q. elim (wrap K (get_or s 0 0) 1 small (omega arith)) [ inl w ↦ omega arith | inr w ↦ omega arith ])
-mover_loses K s (suc i) r l e =
-    let a : get_or (moved K s (suc i)) i 0 ≡ get_or s i 0 = at_other K s (suc i) i (omega arith) in
-    let b : get_or (moved K s (suc i)) (suc i) 0 ≡ get_or s i 0 = at_mover K s (suc i) l in
-    not_from_true (eqb (get_or (moved K s (suc i)) i 0) (get_or (moved K s (suc i)) (suc i) 0)) (eq-eqb (get_or (moved K s (suc i)) i 0) (get_or (moved K s (suc i)) (suc i) 0) (a ∙ sym b))
+pub mover_loses : (r : Ring) (i : ℕ) → IsRing r → i < length r.values → is_privileged r.values i ≡ true → is_privileged (moved r i).values i ≡ false
+mover_loses r zero g l e =
+    let n : length (moved r 0).values ≡ length r.values = length_move r 0 in
+    let two = g.two in
+    let a : get_or (moved r 0).values (length r.values - 1) 0 ≡ get_or r.values (length r.values - 1) 0 = at_other r 0 (length r.values - 1) (omega arith) in
+    let a' : get_or (moved r 0).values (length (moved r 0).values - 1) 0 ≡ get_or r.values (length r.values - 1) 0 = ap (λ x. get_or (moved r 0).values (x - 1) 0) n ∙ a in
+    let b : get_or (moved r 0).values 0 0 ≡ (get_or r.values 0 0 + 1) % r.k = at_mover r 0 l in
+    let c : get_or r.values (length r.values - 1) 0 ≡ get_or r.values 0 0 = last_is_first r.values e in
+    let small : get_or r.values 0 0 < r.k = g.below 0 l in
+    let big = g.enough in
+    ne_eqb (get_or (moved r 0).values (length (moved r 0).values - 1) 0) (get_or (moved r 0).values 0 0)
+    (λ q. elim (wrap r.k (get_or r.values 0 0) 1 small (omega arith)) [ inl w ↦ omega arith | inr w ↦ omega arith ])
+mover_loses r (suc i) g l e =
+    let a : get_or (moved r (suc i)).values i 0 ≡ get_or r.values i 0 = at_other r (suc i) i (omega arith) in
+    let b : get_or (moved r (suc i)).values (suc i) 0 ≡ get_or r.values i 0 = at_mover r (suc i) l in
+    not_from_true (eqb (get_or (moved r (suc i)).values i 0) (get_or (moved r (suc i)).values (suc i) 0)) (eq-eqb (get_or (moved r (suc i)).values i 0) (get_or (moved r (suc i)).values (suc i) 0) (a ∙ sym b))
 
-pub others_same : (K : ℕ) (s : List ℕ) (i k : ℕ) → IsRing K s → i < length s → k < length s → k ≢ i → k ≢ right_neighbour s i →
-    is_privileged (moved K s i) k ≡ is_privileged s k
-others_same K s i zero r l lk ni nn =
-    let n : length (moved K s i) ≡ length s = length_move K s i in
-    let two = r.two in
-    let ne : length s - 1 ≢ i = elim (next_is s i l) [ inl w ↦ omega arith | inr w ↦ omega arith ] in
-    let a : get_or (moved K s i) (length s - 1) 0 ≡ get_or s (length s - 1) 0 = at_other K s i (length s - 1) ne in
-    let a' : get_or (moved K s i) (length (moved K s i) - 1) 0 ≡ get_or s (length s - 1) 0 = ap (λ x. get_or (moved K s i) (x - 1) 0) n ∙ a in
-    let b : get_or (moved K s i) 0 0 ≡ get_or s 0 0 = at_other K s i 0 ni in
+pub others_same : (r : Ring) (i k : ℕ) → IsRing r → i < length r.values → k < length r.values → k ≢ i → k ≢ right_neighbour r.values i →
+    is_privileged (moved r i).values k ≡ is_privileged r.values k
+others_same r i zero g l lk ni nn =
+    let n : length (moved r i).values ≡ length r.values = length_move r i in
+    let two = g.two in
+    let ne : length r.values - 1 ≢ i = elim (next_is r.values i l) [ inl w ↦ omega arith | inr w ↦ omega arith ] in
+    let a : get_or (moved r i).values (length r.values - 1) 0 ≡ get_or r.values (length r.values - 1) 0 = at_other r i (length r.values - 1) ne in
+    let a' : get_or (moved r i).values (length (moved r i).values - 1) 0 ≡ get_or r.values (length r.values - 1) 0 = ap (λ x. get_or (moved r i).values (x - 1) 0) n ∙ a in
+    let b : get_or (moved r i).values 0 0 ≡ get_or r.values 0 0 = at_other r i 0 ni in
     same_value _ _ _ _ a' b
-others_same K s i (suc k) r l lk ni nn =
-    let ne : k ≢ i = elim (next_is s i l) [ inl w ↦ omega arith | inr w ↦ omega arith ] in
-    let a : get_or (moved K s i) k 0 ≡ get_or s k 0 = at_other K s i k ne in
-    let b : get_or (moved K s i) (suc k) 0 ≡ get_or s (suc k) 0 = at_other K s i (suc k) ni in
+others_same r i (suc k) g l lk ni nn =
+    let ne : k ≢ i = elim (next_is r.values i l) [ inl w ↦ omega arith | inr w ↦ omega arith ] in
+    let a : get_or (moved r i).values k 0 ≡ get_or r.values k 0 = at_other r i k ne in
+    let b : get_or (moved r i).values (suc k) 0 ≡ get_or r.values (suc k) 0 = at_other r i (suc k) ni in
     ap not (same_value _ _ _ _ a b)
 
 -- the count does not rise
-pub closure : (K : ℕ) (s : List ℕ) (i : ℕ) → IsRing K s → i < length s → is_privileged s i ≡ true → privileged_count (moved K s i) ≤ privileged_count s
-closure K s i r l e =
-    let t = moved K s i in
-    let n : length t ≡ length s = length_move K s i in
-    let two = r.two in
-    let x : right_neighbour s i < length s = elim (next_is s i l) [ inl w ↦ omega arith | inr w ↦ omega arith ] in
-    let ne : i ≢ right_neighbour s i = elim (next_is s i l) [ inl w ↦ omega arith | inr w ↦ omega arith ] in
-    let sums : count_below (is_privileged s) (length s) + (bit (is_privileged t i) + bit (is_privileged t (right_neighbour s i)))
-    ≡ count_below (is_privileged t) (length s) + (bit (is_privileged s i) + bit (is_privileged s (right_neighbour s i))) =
-    sum_but_two (λ k. bit (is_privileged s k)) (λ k. bit (is_privileged t k)) i (right_neighbour s i) (length s) l x ne
-    (λ k lk ni nn. sym (bit_at (is_privileged t k) (is_privileged s k) (others_same K s i k r l lk ni nn))) in
-    let before : bit (is_privileged s i) ≡ 1 = bit_at (is_privileged s i) true e in
-    let after_passes : bit (is_privileged t i) ≡ 0 = bit_at (is_privileged t i) false (mover_loses K s i r l e) in
-    let one : bit (is_privileged t (right_neighbour s i)) ≤ 1 = bit_le (is_privileged t (right_neighbour s i)) in
-    let c : privileged_count t ≡ count_below (is_privileged t) (length s) = ap (count_below (is_privileged t)) n in
+pub closure : (r : Ring) (i : ℕ) → IsRing r → i < length r.values → is_privileged r.values i ≡ true → privileged_count (moved r i).values ≤ privileged_count r.values
+closure r i g l e =
+    let t = moved r i in
+    let n : length t.values ≡ length r.values = length_move r i in
+    let two = g.two in
+    let x : right_neighbour r.values i < length r.values = elim (next_is r.values i l) [ inl w ↦ omega arith | inr w ↦ omega arith ] in
+    let ne : i ≢ right_neighbour r.values i = elim (next_is r.values i l) [ inl w ↦ omega arith | inr w ↦ omega arith ] in
+    let sums : count_below (is_privileged r.values) (length r.values) + (bit (is_privileged t.values i) + bit (is_privileged t.values (right_neighbour r.values i)))
+    ≡ count_below (is_privileged t.values) (length r.values) + (bit (is_privileged r.values i) + bit (is_privileged r.values (right_neighbour r.values i))) =
+    sum_but_two (λ k. bit (is_privileged r.values k)) (λ k. bit (is_privileged t.values k)) i (right_neighbour r.values i) (length r.values) l x ne
+    (λ k lk ni nn. sym (bit_at (is_privileged t.values k) (is_privileged r.values k) (others_same r i k g l lk ni nn))) in
+    let before : bit (is_privileged r.values i) ≡ 1 = bit_at (is_privileged r.values i) true e in
+    let after_passes : bit (is_privileged t.values i) ≡ 0 = bit_at (is_privileged t.values i) false (mover_loses r i g l e) in
+    let one : bit (is_privileged t.values (right_neighbour r.values i)) ≤ 1 = bit_le (is_privileged t.values (right_neighbour r.values i)) in
+    let c : privileged_count t.values ≡ count_below (is_privileged t.values) (length r.values) = ap (count_below (is_privileged t.values)) n in
     omega arith
+
+-- all of it
+pub others_keep : OthersKeep
+others_keep r i g l j lj ni nn = others_same r i j g l lj ni nn
+
+pub closed : Closure
+closed r i g l e = record { count = closure r i g l e; mover = mover_loses r i g l e; others = others_keep r i g l }

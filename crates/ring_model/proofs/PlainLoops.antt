@@ -2,7 +2,7 @@
 use Rattle.std.proofs.Common.{◌≡◌, ℕ, zero, suc, ◌+◌, ◌-◌, ◌%◌, ◌<◌, ◌≤◌, ◌≢◌, Bool, true, false, List, length, get_or, refl, sym, ◌∙◌, ap, arith}
 use Rattle.std.proofs.lemmas.Bool.{cond-true, cond-false, both_ways, false_from_ne_true}
 use Rattle.ring_model.specs.Numbers.{sum_below, bit, count_below, least}
-use Rattle.ring_model.specs.Ring.{is_privileged, weight_at, is_absent, first_value_is_prefix, lead}
+use Rattle.ring_model.specs.Ring.{Ring, is_privileged, weight_at, is_absent, first_value_is_prefix, lead}
 use Rattle.ring_model.proofs.Below.{least_from, least_le, least_passes}
 use Rattle.ring_model.proofs.Weight.{pull_true, pull_false}
 use Rattle.ring_model.proofs.Lead.{absent_from, absent_true, front_true}
@@ -59,21 +59,21 @@ no_prefix_at s (suc i) o l ne e =
     false_from_ne_true (first_value_is_prefix s) (λ q. ne (let at : suc i - 1 ≡ i = omega arith in ap (λ x. get_or s x 0) at ∙ front_true s q i l e))
 
 -- the lead, found after so many steps or not at all
-pub lead_at : (K : ℕ) (s : List ℕ) (j : ℕ) → first_value_is_prefix s ≡ false → 1 ≤ j → j < K + 1 → is_absent s ((get_or s 0 0 + j) % K) ≡ true →
-    ((i : ℕ) → 1 ≤ i → i < j → is_absent s ((get_or s 0 0 + i) % K) ≡ false) → j ≡ lead K s
-lead_at K s j f one top e h =
-    let p : ℕ → Bool = λ i. is_absent s ((get_or s 0 0 + i) % K) in
-    least_at p 1 K j one (omega arith) e h ∙ sym (cond-false (first_value_is_prefix s) 0 (least p 1 K) f)
+pub lead_at : (r : Ring) (j : ℕ) → first_value_is_prefix r.values ≡ false → 1 ≤ j → j < r.k + 1 → is_absent r.values ((get_or r.values 0 0 + j) % r.k) ≡ true →
+    ((i : ℕ) → 1 ≤ i → i < j → is_absent r.values ((get_or r.values 0 0 + i) % r.k) ≡ false) → j ≡ lead r
+lead_at r j f one top e h =
+    let p : ℕ → Bool = λ i. is_absent r.values ((get_or r.values 0 0 + i) % r.k) in
+    least_at p 1 r.k j one (omega arith) e h ∙ sym (cond-false (first_value_is_prefix r.values) 0 (least p 1 r.k) f)
 
-pub lead_none : (K : ℕ) (s : List ℕ) → first_value_is_prefix s ≡ false → ((i : ℕ) → 1 ≤ i → i < K + 1 → is_absent s ((get_or s 0 0 + i) % K) ≡ false) → K + 1 ≡ lead K s
-lead_none K s f h =
-    let p : ℕ → Bool = λ i. is_absent s ((get_or s 0 0 + i) % K) in
-    let none : least p 1 K ≡ 1 + K = least_none p 1 K (λ k l g. h k l (omega arith)) in
-    let e : lead K s ≡ least p 1 K = cond-false (first_value_is_prefix s) 0 (least p 1 K) f in
+pub lead_none : (r : Ring) → first_value_is_prefix r.values ≡ false → ((i : ℕ) → 1 ≤ i → i < r.k + 1 → is_absent r.values ((get_or r.values 0 0 + i) % r.k) ≡ false) → r.k + 1 ≡ lead r
+lead_none r f h =
+    let p : ℕ → Bool = λ i. is_absent r.values ((get_or r.values 0 0 + i) % r.k) in
+    let none : least p 1 r.k ≡ 1 + r.k = least_none p 1 r.k (λ k l g. h k l (omega arith)) in
+    let e : lead r ≡ least p 1 r.k = cond-false (first_value_is_prefix r.values) 0 (least p 1 r.k) f in
     omega arith
 
-pub lead_prefix : (K : ℕ) (s : List ℕ) → first_value_is_prefix s ≡ true → 0 ≡ lead K s
-lead_prefix K s f = sym (cond-true (first_value_is_prefix s) 0 (least (λ i. is_absent s ((get_or s 0 0 + i) % K)) 1 K) f)
+pub lead_prefix : (r : Ring) → first_value_is_prefix r.values ≡ true → 0 ≡ lead r
+lead_prefix r f = sym (cond-true (first_value_is_prefix r.values) 0 (least (λ i. is_absent r.values ((get_or r.values 0 0 + i) % r.k)) 1 r.k) f)
 
 -- the calm, one event further
 pub calm_more : (es : List Event) (i : ℕ) (d : Event) (r : Reply) → i < length es → (get_or es i d).reply ≡ r → calm (take (i + 1) es) ≡ calm_next (calm (take i es)) r

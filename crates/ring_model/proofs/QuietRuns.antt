@@ -4,12 +4,11 @@ use Rattle.std.specs.Prelude.{count_by}
 use Rattle.std.proofs.lemmas.Bool.{true≢false, cond-true, cond-false}
 use Rattle.std.proofs.lemmas.List.Sums.{sum_by-cons}
 use Rattle.ring_model.specs.Numbers.{bit}
-use Rattle.ring_model.specs.Ring.{is_privileged, moved}
+use Rattle.ring_model.specs.Ring.{Ring, is_privileged, moved}
 use Rattle.ring_model.specs.Runs.{passed, after_passes, granted_passes, AreBelow}
 use Rattle.ring_model.specs.History.{Works, State, StepOf, next, after, IsLegal}
 use Rattle.ring_model.specs.Surveys.{is_granted, is_corrupted, granted_count, corrupted_count}
-use Rattle.ring_model.specs.Grants.{is_grant_of, grants_of, and_granted, granted_machines}
-use Rattle.ring_model.specs.HistoryLaws.{and_asked, asked_machines}
+use Rattle.ring_model.specs.Grants.{is_grant_of, grants_of, and_asked, asked_machines, and_granted, granted_machines}
 use Rattle.ring_model.specs.declared.events.Op.{Op}
 use Rattle.ring_model.specs.declared.events.Op.TheVariants.{Pass, Corrupt}
 use Rattle.ring_model.specs.declared.events.Reply.{Reply}
@@ -46,48 +45,41 @@ quiet_parts e es q =
     off true z = absurd (omega arith)
     off false z = refl
 
-pub granted_on : (K : ℕ) (s : List ℕ) (i : ℕ) (choices : List ℕ) → is_privileged s i ≡ true →
-    granted_passes K s (i ∷ choices) ≡ i ∷ granted_passes K (moved K s i) choices
-granted_on K s i choices e =
-    cond-true (is_privileged s i) (i ∷ granted_passes K (passed K s i) choices) (granted_passes K (passed K s i) choices) e
-    ∙ ap (λ (t : List ℕ). i ∷ granted_passes K t choices) (pass_granted K s i e)
+pub granted_on : (r : Ring) (i : ℕ) (choices : List ℕ) → is_privileged r.values i ≡ true →
+    granted_passes r (i ∷ choices) ≡ i ∷ granted_passes (moved r i) choices
+granted_on r i choices e =
+    cond-true (is_privileged r.values i) (i ∷ granted_passes (passed r i) choices) (granted_passes (passed r i) choices) e
+    ∙ ap (λ (t : Ring). i ∷ granted_passes t choices) (pass_granted r i e)
 
-pub granted_off : (K : ℕ) (s : List ℕ) (i : ℕ) (choices : List ℕ) → is_privileged s i ≡ false → granted_passes K s (i ∷ choices) ≡ granted_passes K s choices
-granted_off K s i choices e =
-    cond-false (is_privileged s i) (i ∷ granted_passes K (passed K s i) choices) (granted_passes K (passed K s i) choices) e
-    ∙ ap (λ (t : List ℕ). granted_passes K t choices) (pass_idle K s i e)
+pub granted_off : (r : Ring) (i : ℕ) (choices : List ℕ) → is_privileged r.values i ≡ false → granted_passes r (i ∷ choices) ≡ granted_passes r choices
+granted_off r i choices e =
+    cond-false (is_privileged r.values i) (i ∷ granted_passes (passed r i) choices) (granted_passes (passed r i) choices) e
+    ∙ ap (λ (t : Ring). granted_passes t choices) (pass_idle r i e)
 
--- one step that is no corruption: a pass
-pub record IsPassed (K n : ℕ) (s : List ℕ) (o : Op) (r : Reply) (m : ℕ) (t : List ℕ) : Type 0 where
-  pub same : m ≡ K
-  pub values : (choices : List ℕ) → after_passes K s (and_asked o choices) ≡ after_passes K t choices
-  pub grants : (choices : List ℕ) → granted_passes K s (and_asked o choices) ≡ and_granted o r (granted_passes K t choices)
-  pub below : (choices : List ℕ) → AreBelow n choices → AreBelow n (and_asked o choices)
-  pub size : length t ≡ n
+-- one step that is no corruption, from ring s to ring t: a pass
+pub record IsPassed (s : Ring) (o : Op) (r : Reply) (t : Ring) : Type 0 where
+  pub state : (choices : List ℕ) → after_passes s (and_asked o choices) ≡ after_passes t choices
+  pub grants : (choices : List ℕ) → granted_passes s (and_asked o choices) ≡ and_granted o r (granted_passes t choices)
+  pub below : (choices : List ℕ) → AreBelow (length s.values) choices → AreBelow (length s.values) (and_asked o choices)
+  pub size : length t.values ≡ length s.values
   pub count : (machines : List ℕ) → length (and_granted o r machines) ≡ bit (is_granted r) + length machines
 
 pub quiet_step : {C : Type 0} (w : Works C) (a : State C) (o : Op) (r : Reply) → StepOf w a o r (next w a o) → is_corrupted r ≡ false →
-    IsPassed a.ring.k (length a.ring.values) a.ring.values o r (next w a o).ring.k (next w a o).ring.values
+    IsPassed a.ring o r (next w a o).ring
 quiet_step w a (Pass i order) (Granted number result) h q =
-    let k : ℕ = a.ring.k in
-    let s : List ℕ = a.ring.values in
-    let e : is_privileged s i ≡ true = h.1 in
+    let e : is_privileged a.ring.values i ≡ true = h.1 in
     rw e (record {
-      same = refl;
-      values = λ choices. ap (λ (t : List ℕ). after_passes k t choices) (pass_granted k s i e);
-      grants = λ choices. granted_on k s i choices e;
+      state = λ choices. ap (λ (t : Ring). after_passes t choices) (pass_granted a.ring i e);
+      grants = λ choices. granted_on a.ring i choices e;
       below = λ choices b. (h.0, b);
-      size = length_move k s i;
+      size = length_move a.ring i;
       count = λ machines. omega arith;
     })
 quiet_step w a (Pass i order) NotPrivileged h q =
-    let k : ℕ = a.ring.k in
-    let s : List ℕ = a.ring.values in
-    let e : is_privileged s i ≡ false = h.1 in
+    let e : is_privileged a.ring.values i ≡ false = h.1 in
     rw e (record {
-      same = refl;
-      values = λ choices. ap (λ (t : List ℕ). after_passes k t choices) (pass_idle k s i e);
-      grants = λ choices. granted_off k s i choices e;
+      state = λ choices. ap (λ (t : Ring). after_passes t choices) (pass_idle a.ring i e);
+      grants = λ choices. granted_off a.ring i choices e;
       below = λ choices b. (h.0, b);
       size = refl;
       count = λ machines. omega arith;
@@ -98,30 +90,26 @@ quiet_step w a (Corrupt i v) NotPrivileged h q = absurd h
 quiet_step w a (Corrupt i v) (Corrupted old) h q = absurd (true≢false q)
 
 -- the whole run
-pub record IsPassedAll (K n : ℕ) (s : List ℕ) (es : List Event) (m : ℕ) (t : List ℕ) : Type 0 where
-  pub same : m ≡ K
-  pub values : t ≡ after_passes K s (asked_machines es)
-  pub grants : granted_machines es ≡ granted_passes K s (asked_machines es)
-  pub below : AreBelow n (asked_machines es)
-  pub size : length t ≡ n
+pub record IsPassedAll (s : Ring) (es : List Event) (t : Ring) : Type 0 where
+  pub state : t ≡ after_passes s (asked_machines es)
+  pub grants : granted_machines es ≡ granted_passes s (asked_machines es)
+  pub below : AreBelow (length s.values) (asked_machines es)
+  pub size : length t.values ≡ length s.values
   pub count : granted_count es ≡ length (granted_machines es)
 
 pub quiet_run : {C : Type 0} (w : Works C) (a : State C) (es : List Event) → IsLegal w a es → corrupted_count es ≡ 0 →
-    IsPassedAll a.ring.k (length a.ring.values) a.ring.values es (after w a es).ring.k (after w a es).ring.values
-quiet_run w a [] h q = record { same = refl; values = refl; grants = refl; below = tt; size = refl; count = refl }
+    IsPassedAll a.ring es (after w a es).ring
+quiet_run w a [] h q = record { state = refl; grants = refl; below = tt; size = refl; count = refl }
 quiet_run w a (e ∷ es) h q =
     let parts = quiet_parts e es q in
-    let b : State _ = next w a e.op in
     let one = quiet_step w a e.op e.reply h.0 parts.0 in
-    let more = quiet_run w b es h.1 parts.1 in
+    let more = quiet_run w (next w a e.op) es h.1 parts.1 in
     let c = granted_count-cons e es in
     let d = one.count (granted_machines es) in
     let f = more.count in
     record {
-      same = more.same ∙ one.same;
-      values = more.values ∙ (ap (λ k. after_passes k b.ring.values (asked_machines es)) one.same ∙ sym (one.values (asked_machines es)));
-      grants = ap (λ (gs : List ℕ). and_granted e.op e.reply gs) (more.grants ∙ ap (λ k. granted_passes k b.ring.values (asked_machines es)) one.same)
-          ∙ sym (one.grants (asked_machines es));
+      state = more.state ∙ sym (one.state (asked_machines es));
+      grants = ap (λ (gs : List ℕ). and_granted e.op e.reply gs) more.grants ∙ sym (one.grants (asked_machines es));
       below = one.below (asked_machines es) (subst (λ n. AreBelow n (asked_machines es)) one.size more.below);
       size = more.size ∙ one.size;
       count = omega arith;

@@ -1,15 +1,15 @@
 -- Worked values, found by hand from the definitions.
 use Rattle.std.proofs.Common.{◌≡◌, [], ◌∷◌, true, false, refl}
-use Rattle.ring_model.specs.Ring.{privileged_count, first_privileged, is_settled, moved, weight, first_value_is_prefix, lead, rest, bound}
+use Rattle.ring_model.specs.Ring.{ring_with, privileged_count, first_privileged, is_settled, moved, weight, first_value_is_prefix, lead, rest, bound}
 
 -- three machines with three values: machine 0 of (0,2,0) steps on, machine 1 of (1,2,0) copies, machine 2 of (1,1,0) alone is privileged
-step_of_zero : moved 3 (0 ∷ 2 ∷ 0 ∷ []) 0 ≡ 1 ∷ 2 ∷ 0 ∷ []
+step_of_zero : moved (ring_with 3 (0 ∷ 2 ∷ 0 ∷ [])) 0 ≡ ring_with 3 (1 ∷ 2 ∷ 0 ∷ [])
 step_of_zero = refl
 
-copy_of_one : moved 3 (1 ∷ 2 ∷ 0 ∷ []) 1 ≡ 1 ∷ 1 ∷ 0 ∷ []
+copy_of_one : moved (ring_with 3 (1 ∷ 2 ∷ 0 ∷ [])) 1 ≡ ring_with 3 (1 ∷ 1 ∷ 0 ∷ [])
 copy_of_one = refl
 
-step_round : moved 3 (2 ∷ 2 ∷ 2 ∷ []) 0 ≡ 0 ∷ 2 ∷ 2 ∷ []
+step_round : moved (ring_with 3 (2 ∷ 2 ∷ 2 ∷ [])) 0 ≡ ring_with 3 (0 ∷ 2 ∷ 2 ∷ [])
 step_round = refl
 
 counts : privileged_count (0 ∷ 2 ∷ 0 ∷ []) ≡ 3
@@ -18,32 +18,32 @@ counts = refl
 first_of_settled : first_privileged (1 ∷ 1 ∷ 0 ∷ []) ≡ 2
 first_of_settled = refl
 
-rest_of_020 : rest 3 (0 ∷ 2 ∷ 0 ∷ []) ≡ 6
+rest_of_020 : rest (ring_with 3 (0 ∷ 2 ∷ 0 ∷ [])) ≡ 6
 rest_of_020 = refl
 
-rest_of_120 : rest 3 (1 ∷ 2 ∷ 0 ∷ []) ≡ 3
+rest_of_120 : rest (ring_with 3 (1 ∷ 2 ∷ 0 ∷ [])) ≡ 3
 rest_of_120 = refl
 
-rest_of_110 : rest 3 (1 ∷ 1 ∷ 0 ∷ []) ≡ 0
+rest_of_110 : rest (ring_with 3 (1 ∷ 1 ∷ 0 ∷ [])) ≡ 0
 rest_of_110 = refl
 
 -- four machines with four values
 weight_of_0210 : weight (0 ∷ 2 ∷ 1 ∷ 0 ∷ []) ≡ 6
 weight_of_0210 = refl
 
-lead_of_0210 : lead 4 (0 ∷ 2 ∷ 1 ∷ 0 ∷ []) ≡ 3
+lead_of_0210 : lead (ring_with 4 (0 ∷ 2 ∷ 1 ∷ 0 ∷ [])) ≡ 3
 lead_of_0210 = refl
 
-rest_of_0210 : rest 4 (0 ∷ 2 ∷ 1 ∷ 0 ∷ []) ≡ 18
+rest_of_0210 : rest (ring_with 4 (0 ∷ 2 ∷ 1 ∷ 0 ∷ [])) ≡ 18
 rest_of_0210 = refl
 
 weight_of_1210 : weight (1 ∷ 2 ∷ 1 ∷ 0 ∷ []) ≡ 6
 weight_of_1210 = refl
 
-lead_of_1210 : lead 4 (1 ∷ 2 ∷ 1 ∷ 0 ∷ []) ≡ 2
+lead_of_1210 : lead (ring_with 4 (1 ∷ 2 ∷ 1 ∷ 0 ∷ [])) ≡ 2
 lead_of_1210 = refl
 
-rest_of_1210 : rest 4 (1 ∷ 2 ∷ 1 ∷ 0 ∷ []) ≡ 14
+rest_of_1210 : rest (ring_with 4 (1 ∷ 2 ∷ 1 ∷ 0 ∷ [])) ≡ 14
 rest_of_1210 = refl
 
 settled_1110 : is_settled (1 ∷ 1 ∷ 1 ∷ 0 ∷ []) ≡ true
@@ -52,13 +52,13 @@ settled_1110 = refl
 prefix_of_3310 : first_value_is_prefix (3 ∷ 3 ∷ 1 ∷ 0 ∷ []) ≡ true
 prefix_of_3310 = refl
 
-rest_of_3310 : rest 4 (3 ∷ 3 ∷ 1 ∷ 0 ∷ []) ≡ 3
+rest_of_3310 : rest (ring_with 4 (3 ∷ 3 ∷ 1 ∷ 0 ∷ [])) ≡ 3
 rest_of_3310 = refl
 
 no_prefix_of_1011 : first_value_is_prefix (1 ∷ 0 ∷ 1 ∷ 1 ∷ []) ≡ false
 no_prefix_of_1011 = refl
 
-rest_of_1011 : rest 4 (1 ∷ 0 ∷ 1 ∷ 1 ∷ []) ≡ 9
+rest_of_1011 : rest (ring_with 4 (1 ∷ 0 ∷ 1 ∷ 1 ∷ [])) ≡ 9
 rest_of_1011 = refl
 
 bound_of_2 : bound 2 ≡ 3

@@ -3,38 +3,38 @@ use Rattle.std.proofs.Common.{◌≡◌, ℕ, zero, suc, ◌+◌, ◌-◌, ◌*�
 use Rattle.std.proofs.lemmas.Bool.{cases_eq, cases_lt, cases_Bool, eq-eqb, eqb-true, eqb-false, cond-true, cond-false, false_from_ne_true, true_from_ne_false, both_ways, not-false}
 use Rattle.std.proofs.lemmas.Nat.{mod_below}
 use Rattle.ring_model.specs.Numbers.{bit, count_below}
-use Rattle.ring_model.specs.Ring.{IsRing, is_privileged, moved_value, moved, right_neighbour, privileged_count, first_privileged, is_settled, weight_at, weight, lead, rest}
+use Rattle.ring_model.specs.Ring.{Ring, IsRing, is_privileged, moved_value, moved, right_neighbour, privileged_count, first_privileged, is_settled, weight_at, weight, lead, rest}
 use Rattle.ring_model.proofs.Below.{sum_one_le, sum_two_le, bit_at, least_le, least_passes}
 use Rattle.ring_model.proofs.Moves.{length_move, at_mover, at_other, mover_loses, others_same, closure}
 use Rattle.ring_model.proofs.Weight.{pull_true}
 use Rattle.ring_model.proofs.Lead.{all_settled}
 use Rattle.ring_model.proofs.Descent.{descent}
 
-pub moved_below : (K : ℕ) (s : List ℕ) (i : ℕ) → IsRing K s → i < length s → moved_value K s i < K
-moved_below K s zero r l = let two = r.two in let enough = r.enough in mod_below (get_or s 0 0 + 1) K (omega arith)
-moved_below K s (suc i) r l = r.below i (omega arith)
+pub moved_below : (r : Ring) (i : ℕ) → IsRing r → i < length r.values → moved_value r i < r.k
+moved_below r zero g l = let two = g.two in let enough = g.enough in mod_below (get_or r.values 0 0 + 1) r.k (omega arith)
+moved_below r (suc i) g l = g.below i (omega arith)
 
-pub below_at : (K : ℕ) (s : List ℕ) (i : ℕ) → IsRing K s → i < length s → (k : ℕ) → k < length (moved K s i) → get_or (moved K s i) k 0 < K
-below_at K s i r l k lk =
-    let n : length (moved K s i) ≡ length s = length_move K s i in
+pub below_at : (r : Ring) (i : ℕ) → IsRing r → i < length r.values → (k : ℕ) → k < length (moved r i).values → get_or (moved r i).values k 0 < r.k
+below_at r i g l k lk =
+    let n : length (moved r i).values ≡ length r.values = length_move r i in
     elim (cases_eq k i) [
       | inl e ↦
-          let a : get_or (moved K s i) k 0 ≡ moved_value K s i = ap (λ x. get_or (moved K s i) x 0) e ∙ at_mover K s i l in
-          let b : moved_value K s i < K = moved_below K s i r l in
+          let a : get_or (moved r i).values k 0 ≡ moved_value r i = ap (λ x. get_or (moved r i).values x 0) e ∙ at_mover r i l in
+          let b : moved_value r i < r.k = moved_below r i g l in
           omega arith
       | inr ne ↦
-          let a : get_or (moved K s i) k 0 ≡ get_or s k 0 = at_other K s i k ne in
-          let b : get_or s k 0 < K = r.below k (omega arith) in
+          let a : get_or (moved r i).values k 0 ≡ get_or r.values k 0 = at_other r i k ne in
+          let b : get_or r.values k 0 < r.k = g.below k (omega arith) in
           omega arith
     ]
 
 -- a move keeps a ring
-pub move_ring : (K : ℕ) (s : List ℕ) (i : ℕ) → IsRing K s → i < length s → IsRing K (moved K s i)
-move_ring K s i r l =
-    let two' = r.two in
-    let enough' = r.enough in
-    let n : length (moved K s i) ≡ length s = length_move K s i in
-    record { two = omega arith; enough = omega arith; below = below_at K s i r l }
+pub move_ring : (r : Ring) (i : ℕ) → IsRing r → i < length r.values → IsRing (moved r i)
+move_ring r i g l =
+    let two' = g.two in
+    let enough' = g.enough in
+    let n : length (moved r i).values ≡ length r.values = length_move r i in
+    record { two = omega arith; enough = omega arith; below = below_at r i g l }
 
 -- some machine is privileged
 
@@ -91,52 +91,52 @@ first_is s one =
     (l, least_passes (is_privileged s) 0 (length s) (omega arith))
 
 -- one move
-pub settled_stays : (K : ℕ) (s : List ℕ) (i : ℕ) → IsRing K s → i < length s → is_privileged s i ≡ true → is_settled s ≡ true → is_settled (moved K s i) ≡ true
-settled_stays K s i r l e u =
-    let two = r.two in
-    let n : length (moved K s i) ≡ length s = length_move K s i in
-    let a : privileged_count (moved K s i) ≤ privileged_count s = closure K s i r l e in
-    let b : privileged_count s ≡ 1 = eqb-true (privileged_count s) 1 u in
-    let c : 1 ≤ privileged_count (moved K s i) = count_positive (moved K s i) (omega arith) in
-    eq-eqb (privileged_count (moved K s i)) 1 (omega arith)
+pub settled_stays : (r : Ring) (i : ℕ) → IsRing r → i < length r.values → is_privileged r.values i ≡ true → is_settled r.values ≡ true → is_settled (moved r i).values ≡ true
+settled_stays r i g l e u =
+    let two = g.two in
+    let n : length (moved r i).values ≡ length r.values = length_move r i in
+    let a : privileged_count (moved r i).values ≤ privileged_count r.values = closure r i g l e in
+    let b : privileged_count r.values ≡ 1 = eqb-true (privileged_count r.values) 1 u in
+    let c : 1 ≤ privileged_count (moved r i).values = count_positive (moved r i).values (omega arith) in
+    eq-eqb (privileged_count (moved r i).values) 1 (omega arith)
 
-pub settled_passes : (K : ℕ) (s : List ℕ) (i : ℕ) → IsRing K s → i < length s → is_privileged s i ≡ true → is_settled s ≡ true → first_privileged (moved K s i) ≡ right_neighbour s i
-settled_passes K s i r l e u =
-    let two = r.two in
-    let t = moved K s i in
-    let n : length t ≡ length s = length_move K s i in
-    let f = first_is t (omega arith) in
-    let lt : first_privileged t < length t = f.0 in
-    elim (cases_eq (first_privileged t) (right_neighbour s i)) [
+pub settled_passes : (r : Ring) (i : ℕ) → IsRing r → i < length r.values → is_privileged r.values i ≡ true → is_settled r.values ≡ true → first_privileged (moved r i).values ≡ right_neighbour r.values i
+settled_passes r i g l e u =
+    let two = g.two in
+    let t = moved r i in
+    let n : length t.values ≡ length r.values = length_move r i in
+    let f = first_is t.values (omega arith) in
+    let lt : first_privileged t.values < length t.values = f.0 in
+    elim (cases_eq (first_privileged t.values) (right_neighbour r.values i)) [
       | inl q ↦ q
       | inr ne ↦
-          let ni : first_privileged t ≢ i = λ q. both_ways (is_privileged t i) (mover_loses K s i r l e) (sym (ap (is_privileged t) q) ∙ f.1) in
-          let was : is_privileged s (first_privileged t) ≡ true = sym (others_same K s i (first_privileged t) r l (omega arith) ni ne) ∙ f.1 in
-          absurd (ni (only_one s (first_privileged t) i u (omega arith) l was e))
+          let ni : first_privileged t.values ≢ i = λ q. both_ways (is_privileged t.values i) (mover_loses r i g l e) (sym (ap (is_privileged t.values) q) ∙ f.1) in
+          let was : is_privileged r.values (first_privileged t.values) ≡ true = sym (others_same r i (first_privileged t.values) g l (omega arith) ni ne) ∙ f.1 in
+          absurd (ni (only_one r.values (first_privileged t.values) i u (omega arith) l was e))
     ]
 
 -- rest is 0 exactly in a settled ring
-pub rest_settled : (K : ℕ) (s : List ℕ) → is_settled s ≡ true → rest K s ≡ 0
-rest_settled K s u = cond-true (is_settled s) 0 (weight s + length s * lead K s) u
+pub rest_settled : (r : Ring) → is_settled r.values ≡ true → rest r ≡ 0
+rest_settled r u = cond-true (is_settled r.values) 0 (weight r.values + length r.values * lead r) u
 
 pub zero_then : (s : List ℕ) → ((k : ℕ) → suc k < length s → is_privileged s (suc k) ≡ false) → (i : ℕ) → i < length s → is_privileged s i ≡ true → is_privileged s 0 ≡ true
 zero_then s off zero l e = e
 zero_then s off (suc i) l e = absurd (both_ways (is_privileged s (suc i)) (off i l) e)
 
-pub rest_zero : (K : ℕ) (s : List ℕ) → 1 ≤ length s → rest K s ≡ 0 → is_settled s ≡ true
-rest_zero K s one z = true_from_ne_false (is_settled s) (λ u.
-    let a : rest K s ≡ weight s + length s * lead K s = cond-false (is_settled s) 0 (weight s + length s * lead K s) u in
-    let light : weight s ≡ 0 = omega arith in
-    let off : (k : ℕ) → suc k < length s → is_privileged s (suc k) ≡ false = λ k l. false_from_ne_true (is_privileged s (suc k)) (λ e.
-    let p : weight_at s (suc k) ≡ length s - suc k = pull_true s k e in
-    let q : weight_at s (suc k) ≤ weight s = sum_one_le (weight_at s) (suc k) (length s) l in
+pub rest_zero : (r : Ring) → 1 ≤ length r.values → rest r ≡ 0 → is_settled r.values ≡ true
+rest_zero r one z = true_from_ne_false (is_settled r.values) (λ u.
+    let a : rest r ≡ weight r.values + length r.values * lead r = cond-false (is_settled r.values) 0 (weight r.values + length r.values * lead r) u in
+    let light : weight r.values ≡ 0 = omega arith in
+    let off : (k : ℕ) → suc k < length r.values → is_privileged r.values (suc k) ≡ false = λ k l. false_from_ne_true (is_privileged r.values (suc k)) (λ e.
+    let p : weight_at r.values (suc k) ≡ length r.values - suc k = pull_true r.values k e in
+    let q : weight_at r.values (suc k) ≤ weight r.values = sum_one_le (weight_at r.values) (suc k) (length r.values) l in
     absurd (omega arith)) in
-    let f = first_is s one in
-    both_ways (is_settled s) u (all_settled s one (zero_then s off (first_privileged s) f.0 f.1) (all_equal s off)))
+    let f = first_is r.values one in
+    both_ways (is_settled r.values) u (all_settled r.values one (zero_then r.values off (first_privileged r.values) f.0 f.1) (all_equal r.values off)))
 
 -- each move lowers rest by one, down to 0
-pub rest_falls : (K : ℕ) (s : List ℕ) (i : ℕ) → IsRing K s → i < length s → is_privileged s i ≡ true → rest K (moved K s i) ≤ rest K s - 1
-rest_falls K s i r l e = elim (cases_Bool (is_settled s)) [
-  | inl u ↦ let z : rest K (moved K s i) ≡ 0 = rest_settled K (moved K s i) (settled_stays K s i r l e u) in omega arith
-  | inr u ↦ let d : rest K (moved K s i) < rest K s = descent K s i r l e u in omega arith
+pub rest_falls : (r : Ring) (i : ℕ) → IsRing r → i < length r.values → is_privileged r.values i ≡ true → rest (moved r i) ≤ rest r - 1
+rest_falls r i g l e = elim (cases_Bool (is_settled r.values)) [
+  | inl u ↦ let z : rest (moved r i) ≡ 0 = rest_settled (moved r i) (settled_stays r i g l e u) in omega arith
+  | inr u ↦ let d : rest (moved r i) < rest r = descent r i g l e u in omega arith
 ]

@@ -2,9 +2,14 @@
 use Rattle.std.proofs.Common.{◌≡◌, ℕ, zero, suc, ◌+◌, ◌≤◌, List, [], ◌∷◌, length, take, refl, sym, ◌∙◌, ap, arith}
 use Rattle.std.specs.Prelude.{Some, slice_get}
 use Rattle.ring_model.specs.History.{Works, State, next, after, IsLegal}
-use Rattle.ring_model.specs.Statewise.{RunsThrough, states_of, LegalWhereRuns, StatesAreUnique, StatesAreAfter}
+use Rattle.ring_model.specs.Statewise.{RunsThrough, LegalWhereRuns, StatesAreUnique, StatesAreAfter}
 use Rattle.ring_model.specs.declared.events.Event.{Event}
 use Rattle.ring_model.proofs.Histories.{StepOf-next}
+
+-- the states that the calls determine
+abbrev pub states_of : {C : Type 0} → Works C → State C → List Event → List (State C)
+states_of w a [] = a ∷ []
+states_of w a (e ∷ es) = a ∷ states_of w (next w a e.op) es
 
 pub runs_of_legal : {C : Type 0} (w : Works C) (a : State C) (es : List Event) → IsLegal w a es → RunsThrough w a es (states_of w a es)
 runs_of_legal w a [] h = refl

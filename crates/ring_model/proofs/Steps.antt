@@ -15,7 +15,7 @@ use Rattle.ring_model.proofs.Moves.{length_move}
 use Rattle.ring_model.proofs.Histories.{StepOf-next, StepOf-reply}
 use Rattle.ring_model.proofs.QuietRuns.{quiet_run, corrupted_count-cons}
 
-in_range : {C : Type 0} (w : Works C) (a : State C) (o : Op) (r : Reply) (b : State C) → StepOf w a o r b → IsInRange a o
+in_range : {C : Type 0} (w : Works C) (a : State C) (o : Op) (r : Reply) (b : State C) → StepOf w a o r b → IsInRange a.ring o
 in_range w a (Pass i order) (Granted number result) b h = h.0
 in_range w a (Pass i order) NotPrivileged b h = h.0
 in_range w a (Pass i order) (Corrupted old) b h = absurd h
@@ -26,7 +26,7 @@ in_range w a (Corrupt i v) (Corrupted old) b h = (h.0, h.1)
 pub steps_are_calls : {C : Type 0} → StepsAreCalls C
 steps_are_calls w a e b h = (in_range w a e.op e.reply b h, StepOf-reply w a e.op e.reply b h, StepOf-next w a e.op e.reply b h)
 
-call_step : {C : Type 0} (w : Works C) (a : State C) (o : Op) → IsInRange a o → StepOf w a o (reply w a o) (next w a o)
+call_step : {C : Type 0} (w : Works C) (a : State C) (o : Op) → IsInRange a.ring o → StepOf w a o (reply w a o) (next w a o)
 call_step w a (Pass i order) h = go (is_privileged a.ring.values i) refl
   where
     go : (p : Bool) → is_privileged a.ring.values i ≡ p → StepOf w a (Pass i order) (reply w a (Pass i order)) (next w a (Pass i order))
@@ -40,13 +40,13 @@ calls_have_steps w a seat o h = call_step w a o h
 pub histories_are_runs : {C : Type 0} → HistoriesAreRuns C
 histories_are_runs w a h legal quiet =
     let run = quiet_run w a h legal quiet in
-    (run.below, run.values, run.grants)
+    (run.below, run.state, run.grants)
 
 kept_size : {C : Type 0} (w : Works C) (a : State C) (i order : ℕ) → length (next w a (Pass i order)).ring.values ≡ length a.ring.values
 kept_size w a i order = go (is_privileged a.ring.values i) refl
   where
     go : (p : Bool) → is_privileged a.ring.values i ≡ p → length (next w a (Pass i order)).ring.values ≡ length a.ring.values
-    go true e = rw e (length_move a.ring.k a.ring.values i)
+    go true e = rw e (length_move a.ring i)
     go false e = rw e refl
 
 no_fault : {C : Type 0} (w : Works C) (a : State C) (i order : ℕ) → is_corrupted (reply w a (Pass i order)) ≡ false

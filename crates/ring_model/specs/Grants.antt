@@ -1,11 +1,11 @@
--- Who was granted passes, in all and since the ring has settled.
+-- Who asked for passes, and who was granted them, in all and since the ring has settled.
 use Rattle.std.specs.Prelude.{ℕ, Bool, true, false, cond, not, ◌&&◌, ◌==◌, List, [], ◌∷◌}
 use Rattle.std.specs.List.{count_by}
 use Rattle.ring_model.specs.Ring.{is_settled}
 use Rattle.ring_model.specs.History.{Works, State, next}
 use Rattle.ring_model.specs.Surveys.{is_corrupted}
 use Rattle.ring_model.specs.declared.events.Op.{Op}
-use Rattle.ring_model.specs.declared.events.Op.TheVariants.{Pass}
+use Rattle.ring_model.specs.declared.events.Op.TheVariants.{Pass, Corrupt}
 use Rattle.ring_model.specs.declared.events.Reply.{Reply}
 use Rattle.ring_model.specs.declared.events.Reply.TheVariants.{Granted}
 use Rattle.ring_model.specs.declared.events.Event.{Event}
@@ -18,6 +18,16 @@ is_grant_of i _ _ = false
 -- how many granted passes of a history are machine i's
 abbrev pub grants_of : ℕ → List Event → ℕ
 grants_of i h = count_by (λ (e : Event). is_grant_of i e.op e.reply) h
+
+-- the machine of a call that is a pass, before what follows
+abbrev pub and_asked : Op → List ℕ → List ℕ
+and_asked (Pass machine order) machines = machine ∷ machines
+and_asked (Corrupt machine value) machines = machines
+
+-- the machines that the passes among the events ask for, in order
+abbrev pub asked_machines : List Event → List ℕ
+asked_machines [] = []
+asked_machines (e ∷ es) = and_asked e.op (asked_machines es)
 
 -- the machine of a granted pass, before what follows
 abbrev pub and_granted : Op → Reply → List ℕ → List ℕ

@@ -1,6 +1,6 @@
 -- The one-thread ring under a central daemon: its steps, and the histories that they make.
-use Rattle.std.specs.Prelude.{◌≡◌, ℕ, ◌+◌, ◌<◌, cond, List, [], ◌∷◌, length, slice_index, slice_set, true, false}
-use Rattle.ring_model.specs.Ring.{is_privileged, moved}
+use Rattle.std.specs.Prelude.{◌≡◌, ℕ, ◌+◌, ◌<◌, cond, List, [], ◌∷◌, length, slice_index, true, false}
+use Rattle.ring_model.specs.Ring.{Ring, is_privileged, written, moved}
 use Rattle.ring_model.specs.declared.events.Op.{Op}
 use Rattle.ring_model.specs.declared.events.Op.TheVariants.{Pass, Corrupt}
 use Rattle.ring_model.specs.declared.events.Reply.{Reply}
@@ -12,11 +12,6 @@ pub record Works (C : Type 0) : Type 0 where
   pub after : C → ℕ → ℕ → C
   pub answer : C → ℕ → ℕ → ℕ
 
--- a ring: the number K, and the values of its machines
-pub record Ring : Type 0 where
-  pub k : ℕ
-  pub values : List ℕ
-
 -- a state of the one-thread ring: the ring, the content of the resource, and the number of grants so far
 pub record State (C : Type 0) : Type 0 where
   pub ring : Ring
@@ -27,20 +22,13 @@ pub record State (C : Type 0) : Type 0 where
 abbrev pub opening : {C : Type 0} → Ring → C → State C
 opening r c = record { ring = r; content = c; grants = 0 }
 
--- a ring after machine i's move, and with v written into machine i
-abbrev pub moved_ring : Ring → ℕ → Ring
-moved_ring r i = record { k = r.k; values = moved r.k r.values i }
-
-abbrev pub written_ring : Ring → ℕ → ℕ → Ring
-written_ring r i v = record { k = r.k; values = slice_set r.values i v }
-
 -- what a granted pass leaves
 abbrev pub granted_state : {C : Type 0} → Works C → State C → ℕ → ℕ → State C
-granted_state w a i order = record { ring = moved_ring a.ring i; content = w.after a.content i order; grants = a.grants + 1 }
+granted_state w a i order = record { ring = moved a.ring i; content = w.after a.content i order; grants = a.grants + 1 }
 
 -- what a corruption leaves
 abbrev pub corrupted_state : {C : Type 0} → State C → ℕ → ℕ → State C
-corrupted_state a i v = record { ring = written_ring a.ring i v; content = a.content; grants = a.grants }
+corrupted_state a i v = record { ring = written a.ring i v; content = a.content; grants = a.grants }
 
 -- One step of the daemon, by cases on the call and its reply: a privileged machine does the work and moves (Dijkstra 1974);
 -- another changes nothing; a corruption writes one value. No other reply is a step.

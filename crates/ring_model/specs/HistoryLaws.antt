@@ -1,13 +1,11 @@
 -- The laws of settlement over a legal history with corruptions, at any two of its places with no corruption between
 -- (closure and convergence of Dijkstra 1974 and Dolev 2000, chapter 2; the numbers are this project's own).
-use Rattle.std.specs.Prelude.{◌≡◌, ℕ, ◌+◌, ◌-◌, ◌<◌, ◌≤◌, true, List, [], ◌∷◌, length, take, drop}
+use Rattle.std.specs.Prelude.{◌≡◌, ℕ, ◌+◌, ◌-◌, ◌<◌, ◌≤◌, true, List, length, take, drop}
 use Rattle.ring_model.specs.Ring.{IsRing, first_privileged, is_settled, rest, bound}
 use Rattle.ring_model.specs.Runs.{GoesRoundFrom, GoesRound}
 use Rattle.ring_model.specs.History.{Works, State, after, IsLegal}
 use Rattle.ring_model.specs.Surveys.{granted_count, corrupted_count, calm, survey_at}
 use Rattle.ring_model.specs.Grants.{granted_machines, settled_grants_of}
-use Rattle.ring_model.specs.declared.events.Op.{Op}
-use Rattle.ring_model.specs.declared.events.Op.TheVariants.{Pass, Corrupt}
 use Rattle.ring_model.specs.declared.events.Event.{Event}
 
 -- the values of the machines, and the rest, behind the first p events
@@ -15,7 +13,7 @@ abbrev pub values_at : {C : Type 0} → Works C → State C → List Event → �
 values_at w a h p = (after w a (take p h)).ring.values
 
 abbrev pub rest_at : {C : Type 0} → Works C → State C → List Event → ℕ → ℕ
-rest_at w a h p = rest (after w a (take p h)).ring.k (after w a (take p h)).ring.values
+rest_at w a h p = rest (after w a (take p h)).ring
 
 -- the events from place p on, up to place q
 abbrev pub between : List Event → ℕ → ℕ → List Event
@@ -24,15 +22,6 @@ between h p q = drop p (take q h)
 -- none of them is a corruption
 abbrev pub NoCorruption : List Event → ℕ → ℕ → Type 0
 NoCorruption h p q = corrupted_count (between h p q) ≡ 0
-
--- the machines that the passes among the events ask for, in order
-abbrev pub and_asked : Op → List ℕ → List ℕ
-and_asked (Pass machine order) machines = machine ∷ machines
-and_asked (Corrupt machine value) machines = machines
-
-abbrev pub asked_machines : List Event → List ℕ
-asked_machines [] = []
-asked_machines (e ∷ es) = and_asked e.op (asked_machines es)
 
 -- descent: from p to q the rest falls by at least the number of granted passes, down to 0
 abbrev pub Descends : {C : Type 0} → Works C → State C → List Event → Type 0
@@ -80,24 +69,24 @@ pub record Settlement {C : Type 0} (w : Works C) (a : State C) (h : List Event) 
 
 -- Each of them holds of every history that is legal from a state with a ring, for every resource with contents C.
 abbrev pub HistoryDescent : Type 0 → Type 0
-HistoryDescent C = (w : Works C) (a : State C) (h : List Event) → IsRing a.ring.k a.ring.values → IsLegal w a h → Descends w a h
+HistoryDescent C = (w : Works C) (a : State C) (h : List Event) → IsRing a.ring → IsLegal w a h → Descends w a h
 
 abbrev pub HistorySettles : Type 0 → Type 0
-HistorySettles C = (w : Works C) (a : State C) (h : List Event) → IsRing a.ring.k a.ring.values → IsLegal w a h → Settles w a h × CalmSettles w a h
+HistorySettles C = (w : Works C) (a : State C) (h : List Event) → IsRing a.ring → IsLegal w a h → Settles w a h × CalmSettles w a h
 
 abbrev pub HistoryCalm : Type 0 → Type 0
-HistoryCalm C = (w : Works C) (a : State C) (h : List Event) → IsRing a.ring.k a.ring.values → IsLegal w a h → CalmBoundsRest w a h
+HistoryCalm C = (w : Works C) (a : State C) (h : List Event) → IsRing a.ring → IsLegal w a h → CalmBoundsRest w a h
 
 abbrev pub HistoryRound : Type 0 → Type 0
-HistoryRound C = (w : Works C) (a : State C) (h : List Event) → IsRing a.ring.k a.ring.values → IsLegal w a h → StaysRound w a h
+HistoryRound C = (w : Works C) (a : State C) (h : List Event) → IsRing a.ring → IsLegal w a h → StaysRound w a h
 
 abbrev pub HistoryFairness : Type 0 → Type 0
-HistoryFairness C = (w : Works C) (a : State C) (h : List Event) → IsRing a.ring.k a.ring.values → IsLegal w a h → IsFair w a h
+HistoryFairness C = (w : Works C) (a : State C) (h : List Event) → IsRing a.ring → IsLegal w a h → IsFair w a h
 
 abbrev pub HistorySurveys : Type 0 → Type 0
-HistorySurveys C = (w : Works C) (a : State C) (h : List Event) → IsRing a.ring.k a.ring.values → IsLegal w a h → SurveysTell w a h
+HistorySurveys C = (w : Works C) (a : State C) (h : List Event) → IsRing a.ring → IsLegal w a h → SurveysTell w a h
 
 -- at each place of a legal history stands a ring with the same K and the same number of machines
 abbrev pub HistoryKeepsRing : Type 0 → Type 0
-HistoryKeepsRing C = (w : Works C) (a : State C) (h : List Event) → IsRing a.ring.k a.ring.values → IsLegal w a h →
-    (p : ℕ) → p ≤ length h → ((after w a (take p h)).ring.k ≡ a.ring.k) × (length (values_at w a h p) ≡ length a.ring.values) × IsRing a.ring.k (values_at w a h p)
+HistoryKeepsRing C = (w : Works C) (a : State C) (h : List Event) → IsRing a.ring → IsLegal w a h →
+    (p : ℕ) → p ≤ length h → ((after w a (take p h)).ring.k ≡ a.ring.k) × (length (values_at w a h p) ≡ length a.ring.values) × IsRing (after w a (take p h)).ring

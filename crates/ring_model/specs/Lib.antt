@@ -1,7 +1,9 @@
+pub mod Limits
 pub mod Numbers
 pub mod Ring
 pub mod Runs
 pub mod History
+pub mod Closure
 pub mod Laws
 pub mod OtherLead
 pub mod HistoryLaws

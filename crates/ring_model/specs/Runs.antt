@@ -1,20 +1,20 @@
 -- Runs without corruptions: the central daemon's choices, one after the other (Dijkstra 1974; Dolev 2000, chapter 2).
 use Rattle.std.specs.Prelude.{◌≡◌, ℕ, ◌+◌, ◌%◌, ◌<◌, cond, List, [], ◌∷◌}
-use Rattle.ring_model.specs.Ring.{is_privileged, moved}
+use Rattle.ring_model.specs.Ring.{Ring, is_privileged, moved}
 
 -- the ring after a pass by machine i: it moves where it is privileged
-abbrev pub passed : ℕ → List ℕ → ℕ → List ℕ
-passed K s i = cond (is_privileged s i) (moved K s i) s
+abbrev pub passed : Ring → ℕ → Ring
+passed r i = cond (is_privileged r.values i) (moved r i) r
 
 -- the ring after a pass by each chosen machine, in order
-abbrev pub after_passes : ℕ → List ℕ → List ℕ → List ℕ
-after_passes K s [] = s
-after_passes K s (i ∷ choices) = after_passes K (passed K s i) choices
+abbrev pub after_passes : Ring → List ℕ → Ring
+after_passes r [] = r
+after_passes r (i ∷ choices) = after_passes (passed r i) choices
 
 -- the machines whose pass was granted, in order
-abbrev pub granted_passes : ℕ → List ℕ → List ℕ → List ℕ
-granted_passes K s [] = []
-granted_passes K s (i ∷ choices) = cond (is_privileged s i) (i ∷ granted_passes K (passed K s i) choices) (granted_passes K (passed K s i) choices)
+abbrev pub granted_passes : Ring → List ℕ → List ℕ
+granted_passes r [] = []
+granted_passes r (i ∷ choices) = cond (is_privileged r.values i) (i ∷ granted_passes (passed r i) choices) (granted_passes (passed r i) choices)
 
 -- each choice is a machine of a ring of n
 abbrev pub AreBelow : ℕ → List ℕ → Type 0

@@ -1,17 +1,12 @@
 -- A legal history told by its list of states.
 use Rattle.std.specs.Prelude.{◌≡◌, ℕ, ◌+◌, ◌≤◌, List, [], ◌∷◌, length, take, Some, slice_get}
-use Rattle.ring_model.specs.History.{Works, State, Step, next, after, IsLegal}
+use Rattle.ring_model.specs.History.{Works, State, Step, after, IsLegal}
 use Rattle.ring_model.specs.declared.events.Event.{Event}
 
 -- the states begin with a and run through the events, one more than events, with a step between each two neighbours
 abbrev pub RunsThrough : {C : Type 0} → Works C → State C → List Event → List (State C) → Type 0
 RunsThrough w a [] states = states ≡ a ∷ []
 RunsThrough {C = C} w a (e ∷ es) states = (b : State C) × Step w a e b × ((rest : List (State C)) × (states ≡ a ∷ rest) × RunsThrough w b es rest)
-
--- the states that the calls determine
-abbrev pub states_of : {C : Type 0} → Works C → State C → List Event → List (State C)
-states_of w a [] = a ∷ []
-states_of w a (e ∷ es) = a ∷ states_of w (next w a e.op) es
 
 -- a history is legal just where some list of states runs through it
 abbrev pub LegalWhereRuns : Type 0 → Type 0

@@ -44,5 +44,5 @@ survey_at w a h position =
       privileged = privileged_count now.values;
       first = first_privileged now.values;
       calm = calm (take position h);
-      rest = rest now.k now.values;
+      rest = rest now;
     }

@@ -1,5 +1,6 @@
 -- A history worked by hand: three machines with three values over the till, and the calls of two seats.
 use Rattle.std.specs.Prelude.{◌≡◌, ℕ, List, [], ◌∷◌}
+use Rattle.ring_model.specs.Ring.{ring_with}
 use Rattle.ring_model.specs.Runs.{GoesRoundFrom}
 use Rattle.ring_model.specs.History.{State, after, IsLegal}
 use Rattle.ring_model.specs.Surveys.{survey_at}
@@ -15,7 +16,7 @@ use Rattle.ring_model.specs.declared.events.Entry.{Entry}
 use Rattle.ring_model.specs.declared.events.Entry.TheVariants as entry
 
 abbrev pub worked_start : State ℕ
-worked_start = till_state 3 (0 ∷ 2 ∷ 0 ∷ []) 0 0
+worked_start = till_state (ring_with 3 (0 ∷ 2 ∷ 0 ∷ [])) 0 0
 
 -- its events: machine 0 steps on to 1, its second pass is not granted, machine 2 copies, and the ring is settled
 abbrev pub zeroth_event : Event
@@ -63,7 +64,7 @@ FitsWorked seat log = Fits till worked_start worked_history seat log
 -- the states and the surveys
 pub record WorkedPlaces : Type 0 where
   pub legal : IsLegal till worked_start worked_history
-  pub last : after till worked_start worked_history ≡ till_state 3 (2 ∷ 1 ∷ 1 ∷ []) 22 5
+  pub last : after till worked_start worked_history ≡ till_state (ring_with 3 (2 ∷ 1 ∷ 1 ∷ [])) 22 5
   pub at_start : worked_survey 0 ≡ seen 0 3 0 0 6
   pub after_one : worked_survey 1 ≡ seen 1 2 1 1 3
   pub settled : worked_survey 3 ≡ seen 3 1 1 2 0

@@ -14,7 +14,7 @@ pub fn steps_of_calls<C>()
 {}
 
 /// A legal history without a corruption is the run of the machines that its passes ask for, with the same
-/// values and the same grants, and each run of choices is such a history.
+/// ring and the same grants, and each run of choices is such a history.
 pub fn runs_of_choices<C>()
     ensures histories { HistoriesAreRuns C }
     ensures runs { RunsAreHistories C }

@@ -4,6 +4,7 @@
 
 mod events;
 pub mod legal_histories;
+pub mod limits;
 pub mod meanings;
 pub mod plain;
 pub mod replay;

@@ -5,12 +5,12 @@
 //! below K and K at least n: each equals its definition on every list that its `requires` allow.
 
 ghost use Rattle.std.specs.Prelude.{◌≡◌, ℕ, ◌+◌, ◌^◌, ◌<◌, ◌≤◌, ◌↔◌, length, IsTrue};
-ghost use Rattle.ring_model.specs.Ring.{IsRing, is_privileged, moved, privileged_count, first_privileged, is_settled, weight, is_absent, first_value_is_prefix, lead, rest, bound};
+ghost use Rattle.ring_model.specs.Ring.{ring_with, IsRing, is_privileged, moved, privileged_count, first_privileged, is_settled, weight, is_absent, first_value_is_prefix, lead, rest, bound};
 ghost use Rattle.ring_model.specs.Runs.{after_passes, granted_passes, AreBelow};
 
 /// Whether these are the values of a ring: at least two machines, at least as many values as machines, each below K.
 pub fn is_ring(k: u32, values: &[u32]) -> bool
-    ensures { IsTrue result ↔ IsRing k values.now }
+    ensures { IsTrue result ↔ IsRing (ring_with k values.now) }
 {
     if values.len() < 2 || values.len() > k as usize {
         return false;
@@ -39,7 +39,7 @@ pub fn is_privileged(values: &[u32], machine: usize) -> bool
 pub fn move_machine(k: u32, values: &mut [u32], machine: usize)
     requires positive { 0 < k }
     requires within { machine < length values.old }
-    ensures { values.new ≡ moved k values.old machine }
+    ensures { ring_with k values.new ≡ moved (ring_with k values.old) machine }
 {
     values[machine] = if machine == 0 {
         ((values[0] as u64 + 1) % k as u64) as u32
@@ -125,7 +125,7 @@ pub fn first_value_is_prefix(values: &[u32]) -> bool
 pub fn lead(k: u32, values: &[u32]) -> u64
     requires positive { 0 < k }
     requires some { 1 ≤ length values.now }
-    ensures value { result ≡ lead k values.now }
+    ensures value { result ≡ lead (ring_with k values.now) }
     ensures within { result ≤ k + 1 }
 {
     if first_value_is_prefix(values) {
@@ -145,7 +145,7 @@ pub fn rest(k: u32, values: &[u32]) -> u64
     requires positive { 0 < k }
     requires some { 1 ≤ length values.now }
     requires short { length values.now ≤ 65536 }
-    ensures { result ≡ rest k values.now }
+    ensures { result ≡ rest (ring_with k values.now) }
 {
     if is_settled(values) {
         0
@@ -166,8 +166,8 @@ pub fn bound(n: u32) -> u64
 pub fn follow(k: u32, values: &mut [u32], choices: &[u32]) -> u64
     requires positive { 0 < k }
     requires within { AreBelow (length values.old) choices.now }
-    ensures values { values.new ≡ after_passes k values.old choices.now }
-    ensures granted { result ≡ length (granted_passes k values.old choices.now) }
+    ensures ring { ring_with k values.new ≡ after_passes (ring_with k values.old) choices.now }
+    ensures granted { result ≡ length (granted_passes (ring_with k values.old) choices.now) }
 {
     let mut granted: u64 = 0;
     for choice in choices {

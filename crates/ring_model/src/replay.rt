@@ -1,6 +1,7 @@
 //! A history replayed plainly, for tests to compare with: one step of the one-thread ring with the till, and the calm.
 
 ghost use Rattle.std.specs.Prelude.{◌≡◌, ◌<◌, ◌+◌, ◌^◌, length};
+ghost use Rattle.ring_model.specs.Ring.{ring_with};
 ghost use Rattle.ring_model.specs.History.{next, reply};
 ghost use Rattle.ring_model.specs.Resources.{till};
 ghost use Rattle.ring_model.specs.Surveys.{calm};
@@ -21,8 +22,8 @@ pub fn step_with_till(
     requires positive { 0 < k }
     requires within { machine_of op < length values.old }
     requires room { grants.old + 1 < 2 ^ 64 }
-    ensures state { till_state k values.new amount.new grants.new ≡ next till (till_state k values.old amount.old grants.old) op }
-    ensures reply { result ≡ reply till (till_state k values.old amount.old grants.old) op }
+    ensures state { till_state (ring_with k values.new) amount.new grants.new ≡ next till (till_state (ring_with k values.old) amount.old grants.old) op }
+    ensures reply { result ≡ reply till (till_state (ring_with k values.old) amount.old grants.old) op }
 {
     match op {
         Op::Pass { machine, order } => {

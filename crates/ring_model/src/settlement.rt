@@ -1,13 +1,12 @@
 //! The laws of settlement over the definitions of a ring alone. Each is the contract of a function that
 //! does nothing; the statements stand in `specs/Laws.antt`.
 
-ghost use Rattle.ring_model.specs.Laws.{Closure, MoverLoses, OthersKeep, SomePrivileged, Descent, RestIsZero, Bounded, RunDescent, RunSettles, Round};
+ghost use Rattle.ring_model.specs.Laws.{Closure, OthersKeep, SomePrivileged, Descent, RestIsZero, Bounded, RunDescent, RunSettles, Round};
 
 /// A move of a privileged machine never raises the number of privileged machines.
 /// The mover loses its privilege, and only its right neighbour's may change besides.
 pub fn closure()
-    ensures count { Closure }
-    ensures mover { MoverLoses }
+    ensures closed { Closure }
     ensures others { OthersKeep }
 {}
 

@@ -6,6 +6,7 @@ use Rattle.std.proofs.lemmas.List.Elements.{All-nil, All-push, All-map}
 use Rattle.std.proofs.lemmas.List.FromFn.{length-map-range_with_len, get_or-map-range_with_len}
 use Rattle.std.proofs.lemmas.Nat.{mod_below}
 use Rattle.std.proofs.lemmas.Option.{unwrap_or-slice_get}
+use Rattle.ring_settings.specs.Limits.{action_limit}
 use Rattle.rand_core.specs.Stream.{Stream}
 use Rattle.ring_state.specs.Sizes.{Size, IsSize}
 use Rattle.ring_settings.specs.Actions.{IsActionFor, size_at}
@@ -97,17 +98,17 @@ drawn-length role sizes zero s = refl
 drawn-length role sizes (suc m) s =
     length-append (drawn role sizes m s) (action_of_words role sizes (next_four (left_after m s)) ∷ []) ∙ omega (arith, drawn-length role sizes m s)
 
-seat_plan-few : (sizes : List Size) (seat : ℕ) (s : SeatData) → IsSeatFor sizes s → length (seat_plan sizes seat s) ≤ 1000000
+seat_plan-few : (sizes : List Size) (seat : ℕ) (s : SeatData) → IsSeatFor sizes s → length (seat_plan sizes seat s) ≤ action_limit
 seat_plan-few sizes seat (script actions) is = is.0
 seat_plan-few sizes seat (drawing role seed actions) is = omega (arith, is, drawn-length role sizes actions (seat_stream seed seat))
 
 -- no seat's plan has more than a million actions
-pub plan_of-few : (settings : SettingsData) (seat : ℕ) → IsSettings settings → seat < length settings.seats → length (plan_of settings seat) ≤ 1000000
+pub plan_of-few : (settings : SettingsData) (seat : ℕ) → IsSettings settings → seat < length settings.seats → length (plan_of settings seat) ≤ action_limit
 plan_of-few settings seat is there = seat_plan-few (sizes_of settings.rings) seat (seat_at settings seat) (seat_at-fits settings seat is there)
 
 -- nor has any plan
 pub plans_of-few : (settings : SettingsData) (plans : List Plan) → IsSettings settings → map plan_actions plans ≡ plans_of settings →
-    All (λ (p : Plan). length (plan_actions p) ≤ 1000000) plans
+    All (λ (p : Plan). length (plan_actions p) ≤ action_limit) plans
 plans_of-few settings plans of_settings is seat d there =
     let within : seat < length settings.seats = omega (arith, plans_of-count settings plans is) in
     rw (plans_of-plan settings plans is seat d there) (plan_of-few settings seat of_settings within)

@@ -5,6 +5,7 @@ use Rattle.std.proofs.lemmas.Bool.Decides.{nat_tests}
 use Rattle.std.proofs.lemmas.List.Elements.{All-nil, All-cons}
 use Rattle.serde_json.specs.Data.{Data, Items}
 use Rattle.serde_json.specs.Find.{as_array, get}
+use Rattle.ring_settings.specs.Limits.{ring_limit}
 use Rattle.ring_state.specs.Sizes.{Size, IsSize}
 use Rattle.ring_settings.specs.Contents.{RingData, IsRingSetting, sizes_of}
 use Rattle.ring_settings.specs.Rings.{start_member, size_fault, first_over, values_fault, unless_fault, size_from, ring_of_object, ring_from, rings_items, rings_member}
@@ -28,7 +29,7 @@ unless_fault-ok place None a b h = (refl, cc)
 unless_fault-ok place (Some f) a b h = let no : ⊥ = cc in absurd no
 
 size_fault-none : (n k : ℕ) → size_fault n k ≡ None → IsSize (record { n = n; k = k })
-size_fault-none n k h = record { machines = grind (arith, nat_tests, h); values = grind (arith, nat_tests, h); most = grind (arith, nat_tests, h) }
+size_fault-none n k h = record { machines = grind (arith, nat_tests, h); most_machines = grind (arith, nat_tests, h); values = grind (arith, nat_tests, h); most = grind (arith, nat_tests, h) }
 
 first_over-none : (k place : ℕ) (vs : List ℕ) → first_over k place vs ≡ None → All (λ v. v < k) vs
 first_over-none k place [] h = All-nil (λ v. v < k)
@@ -74,14 +75,14 @@ ring_from-ok place d ring h = ring_of_object-ok place d ring (chosen (is_object 
 -- the rings of a document are 1 to 16, and each is one
 pub record AreRings (rings : List RingData) : Type 0 where
   pub some : 1 ≤ length rings
-  pub most : length rings ≤ 16
+  pub most : length rings ≤ ring_limit
   pub each : All IsRingSetting rings
 
 rings_items-ok : (ds : Option Items) (rings : List RingData) → rings_items ds ≡ Ok rings → AreRings rings
 rings_items-ok None rings h = let no : ⊥ = cc in absurd no
 rings_items-ok (Some ds) rings h =
-    let parts = chosen (nat_le 1 (items_count ds) && nat_le (items_count ds) 16) (each_from ring_from 0 ds) (Limit Rings) rings h in
-    let limits = both (nat_le 1 (items_count ds)) (nat_le (items_count ds) 16) parts.0 in
+    let parts = chosen (nat_le 1 (items_count ds) && nat_le (items_count ds) ring_limit) (each_from ring_from 0 ds) (Limit Rings) rings h in
+    let limits = both (nat_le 1 (items_count ds)) (nat_le (items_count ds) ring_limit) parts.0 in
     let count = each_from-length ring_from 0 ds rings parts.1 in
     record {
       some = grind (arith, nat_tests, limits.0, count);

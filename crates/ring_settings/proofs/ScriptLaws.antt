@@ -4,6 +4,7 @@ use Rattle.std.specs.Prelude.{nat_le}
 use Rattle.std.proofs.lemmas.Bool.Decides.{nat_tests}
 use Rattle.serde_json.specs.View.{items_view}
 use Rattle.serde_json.specs.declared.value.Value.{Value}
+use Rattle.ring_settings.specs.Limits.{action_limit}
 use Rattle.ring_state.specs.Sizes.{Size}
 use Rattle.ring_settings.specs.Scripts.{action_of_items, script_items, script_entry}
 use Rattle.ring_settings.specs.Walk.{each_from, items_count}
@@ -19,9 +20,9 @@ action_of_items_none sizes (a ∷ b ∷ c ∷ d ∷ []) two four = absurd (four 
 action_of_items_none sizes (a ∷ b ∷ c ∷ d ∷ e ∷ vs) two four = refl
 
 -- a script within the limit is read entry by entry
-pub script_items_each : (sizes : List Size) (seat : ℕ) (vs : List Value) → length vs ≤ 1000000 →
+pub script_items_each : (sizes : List Size) (seat : ℕ) (vs : List Value) → length vs ≤ action_limit →
     script_items sizes seat (Some (items_view vs)) ≡ each_from (script_entry sizes seat) 0 (items_view vs)
 script_items_each sizes seat vs low =
     let count : items_count (items_view vs) ≡ length vs = items_count_of_view vs in
-    let within : nat_le (items_count (items_view vs)) 1000000 ≡ true = grind (arith, nat_tests) in
+    let within : nat_le (items_count (items_view vs)) action_limit ≡ true = grind (arith, nat_tests) in
     rw within refl

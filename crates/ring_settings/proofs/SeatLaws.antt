@@ -6,6 +6,8 @@ use Rattle.std.proofs.lemmas.Bool.Decides.{nat_tests}
 use Rattle.std.proofs.lemmas.List.Elements.{All-push}
 use Rattle.serde_json.specs.Data.{Data, Items, no_items, item}
 use Rattle.serde_json.specs.Find.{as_array, as_null, as_str, get}
+use Rattle.ring_settings.specs.Limits.{action_limit, worker_limit}
+use Rattle.ring_model.specs.Limits.{seat_limit}
 use Rattle.ring_state.specs.Sizes.{Size}
 use Rattle.ring_settings.specs.Actions.{IsActionFor, size_at}
 use Rattle.ring_settings.specs.Contents.{RingData, SeatData, script, drawing, sizes_of, IsSeatFor, IsSettings}
@@ -86,7 +88,7 @@ script_entry-ok sizes seat place d a h = action_from-some sizes d a (ok_or-ok (a
 script_items-ok : (sizes : List Size) (seat : ℕ) (ds : Option Items) (actions : List Action) → script_items sizes seat ds ≡ Ok actions → IsSeatFor sizes (script actions)
 script_items-ok sizes seat None actions h = let no : ⊥ = cc in absurd no
 script_items-ok sizes seat (Some ds) actions h =
-    let parts = chosen (nat_le (items_count ds) 1000000) (each_from (script_entry sizes seat) 0 ds) (Limit field.Script) actions h in
+    let parts = chosen (nat_le (items_count ds) action_limit) (each_from (script_entry sizes seat) 0 ds) (Limit field.Script) actions h in
     let count = each_from-length (script_entry sizes seat) 0 ds actions parts.1 in
     (grind (arith, nat_tests, parts.0, count), each_from-all (IsActionFor sizes) (script_entry sizes seat) (script_entry-ok sizes seat) 0 ds actions parts.1)
 
@@ -98,17 +100,17 @@ scripted_seat-ok sizes seat d s h =
     let is : script actions.0 ≡ s = cc (actions.2) in
     subst (λ (x : SeatData). IsSeatFor sizes x) is (script_items-ok sizes seat (as_array d) actions.0 actions.1)
 
-limited-ok : (n a : ℕ) → limited field.Actions (nat_le n 1000000) n ≡ Ok a → a ≤ 1000000
+limited-ok : (n a : ℕ) → limited field.Actions (nat_le n action_limit) n ≡ Ok a → a ≤ action_limit
 limited-ok n a h =
-    let parts = chosen (nat_le n 1000000) (Ok n) (Limit field.Actions) a h in
+    let parts = chosen (nat_le n action_limit) (Ok n) (Limit field.Actions) a h in
     let is : a ≡ n = cc (parts.1) in
     grind (arith, nat_tests, parts.0, is)
 
 drawn_seat-ok : (sizes : List Size) (role : Role) (d : Data) (s : SeatData) → drawn_seat role d ≡ Ok s → IsSeatFor sizes s
 drawn_seat-ok sizes role d s h =
-    let seed = then_with-ok (number_member field.Seed (codes "seed") d) (λ (seed : ℕ). then_with (number_member field.Actions (codes "actions") d) (λ (n : ℕ). then_with (limited field.Actions (nat_le n 1000000) n) (λ (actions : ℕ). Ok (drawing role seed actions)))) s h in
-    let n = then_with-ok (number_member field.Actions (codes "actions") d) (λ (n : ℕ). then_with (limited field.Actions (nat_le n 1000000) n) (λ (actions : ℕ). Ok (drawing role seed.0 actions))) s seed.2 in
-    let actions = then_with-ok (limited field.Actions (nat_le n.0 1000000) n.0) (λ (actions : ℕ). Ok (drawing role seed.0 actions)) s n.2 in
+    let seed = then_with-ok (number_member field.Seed (codes "seed") d) (λ (seed : ℕ). then_with (number_member field.Actions (codes "actions") d) (λ (n : ℕ). then_with (limited field.Actions (nat_le n action_limit) n) (λ (actions : ℕ). Ok (drawing role seed actions)))) s h in
+    let n = then_with-ok (number_member field.Actions (codes "actions") d) (λ (n : ℕ). then_with (limited field.Actions (nat_le n action_limit) n) (λ (actions : ℕ). Ok (drawing role seed.0 actions))) s seed.2 in
+    let actions = then_with-ok (limited field.Actions (nat_le n.0 action_limit) n.0) (λ (actions : ℕ). Ok (drawing role seed.0 actions)) s n.2 in
     let is : drawing role seed.0 actions.0 ≡ s = cc (actions.2) in
     subst (λ (x : SeatData). IsSeatFor sizes x) is (limited-ok n.0 actions.0 actions.1)
 
@@ -126,11 +128,11 @@ record AreSeats (sizes : List Size) (limit : ℕ) (seats : List SeatData) : Type
   most : length seats ≤ limit
   each : All (IsSeatFor sizes) seats
 
-workers_items-ok : (sizes : List Size) (ds : Option Items) (workers : List SeatData) → workers_items sizes ds ≡ Ok workers → AreSeats sizes 9 workers
+workers_items-ok : (sizes : List Size) (ds : Option Items) (workers : List SeatData) → workers_items sizes ds ≡ Ok workers → AreSeats sizes worker_limit workers
 workers_items-ok sizes None workers h = let no : ⊥ = cc in absurd no
 workers_items-ok sizes (Some ds) workers h =
-    let parts = chosen (nat_le 1 (items_count ds) && nat_le (items_count ds) 9) (each_from (seat_from Worker sizes) 0 ds) (Limit field.Workers) workers h in
-    let limits = both (nat_le 1 (items_count ds)) (nat_le (items_count ds) 9) parts.0 in
+    let parts = chosen (nat_le 1 (items_count ds) && nat_le (items_count ds) worker_limit) (each_from (seat_from Worker sizes) 0 ds) (Limit field.Workers) workers h in
+    let limits = both (nat_le 1 (items_count ds)) (nat_le (items_count ds) worker_limit) parts.0 in
     let count = each_from-length (seat_from Worker sizes) 0 ds workers parts.1 in
     record {
       some = grind (arith, nat_tests, limits.0, count);
@@ -138,31 +140,31 @@ workers_items-ok sizes (Some ds) workers h =
       each = each_from-all (IsSeatFor sizes) (seat_from Worker sizes) (seat_from-ok Worker sizes) 0 ds workers parts.1;
     }
 
-one_more : (sizes : List Size) (workers : List SeatData) (s : SeatData) → AreSeats sizes 9 workers → IsSeatFor sizes s → AreSeats sizes 10 (workers ++ s ∷ [])
+one_more : (sizes : List Size) (workers : List SeatData) (s : SeatData) → AreSeats sizes worker_limit workers → IsSeatFor sizes s → AreSeats sizes seat_limit (workers ++ s ∷ [])
 one_more sizes workers s w is = record {
   some = omega (arith, length-append workers (s ∷ []), w.some);
   most = omega (arith, length-append workers (s ∷ []), w.most);
   each = All-push (IsSeatFor sizes) workers s w.each is;
 }
 
-no_more : (sizes : List Size) (workers seats : List SeatData) → AreSeats sizes 9 workers → ◌≡◌ {A = Result (List SeatData) SettingsError} (Ok workers) (Ok seats) → AreSeats sizes 10 seats
+no_more : (sizes : List Size) (workers seats : List SeatData) → AreSeats sizes worker_limit workers → ◌≡◌ {A = Result (List SeatData) SettingsError} (Ok workers) (Ok seats) → AreSeats sizes seat_limit seats
 no_more sizes workers seats w h =
     let is : workers ≡ seats = cc in
-    subst (λ (x : List SeatData). AreSeats sizes 10 x) is (record { some = w.some; most = omega (arith, w.most); each = w.each })
+    subst (λ (x : List SeatData). AreSeats sizes seat_limit x) is (record { some = w.some; most = omega (arith, w.most); each = w.each })
 
-after_test : (sizes : List Size) (workers seats : List SeatData) (is_null : Bool) (d : Data) → AreSeats sizes 9 workers →
-    cond is_null (Ok workers) (then_with (seat_from Injector sizes (length workers) d) (λ injector. Ok (workers ++ injector ∷ []))) ≡ Ok seats → AreSeats sizes 10 seats
+after_test : (sizes : List Size) (workers seats : List SeatData) (is_null : Bool) (d : Data) → AreSeats sizes worker_limit workers →
+    cond is_null (Ok workers) (then_with (seat_from Injector sizes (length workers) d) (λ injector. Ok (workers ++ injector ∷ []))) ≡ Ok seats → AreSeats sizes seat_limit seats
 after_test sizes workers seats true d w h = no_more sizes workers seats w h
 after_test sizes workers seats false d w h =
     let injector = then_with-ok (seat_from Injector sizes (length workers) d) (λ (injector : SeatData). Ok (workers ++ injector ∷ [])) seats h in
     let is : workers ++ injector.0 ∷ [] ≡ seats = cc (injector.2) in
-    subst (λ (x : List SeatData). AreSeats sizes 10 x) is (one_more sizes workers injector.0 w (seat_from-ok Injector sizes (length workers) d injector.0 injector.1))
+    subst (λ (x : List SeatData). AreSeats sizes seat_limit x) is (one_more sizes workers injector.0 w (seat_from-ok Injector sizes (length workers) d injector.0 injector.1))
 
-injector_after-ok : (sizes : List Size) (workers seats : List SeatData) (o : Option Data) → AreSeats sizes 9 workers → injector_after sizes workers o ≡ Ok seats → AreSeats sizes 10 seats
+injector_after-ok : (sizes : List Size) (workers seats : List SeatData) (o : Option Data) → AreSeats sizes worker_limit workers → injector_after sizes workers o ≡ Ok seats → AreSeats sizes seat_limit seats
 injector_after-ok sizes workers seats None w h = no_more sizes workers seats w h
 injector_after-ok sizes workers seats (Some d) w h = after_test sizes workers seats (is_some (as_null d)) d w h
 
-seats_member-ok : (sizes : List Size) (d : Data) (seats : List SeatData) → seats_member sizes d ≡ Ok seats → AreSeats sizes 10 seats
+seats_member-ok : (sizes : List Size) (d : Data) (seats : List SeatData) → seats_member sizes d ≡ Ok seats → AreSeats sizes seat_limit seats
 seats_member-ok sizes d seats h =
     let workers = then_with-ok (workers_items sizes (option_and_then as_array (get (codes "workers") d))) (λ (workers : List SeatData). injector_after sizes workers (get (codes "injector") d)) seats h in
     injector_after-ok sizes workers.0 seats (get (codes "injector") d) (workers_items-ok sizes (option_and_then as_array (get (codes "workers") d)) workers.0 workers.1) workers.2

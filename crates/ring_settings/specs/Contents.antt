@@ -1,6 +1,8 @@
 -- What settings hold, as data, and the plans that they give.
 use Rattle.std.specs.Prelude.{◌≡◌, ℕ, ◌<◌, ◌≤◌, List, [], length, map, All, slice_get, unwrap_or}
 use Rattle.std.specs.List.{range_with_len}
+use Rattle.ring_settings.specs.Limits.{ring_limit, action_limit}
+use Rattle.ring_model.specs.Limits.{seat_limit}
 use Rattle.ring_state.specs.Sizes.{Size, IsSize}
 use Rattle.ring_settings.specs.Actions.{IsActionFor}
 use Rattle.ring_settings.specs.Draws.{drawn, seat_stream}
@@ -40,19 +42,19 @@ pub record IsRingSetting (ring : RingData) : Type 0 where
   pub one_each : length ring.start ≡ ring.size.n
   pub below : All (λ v. v < ring.size.k) ring.start
 
--- a seat has at most a million actions, and a scripted one only such as these rings have a machine
+-- a seat has no more actions than the limit, and a scripted one only such as these rings have a machine
 -- and a value for
 abbrev pub IsSeatFor : List Size → SeatData → Type 0
-IsSeatFor sizes (script actions) = (length actions ≤ 1000000) × All (IsActionFor sizes) actions
-IsSeatFor sizes (drawing role seed actions) = actions ≤ 1000000
+IsSeatFor sizes (script actions) = (length actions ≤ action_limit) × All (IsActionFor sizes) actions
+IsSeatFor sizes (drawing role seed actions) = actions ≤ action_limit
 
 -- settings that a farm can run (the limits are this project's own)
 pub record IsSettings (settings : SettingsData) : Type 0 where
   pub some_rings : 1 ≤ length settings.rings
-  pub most_rings : length settings.rings ≤ 16
+  pub most_rings : length settings.rings ≤ ring_limit
   pub rings : All IsRingSetting settings.rings
   pub some_seats : 1 ≤ length settings.seats
-  pub most_seats : length settings.seats ≤ 10
+  pub most_seats : length settings.seats ≤ seat_limit
   pub seats : All (IsSeatFor (sizes_of settings.rings)) settings.seats
 
 -- a seat's plan: its script, or what the stream of its generator gives

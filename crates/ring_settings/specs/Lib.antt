@@ -1,3 +1,4 @@
+pub mod Limits
 pub mod Actions
 pub mod Draws
 pub mod Contents

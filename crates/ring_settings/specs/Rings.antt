@@ -4,6 +4,8 @@ use Rattle.std.specs.Option.{ok_or}
 use Rattle.std.specs.List.{list_all}
 use Rattle.serde_json.specs.Data.{Data, Items}
 use Rattle.serde_json.specs.Find.{as_array, get}
+use Rattle.ring_settings.specs.Limits.{ring_limit}
+use Rattle.ring_model.specs.Limits.{machine_limit, value_limit}
 use Rattle.ring_state.specs.Sizes.{Size}
 use Rattle.ring_settings.specs.Contents.{RingData}
 use Rattle.ring_settings.specs.Walk.{then_with, each_from, items_count, is_object, whole_number, u32_member}
@@ -34,9 +36,9 @@ start_member d = start_items (option_and_then as_array (get (codes "start") d))
 abbrev pub size_fault : ℕ → ℕ → Option RingCause
 size_fault n k =
     if nat_lt n 2 then Some cause.TooFew
-    else (if nat_lt 256 n then Some cause.TooMany
+    else (if nat_lt machine_limit n then Some cause.TooMany
     else (if nat_lt k n then Some cause.FewValues
-    else (if nat_lt 256 k then Some cause.ManyValues else None)))
+    else (if nat_lt value_limit k then Some cause.ManyValues else None)))
 
 -- the place of the first value that is not below k
 abbrev pub first_over : ℕ → ℕ → List ℕ → Option ℕ
@@ -70,11 +72,11 @@ ring_of_object place d =
 abbrev pub ring_from : ℕ → Data → Result RingData SettingsError
 ring_from place d = if is_object d then ring_of_object place d else Err (Shape Rings)
 
--- 1 to 16 rings
+-- some rings, within the limit
 abbrev pub rings_items : Option Items → Result (List RingData) SettingsError
 rings_items None = Err (Shape Rings)
 rings_items (Some ds) =
-    if nat_le 1 (items_count ds) && nat_le (items_count ds) 16
+    if nat_le 1 (items_count ds) && nat_le (items_count ds) ring_limit
     then each_from ring_from 0 ds else Err (Limit Rings)
 
 -- the member `rings` of a document

@@ -4,6 +4,7 @@ use Rattle.std.specs.Option.{ok_or}
 use Rattle.std.specs.Str.{bytes_eq}
 use Rattle.serde_json.specs.Data.{Data, Items, no_items, item}
 use Rattle.serde_json.specs.Find.{as_array, as_str}
+use Rattle.ring_settings.specs.Limits.{action_limit}
 use Rattle.ring_state.specs.Sizes.{Size}
 use Rattle.ring_settings.specs.Actions.{size_at}
 use Rattle.ring_settings.specs.Walk.{each_from, items_count, whole_number}
@@ -57,9 +58,9 @@ action_from sizes d = option_and_then (action_of_items sizes) (as_array d)
 abbrev pub script_entry : List Size → ℕ → ℕ → Data → Result Action SettingsError
 script_entry sizes seat place d = ok_or (action_from sizes d) (Script seat place)
 
--- a script of at most a million actions
+-- a script of no more actions than the limit
 abbrev pub script_items : List Size → ℕ → Option Items → Result (List Action) SettingsError
 script_items sizes seat None = Err (Shape field.Script)
 script_items sizes seat (Some ds) =
-    if nat_le (items_count ds) 1000000
+    if nat_le (items_count ds) action_limit
     then each_from (script_entry sizes seat) 0 ds else Err (Limit field.Script)

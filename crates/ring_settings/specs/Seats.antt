@@ -2,6 +2,7 @@
 use Rattle.std.specs.Prelude.{ℕ, ◌&&◌, nat_le, if◌then◌else◌, List, [], ◌∷◌, ◌++◌, length, codes, Option, Some, None, is_some, option_and_then, Result, Ok, Err}
 use Rattle.serde_json.specs.Data.{Data, Items}
 use Rattle.serde_json.specs.Find.{as_array, as_null, get}
+use Rattle.ring_settings.specs.Limits.{action_limit, worker_limit}
 use Rattle.ring_state.specs.Sizes.{Size}
 use Rattle.ring_settings.specs.Contents.{SeatData, script, drawing, SettingsData, sizes_of}
 use Rattle.ring_settings.specs.Rings.{rings_member}
@@ -23,12 +24,12 @@ field_of role.Injector = Injector
 abbrev pub scripted_seat : List Size → ℕ → Data → Result SeatData SettingsError
 scripted_seat sizes seat d = then_with (script_items sizes seat (as_array d)) (λ actions. Ok (script actions))
 
--- a seat whose actions are drawn: at most a million
+-- a seat whose actions are drawn: no more than the limit
 abbrev pub drawn_seat : Role → Data → Result SeatData SettingsError
 drawn_seat role d =
     then_with (number_member Seed (codes "seed") d) (λ seed.
     then_with (number_member Actions (codes "actions") d) (λ n.
-    then_with (limited Actions (nat_le n 1000000) n) (λ actions.
+    then_with (limited Actions (nat_le n action_limit) n) (λ actions.
     Ok (drawing role seed actions))))
 
 -- a seat that has the member `script` is scripted, whatever else it has
@@ -42,11 +43,11 @@ seat_from role sizes seat d =
     if is_object d then seat_by_script role sizes seat d (get (codes "script") d)
     else Err (Shape (field_of role))
 
--- 1 to 9 workers
+-- some workers, within the limit
 abbrev pub workers_items : List Size → Option Items → Result (List SeatData) SettingsError
 workers_items sizes None = Err (Shape Workers)
 workers_items sizes (Some ds) =
-    if nat_le 1 (items_count ds) && nat_le (items_count ds) 9
+    if nat_le 1 (items_count ds) && nat_le (items_count ds) worker_limit
     then each_from (seat_from role.Worker sizes) 0 ds else Err (Limit Workers)
 
 -- an injector that is absent or `null` is none; else it has the number after the workers'

@@ -1,4 +1,5 @@
 ghost use Rattle.std.specs.Prelude.{◌≡◌, ◌<◌, ◌≤◌, length, IfOk};
+ghost use Rattle.ring_settings.specs.Limits.{action_limit};
 ghost use Rattle.ring_settings.specs.Draws.{action_of_words, drawn, left_after};
 
 use crate::actions::{Action, Plan, Role};
@@ -40,7 +41,7 @@ fn action_of_words(role: Role, rings: &[Params], words: [u32; 4]) -> Action
 }
 
 /// Draws a plan of this many actions for rings of these sizes, with just four words of the
-/// generator for each action. There is at least one ring, and at most 1,000,000 actions.
+/// generator for each action. There is at least one ring, and at most `ACTION_LIMIT` actions.
 ///
 /// # Errors
 ///
@@ -53,7 +54,7 @@ pub fn draw_plan<G: Rng>(
     actions: u32,
 ) -> Result<Plan, AllocError>
     requires some { 0 < length rings.now }
-    requires most { actions ≤ 1000000 }
+    requires most { actions ≤ action_limit }
     ensures plan { IfOk result (λ p. p.actions.items
         ≡ drawn role rings.now actions (G.stream g.old)) }
     ensures words { IfOk result (λ p. G.stream g.new ≡ left_after actions (G.stream g.old)) }

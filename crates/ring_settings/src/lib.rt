@@ -6,6 +6,7 @@ mod contents;
 mod document;
 mod draws;
 mod faults;
+pub mod limits;
 mod members;
 mod rings;
 mod scripts;

@@ -6,13 +6,11 @@ ghost use Rattle.ring_settings.specs.Walk.{each_from};
 
 use crate::contents::RingSetting;
 use crate::faults::{Field, RingCause, SettingsError};
+use crate::limits::RING_LIMIT;
 use crate::members::read_u32;
 use ring_state::{Params, ParamsError};
 use serde_json::Value;
 use std::alloc::Global;
-
-/// The most rings of a farm.
-const MOST_RINGS: usize = 16;
 
 /// The whole numbers of `start`.
 fn read_numbers(alloc: Global, list: &[Value]) -> Result<Vec<u64>, SettingsError>
@@ -135,7 +133,7 @@ fn read_each_ring(alloc: Global, list: &[Value]) -> Result<Vec<RingSetting>, Set
     Ok(rings)
 }
 
-/// The member `rings` of a document: 1 to 16 rings.
+/// The member `rings` of a document: 1 to `RING_LIMIT` rings.
 #[tactic(auto, using(crate::proofs::Each::items_count_of_view))]
 pub(crate) fn read_rings(alloc: Global, document: &Value) -> Result<Vec<RingSetting>, SettingsError>
     ensures ok { IfOk result (λ v. rings_member (view document.now) ≡ Ok (map ring_data v.items)) }
@@ -145,7 +143,7 @@ pub(crate) fn read_rings(alloc: Global, document: &Value) -> Result<Vec<RingSett
     let Some(list) = document.get("rings").and_then(Value::as_array) else {
         return Err(SettingsError::Shape(Field::Rings));
     };
-    if list.is_empty() || list.len() > MOST_RINGS {
+    if list.is_empty() || list.len() > RING_LIMIT {
         return Err(SettingsError::Limit(Field::Rings));
     }
     let rings = read_each_ring(alloc, list.as_slice())?;

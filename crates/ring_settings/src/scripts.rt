@@ -4,19 +4,18 @@ ghost use Rattle.ring_settings.specs.Scripts.{short_action, machine_action, long
 ghost use Rattle.ring_settings.specs.Walk.{each_from};
 ghost use Rattle.serde_json.specs.Find.{as_array};
 ghost use Rattle.serde_json.specs.View.{view, items_view};
+ghost use Rattle.ring_settings.specs.Limits.{ring_limit};
 
 use crate::actions::Action;
 use crate::faults::{Field, SettingsError};
+use crate::limits::ACTION_LIMIT;
 use ring_state::Params;
 use serde_json::Value;
 use std::alloc::Global;
 
-/// The most actions of a plan.
-pub(crate) const MOST_ACTIONS: u32 = 1_000_000;
-
 /// The action `["survey", ring]`.
 fn short_action(sizes: &[Params], name: &str, ring: u64) -> Option<Action>
-    requires { length sizes.now ≤ 16 }
+    requires { length sizes.now ≤ ring_limit }
     ensures { result ≡ short_action sizes.now name.now ring }
 {
     if name == "survey" && ring < sizes.len() as u64 {
@@ -28,7 +27,7 @@ fn short_action(sizes: &[Params], name: &str, ring: u64) -> Option<Action>
 
 /// The action `["pass", ring, machine, order]` or `["corrupt", ring, machine, value]`.
 fn long_action(sizes: &[Params], name: &str, ring: u64, machine: u64, last: u64) -> Option<Action>
-    requires { length sizes.now ≤ 16 }
+    requires { length sizes.now ≤ ring_limit }
     ensures { result ≡ long_action sizes.now name.now ring machine last }
 {
     if ring >= sizes.len() as u64 {
@@ -60,7 +59,7 @@ fn long_action(sizes: &[Params], name: &str, ring: u64, machine: u64, last: u64)
 /// The action that these entries of an array are.
 #[tactic(auto, using(crate::proofs::ScriptLaws::action_of_items_none))]
 fn action_of_entries(sizes: &[Params], entries: &[Value]) -> Option<Action>
-    requires { length sizes.now ≤ 16 }
+    requires { length sizes.now ≤ ring_limit }
     ensures { result ≡ action_of_items sizes.now (items_view entries.now) }
 {
     match entries {
@@ -80,7 +79,7 @@ fn action_of_entries(sizes: &[Params], entries: &[Value]) -> Option<Action>
 
 /// The action that a JSON value is, for rings of these sizes.
 fn read_action(sizes: &[Params], value: &Value) -> Option<Action>
-    requires { length sizes.now ≤ 16 }
+    requires { length sizes.now ≤ ring_limit }
     ensures { result ≡ action_from sizes.now (view value.now) }
 {
     let list = value.as_array()?;
@@ -94,7 +93,7 @@ fn read_actions(
     seat: usize,
     list: &[Value],
 ) -> Result<Vec<Action>, SettingsError>
-    requires { length sizes.now ≤ 16 }
+    requires { length sizes.now ≤ ring_limit }
     ensures ok { IfOk result (λ v. each_from (script_entry sizes.now seat) 0 (items_view list.now)
         ≡ Ok v.items) }
     ensures err { IfErr result (λ e. e ≢ SettingsError.OutOfMemory
@@ -112,7 +111,7 @@ fn read_actions(
     Ok(actions)
 }
 
-/// The script of the seat of this number: at most 1,000,000 actions.
+/// The script of the seat of this number: at most `ACTION_LIMIT` actions.
 #[tactic(auto, using(crate::proofs::Each::items_count_of_view))]
 pub(crate) fn read_script(
     alloc: Global,
@@ -120,7 +119,7 @@ pub(crate) fn read_script(
     seat: usize,
     script: &Value,
 ) -> Result<Vec<Action>, SettingsError>
-    requires { length sizes.now ≤ 16 }
+    requires { length sizes.now ≤ ring_limit }
     ensures ok { IfOk result (λ v. script_items sizes.now seat (as_array (view script.now))
         ≡ Ok v.items) }
     ensures err { IfErr result (λ e. e ≢ SettingsError.OutOfMemory
@@ -129,7 +128,7 @@ pub(crate) fn read_script(
     let Some(list) = script.as_array() else {
         return Err(SettingsError::Shape(Field::Script));
     };
-    if list.len() > MOST_ACTIONS as usize {
+    if list.len() > ACTION_LIMIT as usize {
         return Err(SettingsError::Limit(Field::Script));
     }
     read_actions(alloc, sizes, seat, list.as_slice())

@@ -1,4 +1,6 @@
 ghost use Rattle.std.specs.Prelude.{◌≡◌, ◌<◌, ◌≤◌, ℕ, IfOk, All, length, map, vec_len, slice_index_or};
+ghost use Rattle.ring_settings.specs.Limits.{action_limit};
+ghost use Rattle.ring_model.specs.Limits.{seat_limit};
 ghost use Rattle.ring_settings.specs.Actions.{IsActionFor};
 ghost use Rattle.ring_settings.specs.Contents.{IsSeatFor, sizes_of, seat_plan, plan_of, plans_of};
 ghost use Rattle.ring_settings.specs.Draws.{drawn, seat_stream};
@@ -22,7 +24,7 @@ fn draw_seat(
     actions: u32,
 ) -> Result<Plan, AllocError>
     requires some { 0 < length sizes.now }
-    requires most { actions ≤ 1000000 }
+    requires most { actions ≤ action_limit }
     ensures { IfOk result (λ p. p.actions.items
         ≡ drawn role sizes.now actions (seat_stream seed seat)) }
 {
@@ -57,7 +59,7 @@ fn seat_plan(
 
 /// The plans of a farm: one for each seat, the workers' in their order and then the injector's.
 ///
-/// There are 1 to 10 plans, each with at most 1,000,000 actions. Each action is for a ring that is there,
+/// There are 1 to `SEAT_LIMIT` plans, each with at most `ACTION_LIMIT` actions. Each action is for a ring that is there,
 /// a machine of that ring, and a value below its K.
 ///
 /// # Errors
@@ -69,8 +71,8 @@ pub fn plans(alloc: Global, settings: &Settings) -> Result<Vec<Plan>, AllocError
     ensures plan { IfOk result (λ ps. (seat : ℕ) (d : Plan) → seat < vec_len ps
         → plan_actions (slice_index_or ps.items seat d) ≡ plan_of settings.now seat) }
     ensures some { IfOk result (λ ps. 1 ≤ vec_len ps) }
-    ensures most { IfOk result (λ ps. vec_len ps ≤ 10) }
-    ensures few { IfOk result (λ ps. All (λ p. length p.actions.items ≤ 1000000) ps.items) }
+    ensures most { IfOk result (λ ps. vec_len ps ≤ seat_limit) }
+    ensures few { IfOk result (λ ps. All (λ p. length p.actions.items ≤ action_limit) ps.items) }
     ensures fits { IfOk result (λ ps.
         All (λ p. All (IsActionFor (sizes_of settings.now.rings)) p.actions.items) ps.items) }
 {

@@ -1,6 +1,7 @@
 ghost use Rattle.std.specs.Prelude.{◌≡◌, ◌≢◌, ◌≤◌, IfOk, IfErr, Ok, Err, codes, length, map, option_and_then};
 ghost use Rattle.serde_json.specs.Find.{as_array, get};
 ghost use Rattle.serde_json.specs.View.{view, items_view};
+ghost use Rattle.ring_settings.specs.Limits.{ring_limit};
 ghost use Rattle.ring_settings.specs.Seats.{field_of, scripted_seat, drawn_seat, seat_from, workers_items, injector_after, seats_member};
 ghost use Rattle.ring_settings.specs.Views.{seat_data};
 ghost use Rattle.ring_settings.specs.Walk.{each_from};
@@ -9,14 +10,12 @@ ghost use Rattle.ring_settings.specs.declared.actions.Role.TheVariants.{Worker};
 use crate::actions::Role;
 use crate::contents::SeatSetting;
 use crate::faults::{Field, SettingsError};
+use crate::limits::{ACTION_LIMIT, WORKER_LIMIT};
 use crate::members::read_number;
-use crate::scripts::{MOST_ACTIONS, read_script};
+use crate::scripts::read_script;
 use ring_state::Params;
 use serde_json::Value;
 use std::alloc::Global;
-
-/// The most workers of a farm.
-const MOST_WORKERS: usize = 9;
 
 /// The member of a document that seats of this role stand in.
 fn field_of(role: Role) -> Field
@@ -35,7 +34,7 @@ fn read_scripted(
     seat: usize,
     script: &Value,
 ) -> Result<SeatSetting, SettingsError>
-    requires { length sizes.now ≤ 16 }
+    requires { length sizes.now ≤ ring_limit }
     ensures ok { IfOk result (λ s. scripted_seat sizes.now seat (view script.now)
         ≡ Ok (seat_data s)) }
     ensures err { IfErr result (λ e. e ≢ SettingsError.OutOfMemory
@@ -52,7 +51,7 @@ fn read_drawn(role: Role, value: &Value) -> Result<SeatSetting, SettingsError>
 {
     let seed = read_number(value, "seed", Field::Seed)?;
     let actions = read_number(value, "actions", Field::Actions)?;
-    if actions > u64::from(MOST_ACTIONS) {
+    if actions > u64::from(ACTION_LIMIT) {
         return Err(SettingsError::Limit(Field::Actions));
     }
     Ok(SeatSetting::Drawn {
@@ -70,7 +69,7 @@ fn read_seat(
     seat: usize,
     value: &Value,
 ) -> Result<SeatSetting, SettingsError>
-    requires { length sizes.now ≤ 16 }
+    requires { length sizes.now ≤ ring_limit }
     ensures ok { IfOk result (λ s. seat_from role sizes.now seat (view value.now)
         ≡ Ok (seat_data s)) }
     ensures err { IfErr result (λ e. e ≢ SettingsError.OutOfMemory
@@ -91,7 +90,7 @@ fn read_each_worker(
     sizes: &[Params],
     list: &[Value],
 ) -> Result<Vec<SeatSetting>, SettingsError>
-    requires { length sizes.now ≤ 16 }
+    requires { length sizes.now ≤ ring_limit }
     ensures ok { IfOk result (λ v. each_from (seat_from Worker sizes.now) 0 (items_view list.now)
         ≡ Ok (map seat_data v.items)) }
     ensures err { IfErr result (λ e. e ≢ SettingsError.OutOfMemory
@@ -114,7 +113,7 @@ fn read_workers(
     sizes: &[Params],
     document: &Value,
 ) -> Result<Vec<SeatSetting>, SettingsError>
-    requires { length sizes.now ≤ 16 }
+    requires { length sizes.now ≤ ring_limit }
     ensures ok { IfOk result (λ v. workers_items sizes.now (option_and_then as_array (get (codes "workers") (view document.now)))
         ≡ Ok (map seat_data v.items)) }
     ensures err { IfErr result (λ e. e ≢ SettingsError.OutOfMemory
@@ -124,7 +123,7 @@ fn read_workers(
     let Some(list) = document.get("workers").and_then(Value::as_array) else {
         return Err(SettingsError::Shape(Field::Workers));
     };
-    if list.is_empty() || list.len() > MOST_WORKERS {
+    if list.is_empty() || list.len() > WORKER_LIMIT {
         return Err(SettingsError::Limit(Field::Workers));
     }
     let workers = read_each_worker(alloc, sizes, list.as_slice())?;
@@ -138,7 +137,7 @@ fn with_injector(
     workers: Vec<SeatSetting>,
     document: &Value,
 ) -> Result<Vec<SeatSetting>, SettingsError>
-    requires { length sizes.now ≤ 16 }
+    requires { length sizes.now ≤ ring_limit }
     ensures ok { IfOk result (λ v. injector_after sizes.now (map seat_data workers.items) (get (codes "injector") (view document.now))
         ≡ Ok (map seat_data v.items)) }
     ensures err { IfErr result (λ e. e ≢ SettingsError.OutOfMemory
@@ -165,7 +164,7 @@ pub(crate) fn read_seats(
     sizes: &[Params],
     document: &Value,
 ) -> Result<Vec<SeatSetting>, SettingsError>
-    requires { length sizes.now ≤ 16 }
+    requires { length sizes.now ≤ ring_limit }
     ensures ok { IfOk result (λ v. seats_member sizes.now (view document.now)
         ≡ Ok (map seat_data v.items)) }
     ensures err { IfErr result (λ e. e ≢ SettingsError.OutOfMemory

@@ -22,7 +22,7 @@ pub fn is_settled(state: &RingState) -> bool
 /// The lead: 0 where the machines that hold the value of machine 0 are a prefix of the ring, else how far
 /// machine 0 has to step, from 1 on, until no other machine holds its value. It is below n.
 pub fn lead(state: &RingState) -> u32
-    ensures is { result ≡ lead state.now.k state.now.values }
+    ensures is { result ≡ lead state.now }
     ensures below { result < length state.now.values }
 {
     let k = state.params().k();
@@ -41,7 +41,7 @@ pub fn lead(state: &RingState) -> u32
 /// The rest: at most this many granted passes are left until the ring is settled, where no corruption comes
 /// between. It is at most the bound of the ring's n.
 pub fn rest(state: &RingState) -> u64
-    ensures is { result ≡ rest state.now.k state.now.values }
+    ensures is { result ≡ rest state.now }
     ensures bounded { result ≤ bound (length state.now.values) }
 {
     let n = state.params().n();

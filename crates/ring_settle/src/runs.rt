@@ -9,10 +9,10 @@ use ring_state::RingState;
 /// did; the rest falls by at least that number, down to 0.
 pub fn follow(state: &mut RingState, choices: &[u32]) -> u64
     requires { AreBelow (length state.old.values) choices.now }
-    ensures values { state.new.values ≡ after_passes state.old.k state.old.values choices.now }
+    ensures state { state.new ≡ after_passes state.old choices.now }
     ensures same { state.new.k ≡ state.old.k }
-    ensures granted { result ≡ length (granted_passes state.old.k state.old.values choices.now) }
-    ensures descent { rest state.new.k state.new.values ≤ rest state.old.k state.old.values - result }
+    ensures granted { result ≡ length (granted_passes state.old choices.now) }
+    ensures descent { rest state.new ≤ rest state.old - result }
 {
     let _ring = state.params();
     let mut granted = 0;

@@ -2,8 +2,8 @@
 use Rattle.std.proofs.Common.{◌≡◌, ℕ, ◌+◌, List, [], ◌∷◌, ◌++◌, true, false, cond, Some, slice_get, take, drop, zero, suc, subst, ap, sym, ◌∙◌, refl}
 use Rattle.std.proofs.lemmas.List.{take-append-drop}
 use Rattle.std.proofs.Math.Numerals.{add-one}
-use Rattle.ring_model.specs.Ring.{is_privileged, privileged_count, first_privileged, rest}
-use Rattle.ring_model.specs.History.{Works, State, Ring, StepOf, granted_state, moved_ring, next, after, IsLegal}
+use Rattle.ring_model.specs.Ring.{Ring, is_privileged, privileged_count, first_privileged, rest, moved}
+use Rattle.ring_model.specs.History.{Works, State, StepOf, granted_state, next, after, IsLegal}
 use Rattle.ring_model.specs.Surveys.{calm, survey_at}
 use Rattle.ring_model.specs.declared.events.Op.{Op}
 use Rattle.ring_model.specs.declared.events.Op.TheVariants.{Pass, Corrupt}
@@ -43,7 +43,7 @@ call_there w a h p e ring legal at is =
     subst (λ (r : Ring). IsCallOf r e.op) (sym is) (call_of_step w (after w a (take p h)) e.op e.reply _ (legal_step w a (take p h) e (drop (suc p) h) legal'))
 
 next_ring : {C : Type 0} (w : Works C) (a : State C) (o : Op) → (next w a o).ring ≡ called a.ring o
-next_ring w a (Pass i order) = elim (is_privileged a.ring.values i) as (λ b. (cond b (granted_state w a i order) a).ring ≡ cond b (moved_ring a.ring i) a.ring) [ true ↦ refl | false ↦ refl ]
+next_ring w a (Pass i order) = elim (is_privileged a.ring.values i) as (λ b. (cond b (granted_state w a i order) a).ring ≡ cond b (moved a.ring i) a.ring) [ true ↦ refl | false ↦ refl ]
 next_ring w a (Corrupt i v) = refl
 
 -- the ring one place on
@@ -66,6 +66,6 @@ calm_there h p e c at is =
 -- the survey of a place, of the ring and the calm there
 pub survey_there : {C : Type 0} (w : Works C) (a : State C) (h : List Event) (p : ℕ) (ring : Ring) (privileged first c left : ℕ) →
     ring ≡ (after w a (take p h)).ring → c ≡ calm (take p h) →
-    privileged ≡ privileged_count ring.values → first ≡ first_privileged ring.values → left ≡ rest ring.k ring.values →
+    privileged ≡ privileged_count ring.values → first ≡ first_privileged ring.values → left ≡ rest ring →
     record { position = p; privileged = privileged; first = first; calm = c; rest = left } ≡ survey_at w a h p
 survey_there w a h p ring privileged first c left ring_is calm_is privileged_is first_is left_is = rw (privileged_is, first_is, left_is, calm_is, ring_is) refl

@@ -1,6 +1,7 @@
 -- What is true of a ring's book whenever its lock is free (this project's own).
 use Rattle.std.specs.Prelude.{◌≡◌, ℕ, ◌<◌, ◌↔◌, List, All, length}
-use Rattle.ring_model.specs.History.{Ring, Works, opening, IsLegal}
+use Rattle.ring_model.specs.Ring.{Ring}
+use Rattle.ring_model.specs.History.{Works, opening, IsLegal}
 use Rattle.ring_model.specs.Surveys.{survey_at}
 use Rattle.ring_model.specs.declared.events.Event.{Event}
 use Rattle.ring_model.specs.declared.events.Survey.{Survey}

@@ -1,5 +1,6 @@
 -- What contracts see of a ring that is opened.
 use Rattle.std.specs.Prelude.{◌≡◌, ℕ, ◌<◌, ◌≤◌, List, [], length, Some, slice_get}
+use Rattle.ring_model.specs.Limits.{seat_limit}
 use Rattle.ring_book.specs.BookView.{BookView}
 use Rattle.ring_shared.specs.Client.{Client}
 
@@ -12,7 +13,7 @@ pub record Drafted (C : Type 0) : Type 0 where
 pub record IsDraft {C : Type 0} (d : Drafted C) : Type 0 where
   pub empty : d.book.history ≡ []
   pub some : 1 ≤ d.seats
-  pub most : d.seats ≤ 10
+  pub most : d.seats ≤ seat_limit
 
 -- this many seats, numbered in their order, with empty logs
 pub record AreFresh (number_of_seats : ℕ) (seats : List Client) : Type 0 where

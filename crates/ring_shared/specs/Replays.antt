@@ -1,7 +1,6 @@
 -- How a history is played again: what each event does to the ring and to the calm, whatever the resource.
 use Rattle.std.specs.Prelude.{ℕ, ◌+◌, ◌<◌, cond, length}
-use Rattle.ring_model.specs.Ring.{is_privileged}
-use Rattle.ring_model.specs.History.{Ring, moved_ring, written_ring}
+use Rattle.ring_model.specs.Ring.{Ring, is_privileged, moved, written}
 use Rattle.ring_model.specs.declared.events.Op.{Op}
 use Rattle.ring_model.specs.declared.events.Op.TheVariants.{Pass, Corrupt}
 use Rattle.ring_model.specs.declared.events.Reply.{Reply}
@@ -14,8 +13,8 @@ IsCallOf r (Corrupt i v) = (i < length r.values) × (v < r.k)
 
 -- the ring after a call
 abbrev pub called : Ring → Op → Ring
-called r (Pass i order) = cond (is_privileged r.values i) (moved_ring r i) r
-called r (Corrupt i v) = written_ring r i v
+called r (Pass i order) = cond (is_privileged r.values i) (moved r i) r
+called r (Corrupt i v) = written r i v
 
 -- the calm after a reply
 abbrev pub calm_after : ℕ → Reply → ℕ

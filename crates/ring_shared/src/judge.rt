@@ -1,5 +1,6 @@
 //! Whether a seat's log fits the history of its ring.
 ghost use Rattle.std.specs.Prelude.{◌≡◌, ◌≤◌, ◌+◌, ◌<◌, ◌↔◌, [], ◌∷◌, length, take, slice_get, Some, true, IsTrue, IfOk};
+ghost use Rattle.ring_model.specs.Limits.{event_limit, seat_limit};
 ghost use Rattle.ring_model.specs.History.{after, opening};
 ghost use Rattle.ring_model.specs.Logs.{Fits};
 ghost use Rattle.ring_model.specs.Surveys.{calm as calm_of, survey_at};
@@ -56,7 +57,7 @@ fn is_same_survey(one: Survey, other: Survey) -> bool
 
 /// The calm behind a reply.
 fn calm_behind(calm: u64, reply: Reply) -> u64
-    requires { calm ≤ 1000000 }
+    requires { calm ≤ event_limit }
     ensures is { result ≡ calm_after calm reply }
     ensures few { result ≤ calm + 1 }
 {
@@ -189,7 +190,7 @@ pub(crate) fn fits<R: Resource + Drop>(
     seat: u32,
     log: &[Entry],
 ) -> Result<bool, AllocError>
-    requires { seat ≤ 9 }
+    requires { seat < seat_limit }
     ensures { IfOk result (λ b. IsTrue b ↔ Fits R.works (opening book.now.start R.first) book.now.history seat log.now) }
 {
     let mut replay = Replay::new(alloc, book)?;

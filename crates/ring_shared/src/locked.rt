@@ -3,7 +3,7 @@ ghost use Rattle.std.specs.Prelude.{◌≡◌, ◌<◌, ◌++◌, ◌∷◌, ◌
 ghost use Rattle.ring_model.specs.History.{opening};
 ghost use Rattle.ring_model.specs.Surveys.{survey_at};
 ghost use Rattle.ring_book.specs.BookView.{IsBook, IsRecorded};
-ghost use Rattle.ring_book.specs.EventsView.{event_limit};
+ghost use Rattle.ring_model.specs.Limits.{event_limit, seat_limit};
 ghost use Rattle.ring_shared.specs.Holding.{IsHeld};
 ghost use Rattle.ring_shared.specs.Replays.{IsCallOf};
 
@@ -69,7 +69,7 @@ impl<N: Name, R: Resource + Drop> Locked<N, R> {
     ///
     /// # Errors
     ///
-    /// `HistoryFull` where the history has 1,000,000 events; want of memory for the log or the history.
+    /// `HistoryFull` where the history has `EVENT_LIMIT` events; want of memory for the log or the history.
     /// Nothing has changed then.
     pub fn pass<W>(
         &mut self,
@@ -137,7 +137,7 @@ fn make_call<R: Resource + Drop>(
     seat: u32,
     op: Op,
 ) -> Result<Receipt, BookError>
-    requires seat { seat ≤ 9 }
+    requires seat { seat < seat_limit }
     requires call { IsCallOf book.old.now.ring op }
     ensures ok { IfOk result (λ r. IsRecorded R.works book.old book.new seat op r) }
     ensures book { IsBook R.works R.first book.new }

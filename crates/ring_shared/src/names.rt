@@ -13,7 +13,7 @@ use std::marker::Brand;
 /// ring with its name has no other ring's seats.
 pub trait Name {
     ghost use Rattle.std.specs.Prelude.{ℕ, List};
-    ghost use Rattle.ring_model.specs.History.{Ring};
+    ghost use Rattle.ring_model.specs.Ring.{Ring};
     ghost use Rattle.ring_model.specs.declared.events.Event.{Event};
 
     ghost start: { Ring };

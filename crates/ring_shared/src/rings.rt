@@ -1,6 +1,7 @@
 //! Rings that threads share: how they are opened, and the calls of their seats.
 ghost use Rattle.std.specs.Prelude.{◌≡◌, ◌<◌, ◌≤◌, ◌++◌, ◌∷◌, ◌↔◌, [], ℕ, List, length, map, eqb, IsOk, IfOk, IfErr, OnErr};
 ghost use Rattle.std.specs.List.{IsDistinct};
+ghost use Rattle.ring_model.specs.Limits.{seat_limit};
 ghost use Rattle.ring_shared.specs.Holding.{MeansLegal, IsSurveyOfSome};
 ghost use Rattle.ring_shared.specs.Opening.{AreFresh};
 
@@ -15,7 +16,7 @@ use std::sync::{Mutex, MutexGuard, Wait};
 
 /// A book and a number of seats, for a ring that has no name yet.
 ///
-/// Contracts see both. The book has no events, and there are 1 to 10 seats.
+/// Contracts see both. The book has no events, and there are 1 to `SEAT_LIMIT` seats.
 #[derive(Drop)]
 pub struct Draft<R: Resource + Drop> {
     book: Book<R>,
@@ -33,14 +34,14 @@ impl<R: Resource + Drop> Model for Draft<R> {
 }
 
 impl<R: Resource + Drop> Draft<R> {
-    /// The draft of a ring over this book, which has no events, with 1 to 10 seats.
+    /// The draft of a ring over this book, which has no events, with 1 to `SEAT_LIMIT` seats.
     ///
     /// # Errors
     ///
     /// None today: what takes memory is made when the ring is opened.
     pub fn new(book: Book<R>, seats: u32) -> Result<Draft<R>, OpenFault<R>>
         requires some { 1 ≤ seats }
-        requires most { seats ≤ 10 }
+        requires most { seats ≤ seat_limit }
         requires empty { book.history ≡ [] }
         ensures always { IsOk result }
         ensures ok { IfOk result (λ d. d ≡ record { book = book; seats = seats }) }
@@ -78,7 +79,7 @@ pub struct Ring<N: Name, R: Resource + Drop> {
 /// This many seats, with empty logs.
 fn seats_of<N: Name>(alloc: Global, count: u32) -> Result<Vec<Seat<N>>, AllocError>
     requires count { count ≡ N.seats }
-    requires most { count ≤ 10 }
+    requires most { count ≤ seat_limit }
     ensures { IfOk result (λ v. AreFresh N.seats v.items) }
 {
     let mut seats = Vec::new(alloc);
@@ -124,7 +125,7 @@ impl<N: Name, R: Resource + Drop> Ring<N, R> {
     ///
     /// # Errors
     ///
-    /// `HistoryFull` where the history has 1,000,000 events; want of memory. Nothing has changed then.
+    /// `HistoryFull` where the history has `EVENT_LIMIT` events; want of memory. Nothing has changed then.
     pub fn pass<W: Wait>(
         &self,
         rt: &W,

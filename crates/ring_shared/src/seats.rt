@@ -1,5 +1,6 @@
 //! The seats of a ring, one for each client, and their logs.
 ghost use Rattle.std.specs.Prelude.{◌≡◌, ◌<◌, ◌≤◌, []};
+ghost use Rattle.ring_model.specs.Limits.{seat_limit};
 ghost use Rattle.ring_shared.specs.Closing.{IsLogOf};
 
 use crate::names::Name;
@@ -20,20 +21,21 @@ pub struct Seat<N: Name> {
 
 impl<N: Name> Model for Seat<N> {
     ghost use Rattle.std.specs.Prelude.{◌<◌, ◌≤◌};
+    ghost use Rattle.ring_model.specs.Limits.{seat_limit};
     ghost use Rattle.ring_shared.specs.Client.{Client};
 
     ghost Value = { Client };
 
     ghost view = { λ s. record { number = s.number; log = s.log.items } };
 
-    ghost invariant = { λ s. (s.number < N.seats) × (s.number ≤ 9) };
+    ghost invariant = { λ s. (s.number < N.seats) × (s.number < seat_limit) };
 }
 
 impl<N: Name> Seat<N> {
     /// A seat with an empty log.
     pub(crate) fn new(alloc: Global, number: u32) -> Seat<N>
         requires given { number < N.seats }
-        requires most { number ≤ 9 }
+        requires most { number < seat_limit }
         ensures { result ≡ record { number = number; log = [] } }
     {
         Seat {
@@ -43,11 +45,11 @@ impl<N: Name> Seat<N> {
         }
     }
 
-    /// The seat's number, from 0. It is below the number of the ring's seats, and at most 9.
+    /// The seat's number, from 0. It is below the number of the ring's seats, and `SEAT_LIMIT`.
     pub fn number(&self) -> u32
         ensures is { result ≡ self.now.number }
         ensures given { result < N.seats }
-        ensures most { result ≤ 9 }
+        ensures most { result < seat_limit }
     {
         self.number
     }

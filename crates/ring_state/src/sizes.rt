@@ -1,14 +1,12 @@
 ghost use Rattle.std.specs.Prelude.{◌≡◌, ◌<◌, ◌≤◌, ◌↔◌, IsErrOf, IfOk, IsOk};
+ghost use Rattle.ring_model.specs.Limits.{machine_limit, value_limit};
 ghost use Rattle.ring_state.specs.Sizes.{IsSize};
 
+use ring_model::limits::{MACHINE_LIMIT, VALUE_LIMIT};
 use std::marker::Model;
-use thiserror::Error;
-
-/// The most machines, and the most values, of a ring.
-const LIMIT: u32 = 256;
 
 /// The size of a ring: the number n of its machines, and the number K of the values that each can hold.
-/// Always `2 <= n <= K <= 256`.
+/// Always `2 <= n <= MACHINE_LIMIT` and `n <= K <= VALUE_LIMIT`.
 #[derive(Clone, Copy, Debug, PartialEq, Eq)]
 pub struct Params {
     n: u32,
@@ -28,43 +26,39 @@ impl Model for Params {
 }
 
 /// Why a size is refused.
-#[derive(Clone, Copy, Debug, Drop, Error, PartialEq, Eq)]
+#[derive(Clone, Copy, Debug, Drop, PartialEq, Eq)]
 pub enum ParamsError {
-    #[error("n is less than 2")]
     TooFew,
-    #[error("n is more than 256")]
     TooMany,
-    #[error("k is less than n")]
     FewValues,
-    #[error("k is more than 256")]
     ManyValues,
 }
 
 impl Params {
-    /// The size with `n` machines and `k` values, from 2 to 256 machines and from n to 256 values.
+    /// The size with `n` machines and `k` values, from 2 machines to `MACHINE_LIMIT` and from n values to `VALUE_LIMIT`.
     ///
     /// # Errors
     ///
-    /// The first that applies: `TooFew` where n is below 2, `TooMany` where it is over 256,
-    /// `FewValues` where k is below n, `ManyValues` where it is over 256.
+    /// The first that applies: `TooFew` where n is below 2, `TooMany` where it is over the limit of machines,
+    /// `FewValues` where k is below n, `ManyValues` where it is over the limit of values.
     pub fn new(n: u32, k: u32) -> Result<Params, ParamsError>
         ensures ok { IfOk result (λ p. p ≡ record { n = n; k = k }) }
         ensures exact { IsOk result ↔ IsSize (record { n = n; k = k }) }
         ensures too_few { IsErrOf result ParamsError.TooFew ↔ n < 2 }
-        ensures too_many { IsErrOf result ParamsError.TooMany ↔ 256 < n }
-        ensures few_values { IsErrOf result ParamsError.FewValues ↔ (2 ≤ n) × (n ≤ 256) × (k < n) }
-        ensures many_values { IsErrOf result ParamsError.ManyValues ↔ (2 ≤ n) × (n ≤ 256) × (256 < k) }
+        ensures too_many { IsErrOf result ParamsError.TooMany ↔ machine_limit < n }
+        ensures few_values { IsErrOf result ParamsError.FewValues ↔ (2 ≤ n) × (n ≤ machine_limit) × (k < n) }
+        ensures many_values { IsErrOf result ParamsError.ManyValues ↔ (2 ≤ n) × (n ≤ machine_limit) × (value_limit < k) }
     {
         if n < 2 {
             return Err(ParamsError::TooFew);
         }
-        if n > LIMIT {
+        if n > MACHINE_LIMIT {
             return Err(ParamsError::TooMany);
         }
         if k < n {
             return Err(ParamsError::FewValues);
         }
-        if k > LIMIT {
+        if k > VALUE_LIMIT {
             return Err(ParamsError::ManyValues);
         }
         Ok(Params { n, k })
@@ -78,7 +72,7 @@ impl Params {
         Params { n, k }
     }
 
-    /// The number of machines, 2 to 256.
+    /// The number of machines, from 2 on.
     pub fn n(&self) -> u32
         ensures is { result ≡ self.now.n }
         ensures size { IsSize self.now }
@@ -86,7 +80,7 @@ impl Params {
         self.n
     }
 
-    /// The number of values, n to 256.
+    /// The number of values, from n on.
     pub fn k(&self) -> u32
         ensures is { result ≡ self.now.k }
         ensures size { IsSize self.now }

@@ -1,16 +1,14 @@
 ghost use Rattle.std.specs.Prelude.{◌≡◌, ◌↔◌, ◌<◌, ◌≤◌, ◌-◌, ◌/◌, ◌%◌, ◌&&◌, if◌then◌else◌, nat_lt, not, ℕ, List, length, true, false, slice_index, IfOk, IfErr, IsTrue};
-ghost use Rattle.std.specs.Int.{bit_at};
-ghost use Rattle.ring_model.specs.Ring.{IsRing, is_privileged, privileged_count, first_privileged, weight, is_absent, first_value_is_prefix, rest};
-ghost use Rattle.ring_model.specs.Laws.{IsPrefix};
-ghost use Rattle.ring_model.specs.History.{Ring, moved_ring, written_ring};
+ghost use Rattle.ring_model.specs.Ring.{Ring, IsRing, is_privileged, privileged_count, first_privileged, weight, is_absent, first_value_is_prefix, rest, IsPrefix, moved, written};
+ghost use Rattle.ring_model.specs.Closure.{IsClosed};
+ghost use Rattle.ring_model.specs.Limits.{machine_limit};
+ghost use Rattle.ring_lanes.specs.Masks.{IsMaskOf};
 ghost use Rattle.ring_state.specs.Sizes.{IsRingState, size_of};
 ghost use Rattle.ring_state.specs.StateFault.{IsFaultOf};
-ghost use Rattle.ring_state.specs.Closure.{IsClosed};
 
 use crate::sizes::Params;
 use std::alloc::{AllocError, Global};
 use std::marker::Model;
-use thiserror::Error;
 
 /// The state of a ring: n machines, each with a value below K.
 ///
@@ -22,7 +20,7 @@ pub struct RingState {
 }
 
 impl Model for RingState {
-    ghost use Rattle.ring_model.specs.History.{Ring};
+    ghost use Rattle.ring_model.specs.Ring.{Ring};
     ghost use Rattle.ring_state.specs.Sizes.{IsRingState};
 
     ghost Value = { Ring };
@@ -33,13 +31,11 @@ impl Model for RingState {
 }
 
 /// Why start values are refused.
-#[derive(Clone, Copy, Debug, Drop, Error, PartialEq, Eq)]
+#[derive(Clone, Copy, Debug, Drop, PartialEq, Eq)]
 pub enum StateError {
-    #[error("start does not have n values")]
     Length,
-    #[error("start value {0} is not below k")]
+    /// The least index of a value that is not below K.
     Value(usize),
-    #[error("out of memory")]
     OutOfMemory,
 }
 
@@ -123,7 +119,7 @@ impl RingState {
     /// Writes a bit for each machine into `out`: bit `i % 64` of word `i / 64` is set exactly where
     /// machine `i` is privileged, and every bit past the last machine is clear.
     pub fn mask(&self, out: &mut [u64; 4])
-        ensures { (i : ℕ) → i < 256 → bit_at (slice_index out.new (i / 64)) (i % 64) ≡ (if nat_lt i (length self.now.values) && is_privileged self.now.values i then 1 else 0) }
+        ensures { IsMaskOf machine_limit self.now.values out.new }
     {
         ring_lanes::privileged_mask(self.bytes.as_slice(), out);
     }
@@ -159,9 +155,9 @@ impl RingState {
     pub fn move_machine(&mut self, i: u32)
         requires machine { i < length self.old.values }
         requires privileged { is_privileged self.old.values i ≡ true }
-        ensures is { self.new ≡ moved_ring self.old i }
-        ensures closure { IsClosed self.old.values self.new.values i }
-        ensures descent { rest self.new.k self.new.values ≤ rest self.old.k self.old.values - 1 }
+        ensures is { self.new ≡ moved self.old i }
+        ensures closure { IsClosed self.old self.new i }
+        ensures descent { rest self.new ≤ rest self.old - 1 }
     {
         self.take_step(i);
     }
@@ -169,7 +165,7 @@ impl RingState {
     /// The move alone.
     fn take_step(&mut self, i: u32)
         requires { i < length self.old.values }
-        ensures is { self.new ≡ moved_ring self.old i }
+        ensures is { self.new ≡ moved self.old i }
         ensures ring { IsRingState self.old }
     {
         let own = i as usize;
@@ -187,7 +183,7 @@ impl RingState {
         requires machine { i < length self.old.values }
         requires value { v < self.old.k }
         ensures old { result ≡ slice_index self.old.values i }
-        ensures new { self.new ≡ written_ring self.old i v }
+        ensures new { self.new ≡ written self.old i v }
     {
         let own = i as usize;
         let old = self.bytes[own];

@@ -18,3 +18,5 @@ mod rings;
 mod settle;
 #[cfg(test)]
 mod states;
+#[cfg(test)]
+mod wide_lanes;

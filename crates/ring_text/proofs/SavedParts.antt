@@ -1,16 +1,8 @@
 -- The lists of a saved text as what an outcome has, item by item.
-use Rattle.std.proofs.Common.{◌≡◌, ℕ, suc, ◌+◌, ◌-◌, ◌^◌, ◌<◌, ◌≤◌, List, [], ◌∷◌, ◌++◌, length, drop, get_or, map, Option, Err, refl, sym, ap, subst, arith}
-use Rattle.std.specs.Fmt.{decimal}
-use Rattle.std.specs.Io.KnownBytes.{Appends}
+use Rattle.std.proofs.Common.{◌≡◌, ℕ, suc, ◌+◌, ◌^◌, ◌<◌, ◌≤◌, List, [], ◌∷◌, ◌++◌, length, map, refl, sym, ap, arith}
 use Rattle.std.specs.List.{flat_map, slice_index, AllByRecursion}
 use Rattle.std.proofs.lemmas.List.{append-nil}
 use Rattle.std.proofs.lemmas.List.Concat.{flat_map-append}
-use Rattle.text_lines.specs.declared.write.WriteFault.{WriteFault}
-use Rattle.text_lines.specs.Reading.{stop_of}
-use Rattle.text_lines.specs.Spelling.{row}
-use Rattle.text_lines.specs.Writing.{Wrote, Writes}
-use Rattle.text_lines.proofs.Rows.{row_next}
-use Rattle.text_lines.proofs.Writing.{wrote_piece, wrote_fault}
 use Rattle.ring_model.specs.declared.events.Event.{Event}
 use Rattle.ring_model.specs.declared.events.Entry.{Entry}
 use Rattle.ring_model.specs.declared.events.Entry.TheVariants as entry
@@ -22,23 +14,6 @@ use Rattle.ring_text.specs.SavedOf.{saved_event, saved_survey, entry_surveys, lo
 use Rattle.ring_text.proofs.Passing.{Spelled}
 
 -- ---- the values of a start
-
--- one value more
-module _ (values : List ℕ) (i n x : ℕ) (size : n ≡ length values) (is : x ≡ get_or values i 0) (lt : i < n) (a b c : Option (List ℕ)) (so_far : Wrote a b (row values) (row (drop i values))) where
-  abbrev value_text : List ℕ
-  value_text = decimal x ++ stop_of (n - i - 1) ∷ []
-
-  value_next : Wrote a b (row values) (value_text ++ row (drop (i + 1) values))
-  value_next =
-      let below : i < length values = omega (arith, size, lt) in
-      let e : row (drop i values) ≡ value_text ++ row (drop (i + 1) values) = rw (size, is) (row_next values i below) in
-      subst (λ (u : List ℕ). Wrote a b (row values) u) e so_far
-
-  pub value_more : Appends b c value_text → Wrote a c (row values) (row (drop (i + 1) values))
-  value_more h = wrote_piece a b c (row values) value_text (row (drop (i + 1) values)) value_next h
-
-  pub value_fault : (e : WriteFault) → Writes b c (Err e) value_text → Writes a c (Err e) (row values)
-  value_fault e h = wrote_fault a b c e (row values) value_text (row (drop (i + 1) values)) value_next h
 
 -- the values of a state are small
 pub small_below : (limit : ℕ) (xs : List ℕ) → ((i : ℕ) → i < length xs → slice_index xs i < limit) → limit ≤ 2 ^ 32 → AllByRecursion (λ x. x < 2 ^ 32) xs

@@ -3,10 +3,12 @@ use Rattle.std.proofs.Common.{◌≡◌, ℕ, suc, ◌+◌, ◌^◌, ◌<◌, �
 use Rattle.std.specs.Io.KnownBytes.{Appends}
 use Rattle.std.specs.List.{flat_map, AllByRecursion}
 use Rattle.std.proofs.lemmas.List.{append-nil}
+use Rattle.ring_settings.specs.Limits.{ring_limit}
+use Rattle.ring_model.specs.Limits.{value_limit, event_limit}
 use Rattle.text_lines.specs.declared.write.WriteFault.{WriteFault}
 use Rattle.text_lines.specs.Writing.{Wrote, Writes}
 use Rattle.text_lines.proofs.Writing.{wrote_none, wrote_piece, wrote_fault, wrote_all}
-use Rattle.ring_model.specs.History.{Ring}
+use Rattle.ring_model.specs.Ring.{Ring}
 use Rattle.ring_model.specs.declared.events.Event.{Event}
 use Rattle.ring_state.specs.Sizes.{IsRingState}
 use Rattle.ring_shared.specs.declared.seats.Log.{Log}
@@ -64,11 +66,11 @@ module _ (place : ℕ) (r : RingOutcome) (a b : Option (List ℕ)) where
     logs_fault w ls is e h = wrote_last a b c e block (logs_lines r.logs.items) w (subst (λ (u : List Log). Writes b c (Err e) (logs_lines u)) is h)
 
 -- a book's start and the number of its events are small
-pub block_fits : (place : ℕ) (r : RingOutcome) → place < 2 ^ 32 → IsRingState r.book.start → length r.book.history ≤ 1000000 → AllByRecursion EventFits (map saved_event r.book.history) → AllByRecursion SurveyFits (flat_map log_surveys r.logs.items) → BlockFits (block_at place r)
+pub block_fits : (place : ℕ) (r : RingOutcome) → place < 2 ^ 32 → IsRingState r.book.start → length r.book.history ≤ event_limit → AllByRecursion EventFits (map saved_event r.book.history) → AllByRecursion SurveyFits (flat_map log_surveys r.logs.items) → BlockFits (block_at place r)
 block_fits place r small state few events surveys =
     let two : 2 ≤ length r.book.start.values = state.ring.two in
     let enough : length r.book.start.values ≤ r.book.start.k = state.ring.enough in
-    let most : r.book.start.k ≤ 256 = state.most in
+    let most : r.book.start.k ≤ value_limit = state.most in
     record {
       head = record { index = small; some = omega (arith, two); n = omega (arith, enough, most); k = omega (arith, most) };
       start = refl;
@@ -118,5 +120,5 @@ blocks_count place [] = refl
 blocks_count place (r ∷ rs) = ap suc (blocks_count (place + 1) rs)
 
 -- each block fits, there is one at least, and they are few
-pub text_fits : (o : Outcome) → 1 ≤ length o.rings.items → length o.rings.items ≤ 16 → AllByRecursion BlockFits (blocks_from 0 o.rings.items) → Fits (saved_of o)
+pub text_fits : (o : Outcome) → 1 ≤ length o.rings.items → length o.rings.items ≤ ring_limit → AllByRecursion BlockFits (blocks_from 0 o.rings.items) → Fits (saved_of o)
 text_fits o some most blocks = record { some = omega (arith, blocks_count 0 o.rings.items, some); rings = blocks; rings_said = omega (arith, most) }

@@ -2,7 +2,7 @@
 
 ghost use Rattle.std.specs.Prelude.{◌≡◌, ◌+◌, ◌<◌, ◌≤◌, ◌^◌, []};
 ghost use Rattle.ring_model.specs.Surveys.{granted_count, corrupted_count};
-ghost use Rattle.ring_book.specs.EventsView.{event_limit};
+ghost use Rattle.ring_model.specs.Limits.{event_limit};
 ghost use Rattle.ring_text.specs.Report.{refused_count, survey_count, surveys_in, entries_of, counts_of, totals_of};
 
 use ring_farm::RingOutcome;

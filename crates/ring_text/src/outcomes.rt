@@ -2,8 +2,7 @@
 
 ghost use Rattle.std.specs.Prelude.{◌≡◌, ◌≤◌, [], ◌∷◌, ◌++◌, IfOk, length, map};
 ghost use Rattle.std.specs.List.{flat_map, AllByRecursion};
-ghost use Rattle.std.specs.Fmt.{decimal};
-ghost use Rattle.text_lines.specs.Reading.{stop_of};
+ghost use Rattle.ring_settings.specs.Limits.{ring_limit};
 ghost use Rattle.text_lines.specs.Spelling.{row};
 ghost use Rattle.text_lines.specs.Writing.{Writes};
 ghost use Rattle.ring_text.specs.Spelling.{ring_line, start_line, event_line, end_line, survey_line, block_text, text, EventFits, SurveyFits, BlockFits, Fits};
@@ -13,13 +12,12 @@ use crate::put_lines::{
     put_done_line, put_end_line, put_event_line, put_first_line, put_ring_line, put_survey_line,
 };
 use crate::saved::{SavedEvent, SavedSurvey};
-use itoa::Buffer;
 use ring_book::{Entry, Event, Op, Reply, Survey};
 use ring_farm::{Outcome, RingOutcome};
 use ring_shared::Log;
 use ring_state::RingState;
 use std::io::Write;
-use text_lines::{WriteFault, put, put_all};
+use text_lines::{WriteFault, put, put_numbers};
 
 /// The line of an event. Where call and reply do not belong together there is none; no history has
 /// such an event, and a refused pass stands for it.
@@ -74,31 +72,12 @@ fn saved_survey(seat: u32, survey: Survey) -> SavedSurvey
     }
 }
 
-/// Writes a value of a row, and the byte that ends it: an LF where no value stands behind it, else a
-/// space.
-fn put_value<W: Write>(out: &mut W, value: u32, behind: u32) -> Result<(), WriteFault>
-    ensures { Writes (W.contents out.old) (W.contents out.new) result (decimal value ++ stop_of behind ∷ []) }
-{
-    let mut buffer = Buffer::new();
-    let digits = buffer.format(value).as_bytes();
-    match behind {
-        0 => put_all(out, &[digits, b"\n"]),
-        _ => put_all(out, &[digits, b" "]),
-    }
-}
-
 /// Writes the values of a state as one row.
 fn put_values<W: Write>(out: &mut W, state: &RingState) -> Result<(), WriteFault>
     ensures { Writes (W.contents out.old) (W.contents out.new) result (row state.now.values) }
 {
-    let n = state.params().n();
-    for i in 0..n {
-        match put_value(out, state.get(i), n - i - 1) {
-            Ok(()) => {}
-            Err(fault) => return Err(fault),
-        }
-    }
-    Ok(())
+    let n = state.params().n() as usize;
+    put_numbers(out, n, b" ", b"\n", |i| state.get(i as u32) as u64)
 }
 
 /// Writes the line of the values that a ring started from.
@@ -208,7 +187,7 @@ fn put_block<W: Write>(out: &mut W, place: u32, ring: &RingOutcome) -> Result<()
 
 /// Writes the blocks of the rings, each with its place from 0.
 fn put_blocks<W: Write>(out: &mut W, rings: &[RingOutcome]) -> Result<(), WriteFault>
-    requires { length rings.now ≤ 16 }
+    requires { length rings.now ≤ ring_limit }
     ensures written { Writes (W.contents out.old) (W.contents out.new) result (flat_map block_text (blocks_from 0 rings.now)) }
     ensures fits { IfOk result (λ _. AllByRecursion BlockFits (blocks_from 0 rings.now)) }
 {
@@ -221,7 +200,7 @@ fn put_blocks<W: Write>(out: &mut W, rings: &[RingOutcome]) -> Result<(), WriteF
     Ok(())
 }
 
-/// Writes the saved text of what a farm handed out, of 1 to 16 rings: for each ring its place from
+/// Writes the saved text of what a farm handed out, of 1 to `RING_LIMIT` rings: for each ring its place from
 /// 0, its size, its start, the events of its history and their number, and the surveys of its logs,
 /// log by log with the log's seat; behind them the number of rings. Receipts are not written, since
 /// the history holds them.
@@ -234,7 +213,7 @@ fn put_blocks<W: Write>(out: &mut W, rings: &[RingOutcome]) -> Result<(), WriteF
 /// there. The writer then holds a beginning of the text, but not all of it, behind what it held.
 pub fn write_outcome<W: Write>(outcome: &Outcome, out: &mut W) -> Result<(), WriteFault>
     requires some { 1 ≤ length outcome.now.rings.items }
-    requires most { length outcome.now.rings.items ≤ 16 }
+    requires most { length outcome.now.rings.items ≤ ring_limit }
     ensures written { Writes (W.contents out.old) (W.contents out.new) result (text (saved_of outcome.now)) }
     ensures fits { IfOk result (λ _. Fits (saved_of outcome.now)) }
 {

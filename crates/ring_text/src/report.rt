@@ -1,6 +1,7 @@
 //! The writer of the report on what a farm hands out. It takes no memory.
 
 ghost use Rattle.std.specs.Prelude.{◌≡◌, ◌<◌, ◌≤◌, ◌^◌, ◌++◌, ℕ, List, length, codes};
+ghost use Rattle.ring_settings.specs.Limits.{ring_limit};
 ghost use Rattle.text_lines.specs.Spelling.{list_text};
 ghost use Rattle.text_lines.specs.Writing.{AreAnswers, Writes};
 ghost use Rattle.ring_model.specs.History.{after, opening};
@@ -231,7 +232,7 @@ fn put_total_line<W: Write>(out: &mut W, rings: u32, totals: Totals) -> Result<(
 /// `WriteFault` at the first error of the writer, an interruption too, or write of 0 bytes. The writer then holds a
 /// beginning of the report, but not all of it, behind what it held.
 pub fn write_report<W: Write>(outcome: &Outcome, out: &mut W) -> Result<(), WriteFault>
-    requires most { length outcome.now.rings.items ≤ 16 }
+    requires most { length outcome.now.rings.items ≤ ring_limit }
     requires few { entries_in outcome.now < 2 ^ 64 }
     ensures { Writes (W.contents out.old) (W.contents out.new) result (report outcome.now) }
 {

@@ -1,12 +1,11 @@
 //! The program: it reads its words, does a command and prints what the command answers.
 #![tactic(auto)]
 
+use ring_commands::endings::tell;
 pub use ring_commands::faults::ToolError;
 pub use ring_commands::reading::read_limited;
 pub use ring_commands::step::step_lines;
 pub use ring_words::run_tool;
-
-use ring_commands::endings::tell;
 use std::io::{self, BufWriter, ErrorKind, Write};
 use std::process::ExitCode;
 use std::rt::{Env, Files};

@@ -30,7 +30,8 @@ const RUN_ABOUT: &str =
 
 const RUN_HELP: &str = "\
 Each client of the settings, and the injector of faults, has a thread of its own on each ring. When all have
-done their actions, the report has four lines for each ring and one for the farm.
+done their actions, the report has four lines for each ring and one for the farm. Where FILE is the settings file
+itself, it is replaced too. A file that is a pipe is waited for until somebody opens its other end.
 
 Example, where settings.json is {\"rings\":[{\"n\":3,\"k\":3,\"start\":[0,2,0]}],
 \"workers\":[{\"script\":[[\"pass\",0,0,5],[\"pass\",0,0,1],[\"pass\",0,2,4],[\"survey\",0]]}]}:
@@ -75,11 +76,7 @@ fn choices_word<'a>(alloc: Global) -> Arg<'a> {
 /// `step` with the ring's size.
 fn with_sizes<'a>(alloc: Global, command: Command<'a>) -> Result<Command<'a>, Error> {
     let n = needed_number(alloc, "N", "How many machines the ring has, 2 to 256");
-    let k = needed_number(
-        alloc,
-        "K",
-        "How many values a machine can hold, N to 256",
-    );
+    let k = needed_number(alloc, "K", "How many values a machine can hold, N to 256");
     Ok(command.arg(n)?.arg(k)?)
 }
 

@@ -7,4 +7,4 @@ pub mod Rows
 pub mod Steps
 pub mod Answering
 pub mod Writing
-pub mod Commas
+pub mod NumbersText

@@ -1,7 +1,7 @@
 -- Numbers on one line, and the loop that reads them.
-use Rattle.std.proofs.Common.{◌≡◌, ℕ, zero, suc, ◌+◌, ◌-◌, ◌^◌, ◌<◌, ◌≤◌, List, [], ◌∷◌, ◌++◌, length, drop, get_or, length-drop, Result, Ok, Err, refl, sym, ap, subst, ◌∙◌, append_assoc, arith}
+use Rattle.std.proofs.Common.{◌≡◌, ℕ, zero, suc, ◌+◌, ◌-◌, ◌^◌, ◌<◌, ◌≤◌, List, [], ◌∷◌, ◌++◌, length, Result, Ok, Err, refl, sym, ap, subst, ◌∙◌, append_assoc, arith}
 use Rattle.std.specs.Fmt.{decimal}
-use Rattle.std.proofs.lemmas.List.{append-nil, drop_more}
+use Rattle.std.proofs.lemmas.List.{append-nil}
 use Rattle.text_lines.specs.declared.fault.Fault.{Fault}
 use Rattle.text_lines.specs.declared.fault.Stop.{Stop}
 use Rattle.text_lines.specs.declared.fault.Stop.TheVariants as stops
@@ -17,17 +17,11 @@ stop_small zero = omega arith
 stop_small (suc k) = omega arith
 
 -- a row is its first number, with what ends it, and the row of the others
-pub row_step : (k x : ℕ) (xs : List ℕ) → length xs ≡ k → row (x ∷ xs) ≡ (decimal x ++ stop_of k ∷ []) ++ row xs
+row_step : (k x : ℕ) (xs : List ℕ) → length xs ≡ k → row (x ∷ xs) ≡ (decimal x ++ stop_of k ∷ []) ++ row xs
 row_step zero x [] e = sym (append-nil (ended x))
 row_step zero x (y ∷ ys) e = absurd cc
 row_step (suc k) x [] e = absurd cc
 row_step (suc k) x (y ∷ ys) e = refl
-
--- the row of what is left is the next number, with what ends it, and the row of what is left then
-pub row_next : (values : List ℕ) (i : ℕ) → i < length values → row (drop i values) ≡ (decimal (get_or values i 0) ++ stop_of (length values - i - 1) ∷ []) ++ row (drop (i + 1) values)
-row_next values i lt =
-    let l : length (drop (i + 1) values) ≡ length values - i - 1 = omega (arith, length-drop (i + 1) values) in
-    rw (drop_more values i 0 lt) (row_step (length values - i - 1) (get_or values i 0) (drop (i + 1) values) l)
 
 abbrev row_back : List ℕ → ℕ × List ℕ
 row_back [] = (0, [])

@@ -22,10 +22,16 @@ row (x ∷ y ∷ xs) = spaced x ++ row (y ∷ xs)
 abbrev pub list_text : List ℕ → List ℕ
 list_text numbers = join_with_byte 44 (map decimal numbers)
 
--- what stands behind a number with so many behind it in the list
-abbrev pub comma_before_rest : ℕ → List ℕ
-comma_before_rest zero = []
-comma_before_rest (suc n) = 44 ∷ []
+-- numbers with something between two of them and something behind the last
+abbrev pub numbers_text : List ℕ → List ℕ → List ℕ → List ℕ
+numbers_text between behind [] = []
+numbers_text between behind (x ∷ []) = decimal x ++ behind
+numbers_text between behind (x ∷ y ∷ xs) = decimal x ++ (between ++ numbers_text between behind (y ∷ xs))
+
+-- what stands behind a number with so many behind it
+abbrev pub stop_text : List ℕ → List ℕ → ℕ → List ℕ
+stop_text between behind zero = behind
+stop_text between behind (suc n) = between
 
 -- a number that is below the limit
 abbrev pub Below : ℕ → ℕ → Type 0

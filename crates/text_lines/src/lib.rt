@@ -13,6 +13,7 @@ mod answer;
 mod fault;
 mod list;
 mod number;
+mod numbers;
 mod row;
 mod words;
 mod write;
@@ -23,6 +24,7 @@ pub use answer::{
 pub use fault::{Fault, Stop};
 pub use list::put_list;
 pub use number::{number32, number64, positive32};
+pub use numbers::put_numbers;
 pub use row::{put_row, row32};
 pub use words::word;
 pub use write::{WriteFault, put, put_all};

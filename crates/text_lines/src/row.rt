@@ -7,8 +7,8 @@ ghost use Rattle.text_lines.specs.Writing.{Writes};
 
 use crate::fault::Stop;
 use crate::number::number32;
-use crate::write::{WriteFault, put_all};
-use itoa::Buffer;
+use crate::numbers::put_numbers;
+use crate::write::WriteFault;
 use std::alloc::Global;
 use std::io::Write;
 
@@ -54,14 +54,5 @@ pub fn row32(alloc: Global, n: u32, bytes: &[u8]) -> Result<(Vec<u32>, &[u8]), S
 pub fn put_row<W: Write>(out: &mut W, values: &[u32]) -> Result<(), WriteFault>
     ensures { Writes (W.contents out.old) (W.contents out.new) result (row values.now) }
 {
-    for (i, value) in values.iter().enumerate() {
-        let mut buffer = Buffer::new();
-        let digits = buffer.format(*value).as_bytes();
-        let stop = stop_byte(values.len() - i - 1);
-        match put_all(out, &[digits, &[stop]]) {
-            Ok(()) => {}
-            Err(fault) => return Err(fault),
-        }
-    }
-    Ok(())
+    put_numbers(out, values.len(), b" ", b"\n", |i| values[i] as u64)
 }

@@ -95,7 +95,7 @@ impl Gate for BothRings {
 }
 
 /// One arrival of a worker: the ring, the worker and the call's number.
-#[derive(Clone, Copy)]
+#[derive(Clone, Copy, PartialEq, Eq)]
 pub(crate) struct Arrival {
     pub(crate) ring: u32,
     pub(crate) worker: u32,
@@ -136,22 +136,26 @@ const WORKERS: [u64; 10] = [
     18_014_398_509_481_984,
 ];
 
+/// Counts a call of this worker, and answers whether it has the number of the worker's calls before.
+fn is_next(calls: &AtomicU64, worker: u32, call: u32) -> bool {
+    if worker > 9 {
+        return false;
+    }
+    let one = WORKERS[worker as usize];
+    calls.fetch_add(one, Ordering::SeqCst) / one % 64 == u64::from(call)
+}
+
 impl Gate for Tally {
     fn arrive(&self, ring: u32, worker: u32, call: u32) -> bool {
-        if worker > 9 || ring > 1 {
-            self.wrong.fetch_add(1, Ordering::SeqCst);
-            return true;
-        }
-        let one = WORKERS[worker as usize];
-        let calls = if ring == 0 { &self.first } else { &self.second };
-        let before = calls.fetch_add(one, Ordering::SeqCst) / one % 64;
-        if before != u64::from(call) {
+        let right = match ring {
+            0 => is_next(&self.first, worker, call),
+            1 => is_next(&self.second, worker, call),
+            _ => false,
+        };
+        if !right {
             self.wrong.fetch_add(1, Ordering::SeqCst);
         }
-        match self.shut {
-            Some(at) => at.ring != ring || at.worker != worker || at.call != call,
-            None => true,
-        }
+        self.shut != Some(Arrival { ring, worker, call })
     }
 }
 

@@ -6,7 +6,7 @@ use crate::events::{granted, refused, told};
 use crate::settings::{SCRIPTED, settings_of};
 use ring_farm::{FarmError, Open, Outcome, run_farm};
 use ring_model::Survey;
-use ring_settings::{Action, SettingsError, plans, read_settings};
+use ring_settings::{Action, Plan, SettingsError, plans, read_settings};
 use ring_shared::Entry;
 use std::process::Abort;
 
@@ -91,6 +91,35 @@ fn count(log: &[Entry]) -> (u64, u64) {
     (calls, surveys)
 }
 
+/// What a seat did on all rings: its calls and its surveys by its logs, and its calls by the books.
+fn made_by(rt: &impl Abort, outcome: &Outcome, seat: u32) -> (u64, u64, u64) {
+    assert!(rt; seat <= 9);
+    let mut made = (0u64, 0u64, 0u64);
+    for ring in &outcome.rings {
+        assert_eq!(rt; ring.logs.len(), 5);
+        assert!(rt; (seat as usize) < ring.logs.len());
+        let (calls, surveys) = count(ring.logs[seat as usize].entries.as_slice());
+        let booked = ring.book.calls_of(seat);
+        made = (
+            made.0.saturating_add(calls),
+            made.1.saturating_add(surveys),
+            made.2.saturating_add(booked),
+        );
+    }
+    made
+}
+
+/// How many calls a plan has, and how many surveys.
+fn planned(plan: &Plan) -> (u64, u64) {
+    let all = plan.actions.len() as u64;
+    let surveys = plan
+        .actions
+        .iter()
+        .filter(|action| matches!(action, Action::Survey { ring: _ }))
+        .count() as u64;
+    (all.saturating_sub(surveys), surveys)
+}
+
 #[test]
 fn drawn_plans_are_made_whole(rt: HostRuntime) -> Result<(), std::test::Fail> {
     let alloc = rt.alloc();
@@ -98,27 +127,13 @@ fn drawn_plans_are_made_whole(rt: HostRuntime) -> Result<(), std::test::Fail> {
     let plans = plans(alloc, &settings)?;
     let outcome = outcome(&rt, run_farm(&rt, alloc, &settings, &Open), 2);
     assert_eq!(rt; (outcome.rings.len(), plans.len()), (2, 5));
-    let mut seat = 0u32;
-    for plan in &plans {
+    for (seat, plan) in plans.iter().enumerate() {
+        let (calls, surveys) = planned(plan);
         assert!(rt; seat <= 9);
-        let surveys = plan
-            .actions
-            .iter()
-            .filter(|action| matches!(action, Action::Survey { ring: _ }))
-            .count() as u64;
-        let mut made = (0u64, 0u64);
-        let mut booked = 0u64;
-        for ring in &outcome.rings {
-            assert_eq!(rt; ring.logs.len(), 5);
-            assert!(rt; (seat as usize) < ring.logs.len());
-            let (calls, seen) = count(ring.logs[seat as usize].entries.as_slice());
-            made = (made.0.saturating_add(calls), made.1.saturating_add(seen));
-            booked = booked.saturating_add(ring.book.calls_of(seat));
-        }
-        assert_eq!(rt; made.1, surveys);
-        assert_eq!(rt; made.0.saturating_add(made.1), plan.actions.len() as u64);
-        assert_eq!(rt; booked, made.0);
-        seat += 1;
+        assert_eq!(rt;
+            made_by(&rt, &outcome, seat as u32),
+            (calls, surveys, calls)
+        );
     }
     Ok(())
 }

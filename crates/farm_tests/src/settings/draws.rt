@@ -7,7 +7,7 @@ use super::settings_of;
 use rand_core::Rng;
 use rand_core::utils::{self, NextWord};
 use rand_pcg::Lcg64Xsh32;
-use ring_settings::{Action, Role, draw_plan, plans};
+use ring_settings::{Action, Plan, Role, draw_plan, plans};
 use ring_state::Params;
 use std::marker::Model;
 use std::test::Fail;
@@ -133,7 +133,55 @@ fn words_are_those_of_pcg32(rt: HostRuntime) -> Result<(), Fail> {
     Ok(())
 }
 
-/// The numbers of surveys and the first actions are those of a short program in another language.
+/// How many actions each plan has, how many of them are surveys, and the first one, by a short program in another language.
+const WANTS: [(usize, usize, Action); 5] = [
+    (
+        500,
+        70,
+        Action::Pass {
+            ring: 1,
+            machine: 5,
+            order: 194_195_274,
+        },
+    ),
+    (500, 66, Action::Survey { ring: 0 }),
+    (
+        500,
+        58,
+        Action::Pass {
+            ring: 1,
+            machine: 3,
+            order: 3_164_221_927,
+        },
+    ),
+    (
+        500,
+        84,
+        Action::Pass {
+            ring: 0,
+            machine: 1,
+            order: 2_272_865_616,
+        },
+    ),
+    (
+        50,
+        0,
+        Action::Corrupt {
+            ring: 1,
+            machine: 7,
+            value: 15,
+        },
+    ),
+];
+
+/// How many surveys a plan has.
+fn surveys_of(plan: &Plan) -> usize {
+    plan.actions
+        .iter()
+        .filter(|a| matches!(a, Action::Survey { .. }))
+        .count()
+}
+
 #[test]
 fn each_seat_has_a_plan_of_its_own(rt: HostRuntime) -> Result<(), Fail> {
     let alloc = rt.alloc();
@@ -142,54 +190,9 @@ fn each_seat_has_a_plan_of_its_own(rt: HostRuntime) -> Result<(), Fail> {
         "injector":{"seed":5,"actions":50}}"#;
     let all = plans(alloc, &settings_of(&rt, alloc, text))?;
     assert_eq!(rt; all.len(), 5);
-    let wants = [
-        (
-            500,
-            70,
-            Action::Pass {
-                ring: 1,
-                machine: 5,
-                order: 194_195_274,
-            },
-        ),
-        (500, 66, Action::Survey { ring: 0 }),
-        (
-            500,
-            58,
-            Action::Pass {
-                ring: 1,
-                machine: 3,
-                order: 3_164_221_927,
-            },
-        ),
-        (
-            500,
-            84,
-            Action::Pass {
-                ring: 0,
-                machine: 1,
-                order: 2_272_865_616,
-            },
-        ),
-        (
-            50,
-            0,
-            Action::Corrupt {
-                ring: 1,
-                machine: 7,
-                value: 15,
-            },
-        ),
-    ];
-    for (plan, (actions, surveys, first)) in all.iter().zip(wants) {
+    for (plan, (actions, surveys, first)) in all.iter().zip(WANTS) {
         assert_eq!(rt; plan.actions.len(), actions);
-        assert_eq!(rt;
-            plan.actions
-                .iter()
-                .filter(|a| matches!(a, Action::Survey { .. }))
-                .count(),
-            surveys
-        );
+        assert_eq!(rt; surveys_of(plan), surveys);
         assert_eq!(rt; plan.actions.first().copied(), Some(first));
     }
     Ok(())

@@ -8,11 +8,17 @@ use std::test::Fail;
 fn a_scripted_document_has_its_ring_its_seat_and_its_plan(rt: HostRuntime) -> Result<(), Fail> {
     let alloc = rt.alloc();
     let settings = settings_of(&rt, alloc, SCRIPTED);
-    assert_eq!(rt; settings.ring_count(), 1);
-    assert_eq!(rt; settings.params(0).n(), 3);
-    assert_eq!(rt; settings.params(0).k(), 3);
+    let size = settings.params(0);
+    assert_eq!(rt;
+        (
+            settings.ring_count(),
+            size.n(),
+            size.k(),
+            settings.seat_count()
+        ),
+        (1, 3, 3, 1)
+    );
     assert_eq!(rt; settings.start(0), [0, 2, 0].as_slice());
-    assert_eq!(rt; settings.seat_count(), 1);
     let all = plans(alloc, &settings)?;
     assert_eq!(rt; all.len(), 1);
     assert_eq!(rt;
@@ -47,20 +53,24 @@ fn the_last_of_two_equal_members_counts_and_others_are_ignored(rt: HostRuntime) 
         r#"{"note":[1,{}],"rings":7,"rings":[{"n":9,"n":2,"k":4,"name":"a","start":[9],"start":[3,0]}],
         "workers":[{"seed":1,"seed":18446744073709551615,"actions":3,"colour":null}]}"#;
     let settings = settings_of(&rt, alloc, text);
-    assert_eq!(rt; settings.ring_count(), 1);
-    assert_eq!(rt; settings.params(0).n(), 2);
-    assert_eq!(rt; settings.params(0).k(), 4);
+    let size = settings.params(0);
+    assert_eq!(rt;
+        (
+            settings.ring_count(),
+            size.n(),
+            size.k(),
+            settings.seat_count()
+        ),
+        (1, 2, 4, 1)
+    );
     assert_eq!(rt; settings.start(0), [3, 0].as_slice());
-    assert_eq!(rt; settings.seat_count(), 1);
     match settings.seat(0) {
         SeatSetting::Drawn {
             role,
             seed,
             actions,
         } => {
-            assert_eq!(rt; *role, Role::Worker);
-            assert_eq!(rt; *seed, u64::MAX);
-            assert_eq!(rt; *actions, 3);
+            assert_eq!(rt; (*role, *seed, *actions), (Role::Worker, u64::MAX, 3));
         }
         SeatSetting::Script(_) => panic!(rt; "drawn"),
     }

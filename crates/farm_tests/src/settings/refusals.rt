@@ -209,31 +209,34 @@ fn what_is_no_action_is_refused_by_its_place(rt: HostRuntime) -> Result<(), Fail
     Ok(())
 }
 
+/// A document with this many rings and workers.
+fn counted_text(alloc: Global, rings: usize, workers: usize) -> Result<String, AllocError> {
+    let rings = array_of(alloc, r#"{"n":2,"k":2,"start":[0,1]}"#, rings)?;
+    let workers = array_of(alloc, r#"{"seed":1,"actions":0}"#, workers)?;
+    format!(in alloc; "{{\"rings\":{rings},\"workers\":{workers}}}")
+}
+
 #[test]
 fn limits_of_rings_and_workers_are_exact(rt: HostRuntime) -> Result<(), Fail> {
     let alloc = rt.alloc();
-    let ring = r#"{"n":2,"k":2,"start":[0,1]}"#;
-    let seat = r#"{"seed":1,"actions":0}"#;
-    for (rings, workers) in [(1, 1), (16, 9)] {
-        let rings_text = array_of(alloc, ring, rings)?;
-        let workers_text = array_of(alloc, seat, workers)?;
-        let text = format!(in alloc; "{{\"rings\":{rings_text},\"workers\":{workers_text}}}")?;
-        let settings = settings_of(&rt, alloc, text.as_str());
-        assert_eq!(rt; settings.ring_count(), rings);
-        assert_eq!(rt; settings.seat_count(), workers);
+    for (rings, workers, want) in [
+        (1, 1, None),
+        (16, 9, None),
+        (17, 0, Some(SettingsError::Limit(Field::Rings))),
+        (1, 10, Some(SettingsError::Limit(Field::Workers))),
+    ] {
+        let text = counted_text(alloc, rings, workers)?;
+        match read_settings(alloc, text.as_bytes()) {
+            Ok(settings) => {
+                assert_eq!(rt; want, None);
+                assert_eq!(rt;
+                    (settings.ring_count(), settings.seat_count()),
+                    (rings, workers)
+                );
+            }
+            Err(e) => assert_eq!(rt; Some(e), want),
+        }
     }
-    let seventeen = array_of(alloc, ring, 17)?;
-    let text = format!(in alloc; "{{\"rings\":{seventeen},\"workers\":[]}}")?;
-    assert_eq!(rt;
-        refusal(&rt, alloc, text.as_str()),
-        SettingsError::Limit(Field::Rings)
-    );
-    let ten = array_of(alloc, seat, 10)?;
-    let text = format!(in alloc; "{{\"rings\":[{ring}],\"workers\":{ten}}}")?;
-    assert_eq!(rt;
-        refusal(&rt, alloc, text.as_str()),
-        SettingsError::Limit(Field::Workers)
-    );
     Ok(())
 }
 

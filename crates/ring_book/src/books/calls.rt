@@ -3,7 +3,7 @@ ghost use Rattle.ring_model.specs.Ring.{is_settled, rest};
 ghost use Rattle.ring_model.specs.History.{opening};
 ghost use Rattle.ring_model.specs.HistoryLaws.{Settlement};
 ghost use Rattle.ring_model.specs.declared.events.Event.{Event};
-ghost use Rattle.ring_book.specs.EventsView.{event_limit};
+ghost use Rattle.ring_model.specs.Limits.{event_limit, seat_limit};
 ghost use Rattle.ring_book.specs.BookView.{IsBook, IsRecorded};
 ghost use Rattle.ring_book.specs.Repairs.{IsRepairedBy};
 
@@ -15,15 +15,15 @@ use ring_settle::is_settled;
 
 impl<R: Resource + Drop> Book<R> {
     /// A pass by `machine`, which is below n: if it is privileged it does the resource's work on `order` and
-    /// moves, else nothing changes; either way it is recorded as a call of `seat`, which is at most 9.
+    /// moves, else nothing changes; either way it is recorded as a call of `seat`, which is below `SEAT_LIMIT`.
     ///
     /// With room for an event the call takes no memory and is not refused.
     ///
     /// # Errors
     ///
-    /// `HistoryFull` where the history has 1,000,000 events, else `OutOfMemory`. Nothing has changed then.
+    /// `HistoryFull` where the history has `EVENT_LIMIT` events, else `OutOfMemory`. Nothing has changed then.
     pub fn pass(&mut self, seat: u32, machine: u32, order: u64) -> Result<Receipt, BookError>
-        requires seat { seat ≤ 9 }
+        requires seat { seat < seat_limit }
         requires machine { machine < length self.old.now.ring.values }
         ensures ok { IfOk result (λ r. IsRecorded R.works self.old self.new seat (Op.Pass machine order) r) }
         ensures book { IsBook R.works R.first self.new }
@@ -55,15 +55,15 @@ impl<R: Resource + Drop> Book<R> {
     }
 
     /// A fault: `value`, which is below K, is written into `machine`, which is below n. It is recorded as a
-    /// call of `seat`, which is at most 9, also where the value is the one that was there.
+    /// call of `seat`, which is below `SEAT_LIMIT`, also where the value is the one that was there.
     ///
     /// With room for an event the call takes no memory and is not refused.
     ///
     /// # Errors
     ///
-    /// `HistoryFull` where the history has 1,000,000 events, else `OutOfMemory`. Nothing has changed then.
+    /// `HistoryFull` where the history has `EVENT_LIMIT` events, else `OutOfMemory`. Nothing has changed then.
     pub fn corrupt(&mut self, seat: u32, machine: u32, value: u32) -> Result<Receipt, BookError>
-        requires seat { seat ≤ 9 }
+        requires seat { seat < seat_limit }
         requires machine { machine < length self.old.now.ring.values }
         requires value { value < self.old.now.ring.k }
         ensures ok { IfOk result (λ r. IsRecorded R.works self.old self.new seat (Op.Corrupt machine value) r) }
@@ -91,7 +91,7 @@ impl<R: Resource + Drop> Book<R> {
     ///
     /// # Errors
     ///
-    /// `HistoryFull` where the history would have more than 1,000,000 events, else `OutOfMemory`. Nothing has
+    /// `HistoryFull` where the history would have more than `EVENT_LIMIT` events, else `OutOfMemory`. Nothing has
     /// changed then.
     pub fn reserve(&mut self, more: u32) -> Result<(), BookError>
         ensures ok { OnOk result (more ≤ self.new.room) }
@@ -105,7 +105,7 @@ impl<R: Resource + Drop> Book<R> {
         self.events.reserve(more)
     }
 
-    /// Passes the first privileged machine with order 0, as calls of `seat`, which is at most 9, until exactly
+    /// Passes the first privileged machine with order 0, as calls of `seat`, which is below `SEAT_LIMIT`, until exactly
     /// one machine is privileged. Answers the number of these passes, which is at most the rest there was; in
     /// a ring with one privileged machine it is 0 and nothing is recorded, also where the history is full.
     ///
@@ -113,17 +113,17 @@ impl<R: Resource + Drop> Book<R> {
     ///
     /// As for `pass`. The passes that were granted until then stay recorded.
     pub fn settle(&mut self, seat: u32) -> Result<u64, BookError>
-        requires { seat ≤ 9 }
+        requires { seat < seat_limit }
         ensures repairs { (passes : List Event) × IsRepairedBy R.works self.old self.new seat passes }
         ensures ok { OnOk result (is_settled self.new.now.ring.values ≡ true) }
         ensures number { IfOk result (λ passes. length self.new.history ≡ length self.old.history + passes) }
-        ensures few { IfOk result (λ passes. passes ≤ rest self.old.now.ring.k self.old.now.ring.values) }
+        ensures few { IfOk result (λ passes. passes ≤ rest self.old.now.ring) }
         ensures none { is_settled self.old.now.ring.values ≡ true → result ≡ Ok 0 }
         ensures book { IsBook R.works R.first self.new }
         ensures settlement { Settlement R.works (opening self.new.start R.first) self.new.history }
         ensures full { IfErr result (λ e. (e ≡ BookError.HistoryFull) ↔ (length self.new.history ≡ event_limit)) }
         ensures err { OnErr result (is_settled self.new.now.ring.values ≡ false) }
-        ensures succeeds { rest self.old.now.ring.k self.old.now.ring.values ≤ self.old.room → IsOk result }
+        ensures succeeds { rest self.old.now.ring ≤ self.old.room → IsOk result }
     {
         let mut passes = 0;
         while !self.is_settled() {

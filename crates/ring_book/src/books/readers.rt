@@ -1,9 +1,10 @@
-ghost use Rattle.std.specs.Prelude.{◌≡◌, ◌≤◌, length};
+ghost use Rattle.std.specs.Prelude.{◌≡◌, ◌<◌, ◌≤◌, length};
 ghost use Rattle.ring_model.specs.Ring.{bound};
 ghost use Rattle.ring_model.specs.History.{opening};
 ghost use Rattle.ring_model.specs.HistoryLaws.{Settlement};
 ghost use Rattle.ring_model.specs.Surveys.{survey_at};
 ghost use Rattle.ring_model.specs.Logs.{calls_of};
+ghost use Rattle.ring_model.specs.Limits.{seat_limit};
 ghost use Rattle.ring_book.specs.GrantsView.{IsGrantsOf};
 ghost use Rattle.ring_book.specs.BookView.{IsBook};
 
@@ -73,9 +74,9 @@ impl<R: Resource + Drop> Book<R> {
         self.tally.grants()
     }
 
-    /// How many events of the history are calls of `seat`, which is at most 9.
+    /// How many events of the history are calls of `seat`, which is below `SEAT_LIMIT`.
     pub fn calls_of(&self, seat: u32) -> u64
-        requires { seat ≤ 9 }
+        requires { seat < seat_limit }
         ensures is { result ≡ length (calls_of seat self.now.history) }
         ensures book { IsBook R.works R.first self.now }
     {

@@ -1,6 +1,6 @@
 use Rattle.std.proofs.Common.{◌≡◌, ◌+◌, ◌%◌, ◌<◌, Bool, true, false, not, length, get_or, sym, ◌∙◌, ap, arith}
 use Rattle.std.proofs.lemmas.List.{get_or_read_under}
-use Rattle.ring_model.specs.Ring.{is_absent}
+use Rattle.ring_model.specs.Ring.{ring_with, is_absent}
 use Rattle.ring_check.proofs.Measuring.{lead_at, some_lead}
 use Rattle.ring_check.proofs.measures.lead.Goals as goal
 
@@ -13,9 +13,9 @@ returns-then-not-index c =
     get_or_read_under c.in_ok-held.held.items value c.args.k c.index.result.now false c.index.ensures lt long in
     let absent : is_absent c.args.values.now value ≡ true =
     c.in_ok-held.ensures.flags value lt ∙ ap (λ (x : Bool). not x) (sym read ∙ c.if-not-index.true) in
-    lead_at c.args.k c.args.values.now c.loop-step.step (sym c.first_value_is_prefix.ensures ∙ c.if-first_value_is_prefix.false)
+    lead_at (ring_with c.args.k c.args.values.now) c.loop-step.step (sym c.first_value_is_prefix.ensures ∙ c.if-first_value_is_prefix.false)
     c.loop-step.auto.step absent (omega arith) c.loop-step.invariant
 
 pub returns : goal.returns
-returns c = absurd (some_lead c.args.k c.args.values.now c.requires.ring (sym c.first_value_is_prefix.ensures ∙ c.if-first_value_is_prefix.false)
+returns c = absurd (some_lead (ring_with c.args.k c.args.values.now) c.requires.ring (sym c.first_value_is_prefix.ensures ∙ c.if-first_value_is_prefix.false)
     (λ i o l. c.loop-step.invariant i o (omega arith)))

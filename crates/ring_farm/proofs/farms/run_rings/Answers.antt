@@ -8,5 +8,5 @@ returns-clause-each g c =
     let count = c.in_ok-plans.ensures.count in
     let same : length c.in_ok-plans.plans.items ≡ length c.args.settings.now.seats = omega arith in
     ok_then _ _ c.run_each.result
-    (λ v each. each_done c.in_ok-plans.plans.items c.args.settings.now v.items (λ seat p within. c.in_ok-plans.ensures.plan seat p (omega arith)) same each)
+    (λ v each. each_done c.in_ok-plans.plans.items c.args.settings.now v.items c.run_each.ensures.settings (λ seat p within. c.in_ok-plans.ensures.plan seat p (omega arith)) same each)
     c.run_each.ensures.each

@@ -1,5 +1,5 @@
 use Rattle.std.proofs.Common.{◌≡◌, ℕ, length, sym, subst, arith}
-use Rattle.ring_model.specs.History.{Ring}
+use Rattle.ring_model.specs.Ring.{Ring}
 use Rattle.ring_shared.specs.Holding.{AreOfSeats}
 use Rattle.ring_farm.specs.Runs.{IsRun}
 use Rattle.ring_farm.proofs.Pairing.{logged_of, distinct_of}

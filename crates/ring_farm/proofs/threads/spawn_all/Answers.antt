@@ -1,4 +1,4 @@
-use Rattle.std.proofs.Common.{rules, vec_len, ◌≡◌, ◌<◌, refl, ◌∷◌, [], length, length-append, slice_get, ap, ◌∙◌, sym, arith}
+use Rattle.std.proofs.Common.{rules, ◌≡◌, ◌<◌, refl, ◌∷◌, [], length, length-append, slice_get, ap, ◌∙◌, sym, arith}
 use Rattle.std.proofs.lemmas.Iterator.Consumers.{YieldsList-turn}
 use Rattle.std.proofs.lemmas.Iterator.Adapters.{YieldsList-from_vec}
 use Rattle.std.proofs.lemmas.Option.{slice_get_read, get_or_from_slice_get}
@@ -26,11 +26,11 @@ loop-seat-preserved g c =
                 let k0 = k.0 in
                 let m = w.in-Some-spawn_one.ensures in
                 let n : length c.loop-seat.handles.items ≡ c.loop-seat.i = omega arith in
-                let count = c.requires.count in
+                let count = c.requires.fresh.count in
                 let within : c.loop-seat.i < length c.args.plans.now.items = (let t0 = t.0 in omega arith) in
                 let at = ap (slice_get c.args.plans.now.items) n ∙ slice_get_read c.args.plans.now.items (length c.args.plans.now.items) c.loop-seat.i c.index-plan.result.now refl within c.index-plan.ensures in
-                let below : length c.loop-seat.yielded < vec_len c.args.plans.now = omega arith in
-                let this = c.requires.each (length c.loop-seat.yielded) below in
+                let below : length c.loop-seat.yielded < length c.args.plans.now.items = omega arith in
+                let this = c.requires.fresh.each (length c.loop-seat.yielded) below in
                 let seat = t.1 ∙ get_or_from_slice_get c.args.seats.items (length c.loop-seat.yielded) _ c.in-Some.seat this in
                 let number = ap (λ (s : Client). s.number) seat in (
                   omega arith,

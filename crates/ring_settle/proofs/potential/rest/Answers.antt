@@ -7,7 +7,7 @@ use Rattle.ring_settle.proofs.potential.rest.Goals as goal
 pub returns-clause-bounded : goal.returns-clause-bounded
 returns-clause-bounded c =
     let n : c.n-n.result ≡ length c.args.state.now.values = c.n-n.ensures.is ∙ ap (λ (s : Size). s.n) c.params.ensures.is in
-    rw (c.weight.ensures, c.lead.ensures.is, n) (potential_bounded c.args.state.now.k c.args.state.now.values c.params.ensures.ring.ring)
+    rw (c.weight.ensures, c.lead.ensures.is, n) (potential_bounded c.args.state.now c.params.ensures.ring.ring)
 
 pub overflow_add-result : goal.overflow_add-result
 overflow_add-result c =

@@ -1,6 +1,6 @@
 use Rattle.std.proofs.Common.{◌≡◌, ◌++◌, ◌∙◌, length, ap, Ok, Err}
 use Rattle.ring_state.specs.Sizes.{Size}
-use Rattle.ring_model.specs.History.{Ring}
+use Rattle.ring_model.specs.Ring.{Ring}
 use Rattle.text_lines.proofs.Writing.{writes_then, writes_err, writes_same}
 use Rattle.ring_text.specs.Report.{states_line}
 use Rattle.ring_text.proofs.BookEnds.{states_text, standing_text, grants_text, standing_is, grants_are}

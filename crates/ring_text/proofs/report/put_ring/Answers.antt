@@ -1,6 +1,6 @@
 use Rattle.std.proofs.Common.{◌≡◌, ◌∙◌, ℕ, length, ap, Err}
 use Rattle.ring_state.specs.Sizes.{Size}
-use Rattle.ring_model.specs.History.{Ring}
+use Rattle.ring_model.specs.Ring.{Ring}
 use Rattle.text_lines.proofs.Writing.{writes_err, writes_same}
 use Rattle.ring_text.specs.declared.counts.Counts.{Counts}
 use Rattle.ring_text.specs.Report.{counts_of, counts_line, end_lines}

@@ -1,6 +1,6 @@
 use Rattle.std.proofs.Common.{◌≡◌, ◌*◌, ◌≤◌, ◌++◌, length, take, drop}
 use Rattle.text_lines.specs.Writing.{Wrote}
-use Rattle.ring_book.specs.EventsView.{event_limit}
+use Rattle.ring_model.specs.Limits.{event_limit}
 use Rattle.ring_text.specs.Report.{totals_of, total_line, rings_from, report}
 use Rattle.ring_text.proofs.report.write_report.Given as goal
 

@@ -1,6 +1,6 @@
 use Rattle.std.proofs.Common.{rules, ◌≤◌, ◌+◌, List, length, ap, arith}
 use Rattle.ring_model.specs.declared.events.Event.{Event}
-use Rattle.ring_book.specs.EventsView.{event_limit}
+use Rattle.ring_model.specs.Limits.{event_limit}
 use Rattle.ring_book.proofs.Growth.{IsKept-corruption, calls_fit}
 use Rattle.ring_book.proofs.Repairing.{book_settlement}
 use Rattle.ring_book.proofs.books.Book.corrupt.Goals as goal

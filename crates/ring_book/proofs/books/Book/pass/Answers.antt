@@ -1,8 +1,7 @@
 use Rattle.std.proofs.Common.{rules, ◌<◌, ◌≤◌, ◌+◌, List, length, ap, arith, sym, ◌∙◌}
 use Rattle.ring_model.specs.declared.events.Event.{Event}
-use Rattle.ring_model.specs.Ring.{is_settled}
-use Rattle.ring_model.specs.History.{Ring}
-use Rattle.ring_book.specs.EventsView.{event_limit}
+use Rattle.ring_model.specs.Ring.{Ring, is_settled}
+use Rattle.ring_model.specs.Limits.{event_limit}
 use Rattle.ring_book.specs.declared.books.Book.TheInside.{Inside}
 use Rattle.ring_book.proofs.Growth.{IsKept-grant, IsKept-idle, calls_fit, grants_fit, grant_even, settled_mark}
 use Rattle.ring_book.proofs.Repairing.{book_settlement}

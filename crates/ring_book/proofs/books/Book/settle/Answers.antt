@@ -1,7 +1,6 @@
 use Rattle.std.proofs.Common.{◌≡◌, ℕ, ◌+◌, ◌<◌, ◌≤◌, false, List, [], ◌∷◌, ◌++◌, length, length-append, refl, sym, ◌∙◌, ap, arith}
 use Rattle.std.proofs.lemmas.Bool.{both_ways}
-use Rattle.ring_model.specs.Ring.{first_privileged, rest}
-use Rattle.ring_model.specs.History.{Ring}
+use Rattle.ring_model.specs.Ring.{Ring, first_privileged, rest}
 use Rattle.ring_model.specs.declared.events.Event.{Event}
 use Rattle.ring_model.proofs.Settled.{rest_settled}
 use Rattle.ring_book.proofs.Repairing.{book_settlement, no_repairs, repair_turn, rest_left}
@@ -16,17 +15,17 @@ loop-self-init g c = record {
 
 pub returns-in_err-pass-clause-none : goal.returns-in_err-pass-clause-none
 returns-in_err-pass-clause-none g c = λ settled.
-    let none : rest c.args.self.now.now.ring.k c.args.self.now.now.ring.values ≡ 0 = rest_settled c.args.self.now.now.ring.k c.args.self.now.now.ring.values settled in
-    let left : 1 ≤ rest c.loop-self.self.now.ring.k c.loop-self.self.now.ring.values =
+    let none : rest c.args.self.now.now.ring ≡ 0 = rest_settled c.args.self.now.now.ring settled in
+    let left : 1 ≤ rest c.loop-self.self.now.ring =
     rest_left g.R.Resource.works g.R.Resource.first c.loop-self.self c.is_settled.ensures.book (sym c.is_settled.ensures.is ∙ c.loop-self-test.true) in
     let few' = c.loop-self.invariant.few in
     absurd (omega arith)
 
 pub returns-in_err-pass-clause-succeeds : goal.returns-in_err-pass-clause-succeeds
 returns-in_err-pass-clause-succeeds g c = λ fits.
-    let left : 1 ≤ rest c.loop-self.self.now.ring.k c.loop-self.self.now.ring.values =
+    let left : 1 ≤ rest c.loop-self.self.now.ring =
     rest_left g.R.Resource.works g.R.Resource.first c.loop-self.self c.is_settled.ensures.book (sym c.is_settled.ensures.is ∙ c.loop-self-test.true) in
-    let room' : rest c.loop-self.self.now.ring.k c.loop-self.self.now.ring.values ≤ c.loop-self.self.room = c.loop-self.invariant.room fits in
+    let room' : rest c.loop-self.self.now.ring ≤ c.loop-self.self.room = c.loop-self.invariant.room fits in
     absurd (both_ways false refl (c.in_err-pass.ensures.succeeds (omega arith)))
 
 pub loop-self-smaller : goal.loop-self-smaller
@@ -41,7 +40,7 @@ loop-self-preserved g c =
     let t = repair_turn g.R.Resource.works g.R.Resource.first c.args.self.now c.loop-self.self c.pass.new.self c.args.seat passes c.in_ok-pass.field-0 c.first-machine.result
     c.is_settled.ensures.book c.loop-self.invariant.made.1 (sym c.is_settled.ensures.is ∙ c.loop-self-test.true)
     (c.first-machine.ensures.is ∙ ap (λ (r : Ring). first_privileged r.values) c.state.ensures.is) c.in_ok-pass.ensures.ok in
-    let falls : rest c.pass.new.self.now.ring.k c.pass.new.self.now.ring.values < rest c.loop-self.self.now.ring.k c.loop-self.self.now.ring.values = t.falls in
+    let falls : rest c.pass.new.self.now.ring < rest c.loop-self.self.now.ring = t.falls in
     let count : length passes ≡ c.loop-self.passes = c.loop-self.invariant.made.2 in
     let few' = c.loop-self.invariant.few in
     let used : c.loop-self.self.room ≤ c.pass.new.self.room + 1 = c.in_ok-pass.ensures.room in
@@ -49,7 +48,7 @@ loop-self-preserved g c =
       made = (passes ++ c.in_ok-pass.field-0.event ∷ [], t.made, length-append passes (c.in_ok-pass.field-0.event ∷ []) ∙ ap (λ (n : ℕ). n + 1) count);
       few = omega arith;
       room = λ fits.
-          let room' : rest c.loop-self.self.now.ring.k c.loop-self.self.now.ring.values ≤ c.loop-self.self.room = c.loop-self.invariant.room fits in
+          let room' : rest c.loop-self.self.now.ring ≤ c.loop-self.self.room = c.loop-self.invariant.room fits in
           omega arith;
     }
 

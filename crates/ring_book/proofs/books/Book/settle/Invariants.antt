@@ -7,9 +7,9 @@ use Rattle.ring_book.proofs.books.Book.settle.Given as goal
 abbrev pub invariant-loop-self : goal.invariant-loop-self
 invariant-loop-self g l = record {
   made : (passes : List Event) × IsRepairedBy g.R.Resource.works l.fn.self l.self l.seat passes × (length passes ≡ l.passes);
-  few : l.passes + rest l.self.now.ring.k l.self.now.ring.values ≤ rest l.fn.self.now.ring.k l.fn.self.now.ring.values;
-  room : rest l.fn.self.now.ring.k l.fn.self.now.ring.values ≤ l.fn.self.room → rest l.self.now.ring.k l.self.now.ring.values ≤ l.self.room;
+  few : l.passes + rest l.self.now.ring ≤ rest l.fn.self.now.ring;
+  room : rest l.fn.self.now.ring ≤ l.fn.self.room → rest l.self.now.ring ≤ l.self.room;
 }
 
 abbrev pub decreases-loop-self : goal.decreases-loop-self
-decreases-loop-self g l = rest l.self.now.ring.k l.self.now.ring.values
+decreases-loop-self g l = rest l.self.now.ring

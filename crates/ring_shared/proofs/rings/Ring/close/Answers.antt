@@ -1,6 +1,7 @@
 use Rattle.std.proofs.Common.{◌<◌, ap, length, sym, subst, All, List, arith}
 use Rattle.std.proofs.lemmas.List.Sorted.{length_permutation}
-use Rattle.ring_model.specs.History.{Ring, opening}
+use Rattle.ring_model.specs.Ring.{Ring}
+use Rattle.ring_model.specs.History.{opening}
 use Rattle.ring_model.specs.HistoryLaws.{Settlement}
 use Rattle.ring_model.specs.Logs.{Fits}
 use Rattle.ring_model.proofs.HistoryLaws.{settlement}

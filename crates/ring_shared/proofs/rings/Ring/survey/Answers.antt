@@ -1,5 +1,6 @@
 use Rattle.std.proofs.Common.{◌≡◌, length, subst}
-use Rattle.ring_model.specs.History.{Ring, IsLegal, opening}
+use Rattle.ring_model.specs.Ring.{Ring}
+use Rattle.ring_model.specs.History.{IsLegal, opening}
 use Rattle.ring_model.specs.Surveys.{survey_at}
 use Rattle.ring_shared.proofs.rings.Ring.survey.Goals as goal
 

@@ -1,0 +1,46 @@
+//! Numbers, one after the other: the one loop behind rows and lists.
+
+ghost use Rattle.std.specs.Prelude.{◌≡◌, ◌<◌, ℕ, List};
+ghost use Rattle.text_lines.specs.Spelling.{numbers_text, stop_text};
+ghost use Rattle.text_lines.specs.Writing.{AreAnswers, Writes};
+
+use crate::write::{WriteFault, put_all};
+use itoa::Buffer;
+use std::io::Write;
+
+/// What stands behind a number with so many behind it.
+fn stop(left: usize, between: &'static [u8], behind: &'static [u8]) -> &'static [u8]
+    ensures { result.now ≡ stop_text between.now behind.now left }
+{
+    match left {
+        0 => behind,
+        _ => between,
+    }
+}
+
+/// Writes so many numbers, the one at place `i`, from 0, as `number` answers it: `between` stands between two of them,
+/// and `behind` behind the last. Where there is none it writes nothing. It takes no memory.
+///
+/// # Errors
+///
+/// As [`put_all`](crate::put_all).
+pub fn put_numbers<W: Write, F: Fn(usize) -> u64>(
+    out: &mut W,
+    count: usize,
+    between: &'static [u8],
+    behind: &'static [u8],
+    number: F,
+) -> Result<(), WriteFault>
+    requires { (i : ℕ) → i < count → F.pre number i }
+    ensures { (numbers : List ℕ) → AreAnswers (F.post number) count numbers → Writes (W.contents out.old) (W.contents out.new) result (numbers_text between.now behind.now numbers) }
+{
+    for i in 0..count {
+        let mut buffer = Buffer::new();
+        let digits = buffer.format(number(i)).as_bytes();
+        match put_all(out, &[digits, stop(count - i - 1, between, behind)]) {
+            Ok(()) => {}
+            Err(fault) => return Err(fault),
+        }
+    }
+    Ok(())
+}
