@@ -2,12 +2,17 @@
 //! it prints is the same whatever the threads' schedule was.
 #![tactic(auto)]
 
+use anyhow::bail;
 use ring_state::{Params, RingState};
 use ticket_roll::{TICKETS, run_desk, times_given};
 
 fn main(rt: HostRuntime) -> anyhow::Result<()> {
-    let size = Params::new(3, 3)?;
-    let state = RingState::from_values(rt.alloc(), &size, &[0, 2, 1])?;
+    let Ok(size) = Params::new(3, 3) else {
+        bail!("a ring of no size that is allowed");
+    };
+    let Ok(state) = RingState::from_values(rt.alloc(), &size, &[0, 2, 1]) else {
+        bail!("out of memory");
+    };
     let desk = run_desk(&rt, rt.alloc(), state)?;
     let (mut given, mut twice, mut sum) = (0u64, 0u64, 0u64);
     for ticket in 1..=TICKETS {
