@@ -30,6 +30,7 @@ pub enum SurveyOrNext {
 
 /// The number and the result of a grant, or none.
 #[tactic(auto, unfolding(crate::specs::Lines::reply_at))]
+#[inline(always)]
 fn reply(bytes: &[u8]) -> Result<(Option<(u64, u64)>, &[u8]), Stop>
     ensures { Gives (λ x. (x.0, x.1.now)) result (reply_at bytes.now) }
 {

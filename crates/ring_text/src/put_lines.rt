@@ -8,7 +8,7 @@ ghost use Rattle.ring_text.specs.Spelling.{first_line, ring_line, start_line, ev
 use crate::saved::{SavedEvent, SavedSurvey};
 use itoa::Buffer;
 use std::io::Write;
-use text_lines::{WriteFault, put, put_all, put_row};
+use text_lines::{Line, WriteFault, put, put_all, put_row};
 
 /// Writes the text's first line.
 pub fn put_first_line<W: Write>(out: &mut W) -> Result<(), WriteFault>
@@ -49,34 +49,39 @@ fn put_granted<W: Write>(
 ) -> Result<(), WriteFault>
     ensures { Writes (W.contents out.old) (W.contents out.new) result (event_line (Granted seat machine order number answer)) }
 {
-    let mut buffers = (
-        Buffer::new(),
-        Buffer::new(),
-        Buffer::new(),
-        Buffer::new(),
-        Buffer::new(),
-    );
-    let seat = buffers.0.format(seat).as_bytes();
-    let machine = buffers.1.format(machine).as_bytes();
-    let order = buffers.2.format(order).as_bytes();
-    let number = buffers.3.format(number).as_bytes();
-    let answer = buffers.4.format(answer).as_bytes();
-    put_all(
-        out,
-        &[
-            b"p ", seat, b" ", machine, b" ", order, b" g ", number, b" ", answer, b"\n",
-        ],
-    )
+    let mut line = Line::new();
+    line.byte(b'\n');
+    line.number(answer);
+    line.byte(b' ');
+    line.number(number);
+    line.byte(b' ');
+    line.byte(b'g');
+    line.byte(b' ');
+    line.number(order);
+    line.byte(b' ');
+    line.number(machine as u64);
+    line.byte(b' ');
+    line.number(seat as u64);
+    line.byte(b' ');
+    line.byte(b'p');
+    put(out, line.as_bytes())
 }
 
 fn put_refused<W: Write>(out: &mut W, seat: u32, machine: u32, order: u64) -> Result<(), WriteFault>
     ensures { Writes (W.contents out.old) (W.contents out.new) result (event_line (Refused seat machine order)) }
 {
-    let mut buffers = (Buffer::new(), Buffer::new(), Buffer::new());
-    let seat = buffers.0.format(seat).as_bytes();
-    let machine = buffers.1.format(machine).as_bytes();
-    let order = buffers.2.format(order).as_bytes();
-    put_all(out, &[b"p ", seat, b" ", machine, b" ", order, b" n\n"])
+    let mut line = Line::new();
+    line.byte(b'\n');
+    line.byte(b'n');
+    line.byte(b' ');
+    line.number(order);
+    line.byte(b' ');
+    line.number(machine as u64);
+    line.byte(b' ');
+    line.number(seat as u64);
+    line.byte(b' ');
+    line.byte(b'p');
+    put(out, line.as_bytes())
 }
 
 fn put_corrupted<W: Write>(
@@ -88,15 +93,18 @@ fn put_corrupted<W: Write>(
 ) -> Result<(), WriteFault>
     ensures { Writes (W.contents out.old) (W.contents out.new) result (event_line (Corrupted seat machine value old)) }
 {
-    let mut buffers = (Buffer::new(), Buffer::new(), Buffer::new(), Buffer::new());
-    let seat = buffers.0.format(seat).as_bytes();
-    let machine = buffers.1.format(machine).as_bytes();
-    let value = buffers.2.format(value).as_bytes();
-    let old = buffers.3.format(old).as_bytes();
-    put_all(
-        out,
-        &[b"c ", seat, b" ", machine, b" ", value, b" ", old, b"\n"],
-    )
+    let mut line = Line::new();
+    line.byte(b'\n');
+    line.number(old as u64);
+    line.byte(b' ');
+    line.number(value as u64);
+    line.byte(b' ');
+    line.number(machine as u64);
+    line.byte(b' ');
+    line.number(seat as u64);
+    line.byte(b' ');
+    line.byte(b'c');
+    put(out, line.as_bytes())
 }
 
 /// Writes the line of an event.
@@ -137,21 +145,22 @@ pub fn put_end_line<W: Write>(out: &mut W, events: u64) -> Result<(), WriteFault
 pub fn put_survey_line<W: Write>(out: &mut W, survey: SavedSurvey) -> Result<(), WriteFault>
     ensures { Writes (W.contents out.old) (W.contents out.new) result (survey_line survey) }
 {
-    let mut fronts = (Buffer::new(), Buffer::new(), Buffer::new());
-    let mut backs = (Buffer::new(), Buffer::new(), Buffer::new());
-    let seat = fronts.0.format(survey.seat).as_bytes();
-    let position = fronts.1.format(survey.position).as_bytes();
-    let privileged = fronts.2.format(survey.privileged).as_bytes();
-    let first = backs.0.format(survey.first).as_bytes();
-    let calm = backs.1.format(survey.calm).as_bytes();
-    let rest = backs.2.format(survey.rest).as_bytes();
-    put_all(
-        out,
-        &[
-            b"s ", seat, b" ", position, b" ", privileged, b" ", first, b" ", calm, b" ", rest,
-            b"\n",
-        ],
-    )
+    let mut line = Line::new();
+    line.byte(b'\n');
+    line.number(survey.rest);
+    line.byte(b' ');
+    line.number(survey.calm);
+    line.byte(b' ');
+    line.number(survey.first as u64);
+    line.byte(b' ');
+    line.number(survey.privileged as u64);
+    line.byte(b' ');
+    line.number(survey.position);
+    line.byte(b' ');
+    line.number(survey.seat as u64);
+    line.byte(b' ');
+    line.byte(b's');
+    put(out, line.as_bytes())
 }
 
 /// Writes the last line, which says how many rings there are.

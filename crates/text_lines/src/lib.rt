@@ -11,6 +11,7 @@
 
 mod answer;
 mod fault;
+mod line;
 mod list;
 mod number;
 mod numbers;
@@ -22,6 +23,7 @@ pub use answer::{
     ReadError, answers_are_apart, line_at, nothing_more, readers_answer_right, refusal,
 };
 pub use fault::{Fault, Stop};
+pub use line::Line;
 pub use list::put_list;
 pub use number::{number32, number64, positive32};
 pub use numbers::put_numbers;

@@ -20,8 +20,8 @@ fn digits(first: u64, max: u64, stop: u8, bytes: &[u8]) -> Result<(u64, &[u8]), 
             return Err(Stop::Fault(Fault::Bad(bytes.len() - i)));
         }
         let digit = (*b - b'0') as u64;
-        // The number would pass the limit; computed without passing it.
-        if (max - digit) / 10 < value {
+        // The number would pass the limit; computed without passing it. Far below the limit one comparison tells.
+        if max / 10 <= value && (max - digit) / 10 < value {
             return Err(Stop::Fault(Fault::Bad(bytes.len() - i)));
         }
         value = value * 10 + digit;
