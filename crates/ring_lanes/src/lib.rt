@@ -171,6 +171,7 @@ pub fn wide_first_value_is_prefix(s: &[u16]) -> bool
     ensures test { result ≡ first_value_is_prefix s.now }
     ensures prefix { IsTrue result ↔ ((p : ℕ) × IsPrefix s.now p) }
 {
+    // Two searches: a test of both neighbours at once would load and compare twice as much.
     let value = s[0];
     let end = first_hit(&WideDiffering { values: s, value }, 1);
     if end == s.len() {

@@ -1,6 +1,7 @@
 //! The kernels of `ring_lanes` for a program that is not written in Rattle: a static library with
 //! one function for each kernel. A slice is passed as a pointer and then a length, and a mask as a
-//! pointer to its words, four or sixteen. The caller keeps what a function requires: nothing checks it at the call.
+//! pointer to its words, four or sixteen. The caller keeps what a function requires: nothing checks it
+//! at the call.
 #![tactic(auto)]
 
 ghost use Rattle.std.specs.Prelude.{◌≡◌, ◌↔◌, ◌≤◌, ◌<◌, ◌/◌, ◌%◌, ◌&&◌, if◌then◌else◌, nat_lt, ℕ, length, slice_index, IsTrue, EachIndex};
