@@ -1,6 +1,7 @@
 -- A block's event lines, one after the other.
 use Rattle.std.proofs.Common.{◌≡◌, ℕ, ◌+◌, ◌<◌, List, [], ◌∷◌, ◌++◌, length, take, get_or, map, Some, None, refl, sym, ◌∙◌, ap, subst, arith, append_assoc, append-nil, length-take}
 use Rattle.std.proofs.lemmas.List.{take_more, map-append}
+use Rattle.ring_model.specs.Ring.{ring_with}
 use Rattle.ring_model.specs.declared.events.Event.{Event}
 use Rattle.ring_model.specs.History.{State, Step, next, IsLegal}
 use Rattle.ring_model.specs.Resources.{till}
@@ -31,8 +32,8 @@ events_after line rings n k start h (e ∷ es) =
 
 -- the first i events have no fault, and the replay stands behind them
 pub record AreGood (line k : ℕ) (start : List ℕ) (es : List SavedEvent) (i : ℕ) (r : Replay) : Type 0 where
-  pub stands : StandsAt k start es i r
-  pub legal : IsLegal till (first_state k start) (map event_of (take i es))
+  pub stands : StandsAt (ring_with k start) es i r
+  pub legal : IsLegal till (first_state (ring_with k start)) (map event_of (take i es))
   pub none : (rings : ℕ) → first_fault (in_block line rings (length start) k start []) (map EventLine (take i es)) ≡ None
   pub long : length r.values.items ≡ length start
 
@@ -74,8 +75,8 @@ module _ (line k : ℕ) (start : List ℕ) (es : List SavedEvent) (i : ℕ) (d :
       let kept = step_keeps (state_of r) e.op e.reply good.stands.stands.ring step in
       record {
         stands = stands_on k start es i d r t lt good.stands step f;
-        legal = subst (λ (u : List Event). IsLegal till (first_state k start) u) (sym push)
-            (IsLegal-push till (first_state k start) (map event_of (take i es)) e good.legal
+        legal = subst (λ (u : List Event). IsLegal till (first_state (ring_with k start)) u) (sym push)
+            (IsLegal-push till (first_state (ring_with k start)) (map event_of (take i es)) e good.legal
             (subst (λ (x : State ℕ). Step till x e (next till x e.op)) (sym good.stands.stands.state) step));
         none = λ rings. walk_good EventLine (in_block line rings (length start) k start []) es i d lt (at rings) (good.none rings) (here rings) (faulty rings ∙ h);
         long = ap (λ (x : State ℕ). length x.ring.values) f.state ∙ kept.long ∙ good.long;

@@ -4,6 +4,7 @@ use Rattle.std.specs.Prelude.{nat_le, nat_lt, ◌⊎◌}
 use Rattle.std.specs.List.{All, list_all, flat_map}
 use Rattle.std.proofs.lemmas.List.Elements.{All-cons, All-head, All-tail}
 use Rattle.std.proofs.lemmas.Bool.{cases_lt}
+use Rattle.ring_model.specs.Ring.{ring_with}
 use Rattle.ring_model.specs.Limits.{machine_limit, value_limit, seat_limit}
 use Rattle.ring_model.specs.declared.events.Event.{Event}
 use Rattle.ring_model.specs.declared.events.Survey.{Survey}
@@ -47,29 +48,29 @@ count_none false e = absurd (cc)
 
 pub events_mean : (line rings k : ℕ) (start : List ℕ) (h : List Event) (es : List SavedEvent) → IsWell k start h →
     first_fault (in_block line rings (length start) k start h) (map EventLine es) ≡ None →
-    All (λ (e : Event). e.seat < seat_limit) (map event_of es) × IsLegal till (after till (first_state k start) h) (map event_of es)
+    All (λ (e : Event). e.seat < seat_limit) (map event_of es) × IsLegal till (after till (first_state (ring_with k start)) h) (map event_of es)
 events_mean line rings k start h [] w none = ((λ k d l. absurd (omega arith)), tt)
 events_mean line rings k start h (e ∷ es) w none =
-    let a = after till (first_state k start) h in
+    let a = after till (first_state (ring_with k start)) h in
     let p = behind_none (event_fault (length start) a (event_of e)) line (first_fault (in_block (line + 1) rings (length start) k start (h ++ event_of e ∷ [])) (map EventLine es)) none in
     let m = event_means (length start) a (event_of e) w.long p.0 in
     let more = events_mean (line + 1) rings k start (h ++ event_of e ∷ []) es (well_push k start h (event_of e) w m.1) p.1 in (
       All-cons (λ (e : Event). e.seat < seat_limit) (event_of e) (map event_of es) m.0 more.0,
-      (m.1, subst (λ (x : State ℕ). IsLegal till x (map event_of es)) (after-push till (first_state k start) h (event_of e)) more.1),
+      (m.1, subst (λ (x : State ℕ). IsLegal till x (map event_of es)) (after-push till (first_state (ring_with k start)) h (event_of e)) more.1),
     )
 
 pub events_fine : (line rings k : ℕ) (start : List ℕ) (h : List Event) (es : List SavedEvent) → IsWell k start h →
-    All (λ (e : Event). e.seat < seat_limit) (map event_of es) → IsLegal till (after till (first_state k start) h) (map event_of es) →
+    All (λ (e : Event). e.seat < seat_limit) (map event_of es) → IsLegal till (after till (first_state (ring_with k start)) h) (map event_of es) →
     first_fault (in_block line rings (length start) k start h) (map EventLine es) ≡ None
 events_fine line rings k start h [] w seats legal = refl
 events_fine line rings k start h (e ∷ es) w seats legal =
-    let a = after till (first_state k start) h in
+    let a = after till (first_state (ring_with k start)) h in
     let fine : event_fault (length start) a (event_of e) ≡ None =
     event_fine (length start) a (event_of e) w.long (All-head (λ (e : Event). e.seat < seat_limit) (event_of e) (map event_of es) seats) legal.0 in
     let more : first_fault (in_block (line + 1) rings (length start) k start (h ++ event_of e ∷ [])) (map EventLine es) ≡ None =
     events_fine (line + 1) rings k start (h ++ event_of e ∷ []) es (well_push k start h (event_of e) w legal.0)
     (All-tail (λ (e : Event). e.seat < seat_limit) (event_of e) (map event_of es) seats)
-    (subst (λ (x : State ℕ). IsLegal till x (map event_of es)) (sym (after-push till (first_state k start) h (event_of e))) legal.1) in
+    (subst (λ (x : State ℕ). IsLegal till x (map event_of es)) (sym (after-push till (first_state (ring_with k start)) h (event_of e))) legal.1) in
     rw (fine, more) refl
 
 -- The surveys of a block.
@@ -118,12 +119,12 @@ surveys_mean b line rings seat position (s ∷ ss) none =
     let p = behind_none (fault at (SurveyLine s)) line (first_fault (in_surveys (line + 1) rings b.k b.start (history b) s.seat s.position) (map SurveyLine ss)) none in
     let q = both_none (nat_lt s.seat seat_limit) (is_onward seat position s && is_surveyed at s) p.0 in
     let on = both (is_onward seat position s) (is_surveyed at s) q.1 in
-    let said = both (nat_le s.position (length (history b))) (same_survey s (survey_at till (first_state b.k b.start) (history b) s.position)) on.1 in
+    let said = both (nat_le s.position (length (history b))) (same_survey s (survey_at till (first_state (ring_with b.k b.start)) (history b) s.position)) on.1 in
     let within = at_most s.position (length (history b)) said.0 in
     let more = surveys_mean b (line + 1) rings s.seat s.position ss p.1 in
     let right : IsRightSurvey b s = record {
       seat = below s.seat seat_limit q.0;
-      right = (within, same_survey_means s (survey_at till (first_state b.k b.start) (history b) s.position) refl said.1);
+      right = (within, same_survey_means s (survey_at till (first_state (ring_with b.k b.start)) (history b) s.position) refl said.1);
     } in
     ((onward_means seat position s on.0, more.0), All-cons (IsRightSurvey b) s ss right more.1)
 
@@ -135,7 +136,7 @@ surveys_fine b line rings seat position (s ∷ ss) order right =
     let here : IsRightSurvey b s = All-head (IsRightSurvey b) s ss right in
     let said : is_surveyed at s ≡ true =
     joined (nat_le s.position (length (history b))) _ (le_true s.position (length (history b)) here.right.0)
-    (same_survey_true s (survey_at till (first_state b.k b.start) (history b) s.position) here.right.1) in
+    (same_survey_true s (survey_at till (first_state (ring_with b.k b.start)) (history b) s.position) here.right.1) in
     let all : (is_onward seat position s && is_surveyed at s) ≡ true = joined (is_onward seat position s) (is_surveyed at s) (onward_true seat position s order.0) said in
     let seats : nat_lt s.seat seat_limit ≡ true = lt_true s.seat seat_limit here.seat in
     let fine : fault at (SurveyLine s) ≡ None =

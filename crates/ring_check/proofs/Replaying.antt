@@ -26,7 +26,7 @@ pub record IsFresh (k : ℕ) (start : List ℕ) (r : Replay) : Type 0 where
   pub grants : r.grants ≡ 0
   pub calm : r.calm ≡ 0
 
-pub stands_first : (k : ℕ) (start : List ℕ) (es : List SavedEvent) (r : Replay) → IsRing (ring_with k start) → IsFresh k start r → StandsAt k start es 0 r
+pub stands_first : (k : ℕ) (start : List ℕ) (es : List SavedEvent) (r : Replay) → IsRing (ring_with k start) → IsFresh k start r → StandsAt (ring_with k start) es 0 r
 stands_first k start es r ring f =
     let a = f.same_k in
     let b = f.values in
@@ -41,31 +41,31 @@ stands_first k start es r ring f =
 
 -- the event at a place of a legal history is a step from where the replay stands
 pub step_at : (k : ℕ) (start : List ℕ) (es : List SavedEvent) (i : ℕ) (d : SavedEvent) (r : Replay) → i < length es →
-    IsLegal till (first_state k start) (map event_of es) → StandsAt k start es i r →
+    IsLegal till (first_state (ring_with k start)) (map event_of es) → StandsAt (ring_with k start) es i r →
     Step till (state_of r) (event_of (get_or es i d)) (next till (state_of r) (event_of (get_or es i d)).op)
 step_at k start es i d r lt legal at =
     let cut : es ≡ take i es ++ get_or es i d ∷ drop (i + 1) es = sym (take-append-drop i es) ∙ ap (λ (u : List SavedEvent). take i es ++ u) (drop_more es i d lt) in
     let parts : map event_of es ≡ map event_of (take i es) ++ event_of (get_or es i d) ∷ map event_of (drop (i + 1) es) =
     ap (λ (u : List SavedEvent). map event_of u) cut ∙ map-append event_of (take i es) (get_or es i d ∷ drop (i + 1) es) in
-    let here = legal_step till (first_state k start) (map event_of (take i es)) (event_of (get_or es i d)) (map event_of (drop (i + 1) es))
-    (subst (λ (u : List Event). IsLegal till (first_state k start) u) parts legal) in
+    let here = legal_step till (first_state (ring_with k start)) (map event_of (take i es)) (event_of (get_or es i d)) (map event_of (drop (i + 1) es))
+    (subst (λ (u : List Event). IsLegal till (first_state (ring_with k start)) u) parts legal) in
     subst (λ (x : State ℕ). Step till x (event_of (get_or es i d)) (next till x (event_of (get_or es i d)).op)) at.stands.state here
 
-stands_more : (k : ℕ) (start : List ℕ) (h : List Event) (r t : Replay) (e : Event) → Stands k start h r →
-    Step till (state_of r) e (next till (state_of r) e.op) → Follows r e t → Stands k start (h ++ e ∷ []) t
+stands_more : (k : ℕ) (start : List ℕ) (h : List Event) (r t : Replay) (e : Event) → Stands (ring_with k start) h r →
+    Step till (state_of r) e (next till (state_of r) e.op) → Follows r e t → Stands (ring_with k start) (h ++ e ∷ []) t
 stands_more k start h r t e s step f =
     let kept = step_keeps (state_of r) e.op e.reply s.ring step in
     record {
-      state = after-push till (first_state k start) h e ∙ ap (λ (x : State ℕ). next till x e.op) s.state ∙ sym f.state;
+      state = after-push till (first_state (ring_with k start)) h e ∙ ap (λ (x : State ℕ). next till x e.op) s.state ∙ sym f.state;
       same_k = ap (λ (x : State ℕ). x.ring.k) f.state ∙ kept.same_k ∙ s.same_k;
       calm = f.calm ∙ ap (λ (x : ℕ). calm_next x e.reply) s.calm ∙ sym (calm-push h e);
       ring = subst (λ (x : State ℕ). IsRing x.ring) (sym f.state) kept.ring;
     }
 
 -- one event further, by a step
-pub stands_on : (k : ℕ) (start : List ℕ) (es : List SavedEvent) (i : ℕ) (d : SavedEvent) (r t : Replay) → i < length es → StandsAt k start es i r →
+pub stands_on : (k : ℕ) (start : List ℕ) (es : List SavedEvent) (i : ℕ) (d : SavedEvent) (r t : Replay) → i < length es → StandsAt (ring_with k start) es i r →
     Step till (state_of r) (event_of (get_or es i d)) (next till (state_of r) (event_of (get_or es i d)).op) → Follows r (event_of (get_or es i d)) t →
-    StandsAt k start es (i + 1) t
+    StandsAt (ring_with k start) es (i + 1) t
 stands_on k start es i d r t lt at step f =
     let e = event_of (get_or es i d) in
     let push : map event_of (take (i + 1) es) ≡ map event_of (take i es) ++ e ∷ [] =
@@ -77,17 +77,17 @@ stands_on k start es i d r t lt at step f =
     let few = at.grants in
     let short = at.calm in
     record {
-      stands = subst (λ (u : List Event). Stands k start u t) (sym push) (stands_more k start (map event_of (take i es)) r t e at.stands step f);
+      stands = subst (λ (u : List Event). Stands (ring_with k start) u t) (sym push) (stands_more k start (map event_of (take i es)) r t e at.stands step f);
       grants = omega arith;
       calm = omega arith;
     }
 
 -- a survey of the history is what the replay that stands there says
-pub survey_is : (k : ℕ) (start : List ℕ) (es : List SavedEvent) (p : ℕ) (r : Replay) → StandsAt k start es p r →
-    survey_at till (first_state k start) (map event_of es) p ≡ survey_where r p
+pub survey_is : (k : ℕ) (start : List ℕ) (es : List SavedEvent) (p : ℕ) (r : Replay) → StandsAt (ring_with k start) es p r →
+    survey_at till (first_state (ring_with k start)) (map event_of es) p ≡ survey_where r p
 survey_is k start es p r at =
     let front : take p (map event_of es) ≡ map event_of (take p es) = take-map event_of p es in
-    let state : after till (first_state k start) (take p (map event_of es)) ≡ state_of r =
-    ap (λ (u : List Event). after till (first_state k start) u) front ∙ at.stands.state in
+    let state : after till (first_state (ring_with k start)) (take p (map event_of es)) ≡ state_of r =
+    ap (λ (u : List Event). after till (first_state (ring_with k start)) u) front ∙ at.stands.state in
     let calm_is : calm (take p (map event_of es)) ≡ r.calm = ap (λ (u : List Event). calm u) front ∙ sym at.stands.calm in
     rw (state, calm_is) refl

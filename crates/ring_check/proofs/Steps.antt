@@ -4,7 +4,7 @@ use Rattle.std.specs.Prelude.{nat_lt, nat_le, Some, None}
 use Rattle.std.proofs.lemmas.Bool.{cases_Bool, cases_eq}
 use Rattle.std.proofs.lemmas.List.{length-set}
 use Rattle.ring_model.specs.Limits.{seat_limit}
-use Rattle.ring_model.specs.Ring.{written, Ring, IsRing, is_privileged}
+use Rattle.ring_model.specs.Ring.{ring_with, written, Ring, IsRing, is_privileged}
 use Rattle.ring_model.proofs.Settled.{move_ring}
 use Rattle.ring_model.proofs.Histories.{calm_next, after-push, StepOf-reply}
 use Rattle.ring_model.specs.declared.events.Op.{Op}
@@ -129,15 +129,15 @@ calm_next_le c (Corrupted old) = omega arith
 
 -- a ring of as many machines as the start, where a history has led
 pub record IsWell (k : ℕ) (start : List ℕ) (h : List Event) : Type 0 where
-  pub ring : IsRing (after till (first_state k start) h).ring
-  pub long : length (after till (first_state k start) h).ring.values ≡ length start
+  pub ring : IsRing (after till (first_state (ring_with k start)) h).ring
+  pub long : length (after till (first_state (ring_with k start)) h).ring.values ≡ length start
 
 pub well_push : (k : ℕ) (start : List ℕ) (h : List Event) (e : Event) → IsWell k start h →
-    Step till (after till (first_state k start) h) e (next till (after till (first_state k start) h) e.op) → IsWell k start (h ++ e ∷ [])
+    Step till (after till (first_state (ring_with k start)) h) e (next till (after till (first_state (ring_with k start)) h) e.op) → IsWell k start (h ++ e ∷ [])
 well_push k start h e w step =
-    let a = after till (first_state k start) h in
+    let a = after till (first_state (ring_with k start)) h in
     let kept = step_keeps a e.op e.reply w.ring step in
-    let on = after-push till (first_state k start) h e in
+    let on = after-push till (first_state (ring_with k start)) h e in
     record {
       ring = subst (λ (x : State ℕ). IsRing x.ring) (sym on) kept.ring;
       long = ap (λ (x : State ℕ). length x.ring.values) on ∙ kept.long ∙ w.long;

@@ -1,7 +1,8 @@
 -- A block's survey lines, one after the other.
-use Rattle.std.proofs.Common.{◌≡◌, ℕ, ◌+◌, ◌<◌, ◌≤◌, List, length, take, get_or, map, Bool, true, false, Some, None, refl, sym, ◌∙◌, ap, subst, arith, ◌&&◌}
+use Rattle.std.proofs.Common.{nat_lt, ◌≡◌, ℕ, ◌+◌, ◌<◌, ◌≤◌, List, length, take, get_or, map, Bool, true, false, Some, None, refl, sym, ◌∙◌, ap, subst, arith, ◌&&◌}
 use Rattle.std.specs.Prelude.{nat_le}
 use Rattle.std.proofs.lemmas.List.{length-map, take_all}
+use Rattle.ring_model.specs.Ring.{ring_with}
 use Rattle.ring_model.specs.Limits.{seat_limit}
 use Rattle.ring_model.specs.declared.events.Event.{Event}
 use Rattle.ring_model.specs.declared.events.Survey.{Survey}
@@ -54,19 +55,19 @@ survey_fine b s l w v =
 
 -- a survey line is right where it says what a reading at its position says
 pub surveyed_by : (line rings k : ℕ) (start : List ℕ) (es : List SavedEvent) (seat position : ℕ) (s : SavedSurvey) (t : Reading) (said : Bool) →
-    IsReading k start es t → t.survey.position ≡ s.position → said ≡ same_survey s t.survey →
+    IsReading (ring_with k start) es t → t.survey.position ≡ s.position → said ≡ same_survey s t.survey →
     is_surveyed (in_surveys line rings k start (map event_of es) seat position) s ≡ said
 surveyed_by line rings k start es seat position s t said r at e =
     let n : length (map event_of es) ≡ length es = length-map es event_of in
     let w = r.within in
     let i : nat_le s.position (length (map event_of es)) ≡ true = le_true s.position (length (map event_of es)) (omega arith) in
-    let here : survey_at till (first_state k start) (map event_of es) s.position ≡ t.survey =
-    ap (λ (x : ℕ). survey_at till (first_state k start) (map event_of es) x) (sym at) ∙ survey_is k start es t.survey.position t.replay r.stands ∙ sym r.right in
+    let here : survey_at till (first_state (ring_with k start)) (map event_of es) s.position ≡ t.survey =
+    ap (λ (x : ℕ). survey_at till (first_state (ring_with k start)) (map event_of es) x) (sym at) ∙ survey_is k start es t.survey.position t.replay r.stands ∙ sym r.right in
     rw i (ap (λ (x : Survey). same_survey s x) here ∙ sym e)
 
 -- the first i surveys have no fault, and a reading stands at the last of them
 pub record AreRight (line k : ℕ) (start : List ℕ) (es : List SavedEvent) (ss : List SavedSurvey) (i seat position : ℕ) (r : Reading) : Type 0 where
-  pub reading : IsReading k start es r
+  pub reading : IsReading (ring_with k start) es r
   pub same_k : r.replay.k ≡ k
   pub none : (rings : ℕ) → first_fault (in_block line rings (length start) k start (map event_of es)) (map SurveyLine (take i ss)) ≡ None
   pub here : (rings : ℕ) → after_lines (in_block line rings (length start) k start (map event_of es)) (map SurveyLine (take i ss))
@@ -81,7 +82,7 @@ module _ (line k : ℕ) (start : List ℕ) (es : List SavedEvent) (ss : List Sav
       (good.none rings) (good.here rings) kind (h rings)
 
   pub surveys_good : (t : Reading) → ((rings : ℕ) → fault (in_surveys (line + i) rings k start (map event_of es) seat position) (SurveyLine (get_or ss i d)) ≡ None) →
-      IsReading k start es t → AreRight line k start es ss (i + 1) (get_or ss i d).seat (get_or ss i d).position t
+      IsReading (ring_with k start) es t → AreRight line k start es ss (i + 1) (get_or ss i d).seat (get_or ss i d).position t
   surveys_good t h reading =
       let at : ℕ → Before = λ rings. in_surveys (line + i) rings k start (map event_of es) seat position in
       let b : ℕ → Before = λ rings. in_block line rings (length start) k start (map event_of es) in
@@ -100,5 +101,5 @@ surveys_end line k start es ss i seat position r l good rings =
     subst (λ (u : List SavedSurvey). first_fault (in_block line rings (length start) k start (map event_of es)) (map SurveyLine u) ≡ None) (take_all i ss l) (good.none rings)
 
 -- a reading of a ring with this K
-pub reading_of : (j k : ℕ) (start : List ℕ) (es : List SavedEvent) (r : Reading) → j ≡ k → IsReading j start es r → IsReading k start es r
-reading_of j k start es r e h = subst (λ (x : ℕ). IsReading x start es r) e h
+pub reading_of : (j k : ℕ) (start : List ℕ) (es : List SavedEvent) (r : Reading) → j ≡ k → IsReading (ring_with j start) es r → IsReading (ring_with k start) es r
+reading_of j k start es r e h = subst (λ (x : ℕ). IsReading (ring_with x start) es r) e h

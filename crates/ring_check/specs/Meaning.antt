@@ -1,6 +1,7 @@
 -- Legal texts in the subject's words: what a text tells of (this project's own).
 use Rattle.std.specs.Prelude.{◌≡◌, ℕ, ◌+◌, ◌<◌, ◌≤◌, List, [], ◌∷◌, length, ◌⊎◌}
 use Rattle.std.specs.List.{All}
+use Rattle.ring_model.specs.Ring.{ring_with}
 use Rattle.ring_model.specs.Limits.{machine_limit, value_limit, seat_limit}
 use Rattle.ring_model.specs.declared.events.Event.{Event}
 use Rattle.ring_model.specs.declared.events.Survey.{Survey}
@@ -29,7 +30,7 @@ AreInOrder (s ∷ ss) = AreOnward s.seat s.position ss
 -- a survey by one of the seats, which is the one-thread ring's at its place of the history
 pub record IsRightSurvey (b : Block) (s : SavedSurvey) : Type 0 where
   pub seat : s.seat < seat_limit
-  pub right : IsSurvey till (first_state b.k b.start) (history b) (survey_of s)
+  pub right : IsSurvey till (first_state (ring_with b.k b.start)) (history b) (survey_of s)
 
 -- the block tells of a ring, of one legal history of it on one thread over the till, and of surveys of that history
 pub record IsRightBlock (place : ℕ) (b : Block) : Type 0 where
@@ -40,7 +41,7 @@ pub record IsRightBlock (place : ℕ) (b : Block) : Type 0 where
   pub most : b.k ≤ value_limit
   pub below : All (λ v. v < b.k) b.start
   pub seats : All (λ (e : Event). e.seat < seat_limit) (history b)
-  pub legal : IsLegal till (first_state b.k b.start) (history b)
+  pub legal : IsLegal till (first_state (ring_with b.k b.start)) (history b)
   pub events_said : b.events_said ≡ length b.events
   pub surveys : All (IsRightSurvey b) b.surveys
   pub order : AreInOrder b.surveys

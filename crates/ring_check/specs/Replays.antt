@@ -2,7 +2,7 @@
 use Rattle.std.specs.Prelude.{◌≡◌, ℕ, ◌≤◌, List, length, map, take}
 use Rattle.ring_model.specs.declared.events.Event.{Event}
 use Rattle.ring_model.specs.declared.events.Survey.{Survey}
-use Rattle.ring_model.specs.Ring.{ring_with, IsRing, privileged_count, first_privileged, rest}
+use Rattle.ring_model.specs.Ring.{Ring, ring_with, IsRing, privileged_count, first_privileged, rest}
 use Rattle.ring_model.specs.History.{State, after}
 use Rattle.ring_model.specs.Resources.{till}
 use Rattle.ring_model.specs.Surveys.{calm}
@@ -26,20 +26,20 @@ survey_where r position = record {
 }
 
 -- a replay stands where the ring stands after these events
-pub record Stands (k : ℕ) (start : List ℕ) (h : List Event) (r : Replay) : Type 0 where
-  pub state : after till (first_state k start) h ≡ state_of r
-  pub same_k : r.k ≡ k
+pub record Stands (start : Ring) (h : List Event) (r : Replay) : Type 0 where
+  pub state : after till (first_state start) h ≡ state_of r
+  pub same_k : r.k ≡ start.k
   pub calm : r.calm ≡ calm h
   pub ring : IsRing (ring_with r.k r.values.items)
 
 -- a replay stands behind the first so many events of a block, with no more grants than events
-pub record StandsAt (k : ℕ) (start : List ℕ) (events : List SavedEvent) (place : ℕ) (r : Replay) : Type 0 where
-  pub stands : Stands k start (map event_of (take place events)) r
+pub record StandsAt (start : Ring) (events : List SavedEvent) (place : ℕ) (r : Replay) : Type 0 where
+  pub stands : Stands start (map event_of (take place events)) r
   pub grants : r.grants ≤ place
   pub calm : r.calm ≤ place
 
 -- a reading has the survey of the ring where its replay stands
-pub record IsReading (k : ℕ) (start : List ℕ) (events : List SavedEvent) (r : Reading) : Type 0 where
-  pub stands : StandsAt k start events r.survey.position r.replay
+pub record IsReading (start : Ring) (events : List SavedEvent) (r : Reading) : Type 0 where
+  pub stands : StandsAt start events r.survey.position r.replay
   pub within : r.survey.position ≤ length events
   pub right : r.survey ≡ survey_where r.replay r.survey.position

@@ -8,7 +8,7 @@ use Rattle.ring_model.specs.declared.events.Reply.{Reply}
 use Rattle.ring_model.specs.declared.events.Reply.TheVariants.{Granted, NotPrivileged, Corrupted}
 use Rattle.ring_model.specs.declared.events.Event.{Event}
 use Rattle.ring_model.specs.declared.events.Survey.{Survey}
-use Rattle.ring_model.specs.Ring.{ring_with}
+use Rattle.ring_model.specs.Ring.{Ring, ring_with}
 use Rattle.ring_model.specs.History.{State, opening, after, reply}
 use Rattle.ring_model.specs.Resources.{till}
 use Rattle.ring_model.specs.Surveys.{survey_at}
@@ -25,9 +25,9 @@ event_of (saved.Granted seat machine order number result) = record { seat = seat
 event_of (saved.Refused seat machine order) = record { seat = seat; op = Pass machine order; reply = NotPrivileged }
 event_of (saved.Corrupted seat machine value old) = record { seat = seat; op = Corrupt machine value; reply = Corrupted old }
 
--- the one-thread ring before any event: K, these values, and a till with the amount 0
-abbrev pub first_state : ℕ → List ℕ → State ℕ
-first_state k start = opening (ring_with k start) 0
+-- the one-thread ring before any event, and a till with the amount 0
+abbrev pub first_state : Ring → State ℕ
+first_state ring = opening ring 0
 
 -- What the lines before a line say.
 pub record Before : Type 0 where
@@ -68,7 +68,7 @@ are_parameters n k = nat_le 2 n && (nat_le n machine_limit && (nat_le n k && nat
 
 -- the one-thread ring's state after the events of the block so far
 abbrev pub now : Before → State ℕ
-now b = after till (first_state b.k b.start) b.events
+now b = after till (first_state (ring_with b.k b.start)) b.events
 
 -- the call is one of a ring with n machines and K values
 abbrev pub op_in_range : ℕ → ℕ → Op → Bool
@@ -104,7 +104,7 @@ same_survey s r = (s.privileged == r.privileged) && ((s.first == r.first) && ((s
 
 -- the survey is the ring's after its first POSITION events, and so many there are
 abbrev pub is_surveyed : Before → SavedSurvey → Bool
-is_surveyed b s = nat_le s.position (length b.events) && same_survey s (survey_at till (first_state b.k b.start) b.events s.position)
+is_surveyed b s = nat_le s.position (length b.events) && same_survey s (survey_at till (first_state (ring_with b.k b.start)) b.events s.position)
 
 -- the table: what is wrong with a line; where two things are, the kind with the lower number
 abbrev pub fault : Before → Line → Option Kind

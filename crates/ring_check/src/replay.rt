@@ -134,11 +134,11 @@ impl Replay {
         to: usize,
     ) -> Result<(), AllocError>
         requires ring { IsRing (ring_with self.old.k start.now) }
-        requires stands { StandsAt self.old.k start.now events.now from self.old }
+        requires stands { StandsAt (ring_with self.old.k start.now) events.now from self.old }
         requires within { to ≤ length events.now }
         requires room { length events.now + 1 < 2 ^ 64 }
-        requires legal { IsLegal till (first_state self.old.k start.now) (map event_of events.now) }
-        ensures { IfOk result (λ u. StandsAt self.old.k start.now events.now to self.new) }
+        requires legal { IsLegal till (first_state (ring_with self.old.k start.now)) (map event_of events.now) }
+        ensures { IfOk result (λ u. StandsAt (ring_with self.old.k start.now) events.now to self.new) }
     {
         let first = if to < from {
             *self = Replay::begin(alloc, self.k, start)?;

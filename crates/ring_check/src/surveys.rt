@@ -30,7 +30,7 @@ impl Reading {
     fn begin(alloc: Global, k: u32, start: &[u32]) -> Result<Reading, AllocError>
         requires ring { IsRing (ring_with k start.now) }
         requires small { k ≤ value_limit }
-        ensures { IfOk result (λ r. (r.survey.position ≡ 0) × ((events : List SavedEvent) → IsReading k start.now events r)) }
+        ensures { IfOk result (λ r. (r.survey.position ≡ 0) × ((events : List SavedEvent) → IsReading (ring_with k start.now) events r)) }
     {
         let replay = Replay::begin(alloc, k, start)?;
         let survey = replay.survey(alloc, 0)?;
@@ -47,11 +47,11 @@ impl Reading {
     ) -> Result<(), AllocError>
         requires ring { IsRing (ring_with self.old.replay.k start.now) }
         requires small { self.old.replay.k ≤ value_limit }
-        requires reading { IsReading self.old.replay.k start.now events.now self.old }
+        requires reading { IsReading (ring_with self.old.replay.k start.now) events.now self.old }
         requires within { position ≤ length events.now }
         requires room { length events.now + 1 < 2 ^ 64 }
-        requires legal { IsLegal till (first_state self.old.replay.k start.now) (map event_of events.now) }
-        ensures { IfOk result (λ u. IsReading self.old.replay.k start.now events.now self.new × (self.new.survey.position ≡ position)) }
+        requires legal { IsLegal till (first_state (ring_with self.old.replay.k start.now)) (map event_of events.now) }
+        ensures { IfOk result (λ u. IsReading (ring_with self.old.replay.k start.now) events.now self.new × (self.new.survey.position ≡ position)) }
     {
         let from = self.survey.position;
         if position == from {
@@ -93,7 +93,7 @@ pub(crate) fn check_surveys(
 ) -> Result<(), CheckError>
     requires ring { IsRing (ring_with k start.now) }
     requires small { k ≤ value_limit }
-    requires legal { IsLegal till (first_state k start.now) (map event_of events.now) }
+    requires legal { IsLegal till (first_state (ring_with k start.now)) (map event_of events.now) }
     requires room { (length events.now + 1 < 2 ^ 64) × (line + length surveys.now + 1 < 2 ^ 64) }
     ensures { (rings : ℕ) → Finds (first_fault (in_block line rings (length start.now) k start.now (map event_of events.now)) (map SurveyLine surveys.now)) result }
 {
