@@ -1,5 +1,5 @@
 -- A block's survey lines, one after the other.
-use Rattle.std.proofs.Common.{◌≡◌, ℕ, ◌+◌, ◌<◌, ◌≤◌, List, length, take, get_or, map, Bool, true, false, Some, None, refl, sym, ◌∙◌, ap, subst, arith, ◌&&◌}
+use Rattle.std.proofs.Common.{nat_lt, ◌≡◌, ℕ, ◌+◌, ◌<◌, ◌≤◌, List, length, take, get_or, map, Bool, true, false, Some, None, refl, sym, ◌∙◌, ap, subst, arith, ◌&&◌}
 use Rattle.std.specs.Prelude.{nat_le}
 use Rattle.std.proofs.lemmas.List.{length-map, take_all}
 use Rattle.ring_model.specs.Ring.{ring_with}

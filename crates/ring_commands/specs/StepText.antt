@@ -1,7 +1,7 @@
 -- What `step` prints (this project's own lines, over the one-thread ring): the reply to each choice, then the last state.
 use Rattle.std.specs.Prelude.{ℕ, List, [], ◌∷◌, ◌++◌, codes, decimal}
 use Rattle.text_lines.specs.Spelling.{list_text}
-use Rattle.ring_model.specs.Ring.{privileged_count, first_privileged}
+use Rattle.ring_model.specs.Ring.{Ring, privileged_count, first_privileged}
 use Rattle.ring_model.specs.History.{State, opening, next, reply}
 use Rattle.ring_model.specs.declared.events.Op.TheVariants.{Pass}
 use Rattle.ring_model.specs.declared.events.Reply.{Reply}
@@ -35,9 +35,9 @@ lines_from a [] = end_lines a.ring.values
 lines_from a (machine ∷ choices) = reply_line machine (reply idle a (Pass machine 0)) ++ lines_from (next idle a (Pass machine 0)) choices
 
 -- the ring before any pass
-abbrev pub step_opening : ℕ → List ℕ → State Idle
-step_opening k states = opening (record { k = k; values = states }) (record {})
+abbrev pub step_opening : Ring → State Idle
+step_opening r = opening r (record {})
 
 -- all that `step` prints
-abbrev pub step_text : ℕ → List ℕ → List ℕ → List ℕ
-step_text k states choices = lines_from (step_opening k states) choices
+abbrev pub step_text : Ring → List ℕ → List ℕ
+step_text r choices = lines_from (step_opening r) choices

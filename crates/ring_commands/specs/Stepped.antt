@@ -2,6 +2,7 @@
 use Rattle.std.specs.Prelude.{◌≡◌, ℕ, List, [], Option, None, Some, ◌⊎◌}
 use Rattle.std.specs.Io.KnownBytes.{Appends}
 use Rattle.std.specs.Option.{option_map}
+use Rattle.ring_model.specs.Ring.{ring_with}
 use Rattle.ring_commands.specs.Faults.{IsListRefusal, IsStepRefusal}
 use Rattle.ring_commands.specs.ListWords.{IsListText}
 use Rattle.ring_commands.specs.StepText.{step_text}
@@ -26,11 +27,11 @@ pub record AreListsOf (words : StepWords) (states choices : List ℕ) : Type 0 w
 
 -- all lines of the lists that the words spell
 abbrev pub IsStepAnswer : StepWords → Option (List ℕ) → Option (List ℕ) → Type 0
-IsStepAnswer words old new = (states : List ℕ) × (choices : List ℕ) × AreListsOf words states choices × Appends old new (step_text words.k states choices)
+IsStepAnswer words old new = (states : List ℕ) × (choices : List ℕ) × AreListsOf words states choices × Appends old new (step_text (ring_with words.k states) choices)
 
 -- A list that cannot be read, and nothing is written; or a refusal of the lists that the words spell, and a beginning of their lines.
 abbrev pub IsStepWordsRefusal : StepWords → Option (List ℕ) → Option (List ℕ) → ToolError → Type 0
 IsStepWordsRefusal words old new e =
     ((IsListRefusal words.states.now e ⊎ IsChoicesRefusal (option_map (λ word. word.now) words.choices) e) × (new ≡ old))
     ⊎ ((states : List ℕ) × (choices : List ℕ) × AreListsOf words states choices × IsStepRefusal words.n words.k states choices e
-    × AppendsFront old new (step_text words.k states choices))
+    × AppendsFront old new (step_text (ring_with words.k states) choices))

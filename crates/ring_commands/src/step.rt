@@ -3,6 +3,7 @@
 ghost use Rattle.std.specs.Prelude.{◌≡◌, ◌≤◌, [], length, nat_le, position, IsSome, OnOk, OnErr, IfOk, IfErr};
 ghost use Rattle.std.specs.Option.{option_map};
 ghost use Rattle.std.specs.Io.KnownBytes.{Appends};
+ghost use Rattle.ring_model.specs.Ring.{ring_with};
 ghost use Rattle.ring_book.specs.BookView.{IsFresh};
 ghost use Rattle.ring_model.specs.Limits.{event_limit};
 ghost use Rattle.ring_commands.specs.Stepped.{AreChoices, IsChoicesRefusal, IsStepAnswer, IsStepWordsRefusal};
@@ -106,7 +107,7 @@ fn sized(n: u32, k: u32) -> Result<Params, ToolError<'static>>
 
 /// The ring, where its size and its start values are allowed.
 fn started(alloc: Global, n: u32, k: u32, states: &[u32]) -> Result<RingState, ToolError<'static>>
-    ensures ok { IfOk result (λ r. (r ≡ record { k = k; values = states.now })
+    ensures ok { IfOk result (λ r. (r ≡ ring_with k states.now)
         × (length states.now ≡ n) × (start_fault n k states.now ≡ None)) }
     ensures err { IfErr result (λ e. IsRefusalOver (start_fault n k states.now) e) }
 {
@@ -129,7 +130,7 @@ fn opened(
     states: &[u32],
     choices: &[u32],
 ) -> Result<Book<Idle>, ToolError<'static>>
-    ensures ok { IfOk result (λ b. IsFresh (record { k = k; values = states.now }) (record {}) b
+    ensures ok { IfOk result (λ b. IsFresh (ring_with k states.now) (record {}) b
         × (length states.now ≡ n) × (fault_of n k states.now choices.now ≡ None)) }
     ensures err { IfErr result (λ e. IsOpeningRefusal n k states.now choices.now e) }
 {
@@ -148,10 +149,10 @@ fn opened(
 ///
 /// # Errors
 ///
-/// The first that applies: a size that is not allowed (2 to 256 machines, n to 256 values), start
-/// values of another number than n, the first start value that is not below `k`, the first choice
-/// that is not below `n`. Nothing is written then. Want of memory comes where memory is asked for;
-/// `HistoryFull` comes where there are more than 1,000,000 choices, and `Write` where the writer
+/// The first that applies: a size that is not allowed (2 machines or more, n values or more, and neither
+/// past its limit), start values of another number than n, the first start value that is not below `k`,
+/// the first choice that is not below `n`. Nothing is written then. Want of memory comes where memory is asked for;
+/// `HistoryFull` comes where there are more than `EVENT_LIMIT` choices, and `Write` where the writer
 /// fails: what was written until then is a beginning of the lines.
 pub fn step_lines<W: Write>(
     alloc: Global,
@@ -162,8 +163,8 @@ pub fn step_lines<W: Write>(
     out: &mut W,
 ) -> Result<(), ToolError<'static>>
     // What is written: all of the text, or a beginning of it, or nothing where there is a fault.
-    ensures written { OnOk result (Appends (W.contents out.old) (W.contents out.new) (step_text k states.now choices.now)) }
-    ensures front { OnErr result (AppendsFront (W.contents out.old) (W.contents out.new) (step_text k states.now choices.now)) }
+    ensures written { OnOk result (Appends (W.contents out.old) (W.contents out.new) (step_text (ring_with k states.now) choices.now)) }
+    ensures front { OnErr result (AppendsFront (W.contents out.old) (W.contents out.new) (step_text (ring_with k states.now) choices.now)) }
     ensures nothing { IsSome (fault_of n k states.now choices.now) → out.new ≡ out.old }
 
     // What is answered.

@@ -1,8 +1,7 @@
 -- The prefix of machine 0's value by two searches: for the end of the first machines that hold it, and for the value past that end.
 use Rattle.std.proofs.Common.{◌≡◌, ℕ, zero, suc, ◌+◌, ◌-◌, ◌<◌, ◌≤◌, Bool, true, false, not, eqb, List, length, get_or, refl, sym, ap, ◌∙◌, arith, eq-eqb, inl, inr}
 use Rattle.std.proofs.lemmas.Bool.{cases_lt, cases_eq, both_ways, not-true, not-false, eqb-true, false_from_ne_true}
-use Rattle.ring_model.specs.Ring.{first_value_is_prefix}
-use Rattle.ring_model.specs.Laws.{IsPrefix}
+use Rattle.ring_model.specs.Ring.{first_value_is_prefix, IsPrefix}
 use Rattle.ring_model.proofs.Meaning.{front_means, prefix_front}
 
 -- the machines below m hold the value of machine 0

@@ -5,8 +5,7 @@
 
 ghost use Rattle.std.specs.Prelude.{◌≡◌, ◌↔◌, ◌≤◌, ◌<◌, ◌/◌, ◌%◌, ◌&&◌, if◌then◌else◌, not, nat_lt, ℕ, length, slice_index, IsTrue, EachIndex, true};
 ghost use Rattle.ring_model.specs.Ring.{is_privileged, privileged_count, first_privileged, weight, is_absent, first_value_is_prefix, IsPrefix};
-ghost use Rattle.ring_model.specs.Limits.{machine_limit};
-ghost use Rattle.ring_lanes.specs.Masks.{IsMaskOf};
+ghost use Rattle.ring_lanes.specs.Masks.{mask_limit, wide_mask_limit, IsMaskOf};
 
 mod bytes;
 mod kernels;
@@ -23,11 +22,11 @@ use wide::{WideDiffering, WideHolding, WidePrivileged};
 use wide_limits::are_wide_below;
 
 /// Writes a bit for each machine into `out`: bit `i % 64` of word `i / 64` is set exactly where
-/// machine `i` is privileged, and every bit past the last machine is clear. No ring has more machines than bits.
+/// machine `i` is privileged, and every bit past the last machine is clear. For at most 256 machines, one a bit.
 pub fn privileged_mask(s: &[u8], out: &mut [u64; 4])
     requires low { 2 ≤ length s.now }
-    requires high { length s.now ≤ machine_limit }
-    ensures { IsMaskOf s.now out.new }
+    requires high { length s.now ≤ mask_limit }
+    ensures { IsMaskOf mask_limit s.now out.new }
 {
     write_hits(&Privileged(s), out);
 }
@@ -99,11 +98,11 @@ pub fn first_value_is_prefix(s: &[u8]) -> bool
 }
 
 /// Writes a bit for each machine into `out`: bit `i % 64` of word `i / 64` is set exactly where
-/// machine `i` is privileged, and every bit past the last machine is clear. For at most 1,024 machines.
+/// machine `i` is privileged, and every bit past the last machine is clear. For at most 1,024 machines, one a bit.
 pub fn wide_mask(s: &[u16], out: &mut [u64; 16])
     requires low { 2 ≤ length s.now }
-    requires high { length s.now ≤ 1024 }
-    ensures { (i : ℕ) → i < 1024 → bit_at (slice_index out.new (i / 64)) (i % 64) ≡ (if nat_lt i (length s.now) && is_privileged s.now i then 1 else 0) }
+    requires high { length s.now ≤ wide_mask_limit }
+    ensures { IsMaskOf wide_mask_limit s.now out.new }
 {
     write_hits(&WidePrivileged(s), out);
 }

@@ -5,16 +5,15 @@
 #![tactic(auto)]
 
 ghost use Rattle.std.specs.Prelude.{◌≡◌, ◌↔◌, ◌≤◌, ◌<◌, ◌/◌, ◌%◌, ◌&&◌, if◌then◌else◌, nat_lt, ℕ, length, slice_index, IsTrue, EachIndex};
-ghost use Rattle.ring_model.specs.Limits.{machine_limit};
-ghost use Rattle.ring_lanes.specs.Masks.{IsMaskOf};
+ghost use Rattle.ring_lanes.specs.Masks.{mask_limit, wide_mask_limit, IsMaskOf};
 ghost use Rattle.ring_model.specs.Ring.{is_privileged, privileged_count, first_privileged, weight, first_value_is_prefix};
 
 /// `ring_lanes::privileged_mask`.
 #[unsafe(no_mangle)]
 pub extern "C" fn ring_lanes_privileged_mask(s: &[u8], out: &mut [u64; 4])
     requires low { 2 ≤ length s.now }
-    requires high { length s.now ≤ machine_limit }
-    ensures { IsMaskOf s.now out.new }
+    requires high { length s.now ≤ mask_limit }
+    ensures { IsMaskOf mask_limit s.now out.new }
 {
     ring_lanes::privileged_mask(s, out);
 }
@@ -78,8 +77,8 @@ pub extern "C" fn ring_lanes_first_value_is_prefix(s: &[u8]) -> bool
 #[unsafe(no_mangle)]
 pub extern "C" fn ring_lanes_wide_mask(s: &[u16], out: &mut [u64; 16])
     requires low { 2 ≤ length s.now }
-    requires high { length s.now ≤ 1024 }
-    ensures { (i : ℕ) → i < 1024 → bit_at (slice_index out.new (i / 64)) (i % 64) ≡ (if nat_lt i (length s.now) && is_privileged s.now i then 1 else 0) }
+    requires high { length s.now ≤ wide_mask_limit }
+    ensures { IsMaskOf wide_mask_limit s.now out.new }
 {
     ring_lanes::wide_mask(s, out);
 }

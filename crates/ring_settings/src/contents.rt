@@ -21,13 +21,13 @@ pub(crate) struct RingSetting {
 /// What one seat does.
 #[derive(Drop)]
 pub enum SeatSetting {
-    /// These actions, in order; at most 1,000,000.
+    /// These actions, in order; at most `ACTION_LIMIT`.
     Script(Vec<Action>),
-    /// Actions that are drawn, at most 1,000,000.
+    /// Actions that are drawn, at most `ACTION_LIMIT`.
     Drawn { role: Role, seed: u64, actions: u32 },
 }
 
-/// What a farm is to do: 1 to 16 rings, and 1 to 10 seats in the order of their numbers.
+/// What a farm is to do: 1 to `RING_LIMIT` rings, and 1 to `SEAT_LIMIT` seats in the order of their numbers.
 ///
 /// Made by `read_settings` alone, so each action of a script is for a ring that is there, a machine
 /// of that ring, and a value below its K.
@@ -73,7 +73,7 @@ impl Settings {
         Settings { rings, seats }
     }
 
-    /// How many rings there are, 1 to 16.
+    /// How many rings there are, 1 to `RING_LIMIT`.
     pub fn ring_count(&self) -> usize
         ensures is { result ≡ length self.now.rings }
         ensures some { 1 ≤ result }
@@ -103,7 +103,7 @@ impl Settings {
         self.rings[ring].start.as_slice()
     }
 
-    /// How many seats there are, 1 to 10.
+    /// How many seats there are, 1 to `SEAT_LIMIT`.
     pub fn seat_count(&self) -> usize
         ensures is { result ≡ length self.now.seats }
         ensures some { 1 ≤ result }

@@ -41,7 +41,7 @@ fn action_of_words(role: Role, rings: &[Params], words: [u32; 4]) -> Action
 }
 
 /// Draws a plan of this many actions for rings of these sizes, with just four words of the
-/// generator for each action. There is at least one ring, and at most 1,000,000 actions.
+/// generator for each action. There is at least one ring, and at most `ACTION_LIMIT` actions.
 ///
 /// # Errors
 ///

@@ -133,7 +133,7 @@ fn read_each_ring(alloc: Global, list: &[Value]) -> Result<Vec<RingSetting>, Set
     Ok(rings)
 }
 
-/// The member `rings` of a document: 1 to 16 rings.
+/// The member `rings` of a document: 1 to `RING_LIMIT` rings.
 #[tactic(auto, using(crate::proofs::Each::items_count_of_view))]
 pub(crate) fn read_rings(alloc: Global, document: &Value) -> Result<Vec<RingSetting>, SettingsError>
     ensures ok { IfOk result (λ v. rings_member (view document.now) ≡ Ok (map ring_data v.items)) }

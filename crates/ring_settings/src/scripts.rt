@@ -111,7 +111,7 @@ fn read_actions(
     Ok(actions)
 }
 
-/// The script of the seat of this number: at most 1,000,000 actions.
+/// The script of the seat of this number: at most `ACTION_LIMIT` actions.
 #[tactic(auto, using(crate::proofs::Each::items_count_of_view))]
 pub(crate) fn read_script(
     alloc: Global,

@@ -59,7 +59,7 @@ fn seat_plan(
 
 /// The plans of a farm: one for each seat, the workers' in their order and then the injector's.
 ///
-/// There are 1 to 10 plans, each with at most 1,000,000 actions. Each action is for a ring that is there,
+/// There are 1 to `SEAT_LIMIT` plans, each with at most `ACTION_LIMIT` actions. Each action is for a ring that is there,
 /// a machine of that ring, and a value below its K.
 ///
 /// # Errors

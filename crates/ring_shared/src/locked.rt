@@ -69,7 +69,7 @@ impl<N: Name, R: Resource + Drop> Locked<N, R> {
     ///
     /// # Errors
     ///
-    /// `HistoryFull` where the history has 1,000,000 events; want of memory for the log or the history.
+    /// `HistoryFull` where the history has `EVENT_LIMIT` events; want of memory for the log or the history.
     /// Nothing has changed then.
     pub fn pass<W>(
         &mut self,

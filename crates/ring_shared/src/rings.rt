@@ -16,7 +16,7 @@ use std::sync::{Mutex, MutexGuard, Wait};
 
 /// A book and a number of seats, for a ring that has no name yet.
 ///
-/// Contracts see both. The book has no events, and there are 1 to 10 seats.
+/// Contracts see both. The book has no events, and there are 1 to `SEAT_LIMIT` seats.
 #[derive(Drop)]
 pub struct Draft<R: Resource + Drop> {
     book: Book<R>,
@@ -34,7 +34,7 @@ impl<R: Resource + Drop> Model for Draft<R> {
 }
 
 impl<R: Resource + Drop> Draft<R> {
-    /// The draft of a ring over this book, which has no events, with 1 to 10 seats.
+    /// The draft of a ring over this book, which has no events, with 1 to `SEAT_LIMIT` seats.
     ///
     /// # Errors
     ///
@@ -125,7 +125,7 @@ impl<N: Name, R: Resource + Drop> Ring<N, R> {
     ///
     /// # Errors
     ///
-    /// `HistoryFull` where the history has 1,000,000 events; want of memory. Nothing has changed then.
+    /// `HistoryFull` where the history has `EVENT_LIMIT` events; want of memory. Nothing has changed then.
     pub fn pass<W: Wait>(
         &self,
         rt: &W,

@@ -45,7 +45,7 @@ impl<N: Name> Seat<N> {
         }
     }
 
-    /// The seat's number, from 0. It is below the number of the ring's seats, and at most 9.
+    /// The seat's number, from 0. It is below the number of the ring's seats, and `SEAT_LIMIT`.
     pub fn number(&self) -> u32
         ensures is { result ≡ self.now.number }
         ensures given { result < N.seats }

@@ -1,6 +1,7 @@
 ghost use Rattle.std.specs.Prelude.{◌≡◌, ◌↔◌, ◌<◌, ◌≤◌, ◌-◌, ◌/◌, ◌%◌, ◌&&◌, if◌then◌else◌, nat_lt, not, ℕ, List, length, true, false, slice_index, IfOk, IfErr, IsTrue};
 ghost use Rattle.ring_model.specs.Ring.{Ring, IsRing, is_privileged, privileged_count, first_privileged, weight, is_absent, first_value_is_prefix, rest, IsPrefix, moved, written};
 ghost use Rattle.ring_model.specs.Closure.{IsClosed};
+ghost use Rattle.ring_model.specs.Limits.{machine_limit};
 ghost use Rattle.ring_lanes.specs.Masks.{IsMaskOf};
 ghost use Rattle.ring_state.specs.Sizes.{IsRingState, size_of};
 ghost use Rattle.ring_state.specs.StateFault.{IsFaultOf};
@@ -20,9 +21,7 @@ pub struct RingState {
 
 impl Model for RingState {
     ghost use Rattle.ring_model.specs.Ring.{Ring};
-    ghost use Rattle.ring_model.specs.Closure.{IsClosed};
-ghost use Rattle.ring_lanes.specs.Masks.{IsMaskOf};
-ghost use Rattle.ring_state.specs.Sizes.{IsRingState};
+    ghost use Rattle.ring_state.specs.Sizes.{IsRingState};
 
     ghost Value = { Ring };
 
@@ -120,7 +119,7 @@ impl RingState {
     /// Writes a bit for each machine into `out`: bit `i % 64` of word `i / 64` is set exactly where
     /// machine `i` is privileged, and every bit past the last machine is clear.
     pub fn mask(&self, out: &mut [u64; 4])
-        ensures { IsMaskOf self.now.values out.new }
+        ensures { IsMaskOf machine_limit self.now.values out.new }
     {
         ring_lanes::privileged_mask(self.bytes.as_slice(), out);
     }

@@ -200,7 +200,7 @@ fn put_blocks<W: Write>(out: &mut W, rings: &[RingOutcome]) -> Result<(), WriteF
     Ok(())
 }
 
-/// Writes the saved text of what a farm handed out, of 1 to 16 rings: for each ring its place from
+/// Writes the saved text of what a farm handed out, of 1 to `RING_LIMIT` rings: for each ring its place from
 /// 0, its size, its start, the events of its history and their number, and the surveys of its logs,
 /// log by log with the log's seat; behind them the number of rings. Receipts are not written, since
 /// the history holds them.

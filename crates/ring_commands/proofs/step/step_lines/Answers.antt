@@ -1,7 +1,7 @@
 use Rattle.std.proofs.Common.{◌≡◌, ◌∙◌, [], length, length-append, drop, ap, arith, refl, Ok, Err}
 use Rattle.std.proofs.lemmas.List.{drop_all}
 use Rattle.std.proofs.lemmas.Result.{err_from_is_err_and}
-use Rattle.ring_model.specs.Ring.{Ring}
+use Rattle.ring_model.specs.Ring.{ring_with, Ring}
 use Rattle.ring_state.specs.Sizes.{Size}
 use Rattle.ring_commands.specs.StepText.{step_text, step_opening, lines_from, end_lines}
 use Rattle.ring_commands.proofs.FirstFaults.{choices_allowed}
@@ -11,7 +11,7 @@ use Rattle.ring_commands.proofs.step.step_lines.Goals as goal
 pub returns-in_err-book-clause-front : goal.returns-in_err-book-clause-front
 returns-in_err-book-clause-front g c =
     let p = err_from_is_err_and c.from_residual.result c.from_residual.ensures.1 in
-    rw p.1 (step_text c.args.k c.args.states.now c.args.choices.now, lines-some (step_opening c.args.k c.args.states.now) c.args.choices.now, wrote_none _ _ _ refl)
+    rw p.1 (step_text (ring_with c.args.k c.args.states.now) c.args.choices.now, lines-some (step_opening (ring_with c.args.k c.args.states.now)) c.args.choices.now, wrote_none _ _ _ refl)
 
 pub pass-requires-clause-machine : goal.pass-requires-clause-machine
 pass-requires-clause-machine g c =
