@@ -28,6 +28,7 @@ enum Script {
     /// Memory may be refused once where it is scarce.
     CallInTurn { scarce: bool },
     CallUnsettled,
+    SurveyAtOnePlace,
     CallInTwoThreads,
     CloseOneSeatShort,
     CallUntilFull,
@@ -123,6 +124,7 @@ fn run_named<N: Name + Send + Sync, W: Threads + Wait + Abort + Sync>(
     match script {
         Script::CallInTurn { scarce } => call_in_turn(rt, alloc, ring, first, second, scarce),
         Script::CallUnsettled => call_unsettled(rt, alloc, ring, first, second),
+        Script::SurveyAtOnePlace => survey_at_one_place(rt, alloc, ring, first, second),
         Script::CallInTwoThreads => call_in_two_threads(rt, alloc, ring, first, second),
         Script::CloseOneSeatShort => close_one_seat_short(rt, alloc, ring, first, second),
         Script::CallUntilFull => call_until_full(rt, alloc, ring, first, second),
@@ -244,6 +246,44 @@ fn call_unsettled<N: Name, W: Wait + Abort>(
     let seats = both(rt, alloc, second, first);
     match ring.close(rt, alloc, seats) {
         Ok(closed) => closed_well(rt, &closed, &events, &first_calls, &second_calls),
+        Err(fault) => panic!(rt; "{:?}", fault.reason),
+    }
+}
+
+// Both seats survey the start and the end of the history, one of them twice.
+fn survey_at_one_place<N: Name, W: Wait + Abort>(
+    rt: &W,
+    alloc: Global,
+    ring: Ring<N, Till>,
+    first: Seat<N>,
+    second: Seat<N>,
+)
+    requires machines { 2 ≤ length N.start.values }
+    requires values { 2 ≤ N.start.k }
+    requires first { first.number ≡ 0 }
+    requires second { second.number ≡ 1 }
+{
+    let pass = granted(0, 0, 3, 1, 3);
+    let passing = Act::Pass {
+        machine: 0,
+        order: 3,
+    };
+    let passed = (passing, told(0, pass));
+    let start = (Act::Survey, seen(0, 1, 0, 0, 0));
+    let end = (Act::Survey, seen(1, 1, 1, 1, 0));
+    let first = play(rt, &ring, first, &[start, start], false);
+    let second = play(rt, &ring, second, &[start], false);
+    let first = play(rt, &ring, first, &[passed, end], false);
+    let second = play(rt, &ring, second, &[end, end], false);
+    let seats = both(rt, alloc, second, first);
+    match ring.close(rt, alloc, seats) {
+        Ok(closed) => closed_well(
+            rt,
+            &closed,
+            &[pass],
+            &[start, start, passed, end],
+            &[start, end, end],
+        ),
         Err(fault) => panic!(rt; "{:?}", fault.reason),
     }
 }
@@ -373,6 +413,11 @@ fn want_of_memory_changes_nothing(rt: HostRuntime) {
 #[test]
 fn two_seats_survey_an_unsettled_ring(rt: HostRuntime) {
     run(&rt, rt.alloc(), Script::CallUnsettled);
+}
+
+#[test]
+fn two_seats_survey_at_one_place(rt: HostRuntime) {
+    run(&rt, rt.alloc(), Script::SurveyAtOnePlace);
 }
 
 #[test]

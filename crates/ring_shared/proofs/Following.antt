@@ -1,20 +1,25 @@
 -- Following a log along a history, and what it says of the seat's calls.
-use Rattle.std.proofs.Common.{◌≡◌, ℕ, ◌+◌, ◌-◌, ◌≤◌, ◌==◌, ◌↔◌, List, [], ◌∷◌, ◌++◌, Bool, true, false, cond, Some, slice_get, length, length-append, take, drop, zero, suc, subst, ap, sym, ◌∙◌, refl, arith}
+use Rattle.std.proofs.Common.{◌≡◌, ℕ, ◌+◌, ◌-◌, ◌≤◌, ◌==◌, ◌↔◌, List, [], ◌∷◌, ◌++◌, Bool, true, false, cond, Some, slice_get, All, length, length-append, take, drop, zero, suc, subst, ap, sym, ◌∙◌, refl, arith}
 use Rattle.std.proofs.lemmas.List.{take-append-drop, drop-drop}
-use Rattle.std.proofs.lemmas.List.Elements.{filter-append}
+use Rattle.std.proofs.lemmas.List.Elements.{filter-append, All-nil, All-cons, All-head, All-tail}
 use Rattle.std.proofs.lemmas.List.Sums.{sum_by-cons}
 use Rattle.std.proofs.lemmas.Bool.{cond-true, eq-eqb, eqb-true}
 use Rattle.std.proofs.Math.Numerals.{add-one}
 use Rattle.ring_model.specs.History.{Works, State}
-use Rattle.ring_model.specs.Logs.{calls_of, receipts_of, IsFollowed, Fits}
+use Rattle.ring_model.specs.Logs.{calls_of, receipts_of, IsFollowed, IsSurvey, Fits}
 use Rattle.ring_model.specs.declared.events.Event.{Event}
 use Rattle.ring_model.specs.declared.events.Entry.{Entry}
 use Rattle.ring_model.specs.declared.events.Entry.TheVariants as entry
-use Rattle.ring_shared.specs.Fronts.{front_of, IsEntryFrom, is_receipt, receipt_count}
+use Rattle.ring_shared.specs.Fronts.{front_of, IsReceiptFrom, IsSurveyFrom, IsPlacedFrom, ArePlaced, IsPlaced, is_receipt, receipt_count, surveys_of}
 use Rattle.ring_shared.proofs.Replaying.{drop_at}
 
+-- the entry is right, and does not go back behind the front
+abbrev IsEntryFrom : {C : Type 0} → Works C → State C → List Event → ℕ → ℕ → Entry → Type 0
+IsEntryFrom w a h seat front (entry.Receipt r) = IsReceiptFrom h seat front r
+IsEntryFrom w a h seat front (entry.Survey s) = IsSurveyFrom w a h front s
+
 -- each entry is right, from this front on
-abbrev pub Follows : {C : Type 0} → Works C → State C → List Event → ℕ → ℕ → List Entry → Type 0
+abbrev Follows : {C : Type 0} → Works C → State C → List Event → ℕ → ℕ → List Entry → Type 0
 Follows w a h seat front [] = Unit {0}
 Follows w a h seat front (e ∷ log) = IsEntryFrom w a h seat front e × Follows w a h seat (front_of e) log
 
@@ -104,18 +109,41 @@ receipts_counted (entry.Survey s ∷ log) =
     c ∙ omega arith
 
 -- a log fits exactly where it can be followed from the start, with as many receipts as the seat has calls
-pub fits_means : {C : Type 0} (w : Works C) (a : State C) (h : List Event) (seat : ℕ) (log : List Entry) →
+fits_means : {C : Type 0} (w : Works C) (a : State C) (h : List Event) (seat : ℕ) (log : List Entry) →
     Follows w a h seat 0 log × (receipt_count log ≡ length (calls_of seat h)) ↔ Fits w a h seat log
 fits_means w a h seat log = (
   λ t. record { calls = receipts_all w a h seat 0 log t.0 (sym (receipts_counted log) ∙ t.1); entries = is_followed w a h seat 0 log t.0 },
   λ f. (follows_of w a h seat 0 log f.entries (subst (AreOf seat) (sym f.calls) (calls_are_of seat h)), receipts_counted log ∙ ap length f.calls),
 )
 
+-- to follow a log is to place its entries, and to have each of its surveys right
+splits : {C : Type 0} (w : Works C) (a : State C) (h : List Event) (seat front : ℕ) (log : List Entry) →
+    Follows w a h seat front log → ArePlaced h seat front log × All (IsSurvey w a h) (surveys_of log)
+splits w a h seat front [] t = (tt, All-nil (IsSurvey w a h))
+splits w a h seat front (entry.Receipt r ∷ log) t = let more = splits w a h seat (r.position + 1) log t.1 in ((t.0, more.0), more.1)
+splits w a h seat front (entry.Survey s ∷ log) t =
+    let more = splits w a h seat s.position log t.1 in ((t.0.0, more.0), All-cons (IsSurvey w a h) s (surveys_of log) t.0.1 more.1)
+
+joins : {C : Type 0} (w : Works C) (a : State C) (h : List Event) (seat front : ℕ) (log : List Entry) →
+    ArePlaced h seat front log → All (IsSurvey w a h) (surveys_of log) → Follows w a h seat front log
+joins w a h seat front [] p right = tt
+joins w a h seat front (entry.Receipt r ∷ log) p right = (p.0, joins w a h seat (r.position + 1) log p.1 right)
+joins w a h seat front (entry.Survey s ∷ log) p right =
+    ((p.0, All-head (IsSurvey w a h) s (surveys_of log) right), joins w a h seat s.position log p.1 (All-tail (IsSurvey w a h) s (surveys_of log) right))
+
+-- a log fits exactly where it is placed and each of its surveys is right
+pub fits_split : {C : Type 0} (w : Works C) (a : State C) (h : List Event) (seat : ℕ) (log : List Entry) →
+    IsPlaced h seat log × All (IsSurvey w a h) (surveys_of log) ↔ Fits w a h seat log
+fits_split w a h seat log = (
+  λ t. (fits_means w a h seat log).0 (joins w a h seat 0 log t.0.0 t.1, t.0.1),
+  λ f. let t = (fits_means w a h seat log).1 f in let s = splits w a h seat 0 log t.0 in ((s.0, t.1), s.1),
+)
+
 -- one entry on
-pub follows_at : {C : Type 0} (w : Works C) (a : State C) (h : List Event) (seat front i : ℕ) (log : List Entry) (e : Entry) → slice_get log i ≡ Some e →
-    Follows w a h seat front (drop i log) ↔ (IsEntryFrom w a h seat front e × Follows w a h seat (front_of e) (drop (i + 1) log))
-follows_at w a h seat front i log e at =
-    let F : List Entry → Type 0 = λ es. Follows w a h seat front es in
+pub placed_at : (h : List Event) (seat front i : ℕ) (log : List Entry) (e : Entry) → slice_get log i ≡ Some e →
+    ArePlaced h seat front (drop i log) ↔ (IsPlacedFrom h seat front e × ArePlaced h seat (front_of e) (drop (i + 1) log))
+placed_at h seat front i log e at =
+    let F : List Entry → Type 0 = λ es. ArePlaced h seat front es in
     let same : drop i log ≡ e ∷ drop (i + 1) log = rw (add-one i) (entry_at i log e at) in
     (λ t. subst F same t, λ t. subst F (sym same) t)
   where
@@ -124,22 +152,22 @@ follows_at w a h seat front i log e at =
     entry_at zero (x ∷ log) e at = let same : x ≡ e = cc in ap (λ (y : Entry). y ∷ log) same
     entry_at (suc i) (x ∷ log) e at = entry_at i log e at
 
-follows_past : {C : Type 0} (w : Works C) (a : State C) (h : List Event) (seat front i : ℕ) (log : List Entry) → length log ≤ i → Follows w a h seat front (drop i log)
-follows_past w a h seat front zero [] le = tt
-follows_past w a h seat front (suc i) [] le = tt
-follows_past w a h seat front zero (x ∷ log) le = absurd (omega arith)
-follows_past w a h seat front (suc i) (x ∷ log) le = follows_past w a h seat front i log (omega (arith, le))
+placed_past : (h : List Event) (seat front i : ℕ) (log : List Entry) → length log ≤ i → ArePlaced h seat front (drop i log)
+placed_past h seat front zero [] le = tt
+placed_past h seat front (suc i) [] le = tt
+placed_past h seat front zero (x ∷ log) le = absurd (omega arith)
+placed_past h seat front (suc i) (x ∷ log) le = placed_past h seat front i log (omega (arith, le))
 
--- where an entry is wrong the log doesn't fit
-pub unfit_at : {C : Type 0} (w : Works C) (a : State C) (h : List Event) (seat front i : ℕ) (log : List Entry) (e : Entry) →
-    (Follows w a h seat front (drop i log) ↔ Follows w a h seat 0 log) → slice_get log i ≡ Some e → (IsEntryFrom w a h seat front e → ⊥) → Fits w a h seat log → ⊥
-unfit_at w a h seat front i log e left at wrong f = wrong ((follows_at w a h seat front i log e at).0 (left.1 ((fits_means w a h seat log).1 f).0)).0
+-- where an entry is not placed the log isn't
+pub misplaced_at : (h : List Event) (seat front i : ℕ) (log : List Entry) (e : Entry) →
+    (ArePlaced h seat front (drop i log) ↔ ArePlaced h seat 0 log) → slice_get log i ≡ Some e → (IsPlacedFrom h seat front e → ⊥) → IsPlaced h seat log → ⊥
+misplaced_at h seat front i log e left at wrong f = wrong ((placed_at h seat front i log e at).0 (left.1 f.0)).0
 
--- where none is, the numbers of receipts and of calls decide
-pub fits_by_counts : {C : Type 0} (w : Works C) (a : State C) (h : List Event) (seat front i : ℕ) (log : List Entry) (receipts calls : ℕ) →
-    (Follows w a h seat front (drop i log) ↔ Follows w a h seat 0 log) → length log ≤ i → receipts ≡ receipt_count log → calls ≡ length (calls_of seat h) →
-    ((receipts == calls) ≡ true) ↔ Fits w a h seat log
-fits_by_counts w a h seat front i log receipts calls left past receipts_is calls_is = (
-  λ t. (fits_means w a h seat log).0 (left.0 (follows_past w a h seat front i log past), sym receipts_is ∙ (eqb-true _ _ t ∙ calls_is)),
-  λ f. eq-eqb _ _ (receipts_is ∙ (((fits_means w a h seat log).1 f).1 ∙ sym calls_is)),
+-- where each is, the numbers of receipts and of calls decide
+pub placed_by_counts : (h : List Event) (seat front i : ℕ) (log : List Entry) (receipts calls : ℕ) →
+    (ArePlaced h seat front (drop i log) ↔ ArePlaced h seat 0 log) → length log ≤ i → receipts ≡ receipt_count log → calls ≡ length (calls_of seat h) →
+    ((receipts == calls) ≡ true) ↔ IsPlaced h seat log
+placed_by_counts h seat front i log receipts calls left past receipts_is calls_is = (
+  λ t. (left.0 (placed_past h seat front i log past), sym receipts_is ∙ (eqb-true _ _ t ∙ calls_is)),
+  λ f. eq-eqb _ _ (receipts_is ∙ (f.1 ∙ sym calls_is)),
 )

@@ -1,4 +1,5 @@
 pub mod Replaying
 pub mod Following
+pub mod AllSurveys
 pub mod Orders
 pub mod Numbers

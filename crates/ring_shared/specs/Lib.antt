@@ -1,5 +1,6 @@
 pub mod Client
 pub mod Fronts
+pub mod Gathered
 pub mod Holding
 pub mod Opening
 pub mod Replays

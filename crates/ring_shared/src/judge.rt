@@ -1,14 +1,15 @@
-//! Whether a seat's log fits the history of its ring.
-ghost use Rattle.std.specs.Prelude.{◌≡◌, ◌≤◌, ◌+◌, ◌<◌, ◌↔◌, [], ◌∷◌, length, take, slice_get, Some, true, IsTrue, IfOk};
-ghost use Rattle.ring_model.specs.Limits.{event_limit, seat_limit};
+//! Whether surveys are right, by playing the history again.
+ghost use Rattle.std.specs.Prelude.{◌≡◌, ◌≤◌, ◌+◌, ◌<◌, ◌↔◌, All, length, take, IsTrue, IfOk};
+ghost use Rattle.std.specs.List.Sorted.{IsNonDecreasingBy};
+ghost use Rattle.ring_model.specs.Limits.{event_limit};
 ghost use Rattle.ring_model.specs.History.{after, opening};
-ghost use Rattle.ring_model.specs.Logs.{Fits};
+ghost use Rattle.ring_model.specs.Logs.{IsSurvey};
 ghost use Rattle.ring_model.specs.Surveys.{calm as calm_of, survey_at};
-ghost use Rattle.ring_shared.specs.Fronts.{front_of, receipt_count as receipts_in, IsReceiptFrom, IsSurveyFrom, IsEntryFrom};
+ghost use Rattle.ring_shared.specs.Fronts.{IsSurveyFrom};
 ghost use Rattle.ring_shared.specs.Replays.{IsCallOf, called, calm_after};
 
 use ring_book::{Book, Resource};
-use ring_model::{Entry, Event, Op, Receipt, Reply, Survey};
+use ring_model::{Op, Reply, Survey};
 use ring_settle::rest;
 use ring_state::RingState;
 use std::alloc::{AllocError, Global};
@@ -41,12 +42,6 @@ fn play(ring: &mut RingState, op: Op)
             ring.write(machine, value);
         }
     }
-}
-
-fn is_same_event(one: Event, other: Event) -> bool
-    ensures { IsTrue result ↔ one ≡ other }
-{
-    one == other
 }
 
 fn is_same_survey(one: Survey, other: Survey) -> bool
@@ -122,32 +117,6 @@ impl<'a, R: Resource + Drop> Replay<'a, R> {
         }
     }
 
-    /// Whether this event is the next one.
-    fn is_next(&self, event: Event) -> bool
-        ensures { IsTrue result ↔ slice_get self.now.book.now.history self.now.place ≡ Some event }
-    {
-        match self.book.history().get(self.place) {
-            Some(next) => is_same_event(*next, event),
-            None => false,
-        }
-    }
-
-    /// Plays past the event of a receipt, and answers whether it stands ahead, where the receipt says, and is this seat's.
-    fn pass_receipt(&mut self, seat: u32, receipt: Receipt) -> bool
-        ensures book { self.new.book.now ≡ self.old.book.now }
-        ensures front { IsTrue result → self.new.place ≡ receipt.position + 1 }
-        ensures right { IsTrue result ↔ IsReceiptFrom self.old.book.now.history seat self.old.place receipt }
-    {
-        if !self.advance(receipt.position)
-            || !self.is_next(receipt.event)
-            || receipt.event.seat != seat
-        {
-            return false;
-        }
-        self.step();
-        true
-    }
-
     /// Plays on to the place of a survey, and answers whether it stands ahead and the survey is right there.
     fn pass_survey(&mut self, survey: Survey) -> bool
         ensures book { self.new.book.now ≡ self.old.book.now }
@@ -156,48 +125,30 @@ impl<'a, R: Resource + Drop> Replay<'a, R> {
     {
         self.advance(survey.position) && is_same_survey(survey, self.survey())
     }
-
-    /// Plays on to the front of an entry of this seat, and answers whether the entry is right.
-    fn pass_entry(&mut self, seat: u32, entry: Entry) -> bool
-        ensures book { self.new.book.now ≡ self.old.book.now }
-        ensures front { IsTrue result → self.new.place ≡ front_of entry }
-        ensures right { IsTrue result ↔ IsEntryFrom R.works (opening self.old.book.now.start R.first) self.old.book.now.history seat self.old.place entry }
-    {
-        match entry {
-            Entry::Receipt(receipt) => self.pass_receipt(seat, receipt),
-            Entry::Survey(survey) => self.pass_survey(survey),
-        }
-    }
 }
 
-/// How many entries of a log are receipts.
-fn receipt_count(log: &[Entry]) -> u64
-    ensures { result ≡ receipts_in log.now }
-{
-    log.iter()
-        .filter(|entry| matches!(entry, Entry::Receipt(_)))
-        .count() as u64
-}
-
-/// Whether a seat's log fits the history of the book.
+/// Whether each of these surveys, which stand in the order of their places, is right. The history is played again once,
+/// for all of them; where there is none, it isn't.
 ///
 /// # Errors
 ///
 /// Want of memory for playing the history again.
-pub(crate) fn fits<R: Resource + Drop>(
+pub(crate) fn are_right<R: Resource + Drop>(
     alloc: Global,
     book: &Book<R>,
-    seat: u32,
-    log: &[Entry],
+    surveys: &[Survey],
 ) -> Result<bool, AllocError>
-    requires { seat < seat_limit }
-    ensures { IfOk result (λ b. IsTrue b ↔ Fits R.works (opening book.now.start R.first) book.now.history seat log.now) }
+    requires { IsNonDecreasingBy (λ s. s.position) surveys.now }
+    ensures { IfOk result (λ b. IsTrue b ↔ All (IsSurvey R.works (opening book.now.start R.first) book.now.history) surveys.now) }
 {
+    if surveys.is_empty() {
+        return Ok(true);
+    }
     let mut replay = Replay::new(alloc, book)?;
-    for entry in log {
-        if !replay.pass_entry(seat, *entry) {
+    for survey in surveys {
+        if !replay.pass_survey(*survey) {
             return Ok(false);
         }
     }
-    Ok(receipt_count(log) == book.calls_of(seat))
+    Ok(true)
 }

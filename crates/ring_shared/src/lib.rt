@@ -2,9 +2,11 @@
 #![tactic(auto)]
 
 mod closing;
+mod gathering;
 mod judge;
 mod locked;
 mod names;
+mod placing;
 mod rings;
 mod seats;
 
