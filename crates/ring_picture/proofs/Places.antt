@@ -1,0 +1,47 @@
+-- A ring from place to place: what a call makes of it, whatever its resource holds.
+use Rattle.std.proofs.Common.{◌≡◌, ℕ, ◌+◌, ◌<◌, ◌≤◌, cond, true, false, List, [], ◌∷◌, ◌++◌, length, take, get_or, map, refl, sym, ap, ◌∙◌, arith}
+use Rattle.std.proofs.lemmas.List.{take_more, take_all, map-append, set_past}
+use Rattle.ring_model.specs.declared.events.Op.{Op}
+use Rattle.ring_model.specs.declared.events.Op.TheVariants.{Pass, Corrupt}
+use Rattle.ring_model.specs.declared.events.Event.{Event}
+use Rattle.ring_model.specs.Ring.{Ring, ring_with, is_privileged, moved, moved_value}
+use Rattle.ring_model.specs.History.{State, granted_state, next, after}
+use Rattle.ring_model.specs.Resources.{till}
+use Rattle.ring_model.proofs.Histories.{after-push}
+use Rattle.ring_text.specs.declared.saved.SavedEvent.{SavedEvent}
+use Rattle.ring_text.specs.Content.{Block}
+use Rattle.ring_check.specs.Table.{event_of, first_state}
+use Rattle.ring_picture.specs.Picture.{passed, next_ring, ring_at}
+
+next_is : (a : State ℕ) (o : Op) → (next till a o).ring ≡ next_ring a.ring o
+next_is a (Pass i order) = elim (is_privileged a.ring.values i) as (λ p. (cond p (granted_state till a i order) a).ring ≡ cond p (moved a.ring i) a.ring) [ true ↦ refl | false ↦ refl ]
+next_is a (Corrupt i v) = refl
+
+-- a machine past the last has no part in the ring
+pub passed_past : (r : Ring) (i : ℕ) → length r.values ≤ i → r ≡ passed r i
+passed_past r i l =
+    let same : moved r i ≡ r = ap (λ (s : List ℕ). ring_with r.k s) (set_past r.values i (moved_value r i) l) in
+    elim (is_privileged r.values i) as (λ p. r ≡ cond p (moved r i) r) [ true ↦ sym same | false ↦ refl ]
+
+pub passed_off : (r : Ring) (i : ℕ) → is_privileged r.values i ≡ false → r ≡ passed r i
+passed_off r i e = rw e refl
+
+pub passed_on : (r : Ring) (i : ℕ) → is_privileged r.values i ≡ true → moved r i ≡ passed r i
+passed_on r i e = rw e refl
+
+-- one event further
+pub ring_more : (b : Block) (i : ℕ) (d : SavedEvent) (r t : Ring) → i < length b.events → r ≡ ring_at b i → t ≡ next_ring r (event_of (get_or b.events i d)).op → t ≡ ring_at b (i + 1)
+ring_more b i d r t lt at e =
+    let start = first_state (ring_with b.k b.start) in
+    let event = event_of (get_or b.events i d) in
+    let push : map event_of (take (i + 1) b.events) ≡ map event_of (take i b.events) ++ event ∷ [] =
+    ap (λ (u : List SavedEvent). map event_of u) (take_more b.events i d lt) ∙ map-append event_of (take i b.events) (get_or b.events i d ∷ []) in
+    let state : after till start (map event_of (take (i + 1) b.events)) ≡ next till (after till start (map event_of (take i b.events))) event.op =
+    ap (λ (u : List Event). after till start u) push ∙ after-push till start (map event_of (take i b.events)) event in
+    e ∙ ap (λ (x : Ring). next_ring x event.op) at ∙ sym (ap (λ (s : State ℕ). s.ring) state ∙ next_is (after till start (map event_of (take i b.events))) event.op)
+
+-- behind the last event the ring stays
+pub ring_stays : (b : Block) (i : ℕ) → length b.events ≤ i → ring_at b i ≡ ring_at b (i + 1)
+ring_stays b i l =
+    let e : take i b.events ≡ take (i + 1) b.events = take_all i b.events l ∙ sym (take_all (i + 1) b.events (omega arith)) in
+    ap (λ (u : List SavedEvent). (after till (first_state (ring_with b.k b.start)) (map event_of u)).ring) e

@@ -1,0 +1,96 @@
+//! The ring of a block, from place to place.
+
+ghost use Rattle.std.specs.Prelude.{◌≡◌, ◌+◌, ◌<◌, length, vec_len, slice_set, IfOk};
+ghost use Rattle.ring_model.specs.Ring.{ring_with};
+ghost use Rattle.ring_text.specs.Content.{block_of};
+ghost use Rattle.ring_check.specs.Table.{event_of};
+ghost use Rattle.ring_picture.specs.Picture.{passed, next_ring, ring_at};
+
+use ring_model::plain::is_privileged;
+use ring_text::{SavedEvent, SavedRing};
+use std::alloc::{AllocError, Global};
+
+/// Moves a machine that is privileged. One that is not, or is none of the ring's, changes nothing.
+fn pass(k: u32, values: &mut Vec<u32>, machine: u32)
+    requires { 0 < k }
+    ensures ring { ring_with k values.new.items ≡ passed (ring_with k values.old.items) machine }
+    ensures len { vec_len values.new ≡ vec_len values.old }
+{
+    let i = machine as usize;
+    if i < values.len() && is_privileged(values, i) {
+        values[i] = if i == 0 {
+            ((values[0] as u64 + 1) % k as u64) as u32
+        } else {
+            values[i - 1]
+        };
+    }
+}
+
+/// Writes a value into a machine, where it is one of the ring's.
+fn corrupt(values: &mut Vec<u32>, machine: u32, value: u32)
+    ensures values { values.new.items ≡ slice_set values.old.items machine value }
+    ensures len { vec_len values.new ≡ vec_len values.old }
+{
+    let i = machine as usize;
+    if i < values.len() {
+        values[i] = value;
+    }
+}
+
+/// Does the call of an event.
+fn call(k: u32, event: SavedEvent, values: &mut Vec<u32>)
+    requires { 0 < k }
+    ensures ring { ring_with k values.new.items ≡ next_ring (ring_with k values.old.items) (event_of event).op }
+    ensures len { vec_len values.new ≡ vec_len values.old }
+{
+    match event {
+        SavedEvent::Granted { machine, .. } => pass(k, values, machine),
+        SavedEvent::Refused { machine, .. } => pass(k, values, machine),
+        SavedEvent::Corrupted { machine, value, .. } => corrupt(values, machine, value),
+    }
+}
+
+/// Goes one event further; behind the last one the ring stays as it is.
+pub(crate) fn go_on(ring: &SavedRing, place: usize, values: &mut Vec<u32>)
+    requires some { 0 < ring.now.k }
+    requires ring { ring_with ring.now.k values.old.items ≡ ring_at (block_of ring.now) place }
+    ensures ring { ring_with ring.now.k values.new.items ≡ ring_at (block_of ring.now) (place + 1) }
+    ensures len { vec_len values.new ≡ vec_len values.old }
+{
+    if place < ring.events.len() {
+        call(ring.k, ring.events[place], values);
+    }
+}
+
+/// Goes on from the start to a place.
+fn go_to(ring: &SavedRing, place: usize, values: &mut Vec<u32>)
+    requires some { 0 < ring.now.k }
+    requires start { values.old.items ≡ ring.now.start.items }
+    requires len { vec_len values.old ≡ vec_len ring.now.start }
+    ensures ring { ring_with ring.now.k values.new.items ≡ ring_at (block_of ring.now) place }
+    ensures len { vec_len values.new ≡ vec_len ring.now.start }
+{
+    for i in 0..place {
+        go_on(ring, i, values);
+    }
+}
+
+/// The values of a ring's machines behind its first so many events.
+pub fn values_at(alloc: Global, ring: &SavedRing, place: usize) -> Result<Vec<u32>, AllocError>
+    requires { 0 < ring.now.k }
+    ensures ring { IfOk result (λ values. ring_with ring.now.k values.items ≡ ring_at (block_of ring.now) place) }
+    ensures len { IfOk result (λ values. vec_len values ≡ ring.now.n) }
+{
+    let mut values = Vec::from_slice(alloc, &ring.start)?;
+    go_to(ring, place, &mut values);
+    Ok(values)
+}
+
+/// Brings the values back to others.
+pub(crate) fn bring_back(values: &mut Vec<u32>, base: &[u32])
+    requires { vec_len values.old ≡ length base.now }
+    ensures values { values.new.items ≡ base.now }
+    ensures len { vec_len values.new ≡ vec_len values.old }
+{
+    values.copy_from_slice(base);
+}
