@@ -1,0 +1,5 @@
+//! The tests of `ring_picture`, which use its public items alone.
+#![tactic(auto)]
+
+#[cfg(test)]
+mod pictures;
