@@ -1,4 +1,5 @@
 pub mod Client
+pub mod Calls
 pub mod Fronts
 pub mod Gathered
 pub mod Holding

@@ -1,9 +1,10 @@
 //! What lies under the lock of a ring, and the critical sections.
-ghost use Rattle.std.specs.Prelude.{◌≡◌, ◌<◌, ◌++◌, ◌∷◌, ◌≤◌, ◌↔◌, [], length, IsErr, IfOk, OnErr, IsErrOf};
+ghost use Rattle.std.specs.Prelude.{◌≡◌, ◌<◌, ◌≤◌, ◌↔◌, length, IfOk, OnErr, IsErrOf};
 ghost use Rattle.ring_model.specs.History.{opening};
 ghost use Rattle.ring_model.specs.Surveys.{survey_at};
 ghost use Rattle.ring_book.specs.BookView.{IsBook, IsRecorded};
 ghost use Rattle.ring_model.specs.Limits.{event_limit, seat_limit};
+ghost use Rattle.ring_shared.specs.Calls.{IsCallUnderLock};
 ghost use Rattle.ring_shared.specs.Holding.{IsHeld};
 ghost use Rattle.ring_shared.specs.Replays.{IsCallOf};
 
@@ -49,12 +50,7 @@ impl<N: Name, R: Resource + Drop> Locked<N, R> {
     /// receipt is logged.
     fn call(&mut self, seat: &mut Seat<N>, op: Op) -> Result<Receipt, BookError>
         requires { IsCallOf N.start op }
-        ensures ok { IfOk result (λ r. IsRecorded R.works self.old self.new seat.old.number op r) }
-        ensures logged { IfOk result (λ r. seat.new ≡ record { number = seat.old.number; log = seat.old.log ++ Entry.Receipt r ∷ [] }) }
-        ensures held { IfOk result (λ _. IsHeld R.works R.first N.start N.seats N.legal self.new) }
-        ensures full { length self.old.history ≡ event_limit → IsErr result }
-        ensures full_only { IsErrOf result BookError.HistoryFull → length self.old.history ≡ event_limit }
-        ensures err { OnErr result ((self.new ≡ self.old) × (seat.new ≡ seat.old)) }
+        ensures { IsCallUnderLock R.works R.first N.start N.seats N.legal self.old self.new seat.old seat.new op result }
     {
         if seat.log.reserve(1).is_err() {
             return Err(BookError::OutOfMemory);
@@ -79,12 +75,7 @@ impl<N: Name, R: Resource + Drop> Locked<N, R> {
         order: u64,
     ) -> Result<Receipt, BookError>
         requires { machine < length N.start.values }
-        ensures ok { IfOk result (λ r. IsRecorded R.works self.old self.new seat.old.number (Op.Pass machine order) r) }
-        ensures logged { IfOk result (λ r. seat.new ≡ record { number = seat.old.number; log = seat.old.log ++ Entry.Receipt r ∷ [] }) }
-        ensures held { IfOk result (λ _. IsHeld R.works R.first N.start N.seats N.legal self.new) }
-        ensures full { length self.old.history ≡ event_limit → IsErr result }
-        ensures full_only { IsErrOf result BookError.HistoryFull → length self.old.history ≡ event_limit }
-        ensures err { OnErr result ((self.new ≡ self.old) × (seat.new ≡ seat.old)) }
+        ensures { IsCallUnderLock R.works R.first N.start N.seats N.legal self.old self.new seat.old seat.new (Op.Pass machine order) result }
     {
         self.call(seat, Op::Pass { machine, order })
     }
@@ -104,12 +95,7 @@ impl<N: Name, R: Resource + Drop> Locked<N, R> {
     ) -> Result<Receipt, BookError>
         requires machine { machine < length N.start.values }
         requires value { value < N.start.k }
-        ensures ok { IfOk result (λ r. IsRecorded R.works self.old self.new seat.old.number (Op.Corrupt machine value) r) }
-        ensures logged { IfOk result (λ r. seat.new ≡ record { number = seat.old.number; log = seat.old.log ++ Entry.Receipt r ∷ [] }) }
-        ensures held { IfOk result (λ _. IsHeld R.works R.first N.start N.seats N.legal self.new) }
-        ensures full { length self.old.history ≡ event_limit → IsErr result }
-        ensures full_only { IsErrOf result BookError.HistoryFull → length self.old.history ≡ event_limit }
-        ensures err { OnErr result ((self.new ≡ self.old) × (seat.new ≡ seat.old)) }
+        ensures { IsCallUnderLock R.works R.first N.start N.seats N.legal self.old self.new seat.old seat.new (Op.Corrupt machine value) result }
     {
         self.call(seat, Op::Corrupt { machine, value })
     }
