@@ -1,5 +1,5 @@
 -- What a call that is made under the lock of a ring does to the book and to the seat (this project's own).
-use Rattle.std.specs.Prelude.{◌≡◌, ℕ, ◌++◌, ◌∷◌, [], List, length, Result, IfOk, IsErr, IsErrOf, OnErr}
+use Rattle.std.specs.Prelude.{◌≡◌, ℕ, ◌++◌, ◌∷◌, [], List, length, Result, IsErr, IsErrOf, OnErr}
 use Rattle.ring_model.specs.Ring.{Ring}
 use Rattle.ring_model.specs.History.{Works}
 use Rattle.ring_model.specs.Limits.{event_limit}
@@ -13,13 +13,16 @@ use Rattle.ring_book.specs.declared.events.BookError.TheVariants.{HistoryFull}
 use Rattle.ring_shared.specs.Client.{Client}
 use Rattle.ring_shared.specs.Holding.{IsHeld}
 
--- Where it answers a receipt, the book made the one step that the receipt records, the seat's log has just that receipt besides,
--- and the book is as it is whenever the lock is free. A full history is refused, and HistoryFull is said of no other. A refusal
--- leaves the book and the seat as they were.
-pub record IsCallUnderLock {C : Type 0} (w : Works C) (first : C) (start : Ring) (seats : ℕ) (legal : List Event → Type 0) (old new : BookView C) (before after : Client) (op : Op) (result : Result Receipt BookError) : Type 0 where
-  pub recorded : IfOk result (λ r. IsRecorded w old new before.number op r)
-  pub logged : IfOk result (λ r. after ≡ record { number = before.number; log = before.log ++ entry.Receipt r ∷ [] })
-  pub held : IfOk result (λ _. IsHeld w first start seats legal new)
+-- The call was made, and r is its receipt: the book made the one step that the receipt records, the seat's log has just that
+-- receipt besides, and the book is as it is whenever the lock is free.
+pub record IsCallUnderLock {C : Type 0} (w : Works C) (first : C) (start : Ring) (seats : ℕ) (legal : List Event → Type 0) (old new : BookView C) (before after : Client) (op : Op) (r : Receipt) : Type 0 where
+  pub recorded : IsRecorded w old new before.number op r
+  pub logged : after ≡ record { number = before.number; log = before.log ++ entry.Receipt r ∷ [] }
+  pub held : IsHeld w first start seats legal new
+
+-- When a call is refused: a full history is, and HistoryFull is said of no other. A refusal leaves the book and the seat as they
+-- were.
+pub record IsRefusedUnderLock {C : Type 0} (old new : BookView C) (before after : Client) (result : Result Receipt BookError) : Type 0 where
   pub full : length old.history ≡ event_limit → IsErr result
   pub full_only : IsErrOf result HistoryFull → length old.history ≡ event_limit
   pub unchanged : OnErr result ((new ≡ old) × (after ≡ before))

@@ -4,7 +4,7 @@ ghost use Rattle.ring_model.specs.History.{opening};
 ghost use Rattle.ring_model.specs.Surveys.{survey_at};
 ghost use Rattle.ring_book.specs.BookView.{IsBook, IsRecorded};
 ghost use Rattle.ring_model.specs.Limits.{event_limit, seat_limit};
-ghost use Rattle.ring_shared.specs.Calls.{IsCallUnderLock};
+ghost use Rattle.ring_shared.specs.Calls.{IsCallUnderLock, IsRefusedUnderLock};
 ghost use Rattle.ring_shared.specs.Holding.{IsHeld};
 ghost use Rattle.ring_shared.specs.Replays.{IsCallOf};
 
@@ -50,7 +50,8 @@ impl<N: Name, R: Resource + Drop> Locked<N, R> {
     /// receipt is logged.
     fn call(&mut self, seat: &mut Seat<N>, op: Op) -> Result<Receipt, BookError>
         requires { IsCallOf N.start op }
-        ensures { IsCallUnderLock R.works R.first N.start N.seats N.legal self.old self.new seat.old seat.new op result }
+        ensures ok { IfOk result (λ r. IsCallUnderLock R.works R.first N.start N.seats N.legal self.old self.new seat.old seat.new op r) }
+        ensures refused { IsRefusedUnderLock self.old self.new seat.old seat.new result }
     {
         if seat.log.reserve(1).is_err() {
             return Err(BookError::OutOfMemory);
@@ -75,7 +76,8 @@ impl<N: Name, R: Resource + Drop> Locked<N, R> {
         order: u64,
     ) -> Result<Receipt, BookError>
         requires { machine < length N.start.values }
-        ensures { IsCallUnderLock R.works R.first N.start N.seats N.legal self.old self.new seat.old seat.new (Op.Pass machine order) result }
+        ensures ok { IfOk result (λ r. IsCallUnderLock R.works R.first N.start N.seats N.legal self.old self.new seat.old seat.new (Op.Pass machine order) r) }
+        ensures refused { IsRefusedUnderLock self.old self.new seat.old seat.new result }
     {
         self.call(seat, Op::Pass { machine, order })
     }
@@ -95,7 +97,8 @@ impl<N: Name, R: Resource + Drop> Locked<N, R> {
     ) -> Result<Receipt, BookError>
         requires machine { machine < length N.start.values }
         requires value { value < N.start.k }
-        ensures { IsCallUnderLock R.works R.first N.start N.seats N.legal self.old self.new seat.old seat.new (Op.Corrupt machine value) result }
+        ensures ok { IfOk result (λ r. IsCallUnderLock R.works R.first N.start N.seats N.legal self.old self.new seat.old seat.new (Op.Corrupt machine value) r) }
+        ensures refused { IsRefusedUnderLock self.old self.new seat.old seat.new result }
     {
         self.call(seat, Op::Corrupt { machine, value })
     }
