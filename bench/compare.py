@@ -1,0 +1,64 @@
+"""Runs the programs of two trees of crates in turn and prints what the second costs of the first, for bench/compare.sh.
+Words: the folder crates/ before, and that now. Works in the current folder, which has the settings files."""
+
+import os
+import re
+import subprocess
+import sys
+import time
+
+RUNS = 5
+
+
+def cost(program, words):
+    """Processor seconds, seconds by the clock and KiB at most of one run."""
+    begun = time.monotonic()
+    started = subprocess.Popen([program, *words], stdout=subprocess.DEVNULL)
+    _, status, spent = os.wait4(started.pid, 0)
+    started.returncode = status
+    if status:
+        sys.exit(f"{program} {' '.join(words)}: status {status}")
+    return spent.ru_utime + spent.ru_stime, time.monotonic() - begun, spent.ru_maxrss
+
+
+def least(pairs):
+    return [min(it) for it in zip(*pairs)]
+
+
+def compare(before, now, what, words):
+    """Prints one row; the two programs take turns, so that both see the same machine."""
+    costs = {before: [], now: []}
+    for _ in range(RUNS):
+        for program in (before, now):
+            costs[program].append(cost(program, words))
+    old, new = least(costs[before]), least(costs[now])
+    ratios = [f"{b / a:.2f}" for a, b in zip(old, new)]
+    print(f"| {what} | {old[0]:.3f} | {new[0]:.3f} | {ratios[0]} | {ratios[1]} | {ratios[2]} |", flush=True)
+
+
+def speeds(program, settings):
+    """The best MB a second of writing and of reading that the benchmark tells."""
+    told = "".join(subprocess.run([program, settings], capture_output=True, text=True, check=True).stdout for _ in range(RUNS))
+    return [max(int(it) for it in re.findall(rf"{what} in \d+ ms, (\d+) MB", told)) for what in ("written", "read")]
+
+
+def main(before, now):
+    tools = [f"{it}/ring_tool/out/ring_tool" for it in (before, now)]
+    print("| What | s before | s now | by processor | by the clock | memory |")
+    print("|---|---|---|---|---|---|")
+    for n in (16, 256):
+        one, many = f"one-ring-{n}.json", f"sixteen-long-{n}.json"
+        compare(*tools, f"run, one ring, nine of 100,000, n = {n}", ["run", one])
+        compare(*tools, f"the same with a history, n = {n}", ["run", one, "--history", "compared.txt"])
+        compare(*tools, f"check of that history, n = {n}", ["check", "compared.txt"])
+        compare(*tools, f"run, sixteen rings, nine of 320,000, n = {n}", ["run", many])
+    for n in (16, 256):
+        for tree, name in ((before, "before"), (now, "now")):
+            written, read = speeds(f"{tree}/text_bench/out/text_bench", f"one-ring-{n}.json")
+            print(f"text of one ring, n = {n}, {name}: written {written}, read {read} MB a second")
+    close = f"{now}/close_bench/out/close_bench"
+    print(subprocess.run([close], capture_output=True, text=True, check=True).stdout, end="")
+
+
+if __name__ == "__main__":
+    main(*sys.argv[1:])
