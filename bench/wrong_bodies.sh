@@ -16,7 +16,7 @@ for crate in ${*:-$(ls bench/wrong_bodies)}; do
     rm -rf "crates/$crate/must-fail"
     cp -r "bench/wrong_bodies/$crate" "crates/$crate/must-fail"
     rt must-fail "$crate" >"$log" 2>&1 || failed=1
-    grep -E 'BAD EDIT|NOT REFUSED|says little' "$log" || true
+    if grep -E 'BAD EDIT|NOT REFUSED|says little' "$log"; then failed=1; fi
     refused=$(grep -c ': refused, as it must be' "$log" || true)
     echo "$crate: $refused of $(ls "crates/$crate/must-fail" | wc -l) refused"
 done
