@@ -11,9 +11,9 @@ fn each_fault_has_its_line(rt: HostRuntime) {
     let table = [
         (ToolError::BadList, 2, "bad list\n"),
         (ToolError::TooFew, 1, "n is less than 2\n"),
-        (ToolError::TooMany, 1, "n is more than 256\n"),
+        (ToolError::TooMany, 1, "n is more than 1024\n"),
         (ToolError::FewValues, 1, "k is less than n\n"),
-        (ToolError::ManyValues, 1, "k is more than 256\n"),
+        (ToolError::ManyValues, 1, "k is more than 65536\n"),
         (ToolError::Length, 1, "start does not have n values\n"),
         (ToolError::Value(255), 1, "start value 255 is not below k\n"),
         (ToolError::Choice(7), 1, "choice 7 is not below n\n"),

@@ -193,7 +193,7 @@ fn settings_that_are_refused_are_told(rt: HostRuntime) -> Result<(), Fail> {
         ),
         (
             r#"{"rings":[{"n":257,"k":2,"start":[0]}]}"#,
-            "ring 0: n is more than 256\n",
+            "ring 0: n is more than 1024\n",
         ),
         (
             r#"{"rings":[{"n":4,"k":3,"start":[]}],"workers":[]}"#,
@@ -201,7 +201,7 @@ fn settings_that_are_refused_are_told(rt: HostRuntime) -> Result<(), Fail> {
         ),
         (
             r#"{"rings":[{"n":4,"k":257,"start":[]}]}"#,
-            "ring 0: k is more than 256\n",
+            "ring 0: k is more than 65536\n",
         ),
         (
             r#"{"rings":[{"n":2,"k":2,"start":[0,0]},{"n":2,"k":2,"start":[0]}]}"#,

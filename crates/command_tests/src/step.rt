@@ -55,9 +55,9 @@ fn step_prints_each_reply_and_the_last_state(rt: HostRuntime) -> Result<(), Fail
 fn each_refusal_has_its_line_and_the_first_is_told(rt: HostRuntime) -> Result<(), Fail> {
     let table = [
         (["1", "0", "0", "9"], "n is less than 2\n"),
-        (["257", "300", "0", "9"], "n is more than 256\n"),
+        (["257", "300", "0", "9"], "n is more than 1024\n"),
         (["4", "3", "0", "9"], "k is less than n\n"),
-        (["256", "257", "0", "999"], "k is more than 256\n"),
+        (["256", "257", "0", "999"], "k is more than 65536\n"),
         (["3", "3", "0,2", "9"], "start does not have n values\n"),
         (["3", "3", "0,2,0,1", "9"], "start does not have n values\n"),
         (["3", "3", "0,3,7", "9"], "start value 1 is not below k\n"),

@@ -15,7 +15,7 @@ fn ring(
     start: &[u32],
     events: &[SavedEvent],
 ) -> Result<SavedRing, AllocError> {
-    assert!(rt; !start.is_empty() && start.len() <= 256);
+    assert!(rt; !start.is_empty() && start.len() <= 1_024);
     Ok(SavedRing {
         index,
         n: start.len() as u32,
@@ -34,7 +34,7 @@ fn drawn(
     ring: &SavedRing,
     columns: u32,
 ) -> Result<Vec<u8>, AllocError> {
-    assert!(rt; 0 < ring.k && ring.n <= 256);
+    assert!(rt; 0 < ring.k && ring.n <= 1_024);
     let base = values_at(alloc, ring, 0)?;
     let mut values = values_at(alloc, ring, 0)?;
     let mut out = Vec::new(alloc);

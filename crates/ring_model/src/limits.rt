@@ -4,13 +4,13 @@ ghost use Rattle.std.specs.Prelude.{◌≡◌};
 ghost use Rattle.ring_model.specs.Limits.{machine_limit, value_limit, event_limit, seat_limit};
 
 /// The most machines of a ring.
-pub const MACHINE_LIMIT: u32 = 256;
+pub const MACHINE_LIMIT: u32 = 1_024;
 
 /// The most values, one of which a machine holds.
-pub const VALUE_LIMIT: u32 = 256;
+pub const VALUE_LIMIT: u32 = 65_536;
 
 /// The most events of a history.
-pub const EVENT_LIMIT: usize = 1_000_000;
+pub const EVENT_LIMIT: usize = 4_000_000;
 
 /// The most seats of a ring, whose numbers are below it.
 pub const SEAT_LIMIT: usize = 10;

@@ -45,11 +45,11 @@ impl Display for Field {
 pub enum RingCause {
     #[error("n is less than 2")]
     TooFew,
-    #[error("n is more than 256")]
+    #[error("n is more than 1024")]
     TooMany,
     #[error("k is less than n")]
     FewValues,
-    #[error("k is more than 256")]
+    #[error("k is more than 65536")]
     ManyValues,
     #[error("start does not have n values")]
     Length,

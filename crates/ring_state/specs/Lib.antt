@@ -1,2 +1,4 @@
+pub mod Cells
 pub mod Sizes
 pub mod StateFault
+pub mod Widths

@@ -6,29 +6,51 @@ ghost use Rattle.ring_lanes.specs.Masks.{IsMaskOf};
 ghost use Rattle.ring_state.specs.Sizes.{IsRingState, size_of};
 ghost use Rattle.ring_state.specs.StateFault.{IsFaultOf};
 
+mod copies;
+
+use crate::packed::Packed;
 use crate::sizes::Params;
 use std::alloc::{AllocError, Global};
 use std::marker::Model;
 
 /// The state of a ring: n machines, each with a value below K.
 ///
-/// Contracts see K and the list of values; one byte is stored for each machine.
+/// Contracts see K and the list of values. One byte is stored for each machine where K is at most 256, else two.
 #[derive(Drop)]
 pub struct RingState {
-    k: u32,
-    bytes: Vec<u8>,
+    cells: Cells,
+}
+
+/// The state, by the width of its cells.
+#[derive(Drop)]
+enum Cells {
+    Narrow(Packed<u8>),
+    Wide(Packed<u16>),
 }
 
 impl Model for RingState {
     ghost use Rattle.ring_model.specs.Ring.{Ring};
-    ghost use Rattle.ring_state.specs.Sizes.{IsRingState};
+    ghost use Rattle.ring_state.specs.Cells.{held, IsRightWidth};
 
     ghost Value = { Ring };
 
-    ghost view = { λ s. record { k = s.k; values = s.bytes.items } };
+    ghost view = { λ s. held s.cells };
 
-    ghost invariant = { λ s. IsRingState (record { k = s.k; values = s.bytes.items }) };
+    ghost invariant = { λ s. IsRightWidth s.cells };
 }
+
+// What is asked of a state is asked of its cells, whichever their width.
+macro_rules! of_either {
+    ($cells:expr, $state:ident => $answer:expr) => {
+        match $cells {
+            Cells::Narrow($state) => $answer,
+            Cells::Wide($state) => $answer,
+        }
+    };
+}
+
+// How many values a byte tells apart.
+const BYTE_VALUES: u32 = 256;
 
 /// Why start values are refused.
 #[derive(Clone, Copy, Debug, Drop, PartialEq, Eq)]
@@ -59,13 +81,15 @@ impl RingState {
                 return Err(StateError::Value(i));
             }
         }
-        let mut bytes = Vec::with_capacity(alloc, values.len()).map_err(
-            |_| StateError::OutOfMemory,
-        )?;
-        for v in values {
-            bytes.push(*v as u8).map_err(|_| StateError::OutOfMemory)?;
+        let cells = if k <= BYTE_VALUES {
+            Packed::new(alloc, k, values).map(Cells::Narrow)
+        } else {
+            Packed::new(alloc, k, values).map(Cells::Wide)
+        };
+        match cells {
+            Ok(cells) => Ok(RingState { cells }),
+            Err(_) => Err(StateError::OutOfMemory),
         }
-        Ok(RingState { k, bytes })
     }
 
     /// The ring's size.
@@ -73,7 +97,7 @@ impl RingState {
         ensures is { result ≡ size_of self.now }
         ensures ring { IsRingState self.now }
     {
-        Params::of_ring(self.bytes.len() as u32, self.k)
+        of_either!(&self.cells, state => state.params())
     }
 
     /// The value of machine `i`, which is below n.
@@ -82,7 +106,7 @@ impl RingState {
         ensures is { result ≡ slice_index self.now.values i }
         ensures below { result < self.now.k }
     {
-        self.bytes[i as usize] as u32
+        of_either!(&self.cells, state => state.get(i))
     }
 
     /// Whether machine `i`, which is below n, is privileged (Dijkstra 1974).
@@ -90,12 +114,7 @@ impl RingState {
         requires { i < length self.now.values }
         ensures { result ≡ is_privileged self.now.values i }
     {
-        let own = i as usize;
-        if own == 0 {
-            self.bytes[self.bytes.len() - 1] == self.bytes[0]
-        } else {
-            self.bytes[own - 1] != self.bytes[own]
-        }
+        of_either!(&self.cells, state => state.is_privileged(i))
     }
 
     /// How many machines are privileged, 1 to n.
@@ -104,7 +123,7 @@ impl RingState {
         ensures is { result ≡ privileged_count self.now.values }
         ensures within { result ≤ length self.now.values }
     {
-        ring_lanes::privileged_count(self.bytes.as_slice()) as u32
+        of_either!(&self.cells, state => state.privileged())
     }
 
     /// The least privileged machine. There always is one.
@@ -113,15 +132,15 @@ impl RingState {
         ensures machine { result < length self.now.values }
         ensures privileged { is_privileged self.now.values result ≡ true }
     {
-        ring_lanes::first_privileged(self.bytes.as_slice()) as u32
+        of_either!(&self.cells, state => state.first())
     }
 
     /// Writes a bit for each machine into `out`: bit `i % 64` of word `i / 64` is set exactly where
     /// machine `i` is privileged, and every bit past the last machine is clear.
-    pub fn mask(&self, out: &mut [u64; 4])
+    pub fn mask(&self, out: &mut [u64; 16])
         ensures { IsMaskOf machine_limit self.now.values out.new }
     {
-        ring_lanes::privileged_mask(self.bytes.as_slice(), out);
+        of_either!(&self.cells, state => state.mask(out));
     }
 
     /// The weight: each privileged machine but machine 0 counts with its distance to the end of the
@@ -129,7 +148,7 @@ impl RingState {
     pub fn weight(&self) -> u64
         ensures { result ≡ weight self.now.values }
     {
-        ring_lanes::weight(self.bytes.as_slice())
+        of_either!(&self.cells, state => state.weight())
     }
 
     /// Whether a machine other than machine 0 holds `v`, which is below K.
@@ -138,7 +157,7 @@ impl RingState {
         ensures held { IsTrue result ↔ ((i : ℕ) × (1 ≤ i) × (i < length self.now.values) × (slice_index self.now.values i ≡ v)) }
         ensures absent { result ≡ not (is_absent self.now.values v) }
     {
-        ring_lanes::holds_past_first(self.bytes.as_slice(), v as u8)
+        of_either!(&self.cells, state => state.holds_past_first(v))
     }
 
     /// Whether the machines that hold the value of machine 0 are a prefix of the ring.
@@ -146,7 +165,7 @@ impl RingState {
         ensures test { result ≡ first_value_is_prefix self.now.values }
         ensures prefix { IsTrue result ↔ ((p : ℕ) × IsPrefix self.now.values p) }
     {
-        ring_lanes::first_value_is_prefix(self.bytes.as_slice())
+        of_either!(&self.cells, state => state.first_value_is_prefix())
     }
 
     /// Makes the move of machine `i`, which is privileged: machine 0 steps on by 1 modulo K, each other
@@ -168,14 +187,7 @@ impl RingState {
         ensures is { self.new ≡ moved self.old i }
         ensures ring { IsRingState self.old }
     {
-        let own = i as usize;
-        let value = if own == 0 {
-            ((self.bytes[0] as u32 + 1) % self.k) as u8
-        } else {
-            let left = own - 1;
-            self.bytes[left]
-        };
-        self.bytes[own] = value;
+        of_either!(&mut self.cells, state => state.take_step(i));
     }
 
     /// Writes `v`, which is below K, into machine `i`, and answers the value that was there.
@@ -185,10 +197,7 @@ impl RingState {
         ensures old { result ≡ slice_index self.old.values i }
         ensures new { self.new ≡ written self.old i v }
     {
-        let own = i as usize;
-        let old = self.bytes[own];
-        self.bytes[own] = v as u8;
-        old as u32
+        of_either!(&mut self.cells, state => state.write(i, v))
     }
 
     /// An equal state.
@@ -199,7 +208,10 @@ impl RingState {
     pub fn try_copy(&self, alloc: Global) -> Result<RingState, AllocError>
         ensures ok { IfOk result (λ r. r ≡ self.now) }
     {
-        let bytes = Vec::from_slice(alloc, self.bytes.as_slice())?;
-        Ok(RingState { k: self.k, bytes })
+        let cells = match &self.cells {
+            Cells::Narrow(state) => Cells::Narrow(state.try_copy(alloc)?),
+            Cells::Wide(state) => Cells::Wide(state.try_copy(alloc)?),
+        };
+        Ok(RingState { cells })
     }
 }

@@ -75,8 +75,8 @@ fn choices_word<'a>(alloc: Global) -> Arg<'a> {
 
 /// `step` with the ring's size.
 fn with_sizes<'a>(alloc: Global, command: Command<'a>) -> Result<Command<'a>, Error> {
-    let n = needed_number(alloc, "N", "How many machines the ring has, 2 to 256");
-    let k = needed_number(alloc, "K", "How many values a machine can hold, N to 256");
+    let n = needed_number(alloc, "N", "How many machines the ring has, 2 to 1024");
+    let k = needed_number(alloc, "K", "How many values a machine can hold, N to 65536");
     Ok(command.arg(n)?.arg(k)?)
 }
 

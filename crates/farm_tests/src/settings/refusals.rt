@@ -315,7 +315,7 @@ fn refusals_are_told_in_words(rt: HostRuntime) -> Result<(), Fail> {
         ),
         (
             SettingsError::Ring(1, RingCause::TooMany),
-            "ring 1: n is more than 256",
+            "ring 1: n is more than 1024",
         ),
         (
             SettingsError::Ring(2, RingCause::FewValues),
@@ -323,7 +323,7 @@ fn refusals_are_told_in_words(rt: HostRuntime) -> Result<(), Fail> {
         ),
         (
             SettingsError::Ring(3, RingCause::ManyValues),
-            "ring 3: k is more than 256",
+            "ring 3: k is more than 65536",
         ),
         (
             SettingsError::Ring(4, RingCause::Length),
