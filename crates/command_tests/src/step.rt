@@ -42,6 +42,14 @@ fn step_prints_each_reply_and_the_last_state(rt: HostRuntime) -> Result<(), Fail
             "0 granted 1\n1 granted 2\n0 granted 3\n1 granted 4\nstates 0,0\nprivileged 1 first 0\n",
         ),
         (
+            ["step", "3", "65536", "0,65535,0", "0,2"].as_slice(),
+            "0 granted 1\n2 granted 2\nstates 1,65535,65535\nprivileged 1 first 1\n",
+        ),
+        (
+            ["step", "2", "65536", "65535,65535", "0"].as_slice(),
+            "0 granted 1\nstates 0,65535\nprivileged 1 first 1\n",
+        ),
+        (
             ["step", "3", "3", "0,2,0"].as_slice(),
             "states 0,2,0\nprivileged 3 first 0\n",
         ),
@@ -55,9 +63,9 @@ fn step_prints_each_reply_and_the_last_state(rt: HostRuntime) -> Result<(), Fail
 fn each_refusal_has_its_line_and_the_first_is_told(rt: HostRuntime) -> Result<(), Fail> {
     let table = [
         (["1", "0", "0", "9"], "n is less than 2\n"),
-        (["257", "300", "0", "9"], "n is more than 1024\n"),
+        (["1025", "2000", "0", "9"], "n is more than 1024\n"),
         (["4", "3", "0", "9"], "k is less than n\n"),
-        (["256", "257", "0", "999"], "k is more than 65536\n"),
+        (["1024", "65537", "0", "9999"], "k is more than 65536\n"),
         (["3", "3", "0,2", "9"], "start does not have n values\n"),
         (["3", "3", "0,2,0,1", "9"], "start does not have n values\n"),
         (["3", "3", "0,3,7", "9"], "start value 1 is not below k\n"),
@@ -228,12 +236,12 @@ fn pass_often<R: AllocGlobal>(
 }
 
 #[test]
-fn a_history_holds_a_million_events(rt: HostRuntime) -> Result<(), Fail> {
+fn a_history_holds_four_million_events(rt: HostRuntime) -> Result<(), Fail> {
     let line = "1 not privileged\n".len();
     let end = "states 0,0\nprivileged 1 first 0\n".len();
-    let (done, written) = pass_often(&rt, 1_000_000)?;
-    assert!(rt; done.is_ok() && written == 1_000_000 * line + end);
-    let (done, written) = pass_often(&rt, 1_000_001)?;
-    assert!(rt; matches!(done, Err(ToolError::HistoryFull)) && written == 1_000_000 * line);
+    let (done, written) = pass_often(&rt, 4_000_000)?;
+    assert!(rt; done.is_ok() && written == 4_000_000 * line + end);
+    let (done, written) = pass_often(&rt, 4_000_001)?;
+    assert!(rt; matches!(done, Err(ToolError::HistoryFull)) && written == 4_000_000 * line);
     Ok(())
 }

@@ -382,9 +382,9 @@ fn call_until_full<N: Name, W: Wait + Abort>(
     requires first { first.number ≡ 0 }
     requires second { second.number ≡ 1 }
 {
-    let mut first = pass_often(rt, &ring, first, 0, 1_000_000);
+    let mut first = pass_often(rt, &ring, first, 0, 4_000_000);
     is_full(rt, &ring, &mut first);
-    assert_eq!(rt; first.log().len(), 1_000_000);
+    assert_eq!(rt; first.log().len(), 4_000_000);
     let seats = both(rt, alloc, first, second);
     match ring.close(rt, alloc, seats) {
         Ok(closed) => {
@@ -392,7 +392,7 @@ fn call_until_full<N: Name, W: Wait + Abort>(
             let entries = (closed.logs[0].entries.len(), closed.logs[1].entries.len());
             assert_eq!(rt;
                 (closed.book.history().len(), entries),
-                (1_000_000, (1_000_000, 0))
+                (4_000_000, (4_000_000, 0))
             );
         }
         Err(fault) => panic!(rt; "{:?}", fault.reason),

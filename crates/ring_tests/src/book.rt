@@ -5,6 +5,7 @@ ghost use Rattle.std.specs.Prelude.{◌≡◌};
 mod calls;
 mod limits;
 mod settling;
+mod widths;
 
 use crate::rings::{state_of, three};
 use ring_book::{Book, BookError, Event, Op, Receipt, Reply, Resource, Survey};

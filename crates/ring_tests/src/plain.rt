@@ -97,7 +97,7 @@ fn bounds_the_rest(rt: HostRuntime) {
         (2, 3),
         (3, 9),
         (4, 18),
-        (256, 97_920),
+        (1_024, 1_571_328),
         (65_536, 6_442_352_640),
     ] {
         assert_eq!(rt; bound(n), wanted, "at {n}");
@@ -106,15 +106,15 @@ fn bounds_the_rest(rt: HostRuntime) {
 
 #[test]
 fn answers_for_the_largest_ring(rt: HostRuntime) {
-    let mut ring = [0u32; 256];
-    for machine in 0..256 {
+    let mut ring = [0u32; 1024];
+    for machine in 0..1024 {
         ring[machine] = machine as u32;
     }
-    assert!(rt; is_ring(256, &ring));
-    // Each machine but machine 0 differs from its left neighbour: 255 + 254 + .. + 1.
-    assert_eq!(rt; privileged_count(&ring), 255);
+    assert!(rt; is_ring(1024, &ring));
+    // Each machine but machine 0 differs from its left neighbour: 1,023 + 1,022 + .. + 1.
+    assert_eq!(rt; privileged_count(&ring), 1_023);
     assert_eq!(rt; first_privileged(&ring), 1);
-    assert_eq!(rt; weight(&ring), 32_640);
-    assert_eq!(rt; lead(256, &ring), 0);
-    assert_eq!(rt; rest(256, &ring), 32_640);
+    assert_eq!(rt; weight(&ring), 523_776);
+    assert_eq!(rt; lead(1024, &ring), 0);
+    assert_eq!(rt; rest(1024, &ring), 523_776);
 }

@@ -9,6 +9,7 @@ fn bounds(rt: HostRuntime) {
         (4, 18),
         (5, 30),
         (256, 97_920),
+        (1_024, 1_571_328),
         (65_536, 6_442_352_640),
     ] {
         assert!(rt; n >= 2 && n <= 65_536);
@@ -46,15 +47,19 @@ fn leads_and_rests_of_four_machines(rt: HostRuntime) {
     }
 }
 
+// Each machine but machine 0 differs from its left neighbour: 1,023 + 1,022 + .. + 1.
 #[test]
 fn the_largest_ring_of_different_values(rt: HostRuntime) {
-    let mut values = [0u32; 256];
-    for i in 0..256usize {
+    let mut values = [0u32; 1024];
+    for i in 0..1024usize {
         values[i] = i as u32;
     }
-    let state = state_of(&rt, rt.alloc(), 256, 256, &values);
-    assert_eq!(rt; (state.privileged(), state.first()), (255, 1));
-    assert_eq!(rt; (lead(&state), rest(&state)), (0, 32_640));
+    let state = state_of(&rt, rt.alloc(), 1024, 1024, &values);
+    assert_eq!(rt; (state.privileged(), state.first()), (1_023, 1));
+    assert_eq!(rt;
+        (lead(&state), state.weight(), rest(&state)),
+        (0, 523_776, 523_776)
+    );
     assert!(rt; !is_settled(&state));
 }
 

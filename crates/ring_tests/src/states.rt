@@ -6,12 +6,18 @@ use std::test::Fail;
 
 #[test]
 fn sizes_are_accepted_or_refused_in_order(rt: HostRuntime) -> Result<(), Fail> {
-    assert_eq!(rt; Params::new(4, 3), Err(ParamsError::FewValues));
-    assert_eq!(rt; Params::new(1, 0), Err(ParamsError::TooFew));
-    assert_eq!(rt; Params::new(257, 300), Err(ParamsError::TooMany));
-    assert_eq!(rt; Params::new(256, 257), Err(ParamsError::ManyValues));
-    let largest = Params::new(256, 256)?;
-    assert_eq!(rt; (largest.n(), largest.k()), (256, 256));
+    for (n, k, error) in [
+        (4, 3, ParamsError::FewValues),
+        (1, 0, ParamsError::TooFew),
+        (1_025, 2_000, ParamsError::TooMany),
+        (1_024, 65_537, ParamsError::ManyValues),
+    ] {
+        assert_eq!(rt; Params::new(n, k), Err(error), "{n} and {k}");
+    }
+    for (n, k) in [(257, 300), (256, 257), (1_024, 65_536)] {
+        let size = Params::new(n, k)?;
+        assert_eq!(rt; (size.n(), size.k()), (n, k));
+    }
     let least = Params::new(2, 2)?;
     assert_eq!(rt; (least.n(), least.k()), (2, 2));
     Ok(())
@@ -140,14 +146,15 @@ fn held_past_first(rt: &impl Abort, state: &RingState) -> [bool; 3] {
 // machine 1, which does not. In (1, 2, 2) machine 1 alone is privileged.
 #[test]
 fn readers_see_the_whole_ring(rt: HostRuntime) -> Result<(), Fail> {
-    let mut mask = [7; 4];
+    let mut mask = [7; 16];
     for (values, bits, weight, prefix, held) in [
         ([0, 2, 0], 0b111, 3, false, [true, false, true]),
         ([1, 2, 2], 0b010, 2, true, [false, false, true]),
     ] {
         let state = state_of(rt.alloc(), &values)?;
         state.mask(&mut mask);
-        assert_eq!(rt; mask, [bits, 0, 0, 0], "of {values:?}");
+        assert_eq!(rt; mask[0], bits, "of {values:?}");
+        assert!(rt; mask[1..].iter().all(|&word| word == 0), "of {values:?}");
         assert_eq!(rt;
             (state.weight(), state.first_value_is_prefix()),
             (weight, prefix)
@@ -157,20 +164,62 @@ fn readers_see_the_whole_ring(rt: HostRuntime) -> Result<(), Fail> {
     Ok(())
 }
 
-// 33 machines, all 0 but a 1 at machine 31: machines 0, 31 and 32 are privileged.
+// 33 machines, all 0 but a 1 at machine 31: machines 0, 31 and 32 are privileged. One byte each does for 256 values.
 #[test]
 fn readers_see_past_a_block(rt: HostRuntime) -> Result<(), Fail> {
-    let size = Params::new(33, 256)?;
     let mut values = [0u32; 33];
     values[31] = 1;
-    let state = RingState::from_values(rt.alloc(), &size, &values)?;
-    let mut mask = [7; 4];
-    state.mask(&mut mask);
-    assert_eq!(rt; mask, [0x1_8000_0001, 0, 0, 0]);
-    assert_eq!(rt;
-        (state.privileged(), state.first(), state.weight()),
-        (3, 0, 3)
+    for k in [256, 257] {
+        let size = Params::new(33, k)?;
+        let state = RingState::from_values(rt.alloc(), &size, &values)?;
+        let mut mask = [7; 16];
+        state.mask(&mut mask);
+        assert_eq!(rt; mask, [0x1_8000_0001, 0, 0, 0, 0, 0, 0, 0, 0, 0, 0, 0, 0, 0, 0, 0]);
+        assert_eq!(rt;
+            (state.privileged(), state.first(), state.weight()),
+            (3, 0, 3)
+        );
+        assert!(rt; !state.first_value_is_prefix());
+    }
+    Ok(())
+}
+
+// The low bytes of 256 and 0 are equal, and so are those of 65,535 and 255.
+#[test]
+fn two_bytes_hold_the_larger_values(rt: HostRuntime) -> Result<(), Fail> {
+    let alloc = rt.alloc();
+    let size = Params::new(3, 65_536)?;
+    assert!(rt;
+        matches!(
+            &RingState::from_values(alloc, &size, &[0, 65_535, 65_536]),
+            Err(StateError::Value(2))
+        )
     );
-    assert!(rt; !state.first_value_is_prefix());
+    let mut state = RingState::from_values(alloc, &size, &[65_535, 256, 65_535])?;
+    assert_eq!(rt; (state.params().n(), state.params().k()), (3, 65_536));
+    assert!(rt; state.holds_past_first(256) && !state.holds_past_first(0) && !state.holds_past_first(255));
+    assert!(rt; state.is_privileged(0) && state.is_privileged(1));
+    state.move_machine(0);
+    assert_eq!(rt; three(&rt, &state), (0, 256, 65_535));
+    assert!(rt; state.params().n() == 3 && state.params().k() == 65_536);
+    assert_eq!(rt; state.write(2, 257), 65_535);
+    let copy = state.try_copy(alloc)?;
+    assert_eq!(rt; three(&rt, &copy), (0, 256, 257));
+    assert_eq!(rt; copy.params(), size);
+    Ok(())
+}
+
+#[test]
+fn a_state_is_copied_over_another(rt: HostRuntime) -> Result<(), Fail> {
+    let alloc = rt.alloc();
+    for k in [256, 257] {
+        let size = Params::new(3, k)?;
+        let mut state = RingState::from_values(alloc, &size, &[1, 2, 3])?;
+        let other = RingState::from_values(alloc, &size, &[255, 0, 254])?;
+        assert!(rt; state.params() == other.params());
+        state.copy_from(&other);
+        assert_eq!(rt; three(&rt, &state), (255, 0, 254), "of {k} values");
+        assert_eq!(rt; three(&rt, &other), (255, 0, 254), "of {k} values");
+    }
     Ok(())
 }

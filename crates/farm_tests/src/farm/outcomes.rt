@@ -14,6 +14,10 @@ use std::process::Abort;
 const DRAWN: &str =
     r#"{"rings":[{"n":3,"k":3,"start":[0,0,0]},{"n":8,"k":16,"start":[0,0,0,0,0,0,0,0]}],"workers":[{"seed":1,"actions":500},{"seed":2,"actions":500},{"seed":3,"actions":500},{"seed":4,"actions":500}],"injector":{"seed":5,"actions":50}}"#;
 
+/// A worker with one pass, and an injector that corrupts a million times.
+const CORRUPTED: &str =
+    r#"{"rings":[{"n":2,"k":2,"start":[0,0]}],"workers":[{"script":[["pass",0,0,1]]}],"injector":{"seed":5,"actions":1000000}}"#;
+
 /// The outcome is that of the script.
 fn follows_the_script(rt: &impl Abort, outcome: &Outcome) {
     assert_eq!(rt; outcome.rings.len(), 1);
@@ -76,6 +80,13 @@ fn arrivals_wait_for_each_other(rt: HostRuntime) {
     assert_eq!(rt; outcome.rings.len(), 1);
     let events = [refused(1, 1, 7), granted(0, 0, 7, 1, 7)];
     assert_eq!(rt; outcome.rings[0].book.history(), events.as_slice());
+}
+
+#[test]
+fn a_history_goes_past_a_million_events(rt: HostRuntime) {
+    let outcome = outcome(&rt, ran(&rt, rt.alloc(), CORRUPTED, &Open), 1);
+    assert_eq!(rt; outcome.rings.len(), 1);
+    assert_eq!(rt; outcome.rings[0].book.history().len(), 1_000_001);
 }
 
 /// The calls of a log, and its surveys.

@@ -9,19 +9,19 @@ use std::sync::atomic::{AtomicU64, Ordering};
 
 /// Two rings, and more calls of each than a history holds.
 const FULL: &str =
-    r#"{"rings":[{"n":2,"k":2,"start":[0,0]},{"n":2,"k":2,"start":[0,0]}],"workers":[{"seed":1,"actions":1000000},{"seed":2,"actions":1000000}],"injector":{"seed":3,"actions":1000000}}"#;
+    r#"{"rings":[{"n":2,"k":2,"start":[0,0]},{"n":2,"k":2,"start":[0,0]}],"workers":[{"seed":1,"actions":1000000},{"seed":2,"actions":1000000},{"seed":3,"actions":1000000},{"seed":4,"actions":1000000},{"seed":5,"actions":1000000},{"seed":6,"actions":1000000},{"seed":7,"actions":1000000},{"seed":8,"actions":1000000},{"seed":9,"actions":1000000}],"injector":{"seed":10,"actions":1000000}}"#;
 
 /// A worker with nothing to do on either of two rings.
 const TWO_RINGS: &str =
     r#"{"rings":[{"n":2,"k":2,"start":[0,0]},{"n":2,"k":2,"start":[0,0]}],"workers":[{"script":[]}]}"#;
 
-/// A worker with nothing to do, and after it two that make more calls than a history holds.
+/// A worker with nothing to do, and after it five that make more calls than a history holds.
 const IDLE_FIRST: &str =
-    r#"{"rings":[{"n":2,"k":2,"start":[0,0]}],"workers":[{"script":[]},{"seed":1,"actions":1000000},{"seed":2,"actions":1000000}]}"#;
+    r#"{"rings":[{"n":2,"k":2,"start":[0,0]}],"workers":[{"script":[]},{"seed":1,"actions":1000000},{"seed":2,"actions":1000000},{"seed":3,"actions":1000000},{"seed":4,"actions":1000000},{"seed":5,"actions":1000000}]}"#;
 
 /// The same with the idle one last.
 const IDLE_LAST: &str =
-    r#"{"rings":[{"n":2,"k":2,"start":[0,0]}],"workers":[{"seed":1,"actions":1000000},{"seed":2,"actions":1000000},{"script":[]}]}"#;
+    r#"{"rings":[{"n":2,"k":2,"start":[0,0]}],"workers":[{"seed":1,"actions":1000000},{"seed":2,"actions":1000000},{"seed":3,"actions":1000000},{"seed":4,"actions":1000000},{"seed":5,"actions":1000000},{"script":[]}]}"#;
 
 #[test]
 fn the_refusal_of_the_least_ring_and_seat_is_answered(rt: HostRuntime) {
@@ -30,7 +30,7 @@ fn the_refusal_of_the_least_ring_and_seat_is_answered(rt: HostRuntime) {
         (FULL, 1, 0, FarmError::HistoryFull),
         (FULL, 0, 0, FarmError::GateShut),
         (IDLE_FIRST, 0, 0, FarmError::GateShut),
-        (IDLE_LAST, 0, 2, FarmError::HistoryFull),
+        (IDLE_LAST, 0, 5, FarmError::HistoryFull),
     ] {
         let ran = ran(&rt, alloc, text, &ShutFor { ring, worker });
         assert_eq!(rt;

@@ -88,7 +88,7 @@ fn a_ring_is_refused_by_its_first_fault(rt: HostRuntime) -> Result<(), Fail> {
             SettingsError::Ring(0, RingCause::TooFew),
         ),
         (
-            r#"{"n":257,"k":3,"start":[]}"#,
+            r#"{"n":1025,"k":3,"start":[]}"#,
             SettingsError::Ring(0, RingCause::TooMany),
         ),
         (
@@ -96,7 +96,7 @@ fn a_ring_is_refused_by_its_first_fault(rt: HostRuntime) -> Result<(), Fail> {
             SettingsError::Ring(0, RingCause::FewValues),
         ),
         (
-            r#"{"n":4,"k":257,"start":[]}"#,
+            r#"{"n":4,"k":65537,"start":[]}"#,
             SettingsError::Ring(0, RingCause::ManyValues),
         ),
         (
