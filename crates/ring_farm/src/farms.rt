@@ -14,6 +14,7 @@ use crate::faults::FarmError;
 use crate::gates::Gate;
 use crate::outcomes::{Outcome, RingOutcome};
 use crate::rings::run_ring;
+use crate::rooms::{Rooms, rooms_for};
 use ring_book::{Book, Till};
 use ring_settings::{Plan, Settings, plans};
 use ring_state::RingState;
@@ -47,6 +48,7 @@ fn run_at<G: Gate + Sync, W: Threads + Wait + Sync>(
     ring: usize,
     settings: &Settings,
     plans: &Vec<Plan>,
+    rooms: &Rooms,
 ) -> Result<RingOutcome, FarmError>
     requires within { ring < length settings.now.rings }
     requires most { length settings.now.rings ≤ ring_limit }
@@ -57,7 +59,7 @@ fn run_at<G: Gate + Sync, W: Threads + Wait + Sync>(
     ensures { IfOk result (λ o. IsRun plans.now.items ring (ring_of_data (ring_at settings.now ring)) o.book o.logs.items) }
 {
     let book = book_of(alloc, settings, ring)?;
-    run_ring(rt, alloc, gate, ring as u32, plans, book)
+    run_ring(rt, alloc, gate, ring as u32, plans, &rooms[ring], book)
 }
 
 /// All outcomes, or the refusal of the least ring that met one.
@@ -96,10 +98,11 @@ fn run_each<G: Gate + Sync, W: Threads + Wait + Sync>(
     ensures each { IfOk result (λ v. (i : ℕ) (d : _) → i < length settings.now.rings → IfOk (slice_index_or v.items i d) (λ o. IsRun plans.now.items i (ring_of_data (ring_at settings.now i)) o.book o.logs.items)) }
 {
     let rings = settings.ring_count();
+    let rooms = rooms_for(plans.as_slice());
     let run = |ring: usize| -> Result<RingOutcome, FarmError>
         requires { (ring < length settings.now.rings) × (length settings.now.rings ≤ ring_limit) × (1 ≤ vec_len plans.now) × (vec_len plans.now ≤ seat_limit) × All IsShort plans.now.items × All (IsPlanFor (sizes_of settings.now.rings)) plans.now.items }
         ensures { IfOk result (λ o. IsRun plans.entry.now.items ring (ring_of_data (ring_at settings.entry.now ring)) o.book o.logs.items) }
-    { run_at(rt, alloc, gate, ring, settings, plans) };
+    { run_at(rt, alloc, gate, ring, settings, plans, &rooms) };
     thread::map_indices(rt, alloc, rings, &run)
 }
 

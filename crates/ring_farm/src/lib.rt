@@ -6,6 +6,7 @@ mod faults;
 mod gates;
 mod outcomes;
 mod rings;
+mod rooms;
 mod threads;
 mod workers;
 

@@ -9,6 +9,7 @@ ghost use Rattle.ring_farm.specs.Runs.{IsRun};
 use crate::faults::FarmError;
 use crate::gates::Gate;
 use crate::outcomes::RingOutcome;
+use crate::rooms::Room;
 use crate::threads::run_threads;
 use ring_book::{Book, Resource, Till};
 use ring_settings::Plan;
@@ -18,13 +19,14 @@ use std::marker::Brand;
 use std::sync::Wait;
 use std::thread::Threads;
 
-/// Opens a ring of name `N` over the draft, runs the plans on it, and closes it.
+/// Opens a ring of name `N` over the draft, with this room in its seats' logs, runs the plans on it, and closes it.
 fn run_named<N: Name + Send + Sync, G: Gate + Sync, W: Threads + Wait + Sync>(
     rt: &W,
     alloc: Global,
     gate: &G,
     number: u32,
     plans: &Vec<Plan>,
+    room: &Room,
     draft: Draft<Till>,
 ) -> Result<RingOutcome, FarmError>
     requires start { draft.book.start ≡ N.start }
@@ -35,10 +37,14 @@ fn run_named<N: Name + Send + Sync, G: Gate + Sync, W: Threads + Wait + Sync>(
     requires possible { All (IsPlanOn number N.start) plans.now.items }
     ensures { IfOk result (λ o. IsRun plans.now.items number draft.book.start o.book o.logs.items) }
 {
-    let (ring, seats) = match Ring::<N, Till>::open(alloc, draft) {
+    let (ring, mut seats) = match Ring::<N, Till>::open(alloc, draft) {
         Ok(opened) => opened,
         Err(_) => return Err(FarmError::OutOfMemory),
     };
+    if room.reserve_entries(&mut seats).is_err() {
+        end(ring, rt, alloc);
+        return Err(FarmError::OutOfMemory);
+    }
     let seats = match run_threads(rt, alloc, &ring, gate, number, plans, seats) {
         Ok(seats) => seats,
         Err(fault) => {
@@ -60,7 +66,8 @@ fn end<N: Name, W>(ring: Ring<N, Till>, rt: &W, alloc: Global) {
     let _ = ring.close(rt, alloc, Vec::new(alloc));
 }
 
-/// Runs the plans' parts for the ring of this number, over a book with no events.
+/// Runs the plans' parts for the ring of this number, over a book with no events. The room is taken before any thread
+/// starts.
 ///
 /// # Errors
 ///
@@ -72,7 +79,8 @@ pub(crate) fn run_ring<G: Gate + Sync, W: Threads + Wait + Sync>(
     gate: &G,
     number: u32,
     plans: &Vec<Plan>,
-    book: Book<Till>,
+    room: &Room,
+    mut book: Book<Till>,
 ) -> Result<RingOutcome, FarmError>
     requires empty { book.history ≡ [] }
     requires some { 1 ≤ vec_len plans.now }
@@ -81,10 +89,11 @@ pub(crate) fn run_ring<G: Gate + Sync, W: Threads + Wait + Sync>(
     requires possible { All (IsPlanOn number book.start) plans.now.items }
     ensures { IfOk result (λ o. IsRun plans.now.items number book.start o.book o.logs.items) }
 {
+    room.reserve_events(&mut book)?;
     let seats = plans.len() as u32;
     let draft = match Draft::new(book, seats) {
         Ok(draft) => draft,
         Err(_) => return Err(FarmError::OutOfMemory),
     };
-    run_named::<Brand, G, W>(rt, alloc, gate, number, plans, draft)
+    run_named::<Brand, G, W>(rt, alloc, gate, number, plans, room, draft)
 }

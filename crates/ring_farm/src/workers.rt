@@ -56,7 +56,7 @@ fn act<N: Name, R: Resource + Drop, W: Wait>(
 }
 
 /// The farm's refusal for one of a book.
-fn fault_of(error: BookError) -> FarmError
+pub(crate) fn fault_of(error: BookError) -> FarmError
     ensures { result ≡ told_as error }
 {
     match error {

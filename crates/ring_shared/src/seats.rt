@@ -1,11 +1,11 @@
 //! The seats of a ring, one for each client, and their logs.
-ghost use Rattle.std.specs.Prelude.{◌≡◌, ◌<◌, ◌≤◌, []};
+ghost use Rattle.std.specs.Prelude.{◌≡◌, ◌<◌, ◌≤◌, ◌+◌, [], IfOk, vec_len, vec_capacity};
 ghost use Rattle.ring_model.specs.Limits.{seat_limit};
 ghost use Rattle.ring_shared.specs.Closing.{IsLogOf};
 
 use crate::names::Name;
 use ring_model::Entry;
-use std::alloc::Global;
+use std::alloc::{AllocError, Global};
 use std::marker::{Model, PhantomData};
 
 /// One client's place at a ring, with what the client was told.
@@ -61,6 +61,19 @@ impl<N: Name> Seat<N> {
         self.log.as_slice()
     }
 
+    /// Takes memory for `more` entries of the log, and answers how many it then has room for: as many calls and
+    /// surveys ask for no memory for the log. The number and the log stay, also after a refusal.
+    ///
+    /// # Errors
+    ///
+    /// Want of memory alone.
+    pub fn reserve(&mut self, more: usize) -> Result<usize, AllocError>
+        ensures room { IfOk result (λ room. more ≤ room) }
+        ensures same { self.new ≡ self.old }
+    {
+        reserve_entries(&mut self.log, more)
+    }
+
     /// The seat's log, with its number.
     pub(crate) fn into_log(self) -> Log
         ensures { IsLogOf self result }
@@ -71,6 +84,15 @@ impl<N: Name> Seat<N> {
             entries: log,
         }
     }
+}
+
+/// Takes memory for `more` entries, and answers how many a log then has room for.
+fn reserve_entries(log: &mut Vec<Entry>, more: usize) -> Result<usize, AllocError>
+    ensures room { IfOk result (λ room. (more ≤ room) × (vec_len log.new + room ≡ vec_capacity log.new)) }
+    ensures same { log.new.items ≡ log.old.items }
+{
+    log.reserve_exact(more)?;
+    Ok(log.capacity() - log.len())
 }
 
 /// What the client of a seat was told, once its ring is closed.

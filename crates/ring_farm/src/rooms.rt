@@ -1,0 +1,89 @@
+//! How much room the plans need on each ring, which is asked for before any thread starts.
+ghost use Rattle.std.specs.Prelude.{◌≡◌, ◌≤◌, [], IfErr, OnOk};
+ghost use Rattle.ring_model.specs.Limits.{event_limit};
+
+use crate::faults::FarmError;
+use crate::workers::fault_of;
+use ring_book::{Book, Till};
+use ring_model::limits::{EVENT_LIMIT, SEAT_LIMIT};
+use ring_settings::limits::RING_LIMIT;
+use ring_settings::{Action, Plan};
+use ring_shared::{Name, Seat};
+use std::alloc::AllocError;
+
+/// The room that one ring needs: for its events, and for the entries of each seat's log.
+#[derive(Clone, Copy, Debug)]
+pub(crate) struct Room {
+    events: u32,
+    entries: [u32; SEAT_LIMIT],
+}
+
+/// The room that each ring needs, by its number.
+pub(crate) type Rooms = [Room; RING_LIMIT];
+
+impl Room {
+    /// One action more of a seat; a survey is no event.
+    fn add(&mut self, seat: usize, is_event: bool) {
+        self.events = self.events.saturating_add(u32::from(is_event));
+        if let Some(entries) = self.entries.get_mut(seat) {
+            *entries = entries.saturating_add(1);
+        }
+    }
+
+    /// Takes memory for the events that are to come, as many as a history may have at most.
+    ///
+    /// # Errors
+    ///
+    /// Want of memory alone.
+    pub(crate) fn reserve_events(&self, book: &mut Book<Till>) -> Result<(), FarmError>
+        requires { book.old.history ≡ [] }
+        ensures same { book.new ≡ record book.old { room = book.new.room } }
+        ensures err { IfErr result (λ e. e ≡ FarmError.OutOfMemory) }
+    {
+        book.reserve(self.events.min(EVENT_LIMIT as u32))
+            .map_err(fault_of)
+    }
+
+    /// Takes memory for the entries that are to come in each seat's log. The seats stay as they are.
+    ///
+    /// # Errors
+    ///
+    /// Want of memory for one of them.
+    pub(crate) fn reserve_entries<N: Name>(&self, seats: &mut Vec<Seat<N>>) -> Result<(), AllocError>
+        ensures { seats.new.items ≡ seats.old.items }
+    {
+        for i in 0..seats.len() {
+            let seat = &mut seats[i];
+            if let Some(entries) = self.entries.get(seat.number() as usize) {
+                seat.reserve(*entries as usize)?;
+            }
+        }
+        Ok(())
+    }
+}
+
+/// Adds what a seat's plan needs.
+fn add_plan(rooms: &mut Rooms, seat: usize, plan: &Plan) {
+    for action in &plan.actions {
+        let (ring, is_event) = match action {
+            Action::Pass { ring, .. } | Action::Corrupt { ring, .. } => (*ring, true),
+            Action::Survey { ring } => (*ring, false),
+        };
+        if let Some(room) = rooms.get_mut(ring as usize) {
+            room.add(seat, is_event);
+        }
+    }
+}
+
+/// The room that each ring needs for these plans, one for each seat.
+pub(crate) fn rooms_for(plans: &[Plan]) -> Rooms {
+    let none = Room {
+        events: 0,
+        entries: [0; SEAT_LIMIT],
+    };
+    let mut rooms = [none; RING_LIMIT];
+    for seat in 0..plans.len() {
+        add_plan(&mut rooms, seat, &plans[seat]);
+    }
+    rooms
+}
