@@ -6,6 +6,8 @@ ghost use Rattle.ring_lanes.specs.Masks.{IsMaskOf};
 ghost use Rattle.ring_state.specs.Sizes.{IsRingState, size_of};
 ghost use Rattle.ring_state.specs.StateFault.{IsFaultOf};
 
+mod copies;
+
 use crate::sizes::Params;
 use std::alloc::{AllocError, Global};
 use std::marker::Model;
