@@ -3,3 +3,8 @@ pub mod Following
 pub mod AllSurveys
 pub mod Orders
 pub mod Numbers
+pub mod Prefixes
+pub mod Adding
+pub mod Stepped
+pub mod Folding
+pub mod Held

@@ -1,5 +1,5 @@
 -- The numbers of a ring's seats.
-use Rattle.std.proofs.Common.{◌≡◌, ℕ, ◌+◌, ◌<◌, ◌≤◌, List, [], ◌∷◌, true, false, Some, slice_get, get_or, All, length, map, eqb, zero, suc, subst, ap, sym, ◌∙◌, refl, arith}
+use Rattle.std.proofs.Common.{◌≡◌, ℕ, ◌+◌, ◌<◌, ◌≤◌, ◌==◌, ◌++◌, Bool, length-append, List, [], ◌∷◌, true, false, Some, slice_get, get_or, All, length, map, eqb, zero, suc, subst, ap, sym, ◌∙◌, refl, arith}
 use Rattle.std.specs.List.{IsDistinct, AllByRecursion}
 use Rattle.std.specs.List.Sorted.{IsPermutation, IsNonDecreasingBy}
 use Rattle.std.proofs.lemmas.List.Sorted.{All-permutation, IsPermutation-map, length_permutation}
@@ -7,7 +7,8 @@ use Rattle.std.proofs.lemmas.Map.Keys.{IsDistinct-IsPermutation, IsDistinct-head
 use Rattle.std.proofs.lemmas.Bool.{eqb-false, eqb-true, eq-eqb, ne_eqb, cases_Bool}
 use Rattle.std.proofs.Common.{⊎_elim}
 use Rattle.std.proofs.lemmas.Option.{slice_get_within}
-use Rattle.ring_shared.specs.Client.{Client}
+use Rattle.std.proofs.lemmas.Bool.Decides.{nat_tests}
+use Rattle.ring_shared.specs.Client.{Client, fresh_client}
 use Rattle.ring_shared.specs.Opening.{AreFresh}
 use Rattle.ring_shared.proofs.Orders.{IsInOrder}
 
@@ -95,5 +96,32 @@ fresh_distinct n ss f = in_order_distinct ss (λ i s at.
     let within : i < length ss = slice_get_within ss i s at in
     let count = f.count in
     let is = sym (f.each i (omega arith)) ∙ at in
-    let same : record { number = i; log = [] } ≡ s = cc in
+    let same : fresh_client i ≡ s = cc in
     sym (ap (λ (t : Client). t.number) same))
+
+get_before : (ss : List Client) (s : Client) (i : ℕ) → i < length ss → slice_get (ss ++ s ∷ []) i ≡ slice_get ss i
+get_before [] s i l = absurd (omega arith)
+get_before (t ∷ ss) s zero l = refl
+get_before (t ∷ ss) s (suc i) l = get_before ss s i (omega arith)
+
+get_end : (ss : List Client) (s : Client) → slice_get (ss ++ s ∷ []) (length ss) ≡ Some s
+get_end [] s = refl
+get_end (t ∷ ss) s = get_end ss s
+
+each_more : (n : ℕ) (ss : List Client) → AreFresh n ss → (i : ℕ) → i < n + 1 → (b : Bool) → (i == n) ≡ b → slice_get (ss ++ fresh_client n ∷ []) i ≡ Some (fresh_client i)
+each_more n ss f i within true e =
+    let same : i ≡ n = eqb-true i n e in
+    let here : slice_get (ss ++ fresh_client n ∷ []) n ≡ Some (fresh_client n) = subst (λ (k : ℕ). slice_get (ss ++ fresh_client n ∷ []) k ≡ Some (fresh_client n)) f.count (get_end ss (fresh_client n)) in
+    subst (λ (k : ℕ). slice_get (ss ++ fresh_client n ∷ []) k ≡ Some (fresh_client k)) (sym same) here
+each_more n ss f i within false e =
+    let other = eqb-false i n e in
+    let count = f.count in
+    let below : i < n = grind (arith, nat_tests) in
+    get_before ss (fresh_client n) i (omega arith) ∙ f.each i below
+
+-- one fresh client more
+pub fresh_more : (n : ℕ) (ss : List Client) → AreFresh n ss → AreFresh (n + 1) (ss ++ fresh_client n ∷ [])
+fresh_more n ss f = record {
+  count = (let count = f.count in omega (arith, length-append ss (fresh_client n ∷ [])));
+  each = λ i within. each_more n ss f i within (i == n) refl;
+}

@@ -42,7 +42,7 @@ call_there w a h p e ring legal at is =
     let legal' : IsLegal w a (take p h ++ e ∷ drop (suc p) h) = subst (λ (xs : List Event). IsLegal w a xs) whole legal in
     subst (λ (r : Ring). IsCallOf r e.op) (sym is) (call_of_step w (after w a (take p h)) e.op e.reply _ (legal_step w a (take p h) e (drop (suc p) h) legal'))
 
-next_ring : {C : Type 0} (w : Works C) (a : State C) (o : Op) → (next w a o).ring ≡ called a.ring o
+pub next_ring : {C : Type 0} (w : Works C) (a : State C) (o : Op) → (next w a o).ring ≡ called a.ring o
 next_ring w a (Pass i order) = elim (is_privileged a.ring.values i) as (λ b. (cond b (granted_state w a i order) a).ring ≡ cond b (moved a.ring i) a.ring) [ true ↦ refl | false ↦ refl ]
 next_ring w a (Corrupt i v) = refl
 
@@ -53,7 +53,7 @@ ring_there {C = C} w a h p e ring at is =
     ap (λ (r : Ring). called r e.op) is
     ∙ sym (ap (λ (xs : List Event). (after w a xs).ring) (take_at p h e at) ∙ (ap (λ (s : State C). s.ring) (after-push w a (take p h) e) ∙ next_ring w (after w a (take p h)) e.op))
 
-calm_same : (c : ℕ) (r : Reply) → calm_after c r ≡ calm_next c r
+pub calm_same : (c : ℕ) (r : Reply) → calm_after c r ≡ calm_next c r
 calm_same c (Granted number result) = refl
 calm_same c NotPrivileged = refl
 calm_same c (Corrupted old) = refl

@@ -1,5 +1,6 @@
 -- What a call that is made under the lock of a ring does to the book and to the seat (this project's own).
 use Rattle.std.specs.Prelude.{◌≡◌, ℕ, ◌++◌, ◌∷◌, [], List, length, Result, IsErr, IsErrOf, OnErr}
+use mathlib.Core.List.{IsPrefix}
 use Rattle.ring_model.specs.Ring.{Ring}
 use Rattle.ring_model.specs.History.{Works}
 use Rattle.ring_model.specs.Limits.{event_limit}
@@ -14,10 +15,12 @@ use Rattle.ring_shared.specs.Client.{Client}
 use Rattle.ring_shared.specs.Holding.{IsHeld}
 
 -- The call was made, and r is its receipt: the book made the one step that the receipt records, the seat's log has just that
--- receipt besides, and the book is as it is whenever the lock is free.
+-- receipt besides, the seat has seen the whole history, which begins with what it had seen, and the book is as it is whenever the
+-- lock is free.
 pub record IsCallUnderLock {C : Type 0} (w : Works C) (first : C) (start : Ring) (seats : ℕ) (legal : List Event → Type 0) (old new : BookView C) (before after : Client) (op : Op) (r : Receipt) : Type 0 where
   pub recorded : IsRecorded w old new before.number op r
-  pub logged : after ≡ record { number = before.number; log = before.log ++ entry.Receipt r ∷ [] }
+  pub logged : after ≡ record { number = before.number; log = before.log ++ entry.Receipt r ∷ []; seen = new.history }
+  pub later : IsPrefix before.seen after.seen
   pub held : IsHeld w first start seats legal new
 
 -- When a call is refused: a full history is, and HistoryFull is said of no other. A refusal leaves the book and the seat as they

@@ -1,8 +1,11 @@
 pub mod Client
 pub mod Calls
+pub mod Folds
 pub mod Fronts
 pub mod Gathered
 pub mod Holding
 pub mod Opening
 pub mod Replays
+pub mod Rules
+pub mod Stepping
 pub mod Closing

@@ -11,6 +11,11 @@ abbrev pub IsCallOf : Ring → Op → Type 0
 IsCallOf r (Pass i order) = i < length r.values
 IsCallOf r (Corrupt i v) = (i < length r.values) × (v < r.k)
 
+-- the machine that a call names
+abbrev pub machine_of : Op → ℕ
+machine_of (Pass i order) = i
+machine_of (Corrupt i v) = i
+
 -- the ring after a call
 abbrev pub called : Ring → Op → Ring
 called r (Pass i order) = cond (is_privileged r.values i) (moved r i) r

@@ -1,6 +1,7 @@
 //! The end of a ring: its history and the logs of its seats, where they fit each other.
 ghost use Rattle.std.specs.Prelude.{◌≡◌, ◌<◌, ◌≤◌, ◌↔◌, [], All, map, eqb, length, vec_len, vec_capacity, IsTrue, IfOk, IfErr, MatchResult};
 ghost use Rattle.std.specs.List.{IsDistinct};
+ghost use mathlib.Core.List.{IsPrefix};
 ghost use Rattle.std.specs.List.Sorted.{IsPermutation, IsNonDecreasingBy};
 ghost use Rattle.ring_model.specs.History.{IsLegal, opening};
 ghost use Rattle.ring_model.specs.HistoryLaws.{Settlement};
@@ -10,6 +11,7 @@ ghost use Rattle.ring_shared.specs.Closing.{HasLog, AreNumbered, AreLogsOf};
 ghost use Rattle.ring_shared.specs.Fronts.{IsPlaced};
 ghost use Rattle.ring_shared.specs.Holding.{AreOfSeats};
 
+use crate::front::Front;
 use crate::gathering::surveys_in_order;
 use crate::judge::are_right;
 use crate::names::Name;
@@ -18,6 +20,7 @@ use crate::rings::Ring;
 use crate::seats::{Log, Seat};
 use ring_book::{Book, Resource};
 use std::alloc::{AllocError, Global};
+use std::sync::Wait;
 
 /// A ring that is closed: its book, and its seats' logs by number.
 #[derive(Drop)]
@@ -61,15 +64,15 @@ fn refused<N: Name, R: Resource + Drop>(
 
 impl<N: Name, R: Resource + Drop> Ring<N, R> {
     /// Ends the ring: its book, and the logs of its seats, each of which was compared with the history. The
-    /// seats are given back all, in any order; no two have one number.
+    /// seats are given back all, in any order; no two have one number. It may wait.
     ///
     /// # Errors
     ///
     /// `SeatsMissing` where seats are fewer than the ring has; `Mismatch`, only where some log doesn't fit
     /// the history; want of memory. The book and the seats are handed back, the seats as they were.
-    pub fn close<W>(
+    pub fn close<W: Wait>(
         self,
-        _rt: &W,
+        rt: &W,
         alloc: Global,
         mut seats: Vec<Seat<N>>,
     ) -> Result<Closed<R>, CloseFault<N, R>>
@@ -87,17 +90,22 @@ impl<N: Name, R: Resource + Drop> Ring<N, R> {
         ensures fits { IfOk result (λ c. All (λ l. Fits R.works (opening N.start R.first) c.book.history l.seat l.entries.items) c.logs.items) }
         ensures calls { IfOk result (λ c. All (λ l. length (calls_of l.seat c.book.history) ≡ length (receipts_of l.entries.items)) c.logs.items) }
 
+        // What each seat has seen begins it.
+        ensures seen { IfOk result (λ c. All (λ s. IsPrefix s.seen c.book.history) seats.items) }
+
         // Each refusal has its reason, and hands back what was given.
         ensures missing { MatchResult result (λ _. ⊥) (λ f. f.reason ≡ CloseReason.SeatsMissing) ↔ vec_len seats < N.seats }
         ensures mismatch { IfErr result (λ f. f.reason ≡ CloseReason.Mismatch → All (λ s. Fits R.works (opening N.start R.first) f.book.history s.number s.log) seats.items → ⊥) }
         ensures fault { IfErr result (λ f. (f.book.start ≡ N.start) × IsBook R.works R.first f.book × AreOfSeats N.seats f.book.history × (f.seats.items ≡ seats.items)) }
     {
         let Ring { shared, seats: all } = self;
-        let book = shared.into_inner().into_book();
+        let (book, front, writer) = shared.into_inner().into_parts();
+        writer.take(rt); // nobody looks now
         let logs = match room_for_logs(alloc, &book, all, seats.as_slice()) {
             Ok(logs) => logs,
             Err(reason) => return Err(refused(reason, book, seats)),
         };
+        all_begin(rt, seats.as_slice(), &front);
         all_given(seats.as_slice());
         sort(&mut seats);
         Ok(Closed {
@@ -165,6 +173,15 @@ fn all_placed<N: Name, R: Resource + Drop>(book: &Book<R>, seats: &[Seat<N>]) ->
         }
     }
     true
+}
+
+/// Returns only where what each seat has seen begins this front.
+fn all_begin<N: Name, W: Wait>(rt: &W, seats: &[Seat<N>], front: &Front<N>)
+    ensures { All (λ s. IsPrefix s.seen front.now) seats.now }
+{
+    for seat in seats {
+        seat.surely_begins(rt, front);
+    }
 }
 
 /// What the type of the seats says of them all.

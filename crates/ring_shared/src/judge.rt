@@ -51,7 +51,7 @@ fn is_same_survey(one: Survey, other: Survey) -> bool
 }
 
 /// The calm behind a reply.
-fn calm_behind(calm: u64, reply: Reply) -> u64
+pub(crate) fn calm_behind(calm: u64, reply: Reply) -> u64
     requires { calm ≤ event_limit }
     ensures is { result ≡ calm_after calm reply }
     ensures few { result ≤ calm + 1 }

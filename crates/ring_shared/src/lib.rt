@@ -1,7 +1,9 @@
-//! A ring that clients on many threads share: one lock, a seat for each client, and an exact end.
+//! A ring that clients on many threads share: one lock, a seat for each client, and an exact end. What a
+//! client asks of the ring's state is answered beside the lock.
 #![tactic(auto)]
 
 mod closing;
+mod front;
 mod gathering;
 mod judge;
 mod locked;
@@ -9,10 +11,14 @@ mod names;
 mod placing;
 mod rings;
 mod seats;
+mod shown;
+mod summary;
 
 pub use closing::{CloseFault, CloseReason, Closed};
+pub use front::{Front, Head, Opened};
 pub use locked::Locked;
 pub use names::Name;
 pub use ring_model::Entry;
-pub use rings::{Draft, OpenFault, OpenReason, Ring};
-pub use seats::{Log, Seat};
+pub use rings::{Draft, DraftFault, OpenFault, OpenReason, Ring};
+pub use seats::{Log, RingReader, RingWriter, Seat};
+pub use shown::{Operation, Shown};

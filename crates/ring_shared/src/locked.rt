@@ -1,54 +1,116 @@
 //! What lies under the lock of a ring, and the critical sections.
-ghost use Rattle.std.specs.Prelude.{◌≡◌, ◌<◌, ◌≤◌, ◌↔◌, length, IfOk, OnErr, IsErrOf};
-ghost use Rattle.ring_model.specs.History.{opening};
-ghost use Rattle.ring_model.specs.Surveys.{survey_at};
+ghost use Rattle.std.specs.Prelude.{◌≡◌, ◌<◌, ◌++◌, ◌∷◌, ◌≤◌, ◌↔◌, [], length, drop, fold, IsOk, IfOk, OnErr, IsErrOf};
 ghost use Rattle.ring_book.specs.BookView.{IsBook, IsRecorded};
 ghost use Rattle.ring_model.specs.Limits.{event_limit, seat_limit};
 ghost use Rattle.ring_shared.specs.Calls.{IsCallUnderLock, IsRefusedUnderLock};
 ghost use Rattle.ring_shared.specs.Holding.{IsHeld};
 ghost use Rattle.ring_shared.specs.Replays.{IsCallOf};
+ghost use Rattle.ring_shared.specs.Stepping.{stepped};
 
+use crate::front::{Front, Head};
 use crate::names::Name;
-use crate::seats::Seat;
+use crate::seats::{RingWriter, Seat};
+use crate::shown::{Operation, Shown};
+use core::mem::replace_with;
+use crossbeam_utils::rule::Unruled;
+use left_right::Absorb;
 use ring_book::{Book, BookError, Resource};
-use ring_model::{Entry, Op, Receipt, Survey};
-use std::marker::{Model, PhantomData};
+use ring_model::{Entry, Event, Op, Receipt};
+use std::marker::Model;
+use std::sync::Wait;
 
-/// What lies under the lock of a ring: its book.
+/// What lies under the lock of a ring: its book, the word of its list of events, the front of the whole
+/// list, and the writer that shows it.
 ///
 /// Contracts see the book. Whenever the lock is free, the book's start and its resource's first content are
-/// the ring's, its history is legal from them, and each event's seat is one of the ring's.
-pub struct Locked<N: Name, R: Resource + Drop> {
+/// the ring's, its history is legal from them, each event's seat is one of the ring's, and what the writer
+/// shows is the book's history. It is not `Drop`, since a writer is not.
+pub struct Locked<N: Name, R: Resource + Drop>
+where
+    Shown<N>: Absorb<Operation<N>, State = [Event; 0]>,
+{
     book: Book<R>,
-    of: PhantomData<N>,
+    head: Head<N>,
+    front: Front<N>,
+    writer: RingWriter<N>,
 }
 
-impl<N: Name, R: Resource + Drop> Model for Locked<N, R> {
+impl<N: Name, R: Resource + Drop> Model for Locked<N, R>
+where
+    Shown<N>: Absorb<Operation<N>, State = [Event; 0]>,
+{
+    ghost use Rattle.std.specs.Prelude.{◌≡◌, drop, fold};
     ghost use Rattle.ring_book.specs.BookView.{BookView};
     ghost use Rattle.ring_shared.specs.Holding.{IsHeld};
+    ghost use Rattle.ring_shared.specs.Stepping.{stepped};
 
     ghost Value = { BookView R };
 
     ghost view = { λ l. l.book };
 
-    ghost invariant = { λ l. IsHeld R.works R.first N.start N.seats N.legal l.book };
+    ghost invariant = { λ l. IsHeld R.works R.first N.start N.seats N.legal l.book × (l.front ≡ l.book.history) × (l.writer.desk.shown.value ≡ l.book.history) × (fold stepped l.writer.desk.shown.value (drop l.writer.behind l.writer.log.items) ≡ l.book.history) };
+}
+
+/// Returns only where the operation is pending.
+fn surely_append<N: Name, W: Wait>(rt: &W, writer: &mut RingWriter<N>, operation: Operation<N>)
+    ensures desk { writer.new.desk ≡ writer.old.desk }
+    ensures pending { drop writer.new.behind writer.new.log.items ≡ drop writer.old.behind writer.old.log.items ++ operation ∷ [] }
+{
+    let mut operation = operation;
+    for _ in rt.forever() {
+        match writer.append(operation) {
+            Ok(()) => return,
+            Err(back) => operation = back,
+        }
+    }
+    unreachable!()
+}
+
+/// Shows readers what is pending.
+fn publish<N: Name, W: Wait>(rt: &W, writer: RingWriter<N>) -> (RingWriter<N>, ())
+    ensures shown { result.0.desk.shown.value ≡ fold stepped writer.desk.shown.value (drop writer.behind writer.log.items) }
+    ensures pending { drop result.0.behind result.0.log.items ≡ [] }
+{
+    let (writer, _result) = writer.publish_as::<Unruled, W>(rt);
+    (writer, ())
+}
+
+/// Shows readers one event more.
+#[tactic(auto, using(crate::proofs::Stepped::stepped_last))]
+fn show<N: Name, W: Wait>(rt: &W, writer: &mut RingWriter<N>, operation: Operation<N>)
+    requires { stepped (fold stepped writer.old.desk.shown.value (drop writer.old.behind writer.old.log.items)) operation ≡ operation }
+    ensures shown { writer.new.desk.shown.value ≡ operation }
+    ensures pending { drop writer.new.behind writer.new.log.items ≡ [] }
+{
+    surely_append(rt, writer, operation);
+    replace_with(writer, rt, |writer, rt| publish(rt, writer));
 }
 
 impl<N: Name, R: Resource + Drop> Locked<N, R> {
     /// The book of a ring that is opened.
-    pub(crate) fn new(book: Book<R>) -> Locked<N, R>
-        requires { IsHeld R.works R.first N.start N.seats N.legal book }
+    pub(crate) fn new(
+        book: Book<R>,
+        head: Head<N>,
+        front: Front<N>,
+        writer: RingWriter<N>,
+    ) -> Locked<N, R>
+        requires held { IsHeld R.works R.first N.start N.seats N.legal book }
+        requires front { front ≡ book.history }
+        requires shown { writer.desk.shown.value ≡ book.history }
+        requires pending { fold stepped writer.desk.shown.value (drop writer.behind writer.log.items) ≡ book.history }
         ensures { result ≡ book }
     {
         Locked {
             book,
-            of: PhantomData,
+            head,
+            front,
+            writer,
         }
     }
 
-    /// One critical section: the seat's log is grown, then the book makes the call for the seat, and its
-    /// receipt is logged.
-    fn call(&mut self, seat: &mut Seat<N>, op: Op) -> Result<Receipt, BookError>
+    /// One critical section: the seat's log and the history are grown, behind which nothing is refused; the
+    /// book makes the call for the seat, its receipt is logged, what it did is shown, and the seat is told.
+    fn call<W: Wait>(&mut self, rt: &W, seat: &mut Seat<N>, op: Op) -> Result<Receipt, BookError>
         requires { IsCallOf N.start op }
         ensures ok { IfOk result (λ r. IsCallUnderLock R.works R.first N.start N.seats N.legal self.old self.new seat.old seat.new op r) }
         ensures refused { IsRefusedUnderLock self.old self.new seat.old seat.new result }
@@ -56,21 +118,26 @@ impl<N: Name, R: Resource + Drop> Locked<N, R> {
         if seat.log.reserve(1).is_err() {
             return Err(BookError::OutOfMemory);
         }
-        let receipt = make_call(&mut self.book, seat.number(), op)?;
+        let receipt = record_call(&mut self.book, seat.number(), op)?;
         seat.log.push_reserved(Entry::Receipt(receipt));
+        self.front.surely_add(rt, &self.head, receipt.event);
+        let shown = self.writer.published();
+        let operation = Operation::last(&self.book, shown, receipt.event, self.front.again());
+        show(rt, &mut self.writer, operation);
+        seat.catch_up(rt, self.writer.published());
         Ok(receipt)
     }
 
-    /// The critical section of a pass by `machine`, which is below n, for the seat. `rt` is not used yet: it
-    /// stands for those that will be told of the call before it ends.
+    /// The critical section of a pass by `machine`, which is below n, for the seat. It waits for those that
+    /// look at that copy which is not shown now, as surveys and glances do for a moment.
     ///
     /// # Errors
     ///
     /// `HistoryFull` where the history has `EVENT_LIMIT` events; want of memory for the log or the history.
     /// Nothing has changed then.
-    pub fn pass<W>(
+    pub fn pass<W: Wait>(
         &mut self,
-        _rt: &W,
+        rt: &W,
         seat: &mut Seat<N>,
         machine: u32,
         order: u64,
@@ -79,7 +146,7 @@ impl<N: Name, R: Resource + Drop> Locked<N, R> {
         ensures ok { IfOk result (λ r. IsCallUnderLock R.works R.first N.start N.seats N.legal self.old self.new seat.old seat.new (Op.Pass machine order) r) }
         ensures refused { IsRefusedUnderLock self.old self.new seat.old seat.new result }
     {
-        self.call(seat, Op::Pass { machine, order })
+        self.call(rt, seat, Op::Pass { machine, order })
     }
 
     /// The critical section of a corruption: `value`, which is below K, is written into `machine`, which is
@@ -88,9 +155,9 @@ impl<N: Name, R: Resource + Drop> Locked<N, R> {
     /// # Errors
     ///
     /// As of `pass`.
-    pub fn corrupt<W>(
+    pub fn corrupt<W: Wait>(
         &mut self,
-        _rt: &W,
+        rt: &W,
         seat: &mut Seat<N>,
         machine: u32,
         value: u32,
@@ -100,23 +167,21 @@ impl<N: Name, R: Resource + Drop> Locked<N, R> {
         ensures ok { IfOk result (λ r. IsCallUnderLock R.works R.first N.start N.seats N.legal self.old self.new seat.old seat.new (Op.Corrupt machine value) r) }
         ensures refused { IsRefusedUnderLock self.old self.new seat.old seat.new result }
     {
-        self.call(seat, Op::Corrupt { machine, value })
+        self.call(rt, seat, Op::Corrupt { machine, value })
     }
 
-    /// The survey at the end of the history.
-    pub(crate) fn survey(&self) -> Survey
-        ensures is { result ≡ survey_at R.works (opening self.now.start R.first) self.now.history (length self.now.history) }
-        ensures held { IsHeld R.works R.first N.start N.seats N.legal self.now }
+    /// What lay under the lock, of a ring that is closed.
+    pub(crate) fn into_parts(self) -> (Book<R>, Front<N>, RingWriter<N>)
+        ensures held { IsHeld R.works R.first N.start N.seats N.legal result.0 }
+        ensures front { result.1 ≡ result.0.history }
     {
-        self.book.survey()
-    }
-
-    /// The book, of a ring that is closed.
-    pub(crate) fn into_book(self) -> Book<R>
-        ensures { IsHeld R.works R.first N.start N.seats N.legal result }
-    {
-        let Locked { book, of: _ } = self;
-        book
+        let Locked {
+            book,
+            head: _head,
+            front,
+            writer,
+        } = self;
+        (book, front, writer)
     }
 }
 
@@ -132,9 +197,27 @@ fn make_call<R: Resource + Drop>(
     ensures book { IsBook R.works R.first book.new }
     ensures full { IsErrOf result BookError.HistoryFull ↔ (length book.old.history ≡ event_limit) }
     ensures err { OnErr result (book.new ≡ book.old) }
+    ensures succeeds { 1 ≤ book.old.room → IsOk result }
 {
     match op {
         Op::Pass { machine, order } => book.pass(seat, machine, order),
         Op::Corrupt { machine, value } => book.corrupt(seat, machine, value),
     }
+}
+
+/// Grows a book's history, behind which nothing is refused, and makes a seat's call of it.
+fn record_call<R: Resource + Drop>(
+    book: &mut Book<R>,
+    seat: u32,
+    op: Op,
+) -> Result<Receipt, BookError>
+    requires seat { seat < seat_limit }
+    requires call { IsCallOf book.old.now.ring op }
+    ensures ok { IfOk result (λ r. IsRecorded R.works book.old book.new seat op r) }
+    ensures book { IsBook R.works R.first book.new }
+    ensures full { IsErrOf result BookError.HistoryFull ↔ (length book.old.history ≡ event_limit) }
+    ensures err { OnErr result (book.new ≡ book.old) }
+{
+    book.reserve(1)?;
+    make_call(book, seat, op)
 }

@@ -6,13 +6,11 @@ use std::marker::Brand;
 /// that opens a ring picks it. Seats of rings with different names have different types, so neither can be used
 /// at the other.
 ///
-/// A name says a ring's start, its number of seats and which histories are legal, but not which ring it is: a
-/// function that is generic in a name can open two rings with it, where their drafts have that start and that
-/// number of seats, and can give each one's seats to the other. What the calls and `close` promise holds then
-/// too, since `close` compares each log with the history of the ring that it closes. A function that opens one
-/// ring with its name has no other ring's seats.
+/// A name says a ring's start, its number of seats, which histories are legal, and the log that the ring's list
+/// of events stands in. Each draft has a log of its own, so no two rings have one name: seats of two rings differ.
 pub trait Name {
     ghost use Rattle.std.specs.Prelude.{ℕ, List};
+    ghost use Rattle.logbook.specs.Pages.{Book};
     ghost use Rattle.ring_model.specs.Ring.{Ring};
     ghost use Rattle.ring_model.specs.declared.events.Event.{Event};
 
@@ -21,6 +19,8 @@ pub trait Name {
     ghost seats: { ℕ };
 
     ghost legal: { List Event → Type 0 };
+
+    ghost log: { Book };
 }
 
 impl Name for Brand {
@@ -31,4 +31,6 @@ impl Name for Brand {
     ghost seats = { 0 };
 
     ghost legal = { λ h. Unit {0} };
+
+    ghost log = { record { number = 0; log_name = 0; cells_name = 0 } };
 }

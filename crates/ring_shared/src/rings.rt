@@ -1,26 +1,39 @@
 //! Rings that threads share: how they are opened, and the calls of their seats.
-ghost use Rattle.std.specs.Prelude.{◌≡◌, ◌<◌, ◌≤◌, ◌++◌, ◌∷◌, ◌↔◌, [], ℕ, List, length, map, eqb, IsOk, IfOk, IfErr, OnErr};
+ghost use Rattle.std.specs.Prelude.{◌≡◌, ◌<◌, ◌≤◌, ◌+◌, ◌++◌, ◌∷◌, ◌↔◌, [], ℕ, List, Some, slice_get, length, map, eqb, drop, fold, IsOk, IfOk, IfErr, OnErr};
 ghost use Rattle.std.specs.List.{IsDistinct};
+ghost use mathlib.Core.List.{IsPrefix};
+ghost use Rattle.ring_model.specs.Ring.{bound};
 ghost use Rattle.ring_model.specs.Limits.{seat_limit};
-ghost use Rattle.ring_shared.specs.Holding.{MeansLegal, IsSurveyOfSome};
+ghost use Rattle.ring_model.specs.History.{IsLegal, opening};
+ghost use Rattle.ring_model.specs.Surveys.{survey_at};
+ghost use Rattle.ring_state.specs.Sizes.{IsRingState};
+ghost use Rattle.ring_shared.specs.Client.{fresh_client};
+ghost use Rattle.ring_shared.specs.Holding.{MeansLegal};
 ghost use Rattle.ring_shared.specs.Opening.{AreFresh};
+ghost use Rattle.ring_shared.specs.Stepping.{stepped};
 
+use crate::front::{Front, Opened};
 use crate::locked::Locked;
 use crate::names::Name;
-use crate::seats::Seat;
+use crate::seats::{RingWriter, Seat};
+use crate::shown::{Operation, Shown};
+use left_right::Absorb;
+use left_right::writer::Writer;
 use ring_book::{Book, BookError, Resource};
-use ring_model::{Entry, Op, Receipt, Survey};
+use ring_model::{Entry, Event, Op, Receipt, Survey};
+use ring_state::RingState;
 use std::alloc::{AllocError, Global};
 use std::marker::Model;
 use std::sync::{Mutex, MutexGuard, Wait};
 
-/// A book and a number of seats, for a ring that has no name yet.
+/// A book, a number of seats and an empty list of events, for a ring that has no name yet.
 ///
-/// Contracts see both. The book has no events, and there are 1 to `SEAT_LIMIT` seats.
+/// Contracts see the three. The book has no events, and there are 1 to `SEAT_LIMIT` seats.
 #[derive(Drop)]
 pub struct Draft<R: Resource + Drop> {
     book: Book<R>,
     seats: u32,
+    opened: Opened,
 }
 
 impl<R: Resource + Drop> Model for Draft<R> {
@@ -28,9 +41,16 @@ impl<R: Resource + Drop> Model for Draft<R> {
 
     ghost Value = { Drafted R };
 
-    ghost view = { λ d. record { book = d.book; seats = d.seats } };
+    ghost view = { λ d. record { book = d.book; seats = d.seats; log = d.opened.seen.book } };
 
-    ghost invariant = { λ d. IsDraft (record { book = d.book; seats = d.seats }) };
+    ghost invariant = { λ d. IsDraft (record { book = d.book; seats = d.seats; log = d.opened.seen.book }) };
+}
+
+/// A draft that was not made: the book as it was.
+#[derive(Drop)]
+pub struct DraftFault<R: Resource + Drop> {
+    pub reason: OpenReason,
+    pub book: Book<R>,
 }
 
 impl<R: Resource + Drop> Draft<R> {
@@ -39,15 +59,19 @@ impl<R: Resource + Drop> Draft<R> {
     /// # Errors
     ///
     /// None today: what takes memory is made when the ring is opened.
-    pub fn new(book: Book<R>, seats: u32) -> Result<Draft<R>, OpenFault<R>>
+    pub fn new(book: Book<R>, seats: u32) -> Result<Draft<R>, DraftFault<R>>
         requires some { 1 ≤ seats }
         requires most { seats ≤ seat_limit }
         requires empty { book.history ≡ [] }
         ensures always { IsOk result }
-        ensures ok { IfOk result (λ d. d ≡ record { book = book; seats = seats }) }
+        ensures ok { IfOk result (λ d. (d.book ≡ book) × (d.seats ≡ seats)) }
         ensures err { IfErr result (λ f. f.book ≡ book) }
     {
-        Ok(Draft { book, seats })
+        Ok(Draft {
+            book,
+            seats,
+            opened: Opened::new(),
+        })
     }
 }
 
@@ -55,69 +79,198 @@ impl<R: Resource + Drop> Draft<R> {
 #[derive(Clone, Copy, Debug, PartialEq, Eq)]
 pub enum OpenReason {
     OutOfMemory,
+    /// There is no place for a seat to look from.
+    NoSeat,
 }
 
-/// A ring that was not opened: why, and the book as it was.
-#[derive(Drop)]
-pub struct OpenFault<R: Resource + Drop> {
+/// A ring that was not opened: why, and the book as it was. It ends by `into_book`, and by nothing else, since
+/// a writer that was made can only be ended by one who may wait.
+pub struct OpenFault<N: Name, R: Resource + Drop>
+where
+    Shown<N>: Absorb<Operation<N>, State = [Event; 0]>,
+{
     pub reason: OpenReason,
     pub book: Book<R>,
+    writer: Option<RingWriter<N>>,
+}
+
+impl<N: Name, R: Resource + Drop> OpenFault<N, R> {
+    /// The book. Nobody looks yet, so it has nobody to wait for.
+    pub fn into_book<W: Wait>(self, rt: &W) -> Book<R>
+        ensures { result ≡ self.book }
+    {
+        let OpenFault {
+            reason: _,
+            book,
+            writer,
+        } = self;
+        if let Some(writer) = writer {
+            writer.take(rt);
+        }
+        book
+    }
 }
 
 /// A ring that threads share. It ends by `close`, and by nothing else.
 ///
-/// Each call waits for the lock; what it then does is one critical section.
-///
-/// A seat of a ring with another name has another type, so it cannot be given to this one. Two rings that one
-/// function opens with one name take each other's seats: `Name` says what holds then.
+/// A pass or a corruption waits for the lock; what it then does is one critical section. A survey and a
+/// glance wait for nobody.
 pub struct Ring<N: Name, R: Resource + Drop> {
     pub(crate) shared: Mutex<Locked<N, R>>,
     pub(crate) seats: u32,
-    pub ghost counted: { seats ≡ N.seats },
+}
+
+impl<N: Name, R: Resource + Drop> Model for Ring<N, R> {
+    ghost use Rattle.ring_shared.specs.Opening.{IsRingOf};
+
+    ghost Value = { Unit {0} };
+
+    ghost view = { λ r. tt };
+
+    ghost invariant = { λ r. IsRingOf R.works R.first N.start N.seats N.legal r.seats };
+}
+
+/// A seat that has called nothing and seen nothing.
+fn seat_of<N: Name>(
+    alloc: Global,
+    number: u32,
+    writer: &RingWriter<N>,
+    front: &Front<N>,
+    start: &RingState,
+) -> Result<Seat<N>, OpenReason>
+    requires number { (number < N.seats) × (number < seat_limit) }
+    requires front { front.now ≡ [] }
+    requires start { start.now ≡ N.start }
+    ensures { IfOk result (λ s. s ≡ fresh_client number) }
+{
+    let Ok(reader) = writer.factory().reader() else {
+        return Err(OpenReason::NoSeat);
+    };
+    let Ok(start) = start.try_copy(alloc) else {
+        return Err(OpenReason::OutOfMemory);
+    };
+    Ok(Seat::new(alloc, number, reader, front.again(), start))
 }
 
 /// This many seats, with empty logs.
-fn seats_of<N: Name>(alloc: Global, count: u32) -> Result<Vec<Seat<N>>, AllocError>
+fn seats_of<N: Name>(
+    alloc: Global,
+    writer: &RingWriter<N>,
+    front: &Front<N>,
+    start: &RingState,
+    count: u32,
+) -> Result<Vec<Seat<N>>, OpenReason>
     requires count { count ≡ N.seats }
     requires most { count ≤ seat_limit }
+    requires front { front.now ≡ [] }
+    requires start { start.now ≡ N.start }
     ensures { IfOk result (λ v. AreFresh N.seats v.items) }
 {
-    let mut seats = Vec::new(alloc);
+    let Ok(mut seats) = Vec::with_capacity(alloc, count as usize) else {
+        return Err(OpenReason::OutOfMemory);
+    };
     for number in 0..count {
-        seats.push(Seat::new(alloc, number))?;
+        let seat = seat_of(alloc, number, writer, front, start)?;
+        seats.push_reserved(seat);
     }
     Ok(seats)
 }
 
+/// Makes room for operations, so that a pass needs no memory for its own.
+#[tactic(auto, using(crate::proofs::Stepped::stepped_still))]
+fn warm<N: Name>(writer: &mut RingWriter<N>, front: &Front<N>) -> bool
+    requires machine { 0 < length N.start.values }
+    requires value { 0 < N.start.k }
+    requires front { front.now ≡ [] }
+    requires shown { writer.old.desk.shown.value ≡ [] }
+    requires pending { drop writer.old.behind writer.old.log.items ≡ [] }
+    ensures shown { writer.new.desk.shown.value ≡ [] }
+    ensures pending { fold stepped [] (drop writer.new.behind writer.new.log.items) ≡ [] }
+{
+    for _ in 0..5u32 {
+        let operation = Operation::nothing(front.again());
+        if writer.append(operation).is_err() {
+            return false;
+        }
+    }
+    true
+}
+
+/// The writer of a pair that shows the start.
+fn writer_of<N: Name>(
+    alloc: Global,
+    start: &RingState,
+    front: &Front<N>,
+    count: u32,
+) -> Result<RingWriter<N>, AllocError>
+    requires some { (0 < count) × (count ≤ seat_limit) }
+    requires start { start.now ≡ N.start }
+    requires front { front.now ≡ [] }
+    ensures shown { IfOk result (λ w. w.desk.shown.value ≡ []) }
+    ensures pending { IfOk result (λ w. drop w.behind w.log.items ≡ []) }
+{
+    let first = Shown::new(start.try_copy(alloc)?, front.again());
+    let second = Shown::new(start.try_copy(alloc)?, front.again());
+    Writer::new(alloc, first, second, count as usize)
+}
+
 impl<N: Name, R: Resource + Drop> Ring<N, R> {
-    /// A ring over the draft's book, and its seats with the numbers 0, 1 and so on and empty logs.
+    /// A ring over the draft's book, and its seats with the numbers 0, 1 and so on, which have called
+    /// nothing and seen nothing.
     ///
-    /// The name says the draft's start, its number of seats, and which histories are legal.
+    /// The name says the draft's start, its number of seats, its list of events, and which histories are legal.
     ///
     /// # Errors
     ///
-    /// Want of memory alone; the book is handed back as it was.
-    pub fn open(alloc: Global, draft: Draft<R>) -> Result<(Ring<N, R>, Vec<Seat<N>>), OpenFault<R>>
+    /// Want of memory; `NoSeat`, where there is no place for a seat to look from. The book is handed back as
+    /// it was.
+    pub fn open(
+        alloc: Global,
+        draft: Draft<R>,
+    ) -> Result<(Ring<N, R>, Vec<Seat<N>>), OpenFault<N, R>>
         requires start { draft.book.start ≡ N.start }
         requires seats { draft.seats ≡ N.seats }
+        requires log { draft.log ≡ N.log }
         requires legal { MeansLegal R.works R.first N.start N.legal }
         ensures ok { IfOk result (λ t. AreFresh N.seats t.1.items) }
         ensures distinct { IfOk result (λ t. IsDistinct eqb (map (λ s. s.number) t.1.items)) }
         ensures err { IfErr result (λ f. f.book ≡ draft.book) }
     {
-        let Draft { book, seats: count } = draft;
-        let Ok(seats) = seats_of(alloc, count) else {
+        let Draft {
+            book,
+            seats: count,
+            opened,
+        } = draft;
+        book.history();
+        let (head, front) = opened.named::<N>();
+        let Ok(mut writer) = writer_of(alloc, book.start(), &front, count) else {
             return Err(OpenFault {
                 reason: OpenReason::OutOfMemory,
                 book,
+                writer: None,
             });
         };
-        book.history();
-        let ring = Ring {
-            shared: Mutex::new(Locked::new(book)),
-            seats: count,
-        };
-        Ok((ring, seats))
+        if !warm(&mut writer, &front) {
+            return Err(OpenFault {
+                reason: OpenReason::OutOfMemory,
+                book,
+                writer: Some(writer),
+            });
+        }
+        match seats_of(alloc, &writer, &front, book.start(), count) {
+            Ok(seats) => {
+                let ring = Ring {
+                    shared: Mutex::new(Locked::new(book, head, front, writer)),
+                    seats: count,
+                };
+                Ok((ring, seats))
+            }
+            Err(reason) => Err(OpenFault {
+                reason,
+                book,
+                writer: Some(writer),
+            }),
+        }
     }
 
     /// Waits for the lock, and makes a pass by `machine`, which is below n, for the seat: its receipt is
@@ -135,7 +288,11 @@ impl<N: Name, R: Resource + Drop> Ring<N, R> {
     ) -> Result<Receipt, BookError>
         requires { machine < length N.start.values }
         ensures call { IfOk result (λ r. (r.event.seat ≡ seat.old.number) × (r.event.op ≡ Op.Pass machine order)) }
-        ensures logged { IfOk result (λ r. seat.new ≡ record { number = seat.old.number; log = seat.old.log ++ Entry.Receipt r ∷ [] }) }
+        ensures number { seat.new.number ≡ seat.old.number }
+        ensures logged { IfOk result (λ r. seat.new.log ≡ seat.old.log ++ Entry.Receipt r ∷ []) }
+        ensures told { IfOk result (λ r. (length seat.new.seen ≡ r.position + 1) × (slice_get seat.new.seen r.position ≡ Some r.event)) }
+        ensures legal { IfOk result (λ r. IsLegal R.works (opening N.start R.first) seat.new.seen) }
+        ensures later { IsPrefix seat.old.seen seat.new.seen }
         ensures err { OnErr result (seat.new ≡ seat.old) }
     {
         let mut locked = self.shared.lock(rt);
@@ -160,7 +317,11 @@ impl<N: Name, R: Resource + Drop> Ring<N, R> {
         requires machine { machine < length N.start.values }
         requires value { value < N.start.k }
         ensures call { IfOk result (λ r. (r.event.seat ≡ seat.old.number) × (r.event.op ≡ Op.Corrupt machine value)) }
-        ensures logged { IfOk result (λ r. seat.new ≡ record { number = seat.old.number; log = seat.old.log ++ Entry.Receipt r ∷ [] }) }
+        ensures number { seat.new.number ≡ seat.old.number }
+        ensures logged { IfOk result (λ r. seat.new.log ≡ seat.old.log ++ Entry.Receipt r ∷ []) }
+        ensures told { IfOk result (λ r. (length seat.new.seen ≡ r.position + 1) × (slice_get seat.new.seen r.position ≡ Some r.event)) }
+        ensures legal { IfOk result (λ r. IsLegal R.works (opening N.start R.first) seat.new.seen) }
+        ensures later { IsPrefix seat.old.seen seat.new.seen }
         ensures err { OnErr result (seat.new ≡ seat.old) }
     {
         let mut locked = self.shared.lock(rt);
@@ -169,22 +330,37 @@ impl<N: Name, R: Resource + Drop> Ring<N, R> {
         result
     }
 
-    /// Waits for the lock, and answers the survey at the end of the history, which is added to the seat's log.
-    /// It is that of some legal history of the ring's seats; `close` compares it with the ring's own.
+    /// Answers the survey of what the seat sees now, which is added to its log. What it sees begins with what
+    /// it saw before. It waits for nobody.
     ///
     /// # Errors
     ///
     /// Want of memory for the log alone. Nothing has changed then.
-    pub fn survey<W: Wait>(&self, rt: &W, seat: &mut Seat<N>) -> Result<Survey, AllocError>
-        ensures right { IfOk result (λ s. IsSurveyOfSome R.works R.first N.start N.seats s) }
-        ensures logged { IfOk result (λ s. seat.new ≡ record { number = seat.old.number; log = seat.old.log ++ Entry.Survey s ∷ [] }) }
+    pub fn survey(&self, seat: &mut Seat<N>) -> Result<Survey, AllocError>
+        ensures number { seat.new.number ≡ seat.old.number }
+        ensures logged { IfOk result (λ s. seat.new.log ≡ seat.old.log ++ Entry.Survey s ∷ []) }
+        ensures told { IfOk result (λ s. s ≡ survey_at R.works (opening N.start R.first) seat.new.seen (length seat.new.seen)) }
+        ensures legal { IsLegal R.works (opening N.start R.first) seat.new.seen }
+        ensures later { IsPrefix seat.old.seen seat.new.seen }
+        ensures calm { IfOk result (λ s. bound (length N.start.values) ≤ s.calm → (s.privileged ≡ 1) × (s.rest ≡ 0)) }
         ensures err { OnErr result (seat.new ≡ seat.old) }
     {
-        seat.log.reserve(1)?;
-        let locked = self.shared.lock(rt);
-        let survey = locked.survey();
-        MutexGuard::unlock(locked);
-        seat.log.push_reserved(Entry::Survey(survey));
+        let _ = &self.shared;
+        let survey = seat.survey()?;
         Ok(survey)
+    }
+
+    /// Answers the survey of what the seat sees now, which is not logged. What it sees begins with what it saw
+    /// before. It waits for nobody, takes no memory and always answers.
+    pub fn glance(&self, seat: &mut Seat<N>) -> Survey
+        ensures number { seat.new.number ≡ seat.old.number }
+        ensures log { seat.new.log ≡ seat.old.log }
+        ensures told { result ≡ survey_at R.works (opening N.start R.first) seat.new.seen (length seat.new.seen) }
+        ensures legal { IsLegal R.works (opening N.start R.first) seat.new.seen }
+        ensures later { IsPrefix seat.old.seen seat.new.seen }
+        ensures calm { bound (length N.start.values) ≤ result.calm → (result.privileged ≡ 1) × (result.rest ≡ 0) }
+    {
+        let _ = &self.shared;
+        seat.glance()
     }
 }

@@ -1,47 +1,148 @@
-//! The seats of a ring, one for each client, and their logs.
-ghost use Rattle.std.specs.Prelude.{◌≡◌, ◌<◌, ◌≤◌, ◌+◌, [], IfOk, vec_len, vec_capacity};
+//! The seats of a ring, one for each client: their logs, and what they have seen.
+ghost use Rattle.std.specs.Prelude.{◌≡◌, ◌<◌, ◌≤◌, ◌+◌, ◌++◌, ◌∷◌, [], length, IfOk, IfSome, IfNone, OnErr, vec_len, vec_capacity};
+ghost use mathlib.Core.List.{IsPrefix};
 ghost use Rattle.ring_model.specs.Limits.{seat_limit};
+ghost use Rattle.ring_shared.specs.Client.{fresh_client};
 ghost use Rattle.ring_shared.specs.Closing.{IsLogOf};
+ghost use Rattle.ring_shared.specs.Folds.{survey_of, AnswersFor};
 
+use crate::front::Front;
 use crate::names::Name;
-use ring_model::Entry;
+use crate::shown::{Operation, Shown};
+use crate::summary::Summary;
+use core::mem::replace_with;
+use crossbeam_utils::rule::Unruled;
+use left_right::reader::Reader;
+use left_right::writer::Writer;
+use ring_model::{Entry, Survey};
+use ring_state::RingState;
 use std::alloc::{AllocError, Global};
-use std::marker::{Model, PhantomData};
+use std::marker::Model;
+use std::sync::Wait;
+
+/// What looks beside the lock.
+pub type RingReader<N> = Reader<Shown<N>, (), Unruled>;
+
+/// What shows each call to those who look.
+pub type RingWriter<N> = Writer<Shown<N>, Operation<N>, (), Unruled>;
 
 /// One client's place at a ring, with what the client was told.
 ///
-/// Contracts see its number and its log. It carries the ring's name `N`, so it serves at rings of that name alone:
-/// at one, where no second was opened with it.
+/// Contracts see its number, its log, and the events that it has seen. It carries the ring's name `N`, so it
+/// serves at rings of that name alone.
 #[derive(Drop)]
 pub struct Seat<N: Name> {
     number: u32,
     pub(crate) log: Vec<Entry>,
-    of: PhantomData<N>,
+    reader: RingReader<N>,
+    front: Front<N>,
+    last: Option<Survey>,
+    summary: Summary,
 }
 
 impl<N: Name> Model for Seat<N> {
-    ghost use Rattle.std.specs.Prelude.{◌<◌, ◌≤◌};
+    ghost use Rattle.std.specs.Prelude.{◌≡◌, ◌<◌, ◌≤◌, length};
     ghost use Rattle.ring_model.specs.Limits.{seat_limit};
     ghost use Rattle.ring_shared.specs.Client.{Client};
+    ghost use Rattle.ring_shared.specs.Folds.{AnswersFor};
 
     ghost Value = { Client };
 
-    ghost view = { λ s. record { number = s.number; log = s.log.items } };
+    ghost view = { λ s. record { number = s.number; log = s.log.items; seen = s.front } };
 
-    ghost invariant = { λ s. (s.number < N.seats) × (s.number < seat_limit) };
+    ghost invariant = { λ s. (s.number < N.seats) × (s.number < seat_limit) × (length s.summary.ring.values ≡ length N.start.values) × (s.summary.ring.k ≡ N.start.k) × AnswersFor N.start s.front s.last s.summary.ring s.summary.position s.summary.calm };
+}
+
+/// Enters, and answers what is shown then.
+fn look<N: Name>(reader: RingReader<N>) -> (RingReader<N>, Option<(Survey, Front<N>)>)
+    ensures { IfSome result.1 (λ t. t.0 ≡ survey_of N.start t.1) }
+{
+    match reader.enter_as::<Unruled>() {
+        Ok(reading) => {
+            let shown = reading.get();
+            let found = (shown.survey(), shown.front());
+            (reading.leave(), Some(found))
+        }
+        Err(reader) => (reader, None),
+    }
+}
+
+/// Sees what is shown, where that is no less than what was seen, and answers its survey.
+#[tactic(auto, using(crate::proofs::Prefixes::prefix_self))]
+fn refresh<N: Name>(reader: &mut RingReader<N>, front: &mut Front<N>) -> Option<Survey>
+    ensures legal { N.legal front.new }
+    ensures some { IfSome result (λ s. s ≡ survey_of N.start front.new) }
+    ensures none { IfNone result (front.new ≡ front.old) }
+    ensures later { IsPrefix front.old front.new }
+{
+    let found = replace_with(reader, (), |reader, _| look(reader));
+    if let Some((survey, shown)) = found {
+        front.compare(&shown);
+        if front.len() <= shown.len() {
+            *front = shown;
+            front.len();
+            return Some(survey);
+        }
+    }
+    front.len();
+    None
+}
+
+/// What answers for a front.
+fn answer<N: Name>(last: &Option<Survey>, summary: &Summary, front: &Front<N>) -> Survey
+    requires { AnswersFor N.start front.now last.now summary.now.ring summary.now.position summary.now.calm }
+    ensures { result ≡ survey_of N.start front.now }
+{
+    match last {
+        Some(survey) => *survey,
+        None => summary.survey(),
+    }
+}
+
+/// Sees what is shown, where that is no less than what was seen, and answers for what is seen then.
+fn renew<N: Name>(
+    reader: &mut RingReader<N>,
+    front: &mut Front<N>,
+    last: &mut Option<Survey>,
+    summary: &Summary,
+) -> Survey
+    requires { AnswersFor N.start front.old last.old summary.now.ring summary.now.position summary.now.calm }
+    ensures last { last.new ≡ Some result }
+    ensures legal { N.legal front.new }
+    ensures survey { result ≡ survey_of N.start front.new }
+    ensures later { IsPrefix front.old front.new }
+{
+    if let Some(survey) = refresh(reader, front) {
+        *last = Some(survey);
+        return survey;
+    }
+    let survey = answer(last, summary, front);
+    *last = Some(survey);
+    survey
 }
 
 impl<N: Name> Seat<N> {
-    /// A seat with an empty log.
-    pub(crate) fn new(alloc: Global, number: u32) -> Seat<N>
+    /// A seat with an empty log, that has seen nothing.
+    pub(crate) fn new(
+        alloc: Global,
+        number: u32,
+        reader: RingReader<N>,
+        front: Front<N>,
+        start: RingState,
+    ) -> Seat<N>
         requires given { number < N.seats }
         requires most { number < seat_limit }
-        ensures { result ≡ record { number = number; log = [] } }
+        requires front { front ≡ [] }
+        requires start { start ≡ N.start }
+        ensures { result ≡ fresh_client number }
     {
         Seat {
             number,
             log: Vec::new(alloc),
-            of: PhantomData,
+            reader,
+            front,
+            last: None,
+            summary: Summary::new(start),
         }
     }
 
@@ -62,7 +163,7 @@ impl<N: Name> Seat<N> {
     }
 
     /// Takes memory for `more` entries of the log, and answers how many it then has room for: as many calls and
-    /// surveys ask for no memory for the log. The number and the log stay, also after a refusal.
+    /// surveys ask for no memory for the log. The number, the log and what was seen stay, also after a refusal.
     ///
     /// # Errors
     ///
@@ -74,11 +175,75 @@ impl<N: Name> Seat<N> {
         reserve_entries(&mut self.log, more)
     }
 
+    /// The survey of what is seen now. It waits for nobody, takes no memory, and is not logged.
+    pub(crate) fn glance(&mut self) -> Survey
+        ensures number { self.new.number ≡ self.old.number }
+        ensures log { self.new.log ≡ self.old.log }
+        ensures legal { N.legal self.new.seen }
+        ensures survey { result ≡ survey_of N.start self.new.seen }
+        ensures later { IsPrefix self.old.seen self.new.seen }
+    {
+        renew(
+            &mut self.reader,
+            &mut self.front,
+            &mut self.last,
+            &self.summary,
+        )
+    }
+
+    /// The survey of what is seen now, which is logged. It waits for nobody.
+    #[tactic(auto, using(crate::proofs::Prefixes::prefix_self))]
+    pub(crate) fn survey(&mut self) -> Result<Survey, AllocError>
+        ensures number { self.new.number ≡ self.old.number }
+        ensures logged { IfOk result (λ s. self.new.log ≡ self.old.log ++ Entry.Survey s ∷ []) }
+        ensures legal { N.legal self.new.seen }
+        ensures survey { IfOk result (λ s. s ≡ survey_of N.start self.new.seen) }
+        ensures later { IsPrefix self.old.seen self.new.seen }
+        ensures err { OnErr result (self.new ≡ self.old) }
+    {
+        self.front.len();
+        self.log.reserve(1)?;
+        let survey = renew(
+            &mut self.reader,
+            &mut self.front,
+            &mut self.last,
+            &self.summary,
+        );
+        self.log.push_reserved(Entry::Survey(survey));
+        Ok(survey)
+    }
+
+    /// Sees what is shown, which begins with what was seen.
+    pub(crate) fn catch_up<W: Wait>(&mut self, rt: &W, shown: &Shown<N>)
+        ensures is { self.new ≡ record { number = self.old.number; log = self.old.log; seen = shown.now } }
+        ensures later { IsPrefix self.old.seen self.new.seen }
+    {
+        let front = shown.front();
+        self.front.surely_begins(rt, &front);
+        self.front = front;
+        self.last = None;
+        shown.copy_to(&mut self.summary);
+    }
+
+    /// Returns only where what was seen begins this front.
+    pub(crate) fn surely_begins<W: Wait>(&self, rt: &W, front: &Front<N>)
+        ensures { IsPrefix self.now.seen front.now }
+    {
+        self.front.surely_begins(rt, front);
+    }
+
     /// The seat's log, with its number.
     pub(crate) fn into_log(self) -> Log
         ensures { IsLogOf self result }
     {
-        let Seat { number, log, of: _ } = self;
+        let Seat {
+            number,
+            log,
+            reader: _reader,
+            front: _front,
+            last: _,
+            summary: _summary,
+        } = self;
         Log {
             seat: number,
             entries: log,

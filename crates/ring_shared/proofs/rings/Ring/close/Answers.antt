@@ -5,6 +5,8 @@ use Rattle.ring_model.specs.History.{opening}
 use Rattle.ring_model.specs.HistoryLaws.{Settlement}
 use Rattle.ring_model.specs.Logs.{Fits}
 use Rattle.ring_model.proofs.HistoryLaws.{settlement}
+use mathlib.Core.List.{IsPrefix}
+use Rattle.ring_model.specs.declared.events.Event.{Event}
 use Rattle.ring_shared.specs.Client.{Client}
 use Rattle.ring_shared.proofs.Orders.{has_logs, are_numbered, fits_of, calls_of_fits, logs_length}
 use Rattle.ring_shared.proofs.Numbers.{in_order}
@@ -15,26 +17,31 @@ into_logs-requires-clause-room g c = let n = length_permutation _ _ c.sort.ensur
 
 pub returns-clause-settlement : goal.returns-clause-settlement
 returns-clause-settlement g c =
-    let held = c.into_book-book.ensures in
-    let at : Ring → Type 0 = λ r. Settlement g.R.Resource.works (opening r g.R.Resource.first) c.into_book-book.result.history in
-    subst at held.begins (settlement g.R.Resource.works (opening c.into_book-book.result.start g.R.Resource.first) c.into_book-book.result.history held.book.start_ring.ring held.book.legal)
+    let held = c.into_parts-book.ensures.held in
+    let at : Ring → Type 0 = λ r. Settlement g.R.Resource.works (opening r g.R.Resource.first) c.into_parts-book.result.0.history in
+    subst at held.begins (settlement g.R.Resource.works (opening c.into_parts-book.result.0.start g.R.Resource.first) c.into_parts-book.result.0.history held.book.start_ring.ring held.book.legal)
 
 pub returns-clause-fits : goal.returns-clause-fits
 returns-clause-fits g c =
-    let all = λ (ss : List Client). All (λ (s : Client). Fits g.R.Resource.works (opening c.into_book-book.result.start g.R.Resource.first) c.into_book-book.result.history s.number s.log) ss in
+    let all = λ (ss : List Client). All (λ (s : Client). Fits g.R.Resource.works (opening c.into_parts-book.result.0.start g.R.Resource.first) c.into_parts-book.result.0.history s.number s.log) ss in
     let fit = subst all c.as_slice.ensures.value c.in-Ok.ensures.fits in
-    rw (sym c.into_book-book.ensures.begins) (fits_of _ _ _ _ _ _ c.sort.ensures.permutation c.into_logs.ensures fit)
+    rw (sym c.into_parts-book.ensures.held.begins) (fits_of _ _ _ _ _ _ c.sort.ensures.permutation c.into_logs.ensures fit)
 
 pub returns-clause-calls : goal.returns-clause-calls
 returns-clause-calls g c =
-    let all = λ (ss : List Client). All (λ (s : Client). Fits g.R.Resource.works (opening c.into_book-book.result.start g.R.Resource.first) c.into_book-book.result.history s.number s.log) ss in
+    let all = λ (ss : List Client). All (λ (s : Client). Fits g.R.Resource.works (opening c.into_parts-book.result.0.start g.R.Resource.first) c.into_parts-book.result.0.history s.number s.log) ss in
     let fit = subst all c.as_slice.ensures.value c.in-Ok.ensures.fits in
-    calls_of_fits g.R.Resource.works (opening c.into_book-book.result.start g.R.Resource.first) c.into_book-book.result.history _ (fits_of _ _ _ _ _ _ c.sort.ensures.permutation c.into_logs.ensures fit)
+    calls_of_fits g.R.Resource.works (opening c.into_parts-book.result.0.start g.R.Resource.first) c.into_parts-book.result.0.history _ (fits_of _ _ _ _ _ _ c.sort.ensures.permutation c.into_logs.ensures fit)
 
 pub returns-clause-logs : goal.returns-clause-logs
 returns-clause-logs g c =
-    let t = in_order g.N.Name.seats _ _ c.sort.ensures.permutation c.sort.ensures.sorted c.requires (subst (λ (ss : List Client). All (λ (s : Client). s.number < g.N.Name.seats) ss) c.as_slice-2.ensures.value c.all_given.ensures) (let m = c.in-Ok.ensures.all in let k = ap length c.as_slice.ensures.value in omega arith) in (
+    let t = in_order g.N.Name.seats _ _ c.sort.ensures.permutation c.sort.ensures.sorted c.requires (subst (λ (ss : List Client). All (λ (s : Client). s.number < g.N.Name.seats) ss) c.as_slice-3.ensures.value c.all_given.ensures) (let m = c.in-Ok.ensures.all in let k = ap length c.as_slice.ensures.value in omega arith) in (
       (let a = logs_length _ _ c.into_logs.ensures in let b = t.0 in omega arith),
       are_numbered _ _ t.1 c.into_logs.ensures,
       has_logs _ _ _ c.sort.ensures.permutation t.1 c.into_logs.ensures,
     )
+
+pub returns-clause-seen : goal.returns-clause-seen
+returns-clause-seen g c =
+    let begins = subst (λ (ss : List Client). All (λ (s : Client). IsPrefix s.seen c.into_parts-book.result.1) ss) c.as_slice-2.ensures.value c.all_begin.ensures in
+    subst (λ (h : List Event). All (λ (s : Client). IsPrefix s.seen h) c.args.seats.items) c.into_parts-book.ensures.front begins

@@ -1,15 +1,11 @@
-use Rattle.std.proofs.Common.{◌≡◌, length, subst}
-use Rattle.ring_model.specs.Ring.{Ring}
-use Rattle.ring_model.specs.History.{IsLegal, opening}
-use Rattle.ring_model.specs.Surveys.{survey_at}
+use Rattle.std.proofs.Common.{◌∙◌}
+use Rattle.ring_shared.proofs.Folding.{survey_of_is, calm_tells}
 use Rattle.ring_shared.proofs.rings.Ring.survey.Goals as goal
 
-pub returns-clause-right : goal.returns-clause-right
-returns-clause-right g c =
-    let held = c.survey-survey.ensures.held in
-    let h = c.deref.result.now.history in (
-      h,
-      subst (λ (s : Ring). IsLegal g.R.Resource.works (opening s g.R.Resource.first) h) held.begins held.book.legal,
-      held.of_seats,
-      subst (λ (s : Ring). c.survey-survey.result ≡ survey_at g.R.Resource.works (opening s g.R.Resource.first) h (length h)) held.begins c.survey-survey.ensures.is,
-    )
+pub returns-clause-told : goal.returns-clause-told
+returns-clause-told g c = c.in_ok-survey.ensures.survey ∙ survey_of_is g.R.Resource.works g.N.Name.start g.R.Resource.first c.survey.new.self.seen
+
+pub returns-clause-calm : goal.returns-clause-calm
+returns-clause-calm g c =
+    calm_tells g.R.Resource.works g.N.Name.start g.R.Resource.first c.survey.new.self.seen c.in_ok-survey.survey c.self.invariant.start_ring.ring
+    ((c.self.invariant.means_legal c.survey.new.self.seen).0 c.survey.ensures.legal) c.in_ok-survey.ensures.survey

@@ -1,0 +1,33 @@
+use Rattle.std.proofs.Common.{rules, [], ◌∷◌, ◌++◌, ap, ◌∙◌, sym}
+use Rattle.ring_shared.proofs.Held.{held_more}
+use Rattle.ring_shared.proofs.locked.Locked.call.Goals as goal
+
+pub invariant_of-self-2 : goal.invariant_of-self-2
+invariant_of-self-2 g c =
+    let ok = c.in_ok-receipt.ensures.ok in
+    let e = c.in_ok-receipt.receipt.event in
+    let held = held_more g.R.Resource.works g.R.Resource.first g.N.Name.start g.N.Name.seats g.N.Name.legal c.self.inside.book c.record_call.new.book c.number.result c.args.op c.in_ok-receipt.receipt
+    c.self.invariant.0 c.in_ok-receipt.ensures.book ok c.number.ensures.given in
+    let front = c.surely_add.ensures ∙ (ap (λ h. h ++ e ∷ []) c.self.invariant.1 ∙ sym ok.grown) in
+    let shown = c.show.ensures.shown ∙ (c.last-operation.ensures ∙ (c.again.ensures ∙ front)) in (
+      held,
+      front,
+      shown,
+      rw (c.show.ensures.pending) shown,
+    )
+
+pub last-operation-requires-clause-held : goal.last-operation-requires-clause-held
+last-operation-requires-clause-held g c =
+    held_more g.R.Resource.works g.R.Resource.first g.N.Name.start g.N.Name.seats g.N.Name.legal c.self.inside.book c.record_call.new.book c.number.result c.args.op c.in_ok-receipt.receipt
+    c.self.invariant.0 c.in_ok-receipt.ensures.book c.in_ok-receipt.ensures.ok c.number.ensures.given
+
+pub returns-clause-ok : goal.returns-clause-ok
+returns-clause-ok g c =
+    let ok = c.in_ok-receipt.ensures.ok in
+    let held = held_more g.R.Resource.works g.R.Resource.first g.N.Name.start g.N.Name.seats g.N.Name.legal c.self.inside.book c.record_call.new.book c.number.result c.args.op c.in_ok-receipt.receipt
+    c.self.invariant.0 c.in_ok-receipt.ensures.book ok c.number.ensures.given in record {
+      recorded = search rules;
+      logged = search rules;
+      later = search rules;
+      held = held;
+    }

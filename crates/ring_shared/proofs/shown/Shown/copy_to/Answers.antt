@@ -1,0 +1,20 @@
+use Rattle.std.proofs.Common.{length, sym, ap, ◌∙◌}
+use Rattle.ring_model.specs.Ring.{Ring}
+use Rattle.ring_shared.proofs.Folding.{ring_after_keeps}
+use Rattle.ring_shared.proofs.shown.Shown.copy_to.Goals as goal
+
+pub copy_from-requires-machines : goal.copy_from-requires-machines
+copy_from-requires-machines g c =
+    c.requires.machines ∙ sym (ap (λ (r : Ring). length r.values) c.self.invariant.ring_is ∙ (ring_after_keeps g.N.Name.start c.self.inside.front).1)
+
+pub copy_from-requires-values : goal.copy_from-requires-values
+copy_from-requires-values g c =
+    c.requires.values ∙ sym (ap (λ (r : Ring). r.k) c.self.invariant.ring_is ∙ (ring_after_keeps g.N.Name.start c.self.inside.front).0)
+
+pub returns-clause-machines : goal.returns-clause-machines
+returns-clause-machines g c =
+    ap (λ (r : Ring). length r.values) (c.copy_from.ensures.ring ∙ c.self.invariant.ring_is) ∙ (ring_after_keeps g.N.Name.start c.self.inside.front).1
+
+pub returns-clause-values : goal.returns-clause-values
+returns-clause-values g c =
+    ap (λ (r : Ring). r.k) (c.copy_from.ensures.ring ∙ c.self.invariant.ring_is) ∙ (ring_after_keeps g.N.Name.start c.self.inside.front).0

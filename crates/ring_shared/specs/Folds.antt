@@ -1,0 +1,44 @@
+-- What a list of events does to a ring, whatever the resource: the ring behind it, its survey, and its summary.
+use Rattle.std.specs.Prelude.{◌≡◌, ℕ, ◌-◌, ◌<◌, List, [], ◌∷◌, length, take, Option, Some, None}
+use Rattle.ring_model.specs.Ring.{Ring, privileged_count, first_privileged, rest, written}
+use Rattle.ring_model.specs.Surveys.{calm}
+use Rattle.ring_model.specs.declared.events.Event.{Event}
+use Rattle.ring_model.specs.declared.events.Survey.{Survey}
+use Rattle.ring_shared.specs.Replays.{called}
+
+-- the ring behind these events
+abbrev pub ring_after : Ring → List Event → Ring
+ring_after r [] = r
+ring_after r (e ∷ es) = ring_after (called r e.op) es
+
+-- the survey of a ring, of a position and of a calm
+abbrev pub survey_from : Ring → ℕ → ℕ → Survey
+survey_from now position calm = record {
+  position = position;
+  privileged = privileged_count now.values;
+  first = first_privileged now.values;
+  calm = calm;
+  rest = rest now;
+}
+
+-- the survey at the end of these events
+unfoldable pub survey_of : Ring → List Event → Survey
+survey_of start h = survey_from (ring_after start h) (length h) (calm h)
+
+-- a ring, a position and a calm are those at the end of these events
+pub record IsSummary (start : Ring) (h : List Event) (ring : Ring) (position : ℕ) (calm_there : ℕ) : Type 0 where
+  pub ring_is : ring ≡ ring_after start h
+  pub position_is : position ≡ length h
+  pub calm_is : calm_there ≡ calm h
+
+-- the last of these events left this value in this machine and changed no other, and the calm at their end is this
+pub record IsEffect (start : Ring) (h : List Event) (machine value calm_there : ℕ) : Type 0 where
+  pub machine_is : machine < length start.values
+  pub value_is : value < start.k
+  pub ring_is : 0 < length h → ring_after start h ≡ written (ring_after start (take (length h - 1) h)) machine value
+  pub calm_is : calm_there ≡ calm h
+
+-- what answers for these events: their survey, or a summary of them where it was not made yet
+abbrev pub AnswersFor : Ring → List Event → Option Survey → Ring → ℕ → ℕ → Type 0
+AnswersFor start h (Some s) ring position calm_there = s ≡ survey_of start h
+AnswersFor start h None ring position calm_there = IsSummary start h ring position calm_there

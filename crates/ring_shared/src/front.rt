@@ -1,0 +1,204 @@
+//! Beginnings of a ring's one list of events. The list itself is in the proofs alone.
+ghost use Rattle.std.specs.Prelude.{◌≡◌, ◌+◌, ◌<◌, ◌≤◌, ◌++◌, ◌∷◌, [], length, MatchBool};
+ghost use mathlib.Core.List.{IsPrefix};
+ghost use Rattle.ring_model.specs.Limits.{event_limit};
+ghost use Rattle.ring_shared.specs.Rules.{head_of};
+
+use crate::names::Name;
+use logbook::{Gain, Offer, Plain, Play, Rule, Seen, Start, Word};
+use ring_model::Event;
+use std::marker::{Model, PhantomData};
+use std::sync::Wait;
+
+/// The word is as long as the list.
+pub struct Law;
+
+impl Rule<Event, u64> for Law {
+    ghost use Rattle.std.specs.Prelude.{[]};
+    ghost use base.Fml.{ftrue};
+    ghost use Rattle.ring_shared.specs.Rules.{IsKept};
+
+    ghost holds = { λ cells log. IsKept cells log };
+
+    ghost first = { [] };
+
+    ghost hinted = { λ n log. Unit {0} };
+
+    ghost shows = { λ log. [] };
+
+    ghost keeps = { λ names log. ftrue };
+
+    ghost moves = { λ ask before after answer. Unit {0} };
+}
+
+/// Callers trade nothing.
+pub struct Nothing;
+
+impl Gain<Event, u64> for Nothing {
+    ghost use base.Fml.{ftrue};
+
+    ghost after = { λ names about answer. ftrue };
+}
+
+/// A step that adds an event.
+pub struct Add;
+
+impl Play<Event, u64> for Add {
+    ghost use Rattle.ring_shared.specs.Rules.{Adds};
+
+    ghost then = { Adds };
+}
+
+/// What a step asks for: the event.
+impl Plain<Event, Event, u64> for Add {
+    ghost use Rattle.std.specs.Prelude.{None};
+
+    ghost ask = { λ event. event };
+
+    ghost state = { λ event. None };
+}
+
+/// An empty list of events that has no name yet.
+#[derive(Drop)]
+pub struct Opened {
+    word: Word<Event, u64, Law>,
+    pub seen: Seen<Event, u64, Law>,
+    pub ghost empty: { seen.log ≡ [] },
+    pub ghost word_is: { word ≡ head_of seen.book },
+}
+
+impl Opened {
+    pub(crate) fn new() -> Opened {
+        let (seen, mut first, _second) = Seen::open(Start::alone(), 0, 0);
+        Opened {
+            word: Word::tracked(0, &mut first),
+            seen,
+        }
+    }
+
+    /// The list's word under a name, and the front that has seen nothing.
+    pub(crate) fn named<N: Name>(self) -> (Head<N>, Front<N>)
+        requires log { self.seen.book ≡ N.log }
+        requires legal { N.legal [] }
+        ensures { result.1 ≡ [] }
+    {
+        let Opened { word, seen } = self;
+        (
+            Head {
+                word,
+                of: PhantomData,
+            },
+            Front {
+                count: 0,
+                seen,
+                of: PhantomData,
+            },
+        )
+    }
+}
+
+/// The word that is as long as the list.
+#[derive(Drop)]
+pub struct Head<N: Name> {
+    word: Word<Event, u64, Law>,
+    of: PhantomData<N>,
+    ghost word_is: { word ≡ head_of N.log },
+}
+
+/// A legal beginning of the list that was seen. Contracts see it as its events; it is a count, with no event.
+#[derive(Drop)]
+pub struct Front<N: Name> {
+    count: u64,
+    seen: Seen<Event, u64, Law>,
+    of: PhantomData<N>,
+}
+
+impl<N: Name> Model for Front<N> {
+    ghost use Rattle.std.specs.Prelude.{◌≡◌, ◌≤◌, List, length};
+    ghost use Rattle.ring_model.specs.Limits.{event_limit};
+    ghost use Rattle.ring_model.specs.declared.events.Event.{Event};
+
+    ghost Value = { List Event };
+
+    ghost view = { λ f. f.seen.log };
+
+    ghost invariant = { λ f. (f.count ≡ length f.seen.log) × (f.seen.book ≡ N.log) × N.legal f.seen.log × (length f.seen.log ≤ event_limit) };
+}
+
+impl<N: Name> Front<N> {
+    /// How many events it has.
+    pub(crate) fn len(&self) -> u64
+        ensures length { result ≡ length self.now }
+        ensures legal { N.legal self.now }
+        ensures few { length self.now ≤ event_limit }
+    {
+        self.count
+    }
+
+    /// A copy.
+    pub(crate) fn again(&self) -> Front<N>
+        ensures { result ≡ self.now }
+    {
+        Front {
+            count: self.count,
+            seen: self.seen.again(),
+            of: PhantomData,
+        }
+    }
+
+    /// Of two fronts the shorter begins the longer.
+    pub(crate) fn compare(&self, other: &Front<N>)
+        ensures shorter { length self.now ≤ length other.now → IsPrefix self.now other.now }
+        ensures longer { length other.now ≤ length self.now → IsPrefix other.now self.now }
+    {
+        let mut both = self.seen.again();
+        both.learn(&other.seen);
+    }
+
+    /// Adds an event to all that was seen, and says whether it did. It did not where the list is longer.
+    fn add(&mut self, head: &Head<N>, event: Event) -> bool
+        requires room { length self.old < event_limit }
+        requires legal { N.legal (self.old ++ event ∷ []) }
+        ensures { MatchBool result (self.new ≡ self.old ++ event ∷ []) (self.new ≡ self.old) }
+    {
+        let mut seen = self.seen.again();
+        let mut offer: Offer<Event, u64, Law, Nothing> = seen.plain::<Nothing, Event, Add>(&event);
+        let mut pen = seen.no_pen();
+        let count = self.count;
+        let found = head
+            .word
+            .compare_exchange::<Add, Nothing>(count, count + 1, &mut seen, &mut offer, &mut pen);
+        if found == count {
+            self.count = count + 1;
+            self.seen = seen;
+        }
+        found == count
+    }
+
+    /// Returns only where this front begins the other.
+    pub(crate) fn surely_begins<W: Wait>(&self, rt: &W, other: &Front<N>)
+        ensures { IsPrefix self.now other.now }
+    {
+        self.compare(other);
+        for _ in rt.forever() {
+            if self.len() <= other.len() {
+                return;
+            }
+        }
+        unreachable!()
+    }
+
+    /// Returns only where the event was added to all that was seen.
+    pub(crate) fn surely_add<W: Wait>(&mut self, rt: &W, head: &Head<N>, event: Event)
+        requires room { length self.old < event_limit }
+        requires legal { N.legal (self.old ++ event ∷ []) }
+        ensures { self.new ≡ self.old ++ event ∷ [] }
+    {
+        for _ in rt.forever() {
+            if self.add(head, event) {
+                return;
+            }
+        }
+        unreachable!()
+    }
+}

@@ -1,0 +1,72 @@
+//! What is kept of a list of events to survey its end: the ring there, how many events, and the calm.
+ghost use Rattle.std.specs.Prelude.{◌≡◌, ◌<◌, ◌≤◌, ◌+◌, length};
+ghost use Rattle.ring_model.specs.Ring.{written};
+ghost use Rattle.ring_model.specs.Limits.{event_limit};
+ghost use Rattle.ring_shared.specs.Folds.{survey_from};
+
+use ring_model::Survey;
+use ring_settle::rest;
+use ring_state::RingState;
+
+/// The ring behind so many events, and the calm there.
+#[derive(Drop)]
+pub(crate) struct Summary {
+    pub(crate) ring: RingState,
+    pub(crate) position: u64,
+    pub(crate) calm: u64,
+}
+
+impl Summary {
+    /// Of no events.
+    pub(crate) fn new(ring: RingState) -> Summary
+        ensures ring { result.ring ≡ ring }
+        ensures none { (result.position ≡ 0) × (result.calm ≡ 0) }
+    {
+        Summary {
+            ring,
+            position: 0,
+            calm: 0,
+        }
+    }
+
+    /// Goes on by one event, which left `value` in `machine` and the calm at `calm`. It takes no memory, and
+    /// its time does not depend on how many machines there are.
+    pub(crate) fn go_on(&mut self, machine: u32, value: u32, calm: u64)
+        requires machine { machine < length self.old.ring.values }
+        requires value { value < self.old.ring.k }
+        requires room { self.old.position < event_limit }
+        ensures ring { self.new.ring ≡ written self.old.ring machine value }
+        ensures position { self.new.position ≡ self.old.position + 1 }
+        ensures calm { self.new.calm ≡ calm }
+    {
+        self.ring.write(machine, value);
+        self.calm = calm;
+        self.position += 1;
+    }
+
+    /// Becomes equal to a summary of a ring of as many machines and values. It takes no memory.
+    pub(crate) fn copy_from(&mut self, other: &Summary)
+        requires machines { length self.old.ring.values ≡ length other.now.ring.values }
+        requires values { self.old.ring.k ≡ other.now.ring.k }
+        ensures ring { self.new.ring ≡ other.now.ring }
+        ensures position { self.new.position ≡ other.now.position }
+        ensures calm { self.new.calm ≡ other.now.calm }
+    {
+        self.ring.copy_from(&other.ring);
+        self.position = other.position;
+        self.calm = other.calm;
+    }
+
+    /// The survey here.
+    pub(crate) fn survey(&self) -> Survey
+        ensures { result ≡ survey_from self.now.ring self.now.position self.now.calm }
+    {
+        Survey {
+            position: self.position,
+            privileged: self.ring.privileged(),
+            first: self.ring.first(),
+            calm: self.calm,
+            rest: rest(&self.ring),
+        }
+    }
+}
