@@ -6,3 +6,4 @@ pub mod Holding
 pub mod Opening
 pub mod Replays
 pub mod Closing
+pub mod Walks
