@@ -10,7 +10,7 @@ ghost use Rattle.ring_shared.specs.Holding.{MeansLegal};
 ghost use Rattle.ring_shared.specs.Opening.{AreFresh};
 
 use crate::events::{granted, refused, told};
-use calls::{Act, closed_well, handed_back, is_told, pass_often, play, seen, told_by};
+use calls::{Act, closed_well, handed_back, is_told, pass_often, play, seen, told_by, with_room};
 use ring_book::{Book, BookError, Till};
 use ring_model::{Event, Op, Reply, Survey};
 use ring_shared::{CloseReason, Draft, Entry, Name, Ring, Seat};
@@ -197,6 +197,7 @@ fn call_in_turn<N: Name, W: Wait + Abort>(
     let first_calls = [(passing, told(0, pass)), (Act::Survey, survey)];
     let second_calls = [(Act::Survey, survey), (corrupting, told(1, corruption))];
     let first = play(rt, &ring, first, &first_calls, scarce);
+    let first = with_room(rt, first, scarce);
     let second = play(rt, &ring, second, &second_calls, scarce);
     let seats = both(rt, alloc, second, first);
     let events = [pass, corruption];

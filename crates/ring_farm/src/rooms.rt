@@ -49,7 +49,10 @@ impl Room {
     /// # Errors
     ///
     /// Want of memory for one of them.
-    pub(crate) fn reserve_entries<N: Name>(&self, seats: &mut Vec<Seat<N>>) -> Result<(), AllocError>
+    pub(crate) fn reserve_entries<N: Name>(
+        &self,
+        seats: &mut Vec<Seat<N>>,
+    ) -> Result<(), AllocError>
         ensures { seats.new.items ≡ seats.old.items }
     {
         for i in 0..seats.len() {

@@ -9,3 +9,4 @@ pub mod Replays
 pub mod Rules
 pub mod Stepping
 pub mod Closing
+pub mod Walks

@@ -8,14 +8,13 @@ ghost use Rattle.ring_model.specs.HistoryLaws.{Settlement};
 ghost use Rattle.ring_model.specs.Logs.{Fits, calls_of, receipts_of};
 ghost use Rattle.ring_book.specs.BookView.{IsBook};
 ghost use Rattle.ring_shared.specs.Closing.{HasLog, AreNumbered, AreLogsOf};
-ghost use Rattle.ring_shared.specs.Fronts.{IsPlaced};
 ghost use Rattle.ring_shared.specs.Holding.{AreOfSeats};
 
 use crate::front::Front;
 use crate::gathering::surveys_in_order;
 use crate::judge::are_right;
 use crate::names::Name;
-use crate::placing::is_placed;
+use crate::placing::all_placed;
 use crate::rings::Ring;
 use crate::seats::{Log, Seat};
 use ring_book::{Book, Resource};
@@ -148,7 +147,7 @@ fn room_for_logs<N: Name, R: Resource + Drop>(
 ///
 /// # Errors
 ///
-/// Want of memory for the list of the surveys, and for playing the history again.
+/// Want of memory for following the logs, for the list of the surveys, and for playing the history again.
 fn all_fit<N: Name, R: Resource + Drop>(
     alloc: Global,
     book: &Book<R>,
@@ -156,23 +155,12 @@ fn all_fit<N: Name, R: Resource + Drop>(
 ) -> Result<bool, AllocError>
     ensures { IfOk result (λ b. IsTrue b ↔ All (λ s. Fits R.works (opening book.now.start R.first) book.now.history s.number s.log) seats.now) }
 {
-    if !all_placed(book, seats) {
+    let placed = all_placed(alloc, book, seats)?;
+    if !placed {
         return Ok(false);
     }
     let surveys = surveys_in_order(alloc, seats)?;
     are_right(alloc, book, surveys.as_slice())
-}
-
-/// Whether each seat's receipts are its calls where they stand, and no entry of a log goes back.
-fn all_placed<N: Name, R: Resource + Drop>(book: &Book<R>, seats: &[Seat<N>]) -> bool
-    ensures { IsTrue result ↔ All (λ s. IsPlaced book.now.history s.number s.log) seats.now }
-{
-    for seat in seats {
-        if !is_placed(book, seat.number(), seat.log()) {
-            return false;
-        }
-    }
-    true
 }
 
 /// Returns only where what each seat has seen begins this front.

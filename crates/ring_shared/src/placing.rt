@@ -1,10 +1,17 @@
 //! Whether the receipts of a seat's log are the seat's calls where they stand, and no entry goes back.
-ghost use Rattle.std.specs.Prelude.{◌≡◌, ◌<◌, ◌↔◌, None, Some, slice_get, length, IsTrue, IfSome};
-ghost use Rattle.ring_model.specs.Limits.{seat_limit};
-ghost use Rattle.ring_shared.specs.Fronts.{front_of, receipt_count as receipts_in, IsReceiptFrom, IsPlacedFrom, IsPlaced};
+ghost use Rattle.std.specs.Prelude.{◌≡◌, ◌<◌, ◌≤◌, ◌^◌, ◌-◌, ◌↔◌, None, Some, All, drop, map, slice_get, length, IsTrue, IsFalse, IfSome, IfOk};
+ghost use Rattle.ring_shared.specs.Fronts.{front_of, receipt_count as receipts_in, IsReceiptFrom, IsPlacedFrom, ArePlaced, IsPlaced};
+ghost use Rattle.ring_shared.specs.Walks.{IsPlacedWalk};
 
+use crate::names::Name;
+use crate::seats::Seat;
 use ring_book::{Book, Resource};
 use ring_model::{Entry, Event, Receipt};
+use std::alloc::{AllocError, Global};
+use std::marker::Model;
+
+/// How many events all logs are followed along before the next are: so many stay near the processor.
+const BLOCK: usize = 2048;
 
 fn is_same_event(one: Event, other: Event) -> bool
     ensures { IsTrue result ↔ one ≡ other }
@@ -54,19 +61,178 @@ fn receipt_count(log: &[Entry]) -> u64
         .count() as u64
 }
 
-/// Whether the receipts of a seat's log are the seat's calls where they stand in the history of the book, and no entry
-/// goes back. What the surveys say isn't looked at.
-pub(crate) fn is_placed<R: Resource + Drop>(book: &Book<R>, seat: u32, log: &[Entry]) -> bool
-    requires { seat < seat_limit }
-    ensures { IsTrue result ↔ IsPlaced book.now.history seat log.now }
+/// How far a log was followed: up to an entry of it, and the front there.
+#[derive(Clone, Copy, Debug)]
+struct Reached {
+    entry: usize,
+    front: u64,
+}
+
+/// Where an entry says that it stands.
+fn place_of(entry: Entry) -> u64 {
+    match entry {
+        Entry::Receipt(receipt) => receipt.position,
+        Entry::Survey(survey) => survey.position,
+    }
+}
+
+/// Follows a log on, up to the first entry that stands at `until` or behind it, but to its end where that is the
+/// greatest number; none where an entry is not placed.
+fn followed(
+    history: &[Event],
+    seat: u32,
+    log: &[Entry],
+    from: Reached,
+    until: u64,
+) -> Option<Reached>
+    requires { from.entry ≤ length log.now }
+    ensures within { IfSome result (λ to. to.entry ≤ length log.now) }
+    ensures some { IfSome result (λ to. ArePlaced history.now seat to.front (drop to.entry log.now) ↔ ArePlaced history.now seat from.front (drop from.entry log.now)) }
+    ensures none { result ≡ None → ArePlaced history.now seat from.front (drop from.entry log.now) → ⊥ }
+    ensures all { until ≡ 2 ^ 64 - 1 → IfSome result (λ to. to.entry ≡ length log.now) }
 {
-    let history = book.history();
-    let mut front = 0;
-    for entry in log {
-        let Some(past) = front_past(history, seat, front, *entry) else {
-            return false;
+    let mut front = from.front;
+    for place in from.entry..log.len() {
+        let entry = log[place];
+        if until != u64::MAX && place_of(entry) >= until {
+            return Some(Reached {
+                entry: place,
+                front,
+            });
+        }
+        let Some(past) = front_past(history, seat, front, entry) else {
+            return None;
         };
         front = past;
     }
-    receipt_count(log) == book.calls_of(seat)
+    Some(Reached {
+        entry: log.len(),
+        front,
+    })
+}
+
+/// A seat's log that is followed along a history, and how far it was.
+///
+/// Contracts see the history and the client alone: what is left of the log is placed just where all of it is.
+#[derive(Drop)]
+struct Walk<'a> {
+    history: &'a [Event],
+    seat: u32,
+    log: &'a [Entry],
+    calls: u64,
+    reached: Reached,
+}
+
+impl<'a> Model for Walk<'a> {
+    ghost use Rattle.std.specs.Prelude.{◌≡◌, ◌≤◌, ◌↔◌, length, drop};
+    ghost use Rattle.ring_model.specs.Logs.{calls_of};
+    ghost use Rattle.ring_shared.specs.Fronts.{ArePlaced};
+    ghost use Rattle.ring_shared.specs.Walks.{Walked};
+
+    ghost Value = { Walked };
+
+    ghost view = { λ w. record { history = w.history.now; client = record { number = w.seat; log = w.log.now } } };
+
+    ghost invariant = { λ w. (w.reached.entry ≤ length w.log.now) × (w.calls ≡ length (calls_of w.seat w.history.now)) × (ArePlaced w.history.now w.seat w.reached.front (drop w.reached.entry w.log.now) ↔ ArePlaced w.history.now w.seat 0 w.log.now) };
+}
+
+impl<'a> Walk<'a> {
+    /// At the start of the seat's log.
+    fn new<N: Name, R: Resource + Drop>(book: &'a Book<R>, seat: &'a Seat<N>) -> Walk<'a>
+        ensures { result ≡ record { history = book.now.history; client = seat.now } }
+    {
+        let number = seat.number();
+        Walk {
+            history: book.history(),
+            seat: number,
+            log: seat.log(),
+            calls: book.calls_of(number),
+            reached: Reached { entry: 0, front: 0 },
+        }
+    }
+
+    /// Follows the log up to the first entry that stands at `until` or behind it. False where an entry isn't placed.
+    fn walk(&mut self, until: u64) -> bool
+        ensures same { self.new ≡ self.old }
+        ensures wrong { IsFalse result → IsPlacedWalk self.old → ⊥ }
+    {
+        match followed(self.history, self.seat, self.log, self.reached, until) {
+            Some(reached) => {
+                self.reached = reached;
+                true
+            }
+            None => false,
+        }
+    }
+
+    /// Follows the log to its end: whether it is placed, with as many receipts as the seat has calls.
+    fn is_placed(&self) -> bool
+        ensures { IsTrue result ↔ IsPlacedWalk self.now }
+    {
+        followed(self.history, self.seat, self.log, self.reached, u64::MAX).is_some()
+            && receipt_count(self.log) == self.calls
+    }
+}
+
+/// A walk for each seat, at the start of its log.
+fn walks_of<'a, N: Name, R: Resource + Drop>(
+    alloc: Global,
+    book: &'a Book<R>,
+    seats: &'a [Seat<N>],
+) -> Result<Vec<Walk<'a>>, AllocError>
+    ensures { IfOk result (λ v. v.items ≡ map (λ s. record { history = book.now.history; client = s }) seats.now) }
+{
+    let mut walks = Vec::with_capacity(alloc, seats.len())?;
+    for seat in seats {
+        walks.push(Walk::new(book, seat))?;
+    }
+    Ok(walks)
+}
+
+/// Follows each log up to its first entry that stands at `until` or behind it. False where an entry isn't placed.
+fn all_walk(walks: &mut Vec<Walk>, until: u64) -> bool
+    ensures same { walks.new.items ≡ walks.old.items }
+    ensures wrong { IsFalse result → All IsPlacedWalk walks.old.items → ⊥ }
+{
+    for i in 0..walks.len() {
+        if !walks[i].walk(until) {
+            return false;
+        }
+    }
+    true
+}
+
+/// Follows each log to its end.
+fn all_end(walks: &[Walk]) -> bool
+    ensures { IsTrue result ↔ All IsPlacedWalk walks.now }
+{
+    for walk in walks {
+        if !walk.is_placed() {
+            return false;
+        }
+    }
+    true
+}
+
+/// Whether the receipts of each seat's log are the seat's calls where they stand in the history of the book, and no
+/// entry goes back. What the surveys say isn't looked at. The logs are followed side by side, so that the history is
+/// gone through once.
+///
+/// # Errors
+///
+/// Want of memory for how far each log was followed.
+pub(crate) fn all_placed<N: Name, R: Resource + Drop>(
+    alloc: Global,
+    book: &Book<R>,
+    seats: &[Seat<N>],
+) -> Result<bool, AllocError>
+    ensures { IfOk result (λ b. IsTrue b ↔ All (λ s. IsPlaced book.now.history s.number s.log) seats.now) }
+{
+    let mut walks = walks_of(alloc, book, seats)?;
+    for block in 1..book.history().len() / BLOCK + 1 {
+        if !all_walk(&mut walks, (block * BLOCK) as u64) {
+            return Ok(false);
+        }
+    }
+    Ok(all_end(walks.as_slice()))
 }

@@ -93,6 +93,24 @@ pub(super) fn play<N: Name, W: Wait + Abort>(
     seat
 }
 
+/// Takes room for three entries more in the seat's log, and then for one, which is there: what the log has stays.
+pub(super) fn with_room<N: Name>(rt: &impl Abort, seat: Seat<N>, scarce: bool) -> Seat<N>
+    ensures { result ≡ seat }
+{
+    let mut seat = seat;
+    let first = seat.reserve(3);
+    let room = match first {
+        Ok(room) => room,
+        Err(_) => {
+            assert!(rt; scarce);
+            seat.reserve(3).expect(rt, "memory the second time")
+        }
+    };
+    assert_eq!(rt; room, 3);
+    assert_eq!(rt; seat.reserve(1).ok(), Some(3));
+    seat
+}
+
 /// A log holds what its seat was told at these calls, and no more.
 pub(super) fn is_told(rt: &impl Abort, log: &[Entry], calls: &[(Act, Entry)]) {
     assert_eq!(rt; log.len(), calls.len());

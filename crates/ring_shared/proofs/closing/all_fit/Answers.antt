@@ -14,11 +14,11 @@ ok_then : {A E : Type 0} (P S : A → Type 0) (r : Result A E) → ((v : A) → 
 ok_then P S (Ok v) f p = f v p
 ok_then P S (Err e) f p = tt
 
-pub returns-then-not-all_placed : goal.returns-then-not-all_placed
-returns-then-not-all_placed g c =
+pub returns-then-not-placed : goal.returns-then-not-placed
+returns-then-not-placed g c =
     let split = all_split g.R.Resource.works (opening c.args.book.now.start g.R.Resource.first) c.args.book.now.history c.args.seats.now in (
       λ t. false_true t,
-      λ f. false_true (sym c.if-not-all_placed.true ∙ c.all_placed.ensures.1 (split.1 f).0),
+      λ f. false_true (sym c.if-not-placed.true ∙ c.in_ok-placed.ensures.1 (split.1 f).0),
     )
 
 pub returns : goal.returns
@@ -28,6 +28,6 @@ returns g c =
     let same = c.as_slice.ensures.value in
     let p = c.in_ok-surveys.ensures.permutation in
     ok_then _ _ c.are_right.result (λ b is. (
-      λ t. split.0 (c.all_placed.ensures.0 c.if-not-all_placed.false, All-permutation (IsSurvey g.R.Resource.works (opening c.args.book.now.start g.R.Resource.first) c.args.book.now.history) _ _ (IsPermutation-sym _ _ p) (subst right same (is.0 t))),
+      λ t. split.0 (c.in_ok-placed.ensures.0 c.if-not-placed.false, All-permutation (IsSurvey g.R.Resource.works (opening c.args.book.now.start g.R.Resource.first) c.args.book.now.history) _ _ (IsPermutation-sym _ _ p) (subst right same (is.0 t))),
       λ f. is.1 (subst right (sym same) (All-permutation (IsSurvey g.R.Resource.works (opening c.args.book.now.start g.R.Resource.first) c.args.book.now.history) _ _ p (split.1 f).1)),
     )) c.are_right.ensures

@@ -3,12 +3,12 @@ use Rattle.ring_model.specs.Ring.{Ring}
 use Rattle.ring_shared.proofs.Folding.{ring_after_keeps}
 use Rattle.ring_shared.proofs.shown.Shown.copy_to.Goals as goal
 
-pub copy_from-requires-machines : goal.copy_from-requires-machines
-copy_from-requires-machines g c =
+pub copy_from-requires-clause-machines : goal.copy_from-requires-clause-machines
+copy_from-requires-clause-machines g c =
     c.requires.machines ∙ sym (ap (λ (r : Ring). length r.values) c.self.invariant.ring_is ∙ (ring_after_keeps g.N.Name.start c.self.inside.front).1)
 
-pub copy_from-requires-values : goal.copy_from-requires-values
-copy_from-requires-values g c =
+pub copy_from-requires-clause-values : goal.copy_from-requires-clause-values
+copy_from-requires-clause-values g c =
     c.requires.values ∙ sym (ap (λ (r : Ring). r.k) c.self.invariant.ring_is ∙ (ring_after_keeps g.N.Name.start c.self.inside.front).0)
 
 pub returns-clause-machines : goal.returns-clause-machines
