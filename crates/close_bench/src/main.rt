@@ -48,7 +48,7 @@ fn call<N: Name, W: Wait>(rt: &W, ring: &Ring<N, Till>, seat: &mut Seat<N>, firs
             return false;
         }
     }
-    ring.survey(rt, seat).is_ok()
+    ring.survey(seat).is_ok()
 }
 
 /// Makes all calls, seat by seat in turn.
@@ -75,11 +75,16 @@ fn time_named<N: Name, W: Wait + Clock>(
 ) -> io::Result<Option<Times>>
     requires start { draft.book.start ≡ N.start }
     requires seats { draft.seats ≡ N.seats }
+    requires log { draft.log ≡ N.log }
     requires legal { MeansLegal till 0 N.start N.legal }
     requires machines { 16 ≤ length N.start.values }
 {
-    let Ok((ring, mut seats)) = Ring::<N, Till>::open(alloc, draft) else {
-        return Ok(None);
+    let (ring, mut seats) = match Ring::<N, Till>::open(alloc, draft) {
+        Ok(opened) => opened,
+        Err(fault) => {
+            fault.into_book(rt);
+            return Ok(None);
+        }
     };
     // A clock that fails is told only once the ring is closed.
     let started = Instant::now(rt);

@@ -40,6 +40,7 @@ fn each_fault_has_its_line(rt: HostRuntime) {
         ),
         (ToolError::Spawn, 1, "a thread could not be started\n"),
         (ToolError::GateShut, 1, "the gate was shut\n"),
+        (ToolError::NoSeat, 1, "no reader place\n"),
         (ToolError::HistoryFull, 1, "a history is full\n"),
         (ToolError::Mismatch, 1, "logs and history differ\n"),
         (

@@ -60,6 +60,7 @@ fault_of_settings settings.OutOfMemory = tool.OutOfMemory
 abbrev pub fault_of_farm : FarmError → ToolError
 fault_of_farm farm.Spawn = tool.Spawn
 fault_of_farm farm.GateShut = tool.GateShut
+fault_of_farm farm.NoSeat = tool.NoSeat
 fault_of_farm farm.HistoryFull = tool.HistoryFull
 fault_of_farm farm.Mismatch = tool.Mismatch
 fault_of_farm farm.OutOfMemory = tool.OutOfMemory

@@ -26,6 +26,7 @@ AreSettings bytes = (settings : SettingsData) × (settings_of bytes ≡ Ok setti
 abbrev pub IsFarmRefusal : List ℕ → ToolError → Type 0
 IsFarmRefusal bytes tool.Spawn = AreSettings bytes
 IsFarmRefusal bytes tool.GateShut = AreSettings bytes
+IsFarmRefusal bytes tool.NoSeat = AreSettings bytes
 IsFarmRefusal bytes tool.HistoryFull = AreSettings bytes
 IsFarmRefusal bytes tool.Mismatch = AreSettings bytes
 IsFarmRefusal bytes tool.OutOfMemory = Unit {0}

@@ -50,6 +50,9 @@ pub enum ToolError<'a> {
     Spawn,
     #[error("the gate was shut")]
     GateShut,
+    /// There is no place for a seat to look at its ring from.
+    #[error("no reader place")]
+    NoSeat,
     #[error("a history is full")]
     HistoryFull,
     /// A seat's log does not fit its ring's history.
@@ -169,6 +172,7 @@ impl From<FarmError> for ToolError<'_> {
         match error {
             FarmError::Spawn => ToolError::Spawn,
             FarmError::GateShut => ToolError::GateShut,
+            FarmError::NoSeat => ToolError::NoSeat,
             FarmError::HistoryFull => ToolError::HistoryFull,
             FarmError::Mismatch => ToolError::Mismatch,
             FarmError::OutOfMemory => ToolError::OutOfMemory,

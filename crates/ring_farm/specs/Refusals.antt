@@ -2,6 +2,8 @@
 use Rattle.std.specs.Prelude.{◌≡◌, ◌⊎◌, Option, Some, None}
 use Rattle.ring_book.specs.declared.events.BookError.{BookError}
 use Rattle.ring_book.specs.declared.events.BookError.TheVariants as book
+use Rattle.ring_shared.specs.declared.rings.OpenReason.{OpenReason}
+use Rattle.ring_shared.specs.declared.rings.OpenReason.TheVariants as reason
 use Rattle.ring_farm.specs.declared.faults.FarmError.{FarmError}
 use Rattle.ring_farm.specs.declared.faults.FarmError.TheVariants as farm
 
@@ -14,6 +16,11 @@ first_of None found = found
 abbrev pub told_as : BookError → FarmError
 told_as book.HistoryFull = farm.HistoryFull
 told_as book.OutOfMemory = farm.OutOfMemory
+
+-- why a ring was not opened, as a farm tells it
+abbrev pub told_of : OpenReason → FarmError
+told_of reason.OutOfMemory = farm.OutOfMemory
+told_of reason.NoSeat = farm.NoSeat
 
 -- what a call of a ring is refused for
 abbrev pub IsCallFault : FarmError → Type 0

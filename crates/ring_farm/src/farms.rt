@@ -138,9 +138,10 @@ pub fn run_rings<G: Gate + Sync, W: Threads + Wait + Sync>(
 /// # Errors
 ///
 /// Want of memory for the plans and the lists of the farm comes first, then the refusal of the least ring
-/// that met one, the first of those that `run_rings` answers: in the order of time, want of memory for opening, `Spawn`, the refusal of the least seat
-/// (`GateShut`, `HistoryFull`, `OutOfMemory`), and that of closing (`Mismatch`, `OutOfMemory`). A worker that
-/// meets a refusal stops, the others go on to their ends; all are joined. Nothing of a refused run is kept.
+/// that met one, the first of those that `run_rings` answers: in the order of time, that of opening (`NoSeat`,
+/// `OutOfMemory`), `Spawn`, the refusal of the least seat (`GateShut`, `HistoryFull`, `OutOfMemory`), and that of
+/// closing (`Mismatch`, `OutOfMemory`). A worker that meets a refusal stops, the others go on to their ends; all
+/// are joined. Nothing of a refused run is kept.
 pub fn run_farm<G: Gate + Sync, W: Threads + Wait + Sync>(
     rt: &W,
     alloc: Global,

@@ -14,6 +14,9 @@ pub enum FarmError {
     /// The gate did not let a worker on.
     #[error("the gate was shut")]
     GateShut,
+    /// There is no place for a seat to look at its ring from.
+    #[error("no reader place")]
+    NoSeat,
     /// A ring's history has as many events as it may have.
     #[error("a history is full")]
     HistoryFull,

@@ -4,6 +4,7 @@ ghost use Rattle.ring_model.specs.Limits.{seat_limit};
 ghost use Rattle.ring_model.specs.History.{opening};
 ghost use Rattle.ring_shared.specs.Holding.{MeansLegal};
 ghost use Rattle.ring_farm.specs.Plans.{IsShort, IsPlanOn};
+ghost use Rattle.ring_farm.specs.Refusals.{told_of};
 ghost use Rattle.ring_farm.specs.Runs.{IsRun};
 
 use crate::faults::FarmError;
@@ -13,7 +14,7 @@ use crate::rooms::Room;
 use crate::threads::run_threads;
 use ring_book::{Book, Resource, Till};
 use ring_settings::Plan;
-use ring_shared::{CloseReason, Closed, Draft, Name, Ring};
+use ring_shared::{CloseReason, Closed, Draft, Name, OpenReason, Ring};
 use std::alloc::Global;
 use std::marker::Brand;
 use std::sync::Wait;
@@ -31,6 +32,7 @@ fn run_named<N: Name + Send + Sync, G: Gate + Sync, W: Threads + Wait + Sync>(
 ) -> Result<RingOutcome, FarmError>
     requires start { draft.book.start ≡ N.start }
     requires seats { draft.seats ≡ N.seats }
+    requires log { draft.log ≡ N.log }
     requires legal { MeansLegal ⟦<Till as Resource>⟧.works ⟦<Till as Resource>⟧.first N.start N.legal }
     requires count { draft.seats ≡ vec_len plans.now }
     requires few { All IsShort plans.now.items }
@@ -39,7 +41,11 @@ fn run_named<N: Name + Send + Sync, G: Gate + Sync, W: Threads + Wait + Sync>(
 {
     let (ring, mut seats) = match Ring::<N, Till>::open(alloc, draft) {
         Ok(opened) => opened,
-        Err(_) => return Err(FarmError::OutOfMemory),
+        Err(fault) => {
+            let refusal = refusal_of(fault.reason);
+            fault.into_book(rt);
+            return Err(refusal);
+        }
     };
     if room.reserve_entries(&mut seats).is_err() {
         end(ring, rt, alloc);
@@ -61,8 +67,18 @@ fn run_named<N: Name + Send + Sync, G: Gate + Sync, W: Threads + Wait + Sync>(
     }
 }
 
+/// What a farm is refused for where a ring was not opened.
+fn refusal_of(reason: OpenReason) -> FarmError
+    ensures { result ≡ told_of reason }
+{
+    match reason {
+        OpenReason::OutOfMemory => FarmError::OutOfMemory,
+        OpenReason::NoSeat => FarmError::NoSeat,
+    }
+}
+
 /// Ends a ring whose run was refused; nothing of it is kept.
-fn end<N: Name, W>(ring: Ring<N, Till>, rt: &W, alloc: Global) {
+fn end<N: Name, W: Wait>(ring: Ring<N, Till>, rt: &W, alloc: Global) {
     let _ = ring.close(rt, alloc, Vec::new(alloc));
 }
 
@@ -71,7 +87,7 @@ fn end<N: Name, W>(ring: Ring<N, Till>, rt: &W, alloc: Global) {
 ///
 /// # Errors
 ///
-/// In the order of time: want of memory for opening, `Spawn`, the refusal of the least seat that met one,
+/// In the order of time: `NoSeat` or want of memory for opening, `Spawn`, the refusal of the least seat that met one,
 /// and the refusal of closing.
 pub(crate) fn run_ring<G: Gate + Sync, W: Threads + Wait + Sync>(
     rt: &W,

@@ -48,7 +48,7 @@ fn act<N: Name, R: Resource + Drop, W: Wait>(
             Ok(_) => None,
             Err(error) => Some(fault_of(error)),
         },
-        Action::Survey { ring: _ } => match ring.survey(rt, seat) {
+        Action::Survey { ring: _ } => match ring.survey(seat) {
             Ok(_) => None,
             Err(_) => Some(FarmError::OutOfMemory),
         },

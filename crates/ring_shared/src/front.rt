@@ -2,6 +2,7 @@
 ghost use Rattle.std.specs.Prelude.{◌≡◌, ◌+◌, ◌<◌, ◌≤◌, ◌++◌, ◌∷◌, [], length, MatchBool};
 ghost use mathlib.Core.List.{IsPrefix};
 ghost use Rattle.ring_model.specs.Limits.{event_limit};
+ghost use Rattle.ring_shared.specs.Holding.{AreOfSeats};
 ghost use Rattle.ring_shared.specs.Rules.{head_of};
 
 use crate::names::Name;
@@ -105,7 +106,8 @@ pub struct Head<N: Name> {
     ghost word_is: { word ≡ head_of N.log },
 }
 
-/// A legal beginning of the list that was seen. Contracts see it as its events; it is a count, with no event.
+/// A legal beginning of the list that was seen, of events of the ring's seats. Contracts see it as its events; it
+/// is a count, with no event.
 #[derive(Drop)]
 pub struct Front<N: Name> {
     count: u64,
@@ -117,12 +119,13 @@ impl<N: Name> Model for Front<N> {
     ghost use Rattle.std.specs.Prelude.{◌≡◌, ◌≤◌, List, length};
     ghost use Rattle.ring_model.specs.Limits.{event_limit};
     ghost use Rattle.ring_model.specs.declared.events.Event.{Event};
+    ghost use Rattle.ring_shared.specs.Holding.{AreOfSeats};
 
     ghost Value = { List Event };
 
     ghost view = { λ f. f.seen.log };
 
-    ghost invariant = { λ f. (f.count ≡ length f.seen.log) × (f.seen.book ≡ N.log) × N.legal f.seen.log × (length f.seen.log ≤ event_limit) };
+    ghost invariant = { λ f. (f.count ≡ length f.seen.log) × (f.seen.book ≡ N.log) × N.legal f.seen.log × AreOfSeats N.seats f.seen.log × (length f.seen.log ≤ event_limit) };
 }
 
 impl<N: Name> Front<N> {
@@ -130,6 +133,7 @@ impl<N: Name> Front<N> {
     pub(crate) fn len(&self) -> u64
         ensures length { result ≡ length self.now }
         ensures legal { N.legal self.now }
+        ensures of_seats { AreOfSeats N.seats self.now }
         ensures few { length self.now ≤ event_limit }
     {
         self.count
@@ -159,6 +163,7 @@ impl<N: Name> Front<N> {
     fn add(&mut self, head: &Head<N>, event: Event) -> bool
         requires room { length self.old < event_limit }
         requires legal { N.legal (self.old ++ event ∷ []) }
+        requires of_seats { AreOfSeats N.seats (self.old ++ event ∷ []) }
         ensures { MatchBool result (self.new ≡ self.old ++ event ∷ []) (self.new ≡ self.old) }
     {
         let mut seen = self.seen.again();
@@ -192,6 +197,7 @@ impl<N: Name> Front<N> {
     pub(crate) fn surely_add<W: Wait>(&mut self, rt: &W, head: &Head<N>, event: Event)
         requires room { length self.old < event_limit }
         requires legal { N.legal (self.old ++ event ∷ []) }
+        requires of_seats { AreOfSeats N.seats (self.old ++ event ∷ []) }
         ensures { self.new ≡ self.old ++ event ∷ [] }
     {
         for _ in rt.forever() {

@@ -7,7 +7,8 @@ use std::marker::Brand;
 /// at the other.
 ///
 /// A name says a ring's start, its number of seats, which histories are legal, and the log that the ring's list
-/// of events stands in. Each draft has a log of its own, so no two rings have one name: seats of two rings differ.
+/// of events stands in. Each draft has a log of its own, and nothing tells that two logs are one, so that with one
+/// name no second ring can be opened.
 pub trait Name {
     ghost use Rattle.std.specs.Prelude.{ℕ, List};
     ghost use Rattle.logbook.specs.Pages.{Book};

@@ -8,7 +8,7 @@ ghost use Rattle.ring_model.specs.History.{IsLegal, opening};
 ghost use Rattle.ring_model.specs.Surveys.{survey_at};
 ghost use Rattle.ring_state.specs.Sizes.{IsRingState};
 ghost use Rattle.ring_shared.specs.Client.{fresh_client};
-ghost use Rattle.ring_shared.specs.Holding.{MeansLegal};
+ghost use Rattle.ring_shared.specs.Holding.{MeansLegal, AreOfSeats, IsSurveyOfSome};
 ghost use Rattle.ring_shared.specs.Opening.{AreFresh};
 ghost use Rattle.ring_shared.specs.Stepping.{stepped};
 
@@ -337,10 +337,12 @@ impl<N: Name, R: Resource + Drop> Ring<N, R> {
     ///
     /// Want of memory for the log alone. Nothing has changed then.
     pub fn survey(&self, seat: &mut Seat<N>) -> Result<Survey, AllocError>
+        ensures right { IfOk result (λ s. IsSurveyOfSome R.works R.first N.start N.seats s) }
         ensures number { seat.new.number ≡ seat.old.number }
         ensures logged { IfOk result (λ s. seat.new.log ≡ seat.old.log ++ Entry.Survey s ∷ []) }
         ensures told { IfOk result (λ s. s ≡ survey_at R.works (opening N.start R.first) seat.new.seen (length seat.new.seen)) }
         ensures legal { IsLegal R.works (opening N.start R.first) seat.new.seen }
+        ensures of_seats { AreOfSeats N.seats seat.new.seen }
         ensures later { IsPrefix seat.old.seen seat.new.seen }
         ensures calm { IfOk result (λ s. bound (length N.start.values) ≤ s.calm → (s.privileged ≡ 1) × (s.rest ≡ 0)) }
         ensures err { OnErr result (seat.new ≡ seat.old) }
@@ -357,6 +359,7 @@ impl<N: Name, R: Resource + Drop> Ring<N, R> {
         ensures log { seat.new.log ≡ seat.old.log }
         ensures told { result ≡ survey_at R.works (opening N.start R.first) seat.new.seen (length seat.new.seen) }
         ensures legal { IsLegal R.works (opening N.start R.first) seat.new.seen }
+        ensures of_seats { AreOfSeats N.seats seat.new.seen }
         ensures later { IsPrefix seat.old.seen seat.new.seen }
         ensures calm { bound (length N.start.values) ≤ result.calm → (result.privileged ≡ 1) × (result.rest ≡ 0) }
     {

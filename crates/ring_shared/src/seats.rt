@@ -5,6 +5,7 @@ ghost use Rattle.ring_model.specs.Limits.{seat_limit};
 ghost use Rattle.ring_shared.specs.Client.{fresh_client};
 ghost use Rattle.ring_shared.specs.Closing.{IsLogOf};
 ghost use Rattle.ring_shared.specs.Folds.{survey_of, AnswersFor};
+ghost use Rattle.ring_shared.specs.Holding.{AreOfSeats};
 
 use crate::front::Front;
 use crate::names::Name;
@@ -71,6 +72,7 @@ fn look<N: Name>(reader: RingReader<N>) -> (RingReader<N>, Option<(Survey, Front
 #[tactic(auto, using(crate::proofs::Prefixes::prefix_self))]
 fn refresh<N: Name>(reader: &mut RingReader<N>, front: &mut Front<N>) -> Option<Survey>
     ensures legal { N.legal front.new }
+    ensures of_seats { AreOfSeats N.seats front.new }
     ensures some { IfSome result (λ s. s ≡ survey_of N.start front.new) }
     ensures none { IfNone result (front.new ≡ front.old) }
     ensures later { IsPrefix front.old front.new }
@@ -109,6 +111,7 @@ fn renew<N: Name>(
     requires { AnswersFor N.start front.old last.old summary.now.ring summary.now.position summary.now.calm }
     ensures last { last.new ≡ Some result }
     ensures legal { N.legal front.new }
+    ensures of_seats { AreOfSeats N.seats front.new }
     ensures survey { result ≡ survey_of N.start front.new }
     ensures later { IsPrefix front.old front.new }
 {
@@ -180,6 +183,7 @@ impl<N: Name> Seat<N> {
         ensures number { self.new.number ≡ self.old.number }
         ensures log { self.new.log ≡ self.old.log }
         ensures legal { N.legal self.new.seen }
+        ensures of_seats { AreOfSeats N.seats self.new.seen }
         ensures survey { result ≡ survey_of N.start self.new.seen }
         ensures later { IsPrefix self.old.seen self.new.seen }
     {
@@ -197,6 +201,7 @@ impl<N: Name> Seat<N> {
         ensures number { self.new.number ≡ self.old.number }
         ensures logged { IfOk result (λ s. self.new.log ≡ self.old.log ++ Entry.Survey s ∷ []) }
         ensures legal { N.legal self.new.seen }
+        ensures of_seats { AreOfSeats N.seats self.new.seen }
         ensures survey { IfOk result (λ s. s ≡ survey_of N.start self.new.seen) }
         ensures later { IsPrefix self.old.seen self.new.seen }
         ensures err { OnErr result (self.new ≡ self.old) }

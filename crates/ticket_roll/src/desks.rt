@@ -7,7 +7,7 @@ ghost use Rattle.ticket_roll.specs.Tickets.{roll, NoneTwice, JustThoseGone};
 
 use crate::rolls::{NO_TICKET, Roll};
 use ring_book::{Book, BookError, Receipt, Reply};
-use ring_shared::{CloseReason, Closed, Draft, Name, Ring, Seat};
+use ring_shared::{CloseReason, Closed, Draft, Name, OpenReason, Ring, Seat};
 use ring_state::{Params, RingState};
 use std::alloc::Global;
 use std::marker::Brand;
@@ -38,6 +38,9 @@ pub enum DeskError {
     /// A seat's log does not fit the ring's history.
     #[error("logs and history differ")]
     Mismatch,
+    /// There is no place for a seat to look at the ring from.
+    #[error("no reader place")]
+    NoSeat,
     #[error("out of memory")]
     OutOfMemory,
 }
@@ -47,6 +50,14 @@ fn refusal_of_call(error: BookError) -> DeskError {
     match error {
         BookError::HistoryFull => DeskError::HistoryFull,
         BookError::OutOfMemory => DeskError::OutOfMemory,
+    }
+}
+
+/// The desk's refusal for one of opening.
+fn refusal_of_open(reason: OpenReason) -> DeskError {
+    match reason {
+        OpenReason::OutOfMemory => DeskError::OutOfMemory,
+        OpenReason::NoSeat => DeskError::NoSeat,
     }
 }
 
@@ -161,7 +172,7 @@ fn serve_all<N: Name + Send + Sync, W: Threads + Wait + Sync>(
 }
 
 /// Closes the ring of a desk: its clauses alone say what the clients were given.
-fn close<N: Name, W>(
+fn close<N: Name, W: Wait>(
     rt: &W,
     alloc: Global,
     ring: Ring<N, Roll>,
@@ -186,13 +197,19 @@ fn run_named<N: Name + Send + Sync, W: Threads + Wait + Sync>(
 ) -> Result<Closed<Roll>, DeskError>
     requires start { draft.book.start ≡ N.start }
     requires seats { draft.seats ≡ N.seats }
+    requires log { draft.log ≡ N.log }
     requires legal { MeansLegal roll 0 N.start N.legal }
     requires size { size.now ≡ size_of N.start }
     ensures twice { IfOk result (λ c. NoneTwice c.logs.items) }
     ensures gone { IfOk result (λ c. JustThoseGone c.book.now.content c.logs.items) }
 {
-    let Ok((ring, mut seats)) = Ring::<N, Roll>::open(alloc, draft) else {
-        return Err(DeskError::OutOfMemory);
+    let (ring, mut seats) = match Ring::<N, Roll>::open(alloc, draft) {
+        Ok(opened) => opened,
+        Err(fault) => {
+            let refusal = refusal_of_open(fault.reason);
+            fault.into_book(rt);
+            return Err(refusal);
+        }
     };
     let refused = OnceLock::new();
     serve_all(rt, &ring, size, &refused, seats.as_mut_slice());
@@ -208,7 +225,7 @@ fn run_named<N: Name + Send + Sync, W: Threads + Wait + Sync>(
 ///
 /// # Errors
 ///
-/// The refusal that some thread met, and else that of closing; want of memory before any thread is started.
+/// That of opening before any thread is started; then the refusal that some thread met, and else that of closing.
 pub fn run_desk<W: Threads + Wait + Sync>(
     rt: &W,
     alloc: Global,

@@ -4,4 +4,4 @@ use Rattle.ring_model.specs.Resources.{till}
 use Rattle.close_bench.proofs.time.Given as goal
 
 abbrev pub ghosts-time_named : goal.ghosts-time_named
-ghosts-time_named g a = record { start = a.draft.book.start; seats = a.draft.seats; legal = λ h. IsLegal {C = ℕ} till (opening a.draft.book.start 0) h }
+ghosts-time_named g a = record { start = a.draft.book.start; seats = a.draft.seats; legal = λ h. IsLegal {C = ℕ} till (opening a.draft.book.start 0) h; log = a.draft.log }

@@ -4,4 +4,4 @@ use Rattle.ring_model.specs.Resources.{till}
 use Rattle.farm_tests.proofs.shared.run.Given as goal
 
 abbrev pub ghosts-run_named : goal.ghosts-run_named
-ghosts-run_named g a = record { start = a.draft.book.start; seats = a.draft.seats; legal = λ h. IsLegal {C = ℕ} till (opening a.draft.book.start 0) h }
+ghosts-run_named g a = record { start = a.draft.book.start; seats = a.draft.seats; legal = λ h. IsLegal {C = ℕ} till (opening a.draft.book.start 0) h; log = a.draft.log }

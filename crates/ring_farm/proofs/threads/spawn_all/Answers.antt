@@ -45,3 +45,12 @@ loop-seat-preserved g c =
 
 pub returns-clause-promises : goal.returns-clause-promises
 returns-clause-promises g c = λ t. (c.loop-seat.invariant.3 t).1
+
+pub spawn_one-requires-clause-new : goal.spawn_one-requires-clause-new
+spawn_one-requires-clause-new g c κs within =
+    let t = YieldsList-turn (YieldsList-from_vec {s = c.into_iter-seat-iterator.result} c.args.seats.items (search rules) (search rules)) c.loop-seat.yielded c.loop-seat.seat-iterator c.loop-seat.yielded_by c.next.result c.next.new.self c.in-Some.seat c.in-Some.is c.next.ensures.steps in
+    let count = c.requires.fresh.count in
+    let below : length c.loop-seat.yielded < length c.args.plans.now.items = (let t0 = t.0 in omega arith) in
+    let this = c.requires.fresh.each (length c.loop-seat.yielded) below in
+    let seat = t.1 ∙ get_or_from_slice_get c.args.seats.items (length c.loop-seat.yielded) _ c.in-Some.seat this in
+    ap (λ (s : Client). s.log) seat

@@ -1,4 +1,6 @@
-use Rattle.std.proofs.Common.{rules, [], ◌∷◌, ◌++◌, ap, ◌∙◌, sym}
+use Rattle.std.proofs.Common.{rules, subst, List, [], ◌∷◌, ◌++◌, ap, ◌∙◌, sym}
+use Rattle.ring_model.specs.declared.events.Event.{Event}
+use Rattle.ring_shared.specs.Holding.{AreOfSeats}
 use Rattle.ring_shared.proofs.Held.{held_more}
 use Rattle.ring_shared.proofs.locked.Locked.call.Goals as goal
 
@@ -15,6 +17,13 @@ invariant_of-self-2 g c =
       shown,
       rw (c.show.ensures.pending) shown,
     )
+
+pub surely_add-requires-clause-of_seats : goal.surely_add-requires-clause-of_seats
+surely_add-requires-clause-of_seats g c =
+    let e = c.in_ok-receipt.receipt.event in
+    let held = held_more g.R.Resource.works g.R.Resource.first g.N.Name.start g.N.Name.seats g.N.Name.legal c.self.inside.book c.record_call.new.book c.number.result c.args.op c.in_ok-receipt.receipt
+    c.self.invariant.0 c.in_ok-receipt.ensures.book c.in_ok-receipt.ensures.ok c.number.ensures.given in
+    subst (AreOfSeats g.N.Name.seats) (c.in_ok-receipt.ensures.ok.grown ∙ ap (λ (h : List Event). h ++ e ∷ []) (sym c.self.invariant.1)) held.of_seats
 
 pub last-operation-requires-clause-held : goal.last-operation-requires-clause-held
 last-operation-requires-clause-held g c =
