@@ -21,6 +21,6 @@ pub use put_lines::{
     put_survey_line,
 };
 pub use read::{answers_are_apart, read_saved, texts_are_apart, texts_read_back};
-pub use report::write_report;
+pub use report::{write_report, write_total};
 pub use saved::{Saved, SavedEvent, SavedRing, SavedSurvey};
 pub use text_lines::{ReadError, WriteFault};

@@ -1,7 +1,7 @@
 use Rattle.std.proofs.Common.{refl}
 use Rattle.ring_text.specs.SavedOf.{saved_of}
 use Rattle.ring_check.proofs.Promised.{outcome_is_legal, outcome_is_right}
-use Rattle.ring_commands.proofs.run.save_to.Goals as goal
+use Rattle.ring_commands.proofs.run.save.Goals as goal
 
 pub returns-clause-legal : goal.returns-clause-legal
 returns-clause-legal g c = λ settings farm.
