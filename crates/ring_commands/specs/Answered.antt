@@ -1,10 +1,10 @@
 -- What each command answers to its words: by what standard input had left before and has left then, and what the writer held before and holds then.
-use Rattle.std.specs.Prelude.{◌≢◌, ℕ, List, Option}
+use Rattle.std.specs.Prelude.{◌≡◌, ℕ, false, List, Option}
 use Rattle.ring_commands.specs.Stepped.{IsStepAnswer, IsStepWordsRefusal}
 use Rattle.ring_commands.specs.Saved.{IsRunAnswer}
 use Rattle.ring_commands.specs.Ran.{IsRunRefusal}
 use Rattle.ring_commands.specs.Checked.{IsCheckAnswer, IsCheckRunRefusal}
-use Rattle.ring_commands.specs.Reading.{dash}
+use Rattle.ring_commands.specs.Reading.{is_dash}
 use Rattle.ring_commands.specs.declared.faults.ToolError.{ToolError}
 use Rattle.ring_commands.specs.declared.requests.Request.{Request}
 use Rattle.ring_commands.specs.declared.requests.Request.TheVariants as request
@@ -24,5 +24,5 @@ IsRefusal (request.Check words) was is old new e = IsCheckRunRefusal words was i
 -- it names a file, or nothing that is read, so standard input stays as it is
 abbrev pub IsOfFile : Request → Type 0
 IsOfFile (request.Step words) = Unit {0}
-IsOfFile (request.Run words) = words.settings.now ≢ dash
-IsOfFile (request.Check words) = words.file.now ≢ dash
+IsOfFile (request.Run words) = is_dash words.settings.now ≡ false
+IsOfFile (request.Check words) = is_dash words.file.now ≡ false

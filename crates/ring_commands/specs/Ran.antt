@@ -1,5 +1,5 @@
 -- What `run` answers: what a farm hands out, and which refusals there are.
-use Rattle.std.specs.Prelude.{◌≡◌, ℕ, Bool, true, false, cond, ◌==◌, List, Option, None, Some, Ok, Err, ◌⊎◌}
+use Rattle.std.specs.Prelude.{◌≡◌, ℕ, Bool, true, false, cond, List, Option, None, Some, Ok, Err, ◌⊎◌}
 use Rattle.std.specs.Option.{option_map}
 use Rattle.ring_settings.specs.Contents.{SettingsData}
 use Rattle.ring_settings.specs.Seats.{settings_of}
@@ -10,7 +10,7 @@ use Rattle.ring_text.specs.Report.{farm_line, report}
 use Rattle.ring_text.specs.SavedOf.{saved_of}
 use Rattle.ring_text.specs.Spelling.{text}
 use Rattle.ring_commands.specs.Faults.{fault_of_settings, IsReadRefusal}
-use Rattle.ring_commands.specs.Reading.{most_bytes, dash, IsAllOf, IsReadBy}
+use Rattle.ring_commands.specs.Reading.{most_bytes, is_dash, IsAllOf, IsReadBy}
 use Rattle.ring_commands.specs.Written.{AppendsFront}
 use Rattle.ring_commands.specs.declared.run.RunWords.{RunWords}
 use Rattle.ring_commands.specs.declared.faults.ToolError.{ToolError}
@@ -54,12 +54,12 @@ told true o = farm_line o
 -- whether the word that was given for the history, if any, stands for standard output
 abbrev pub is_printed : Option (List ℕ) → Bool
 is_printed None = false
-is_printed (Some word) = word == dash
+is_printed (Some word) = is_dash word
 
 -- the file for the history, if any
 abbrev pub file_for : Option (List ℕ) → Option (List ℕ)
 file_for None = None
-file_for (Some word) = cond (word == dash) None (Some word)
+file_for (Some word) = cond (is_dash word) None (Some word)
 
 -- What `run` prints of an outcome: its saved text where the history goes to standard output, and else what is told of it.
 abbrev pub printed : RunWords → Outcome → List ℕ

@@ -1,12 +1,12 @@
 //! `check`: whether a saved text is that of legal histories.
 
-ghost use Rattle.std.specs.Prelude.{◌≡◌, ◌≢◌, OnOk, IfOk, IfErr};
+ghost use Rattle.std.specs.Prelude.{false, ◌≡◌, ◌≢◌, OnOk, IfOk, IfErr};
 ghost use Rattle.std.specs.Io.KnownBytes.{Appends};
 ghost use Rattle.text_lines.specs.Writing.{Writes};
 ghost use Rattle.ring_check.specs.declared.answers.Summary.{Summary};
 ghost use Rattle.ring_commands.specs.CheckText.{legal_line};
 ghost use Rattle.ring_commands.specs.Checked.{IsLegalSavedText, IsSavedTextRefusal, IsCheckFileAnswer, IsCheckAnswer, IsCheckRefusal, IsCheckFileRefusal, IsCheckRunRefusal};
-ghost use Rattle.ring_commands.specs.Reading.{dash};
+ghost use Rattle.ring_commands.specs.Reading.{is_dash};
 
 use crate::faults::ToolError;
 use crate::reading::{names_stream, read_whole};
@@ -131,7 +131,7 @@ pub fn run<'a, R: AllocGlobal + Files, I: Read, W: Write>(
     ensures ok { OnOk result (IsCheckAnswer words.now (I.remaining input.old) (I.remaining input.new) (W.contents out.old) (W.contents out.new)) }
     ensures err { IfErr result (λ e. IsCheckRunRefusal words.now (I.remaining input.old) (I.remaining input.new) (W.contents out.old) (W.contents out.new) e) }
     ensures nothing { IfErr result (λ e. e ≢ ToolError.Write → out.new ≡ out.old) }
-    ensures unread { words.now.file.now ≢ dash → input.new ≡ input.old }
+    ensures unread { is_dash words.now.file.now ≡ false → input.new ≡ input.old }
 {
     if names_stream(words.file) {
         return check_file(rt.alloc(), words.file, input, out);

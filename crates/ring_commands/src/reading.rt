@@ -1,9 +1,9 @@
 //! Reading of whole files, up to a limit.
 
-ghost use Rattle.std.specs.Prelude.{◌≡◌, ◌==◌, ◌≤◌, vec_len, IfOk, OnOk, IfErr, IsErrOf};
+ghost use Rattle.std.specs.Prelude.{◌≡◌, ◌≤◌, vec_len, IfOk, OnOk, IfErr, IsErrOf};
 ghost use Rattle.std.specs.Io.KnownBytes.{Consumes, IsAtEnd};
 ghost use Rattle.ring_commands.specs.Faults.{IsReadRefusal};
-ghost use Rattle.ring_commands.specs.Reading.{most_bytes, dash, IsAllOf, IsOver};
+ghost use Rattle.ring_commands.specs.Reading.{most_bytes, is_dash, IsAllOf, IsOver};
 
 use crate::faults::ToolError;
 use std::alloc::Global;
@@ -84,7 +84,7 @@ pub fn read_whole<'a, R: Read>(
 
 /// Whether a word stands for a standard stream, and not for a file of its own name: `-`.
 pub fn names_stream(word: &str) -> bool
-    ensures { result ≡ (word.now == dash) }
+    ensures { result ≡ is_dash word.now }
 {
     word == "-"
 }

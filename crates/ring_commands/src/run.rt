@@ -1,6 +1,6 @@
 //! `run`: the rings of a settings file, driven by clients on threads.
 
-ghost use Rattle.std.specs.Prelude.{◌≡◌, ◌≢◌, ℕ, ◌<◌, ◌≤◌, ◌^◌, List, length, Some, IsSome, OnOk, IfOk, IfErr};
+ghost use Rattle.std.specs.Prelude.{false, ◌≡◌, ◌≢◌, ℕ, ◌<◌, ◌≤◌, ◌^◌, List, length, Some, IsSome, OnOk, IfOk, IfErr};
 ghost use Rattle.std.specs.Io.KnownBytes.{Appends};
 ghost use Rattle.ring_settings.specs.Limits.{ring_limit};
 ghost use Rattle.ring_farm.specs.declared.outcomes.Outcome.{Outcome};
@@ -9,7 +9,7 @@ ghost use Rattle.ring_text.specs.SavedOf.{saved_of};
 ghost use Rattle.ring_text.specs.Spelling.{text};
 ghost use Rattle.text_lines.specs.Writing.{Writes};
 ghost use Rattle.ring_commands.specs.Ran.{told, printed, IsFarmOn, IsFarmRefusal, IsFarmFileRefusal, IsFarmNamed, IsFarmNamedRefusal, IsSaveRefusal, IsHandOutRefusal, IsOutcomeRefusal, IsRunRefusal};
-ghost use Rattle.ring_commands.specs.Reading.{most_bytes, dash, IsAllOf};
+ghost use Rattle.ring_commands.specs.Reading.{most_bytes, is_dash, IsAllOf};
 ghost use Rattle.ring_commands.specs.Saved.{IsLegalOfFarm, IsRunAnswer};
 
 use crate::faults::ToolError;
@@ -92,7 +92,7 @@ fn farm_of_word<'a, R: AllocGlobal + Files + Threads + Wait + Sync, I: Read>(
 ) -> Result<Outcome, ToolError<'a>>
     ensures ok { IfOk result (λ outcome. IsFarmNamed word.now (I.remaining input.old) (I.remaining input.new) outcome) }
     ensures err { IfErr result (λ e. IsFarmNamedRefusal word.now (I.remaining input.old) (I.remaining input.new) e) }
-    ensures unread { word.now ≢ dash → input.new ≡ input.old }
+    ensures unread { is_dash word.now ≡ false → input.new ≡ input.old }
 {
     if names_stream(word) {
         return farm_of_file(rt, word, input);
@@ -260,7 +260,7 @@ pub fn run<'a, R: AllocGlobal + Files + Threads + Wait + Sync, I: Read, W: Write
     ensures ok { OnOk result (IsRunAnswer words.now (I.remaining input.old) (I.remaining input.new) (W.contents out.old) (W.contents out.new)) }
     ensures err { IfErr result (λ e. IsRunRefusal words.now (I.remaining input.old) (I.remaining input.new) (W.contents out.old) (W.contents out.new) e) }
     ensures nothing { IfErr result (λ e. e ≢ ToolError.Write → out.new ≡ out.old) }
-    ensures unread { words.now.settings.now ≢ dash → input.new ≡ input.old }
+    ensures unread { is_dash words.now.settings.now ≡ false → input.new ≡ input.old }
 {
     let outcome = farm_of_word(rt, words.settings, input)?;
     hand_out(rt, &outcome, words, out)?;

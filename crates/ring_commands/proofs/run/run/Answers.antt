@@ -1,15 +1,12 @@
 use Rattle.std.proofs.Common.{inr}
 use Rattle.std.proofs.lemmas.Result.{err_from_is_err_and}
-use Rattle.ring_settings.specs.Contents.{SettingsData}
-use Rattle.ring_farm.specs.Headline.{IsFarmOf}
-use Rattle.ring_farm.specs.declared.outcomes.Outcome.{Outcome}
 use Rattle.ring_commands.proofs.Entries.{entries_few}
 use Rattle.ring_commands.proofs.run.run.Goals as goal
 
 pub hand_out-requires-clause-few : goal.hand_out-requires-clause-few
 hand_out-requires-clause-few g c =
-    let f = c.in_ok-outcome.ensures.ok.2.2.2.2 in
-    entries_few f.0 c.in_ok-outcome.outcome f.2.2
+    let f = c.in_ok-outcome.ensures.ok.5 in
+    entries_few f.0 c.in_ok-outcome.outcome f.2
 
 pub returns-in_err-hand_out-clause-err : goal.returns-in_err-hand_out-clause-err
 returns-in_err-hand_out-clause-err g c =
@@ -18,5 +15,5 @@ returns-in_err-hand_out-clause-err g c =
 
 pub returns-clause-ok : goal.returns-clause-ok
 returns-clause-ok g c =
-    let f = c.in_ok-outcome.ensures.ok.2.2.2.2 in
-    (c.in_ok-outcome.outcome, c.in_ok-outcome.ensures.ok, c.in_ok-hand_out.ensures.told, λ some. c.in_ok-hand_out.ensures.legal some f.0 f.2.2)
+    let f = c.in_ok-outcome.ensures.ok.5 in
+    (c.in_ok-outcome.outcome, c.in_ok-outcome.ensures.ok, c.in_ok-hand_out.ensures.told, λ some. c.in_ok-hand_out.ensures.legal some f.0 f.2)
