@@ -40,11 +40,7 @@ fn standard_input_is_read_for_a_dash(rt: HostRuntime) -> Result<(), Fail> {
 #[test]
 fn a_history_goes_to_standard_output_for_a_dash(rt: HostRuntime) -> Result<(), Fail> {
     for (line, text, out) in [
-        (
-            ["run", "-", "--history", "-"].as_slice(),
-            SETTINGS,
-            PASSES,
-        ),
+        (["run", "-", "--history", "-"].as_slice(), SETTINGS, PASSES),
         (["run", "--history=-", "-"].as_slice(), THREE, THREE_SAVED),
         (
             ["run", "--quiet", "--history", "-", "-"].as_slice(),
@@ -71,7 +67,10 @@ fn a_file_leaves_standard_input_as_it_is(rt: HostRuntime) -> Result<(), Fail> {
             TOTAL,
         ),
         (["check", history].as_slice(), PASSES_SUMS),
-        (["step", "2", "2", "0,0"].as_slice(), "states 0,0\nprivileged 1 first 0\n"),
+        (
+            ["step", "2", "2", "0,0"].as_slice(),
+            "states 0,0\nprivileged 1 first 0\n",
+        ),
     ] {
         expect_from(&rt, line, &mut Giver::new(b"not read"), 0, 0, out, "")?;
     }
@@ -86,7 +85,11 @@ fn a_file_leaves_standard_input_as_it_is(rt: HostRuntime) -> Result<(), Fail> {
 fn what_standard_input_gives_is_refused_as_a_file(rt: HostRuntime) -> Result<(), Fail> {
     for (line, text, fault) in [
         (["run", "-"].as_slice(), "", "settings are not JSON\n"),
-        (["run", "-", "--history", "-"].as_slice(), PASSES, "settings are not JSON\n"),
+        (
+            ["run", "-", "--history", "-"].as_slice(),
+            PASSES,
+            "settings are not JSON\n",
+        ),
         (["check", "-"].as_slice(), "", "text is truncated\n"),
         (["check", "-"].as_slice(), SETTINGS, "line 1: syntax\n"),
     ] {

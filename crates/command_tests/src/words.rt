@@ -232,7 +232,7 @@ fn a_name_that_begins_with_a_dash_is_no_word_by_itself(rt: HostRuntime) -> Resul
         ),
         (
             ["run", "a.json", "--history", "-a.txt"].as_slice(),
-            "a value is required for '--history <FILE>'",
+            "unexpected argument '-a'",
         ),
         (
             ["run", "a.json", "--quiet=yes"].as_slice(),
