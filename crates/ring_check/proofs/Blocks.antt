@@ -1,5 +1,5 @@
 -- The lines of a block.
-use Rattle.std.proofs.Common.{◌≡◌, ℕ, ◌+◌, ◌<◌, ◌≤◌, List, [], ◌∷◌, ◌++◌, length, get_or, map, true, false, cond, Option, Some, None, Result, Ok, Err, refl, sym, ◌∙◌, ap, subst, arith, ◌&&◌, eqb, zero, suc, length-append}
+use Rattle.std.proofs.Common.{◌≡◌, ℕ, ◌+◌, ◌<◌, ◌≤◌, List, [], ◌∷◌, ◌++◌, length, get_or, map, Bool, true, false, cond, Option, Some, None, Result, Ok, Err, refl, sym, ◌∙◌, ap, subst, arith, ◌&&◌, eqb, zero, suc, length-append}
 use Rattle.std.specs.Prelude.{IsErr, IsErrAnd, nat_le, nat_lt}
 use Rattle.std.specs.List.{list_all}
 use Rattle.std.proofs.lemmas.List.{length-map}
@@ -7,15 +7,17 @@ use Rattle.ring_model.specs.Limits.{machine_limit, value_limit}
 use Rattle.ring_model.specs.Ring.{ring_with, IsRing}
 use Rattle.ring_text.specs.declared.saved.SavedEvent.{SavedEvent}
 use Rattle.ring_text.specs.declared.saved.SavedSurvey.{SavedSurvey}
+use Rattle.ring_text.specs.Versions.{first_version}
 use Rattle.ring_text.specs.Content.{Block}
 use Rattle.ring_check.specs.declared.answers.Kind.{Kind}
 use Rattle.ring_check.specs.declared.answers.Kind.TheVariants.{Parameter, Range, Count}
 use Rattle.ring_check.specs.declared.answers.CheckError.{CheckError}
 use Rattle.ring_check.specs.declared.answers.CheckError.TheVariants.{Bad, OutOfMemory}
+use Rattle.ring_check.specs.Limits.{first_version_machine_limit, first_version_value_limit, by_version, machine_limit_of, value_limit_of}
 use Rattle.ring_check.specs.Lines.{Line, RingLine, StartLine, EventLine, EndLine, SurveyLine, block_lines}
 use Rattle.ring_check.specs.Table.{Before, event_of, after_line, after_lines, are_parameters}
 use Rattle.ring_check.specs.Scan.{or_behind, first_fault, in_block, Finds}
-use Rattle.ring_check.proofs.Booleans.{both, below, at_most, eq_true}
+use Rattle.ring_check.proofs.Booleans.{both, joined, below, at_most, eq_true, le_true}
 use Rattle.ring_check.proofs.Scans.{or_else, fault_append, after_append}
 use Rattle.ring_check.proofs.EventLines.{events_after}
 
@@ -24,16 +26,36 @@ below_at k [] e i l = absurd (omega arith)
 below_at k (v ∷ s) e zero l = below v k (both (nat_lt v k) (list_all (λ v. nat_lt v k) s) e).0
 below_at k (v ∷ s) e (suc i) l = let p = both (nat_lt v k) (list_all (λ v. nat_lt v k) s) e in below_at k s p.1 i (omega arith)
 
-pub parameters_mean : (n k : ℕ) → are_parameters n k ≡ true → (2 ≤ n) × (n ≤ machine_limit) × (n ≤ k) × (k ≤ value_limit)
-parameters_mean n k e =
-    let p = both (nat_le 2 n) (nat_le n machine_limit && (nat_le n k && nat_le k value_limit)) e in
-    let q = both (nat_le n machine_limit) (nat_le n k && nat_le k value_limit) p.1 in
-    let r = both (nat_le n k) (nat_le k value_limit) q.1 in
-    (at_most 2 n p.0, at_most n machine_limit q.0, at_most n k r.0, at_most k value_limit r.1)
+pub parameters_mean : (version n k : ℕ) → are_parameters version n k ≡ true → (2 ≤ n) × (n ≤ machine_limit_of version) × (n ≤ k) × (k ≤ value_limit_of version)
+parameters_mean version n k e =
+    let p = both (nat_le 2 n) (nat_le n (machine_limit_of version) && (nat_le n k && nat_le k (value_limit_of version))) e in
+    let q = both (nat_le n (machine_limit_of version)) (nat_le n k && nat_le k (value_limit_of version)) p.1 in
+    let r = both (nat_le n k) (nat_le k (value_limit_of version)) q.1 in
+    (at_most 2 n p.0, at_most n (machine_limit_of version) q.0, at_most n k r.0, at_most k (value_limit_of version) r.1)
 
-pub ring_of : (n k : ℕ) (s : List ℕ) → are_parameters n k ≡ true → list_all (λ v. nat_lt v k) s ≡ true → length s ≡ n → IsRing (ring_with k s)
-ring_of n k s p b e =
-    let q = parameters_mean n k p in
+pub parameters_true : (version n k : ℕ) → 2 ≤ n → n ≤ machine_limit_of version → n ≤ k → k ≤ value_limit_of version → are_parameters version n k ≡ true
+parameters_true version n k two few enough most =
+    joined (nat_le 2 n) _ (le_true 2 n two)
+    (joined (nat_le n (machine_limit_of version)) _ (le_true n (machine_limit_of version) few)
+    (joined (nat_le n k) (nat_le k (value_limit_of version)) (le_true n k enough) (le_true k (value_limit_of version) most)))
+
+-- the first version allows no more than the later ones
+by_version_most : (version first later : ℕ) → first ≤ later → by_version version first later ≤ later
+by_version_most version first later le = go (eqb version first_version)
+  where
+    go : (b : Bool) → cond b first later ≤ later
+    go true = le
+    go false = omega arith
+
+pub machine_limit_most : (version : ℕ) → machine_limit_of version ≤ machine_limit
+machine_limit_most version = by_version_most version first_version_machine_limit machine_limit (omega arith)
+
+pub value_limit_most : (version : ℕ) → value_limit_of version ≤ value_limit
+value_limit_most version = by_version_most version first_version_value_limit value_limit (omega arith)
+
+pub ring_of : (version n k : ℕ) (s : List ℕ) → are_parameters version n k ≡ true → list_all (λ v. nat_lt v k) s ≡ true → length s ≡ n → IsRing (ring_with k s)
+ring_of version n k s p b e =
+    let q = parameters_mean version n k p in
     let two = q.0 in
     let enough = q.2 in
     record { two = omega arith; enough = omega arith; below = below_at k s b }
@@ -43,35 +65,35 @@ abbrev pub tail_lines : List SavedEvent → ℕ → List SavedSurvey → List Li
 tail_lines es said ss = map EventLine es ++ (EndLine said ∷ map SurveyLine ss)
 
 -- behind the start line of a block
-pub opens : (b : Before) (index n k : ℕ) (s : List ℕ) → after_line (after_line b (RingLine index n k)) (StartLine s) ≡ in_block (b.line + 2) (b.rings + 1) n k s []
-opens b index n k s = let e : b.line + 1 + 1 ≡ b.line + 2 = omega arith in ap (λ (x : ℕ). in_block x (b.rings + 1) n k s []) e
+pub opens : (b : Before) (index n k : ℕ) (s : List ℕ) → after_line (after_line b (RingLine index n k)) (StartLine s) ≡ in_block b.version (b.line + 2) (b.rings + 1) n k s []
+opens b index n k s = let e : b.line + 1 + 1 ≡ b.line + 2 = omega arith in ap (λ (x : ℕ). in_block b.version x (b.rings + 1) n k s []) e
 
-pub tail_fault : (line rings n k : ℕ) (s : List ℕ) (es : List SavedEvent) (said : ℕ) (ss : List SavedSurvey) →
-    first_fault (in_block line rings n k s []) (tail_lines es said ss)
-    ≡ or_else (first_fault (in_block line rings n k s []) (map EventLine es))
-    (or_behind (cond (eqb said (length es)) None (Some Count)) (line + length es) (first_fault (in_block (line + length es + 1) rings n k s (map event_of es)) (map SurveyLine ss)))
-tail_fault line rings n k s es said ss =
+pub tail_fault : (version line rings n k : ℕ) (s : List ℕ) (es : List SavedEvent) (said : ℕ) (ss : List SavedSurvey) →
+    first_fault (in_block version line rings n k s []) (tail_lines es said ss)
+    ≡ or_else (first_fault (in_block version line rings n k s []) (map EventLine es))
+    (or_behind (cond (eqb said (length es)) None (Some Count)) (line + length es) (first_fault (in_block version (line + length es + 1) rings n k s (map event_of es)) (map SurveyLine ss)))
+tail_fault version line rings n k s es said ss =
     let h : length (map event_of es) ≡ length es = length-map es event_of in
-    let one : first_fault (in_block (line + length es) rings n k s (map event_of es)) (EndLine said ∷ map SurveyLine ss)
-    ≡ or_behind (cond (eqb said (length es)) None (Some Count)) (line + length es) (first_fault (in_block (line + length es + 1) rings n k s (map event_of es)) (map SurveyLine ss)) =
-    ap (λ (x : ℕ). or_behind (cond (eqb said x) None (Some Count)) (line + length es) (first_fault (in_block (line + length es + 1) rings n k s (map event_of es)) (map SurveyLine ss))) h in
-    fault_append (in_block line rings n k s []) (map EventLine es) (EndLine said ∷ map SurveyLine ss)
-    ∙ ap (λ (x : Before). or_else (first_fault (in_block line rings n k s []) (map EventLine es)) (first_fault x (EndLine said ∷ map SurveyLine ss))) (events_after line rings n k s [] es)
-    ∙ ap (λ (x : Option (ℕ × Kind)). or_else (first_fault (in_block line rings n k s []) (map EventLine es)) x) one
+    let one : first_fault (in_block version (line + length es) rings n k s (map event_of es)) (EndLine said ∷ map SurveyLine ss)
+    ≡ or_behind (cond (eqb said (length es)) None (Some Count)) (line + length es) (first_fault (in_block version (line + length es + 1) rings n k s (map event_of es)) (map SurveyLine ss)) =
+    ap (λ (x : ℕ). or_behind (cond (eqb said x) None (Some Count)) (line + length es) (first_fault (in_block version (line + length es + 1) rings n k s (map event_of es)) (map SurveyLine ss))) h in
+    fault_append (in_block version line rings n k s []) (map EventLine es) (EndLine said ∷ map SurveyLine ss)
+    ∙ ap (λ (x : Before). or_else (first_fault (in_block version line rings n k s []) (map EventLine es)) (first_fault x (EndLine said ∷ map SurveyLine ss))) (events_after version line rings n k s [] es)
+    ∙ ap (λ (x : Option (ℕ × Kind)). or_else (first_fault (in_block version line rings n k s []) (map EventLine es)) x) one
 
 -- the faults of a block
-pub head_bad : (b : Before) (r : Block) → are_parameters r.n r.k ≡ false → first_fault b (block_lines r) ≡ Some (b.line + 1, Parameter)
+pub head_bad : (b : Before) (r : Block) → are_parameters b.version r.n r.k ≡ false → first_fault b (block_lines r) ≡ Some (b.line + 1, Parameter)
 head_bad b r e = rw e refl
 
-pub index_bad : (b : Before) (r : Block) → are_parameters r.n r.k ≡ true → eqb r.index b.rings ≡ false → first_fault b (block_lines r) ≡ Some (b.line + 1, Count)
+pub index_bad : (b : Before) (r : Block) → are_parameters b.version r.n r.k ≡ true → eqb r.index b.rings ≡ false → first_fault b (block_lines r) ≡ Some (b.line + 1, Count)
 index_bad b r e f = rw (e, f) refl
 
-pub start_bad : (b : Before) (r : Block) → are_parameters r.n r.k ≡ true → eqb r.index b.rings ≡ true → list_all (λ v. nat_lt v r.k) r.start ≡ false →
+pub start_bad : (b : Before) (r : Block) → are_parameters b.version r.n r.k ≡ true → eqb r.index b.rings ≡ true → list_all (λ v. nat_lt v r.k) r.start ≡ false →
     first_fault b (block_lines r) ≡ Some (b.line + 2, Range)
 start_bad b r e f g = let p : b.line + 1 + 1 ≡ b.line + 2 = omega arith in rw (e, f, g, p) refl
 
-pub tail_left : (b : Before) (r : Block) → are_parameters r.n r.k ≡ true → eqb r.index b.rings ≡ true → list_all (λ v. nat_lt v r.k) r.start ≡ true →
-    first_fault b (block_lines r) ≡ first_fault (in_block (b.line + 2) (b.rings + 1) r.n r.k r.start []) (tail_lines r.events r.events_said r.surveys)
+pub tail_left : (b : Before) (r : Block) → are_parameters b.version r.n r.k ≡ true → eqb r.index b.rings ≡ true → list_all (λ v. nat_lt v r.k) r.start ≡ true →
+    first_fault b (block_lines r) ≡ first_fault (in_block b.version (b.line + 2) (b.rings + 1) r.n r.k r.start []) (tail_lines r.events r.events_said r.surveys)
 tail_left b r e f g = rw (e, f, g) (ap (λ (x : Before). first_fault x (tail_lines r.events r.events_said r.surveys)) (opens b r.index r.n r.k r.start))
 
 pub finds_front : (X Y : Type 0) (f g : Option (ℕ × Kind)) (e : CheckError) → Finds {X = X} f (Err e) → Finds {X = Y} (or_else f g) (Err e)
@@ -87,42 +109,42 @@ finds_none None x h = refl
 finds_none (Some bad) x h = absurd h
 
 -- the parts of a block whose first two lines are right
-pub block_parts : (b : Before) (r : Block) (line place : ℕ) → b.line ≡ line → b.rings ≡ place → are_parameters r.n r.k ≡ true → r.index ≡ place →
+pub block_parts : (b : Before) (r : Block) (line place : ℕ) → b.line ≡ line → b.rings ≡ place → are_parameters b.version r.n r.k ≡ true → r.index ≡ place →
     list_all (λ v. nat_lt v r.k) r.start ≡ true → length r.start ≡ r.n →
     first_fault b (block_lines r)
-    ≡ or_else (first_fault (in_block (line + 2) (place + 1) (length r.start) r.k r.start []) (map EventLine r.events))
+    ≡ or_else (first_fault (in_block b.version (line + 2) (place + 1) (length r.start) r.k r.start []) (map EventLine r.events))
     (or_behind (cond (eqb r.events_said (length r.events)) None (Some Count)) (line + 2 + length r.events)
-    (first_fault (in_block (line + 3 + length r.events) (place + 1) (length r.start) r.k r.start (map event_of r.events)) (map SurveyLine r.surveys)))
+    (first_fault (in_block b.version (line + 3 + length r.events) (place + 1) (length r.start) r.k r.start (map event_of r.events)) (map SurveyLine r.surveys)))
 block_parts b r line place p q e f g n =
     let i : eqb r.index b.rings ≡ true = eq_true r.index b.rings (f ∙ sym q) in
     let m : line + 2 + length r.events + 1 ≡ line + 3 + length r.events = omega arith in
-    let at : in_block (b.line + 2) (b.rings + 1) r.n r.k r.start [] ≡ in_block (line + 2) (place + 1) (length r.start) r.k r.start [] = rw (p, q, n) refl in
+    let at : in_block b.version (b.line + 2) (b.rings + 1) r.n r.k r.start [] ≡ in_block b.version (line + 2) (place + 1) (length r.start) r.k r.start [] = rw (p, q, n) refl in
     tail_left b r e i g
     ∙ ap (λ (x : Before). first_fault x (tail_lines r.events r.events_said r.surveys)) at
-    ∙ tail_fault (line + 2) (place + 1) (length r.start) r.k r.start r.events r.events_said r.surveys
-    ∙ ap (λ (x : ℕ). or_else (first_fault (in_block (line + 2) (place + 1) (length r.start) r.k r.start []) (map EventLine r.events))
+    ∙ tail_fault b.version (line + 2) (place + 1) (length r.start) r.k r.start r.events r.events_said r.surveys
+    ∙ ap (λ (x : ℕ). or_else (first_fault (in_block b.version (line + 2) (place + 1) (length r.start) r.k r.start []) (map EventLine r.events))
     (or_behind (cond (eqb r.events_said (length r.events)) None (Some Count)) (line + 2 + length r.events)
-    (first_fault (in_block x (place + 1) (length r.start) r.k r.start (map event_of r.events)) (map SurveyLine r.surveys)))) m
+    (first_fault (in_block b.version x (place + 1) (length r.start) r.k r.start (map event_of r.events)) (map SurveyLine r.surveys)))) m
 
-module _ (b : Before) (r : Block) (line place : ℕ) (p : b.line ≡ line) (q : b.rings ≡ place) (e : are_parameters r.n r.k ≡ true) (f : r.index ≡ place)
+module _ (b : Before) (r : Block) (line place : ℕ) (p : b.line ≡ line) (q : b.rings ≡ place) (e : are_parameters b.version r.n r.k ≡ true) (f : r.index ≡ place)
     (g : list_all (λ v. nat_lt v r.k) r.start ≡ true) (n : length r.start ≡ r.n) where
   pub events_stop : (X Y : Type 0) (error : CheckError) →
-      Finds {X = X} (first_fault (in_block (line + 2) (place + 1) (length r.start) r.k r.start []) (map EventLine r.events)) (Err error) →
+      Finds {X = X} (first_fault (in_block b.version (line + 2) (place + 1) (length r.start) r.k r.start []) (map EventLine r.events)) (Err error) →
       Finds {X = Y} (first_fault b (block_lines r)) (Err error)
   events_stop X Y error h = rw (block_parts b r line place p q e f g n) (finds_front X Y _ _ error h)
 
-  pub end_stop : (u : Unit {0}) → Finds (first_fault (in_block (line + 2) (place + 1) (length r.start) r.k r.start []) (map EventLine r.events)) (Ok u) →
+  pub end_stop : (u : Unit {0}) → Finds (first_fault (in_block b.version (line + 2) (place + 1) (length r.start) r.k r.start []) (map EventLine r.events)) (Ok u) →
       eqb r.events_said (length r.events) ≡ false → first_fault b (block_lines r) ≡ Some (line + 3 + length r.events, Count)
   end_stop u h w =
       let m : line + 2 + length r.events + 1 ≡ line + 3 + length r.events = omega arith in
-      let none = finds_none (first_fault (in_block (line + 2) (place + 1) (length r.start) r.k r.start []) (map EventLine r.events)) u h in
+      let none = finds_none (first_fault (in_block b.version (line + 2) (place + 1) (length r.start) r.k r.start []) (map EventLine r.events)) u h in
       block_parts b r line place p q e f g n ∙ rw (none, w, m) refl
 
-  pub surveys_stop : (u : Unit {0}) → Finds (first_fault (in_block (line + 2) (place + 1) (length r.start) r.k r.start []) (map EventLine r.events)) (Ok u) →
+  pub surveys_stop : (u : Unit {0}) → Finds (first_fault (in_block b.version (line + 2) (place + 1) (length r.start) r.k r.start []) (map EventLine r.events)) (Ok u) →
       eqb r.events_said (length r.events) ≡ true → first_fault b (block_lines r)
-      ≡ first_fault (in_block (line + 3 + length r.events) (place + 1) (length r.start) r.k r.start (map event_of r.events)) (map SurveyLine r.surveys)
+      ≡ first_fault (in_block b.version (line + 3 + length r.events) (place + 1) (length r.start) r.k r.start (map event_of r.events)) (map SurveyLine r.surveys)
   surveys_stop u h w =
-      let none = finds_none (first_fault (in_block (line + 2) (place + 1) (length r.start) r.k r.start []) (map EventLine r.events)) u h in
+      let none = finds_none (first_fault (in_block b.version (line + 2) (place + 1) (length r.start) r.k r.start []) (map EventLine r.events)) u h in
       block_parts b r line place p q e f g n ∙ rw (none, w) refl
 
 -- what a block's lines leave behind
@@ -132,13 +154,13 @@ survey_lines_leave b (s ∷ ss) = let h = survey_lines_leave (after_line b (Surv
 
 pub block_leaves : (b : Before) (r : Block) → ((after_lines b (block_lines r)).line ≡ b.line + (3 + length r.events + length r.surveys)) × ((after_lines b (block_lines r)).rings ≡ b.rings + 1)
 block_leaves b r =
-    let start = in_block (b.line + 2) (b.rings + 1) r.n r.k r.start [] in
-    let behind = in_block (b.line + 2 + length r.events) (b.rings + 1) r.n r.k r.start (map event_of r.events) in
+    let start = in_block b.version (b.line + 2) (b.rings + 1) r.n r.k r.start [] in
+    let behind = in_block b.version (b.line + 2 + length r.events) (b.rings + 1) r.n r.k r.start (map event_of r.events) in
     let one : after_lines b (block_lines r) ≡ after_lines start (tail_lines r.events r.events_said r.surveys) =
     ap (λ (x : Before). after_lines x (tail_lines r.events r.events_said r.surveys)) (opens b r.index r.n r.k r.start) in
     let two : after_lines start (tail_lines r.events r.events_said r.surveys) ≡ after_lines (after_line behind (EndLine r.events_said)) (map SurveyLine r.surveys) =
     after_append start (map EventLine r.events) (EndLine r.events_said ∷ map SurveyLine r.surveys)
-    ∙ ap (λ (x : Before). after_lines x (EndLine r.events_said ∷ map SurveyLine r.surveys)) (events_after (b.line + 2) (b.rings + 1) r.n r.k r.start [] r.events) in
+    ∙ ap (λ (x : Before). after_lines x (EndLine r.events_said ∷ map SurveyLine r.surveys)) (events_after b.version (b.line + 2) (b.rings + 1) r.n r.k r.start [] r.events) in
     let end = survey_lines_leave (after_line behind (EndLine r.events_said)) r.surveys in
     let x = end.0 in
     let y = end.1 in

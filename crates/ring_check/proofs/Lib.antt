@@ -13,3 +13,4 @@ pub mod Totals
 pub mod Meanings
 pub mod WrittenTexts
 pub mod Promised
+pub mod Upgrades

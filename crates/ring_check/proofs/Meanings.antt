@@ -5,7 +5,7 @@ use Rattle.std.specs.List.{All, list_all, flat_map}
 use Rattle.std.proofs.lemmas.List.Elements.{All-cons, All-head, All-tail}
 use Rattle.std.proofs.lemmas.Bool.{cases_lt}
 use Rattle.ring_model.specs.Ring.{ring_with}
-use Rattle.ring_model.specs.Limits.{machine_limit, value_limit, seat_limit}
+use Rattle.ring_model.specs.Limits.{seat_limit}
 use Rattle.ring_model.specs.declared.events.Event.{Event}
 use Rattle.ring_model.specs.declared.events.Survey.{Survey}
 use Rattle.ring_model.specs.History.{State, after, IsLegal}
@@ -25,9 +25,9 @@ use Rattle.ring_check.specs.Legal.{history}
 use Rattle.ring_check.specs.Meaning.{survey_of, AreOnward, AreInOrder, IsRightSurvey, IsRightBlock, AreRightBlocks, LegalMeans}
 use Rattle.ring_check.proofs.Booleans.{both, joined, or_second, true_of, same, below, at_most, eq_true, lt_true, le_true}
 use Rattle.ring_check.proofs.Steps.{event_means, event_fine, IsWell, well_push}
-use Rattle.ring_check.proofs.Scans.{or_else, fault_append, good_none, none_good}
+use Rattle.ring_check.proofs.Scans.{or_else, fault_append, good_none, none_good, version_kept}
 use Rattle.ring_check.proofs.SurveyLines.{in_surveys}
-use Rattle.ring_check.proofs.Blocks.{parameters_mean, ring_of, head_bad, index_bad, start_bad, block_parts, block_leaves}
+use Rattle.ring_check.proofs.Blocks.{parameters_mean, parameters_true, ring_of, head_bad, index_bad, start_bad, block_parts, block_leaves}
 use Rattle.ring_check.proofs.BlockLines.{text_parts}
 
 -- Parts of a search that finds nothing.
@@ -46,29 +46,29 @@ count_none false e = absurd (cc)
 
 -- The events of a block.
 
-pub events_mean : (line rings k : ℕ) (start : List ℕ) (h : List Event) (es : List SavedEvent) → IsWell k start h →
-    first_fault (in_block line rings (length start) k start h) (map EventLine es) ≡ None →
+pub events_mean : (version line rings k : ℕ) (start : List ℕ) (h : List Event) (es : List SavedEvent) → IsWell k start h →
+    first_fault (in_block version line rings (length start) k start h) (map EventLine es) ≡ None →
     All (λ (e : Event). e.seat < seat_limit) (map event_of es) × IsLegal till (after till (first_state (ring_with k start)) h) (map event_of es)
-events_mean line rings k start h [] w none = ((λ k d l. absurd (omega arith)), tt)
-events_mean line rings k start h (e ∷ es) w none =
+events_mean version line rings k start h [] w none = ((λ k d l. absurd (omega arith)), tt)
+events_mean version line rings k start h (e ∷ es) w none =
     let a = after till (first_state (ring_with k start)) h in
-    let p = behind_none (event_fault (length start) a (event_of e)) line (first_fault (in_block (line + 1) rings (length start) k start (h ++ event_of e ∷ [])) (map EventLine es)) none in
+    let p = behind_none (event_fault (length start) a (event_of e)) line (first_fault (in_block version (line + 1) rings (length start) k start (h ++ event_of e ∷ [])) (map EventLine es)) none in
     let m = event_means (length start) a (event_of e) w.long p.0 in
-    let more = events_mean (line + 1) rings k start (h ++ event_of e ∷ []) es (well_push k start h (event_of e) w m.1) p.1 in (
+    let more = events_mean version (line + 1) rings k start (h ++ event_of e ∷ []) es (well_push k start h (event_of e) w m.1) p.1 in (
       All-cons (λ (e : Event). e.seat < seat_limit) (event_of e) (map event_of es) m.0 more.0,
       (m.1, subst (λ (x : State ℕ). IsLegal till x (map event_of es)) (after-push till (first_state (ring_with k start)) h (event_of e)) more.1),
     )
 
-pub events_fine : (line rings k : ℕ) (start : List ℕ) (h : List Event) (es : List SavedEvent) → IsWell k start h →
+pub events_fine : (version line rings k : ℕ) (start : List ℕ) (h : List Event) (es : List SavedEvent) → IsWell k start h →
     All (λ (e : Event). e.seat < seat_limit) (map event_of es) → IsLegal till (after till (first_state (ring_with k start)) h) (map event_of es) →
-    first_fault (in_block line rings (length start) k start h) (map EventLine es) ≡ None
-events_fine line rings k start h [] w seats legal = refl
-events_fine line rings k start h (e ∷ es) w seats legal =
+    first_fault (in_block version line rings (length start) k start h) (map EventLine es) ≡ None
+events_fine version line rings k start h [] w seats legal = refl
+events_fine version line rings k start h (e ∷ es) w seats legal =
     let a = after till (first_state (ring_with k start)) h in
     let fine : event_fault (length start) a (event_of e) ≡ None =
     event_fine (length start) a (event_of e) w.long (All-head (λ (e : Event). e.seat < seat_limit) (event_of e) (map event_of es) seats) legal.0 in
-    let more : first_fault (in_block (line + 1) rings (length start) k start (h ++ event_of e ∷ [])) (map EventLine es) ≡ None =
-    events_fine (line + 1) rings k start (h ++ event_of e ∷ []) es (well_push k start h (event_of e) w legal.0)
+    let more : first_fault (in_block version (line + 1) rings (length start) k start (h ++ event_of e ∷ [])) (map EventLine es) ≡ None =
+    events_fine version (line + 1) rings k start (h ++ event_of e ∷ []) es (well_push k start h (event_of e) w legal.0)
     (All-tail (λ (e : Event). e.seat < seat_limit) (event_of e) (map event_of es) seats)
     (subst (λ (x : State ℕ). IsLegal till x (map event_of es)) (sym (after-push till (first_state (ring_with k start)) h (event_of e))) legal.1) in
     rw (fine, more) refl
@@ -111,28 +111,28 @@ same_survey_true s r e =
     (joined (eqb s.first r.first) _ (eq_true s.first r.first (ap (λ (x : Survey). x.first) e))
     (joined (eqb s.calm r.calm) (eqb s.rest r.rest) (eq_true s.calm r.calm (ap (λ (x : Survey). x.calm) e)) (eq_true s.rest r.rest (ap (λ (x : Survey). x.rest) e))))
 
-pub surveys_mean : (b : Block) (line rings seat position : ℕ) (ss : List SavedSurvey) →
-    first_fault (in_surveys line rings b.k b.start (history b) seat position) (map SurveyLine ss) ≡ None → AreOnward seat position ss × All (IsRightSurvey b) ss
-surveys_mean b line rings seat position [] none = (tt, λ k d l. absurd (omega arith))
-surveys_mean b line rings seat position (s ∷ ss) none =
-    let at = in_surveys line rings b.k b.start (history b) seat position in
-    let p = behind_none (fault at (SurveyLine s)) line (first_fault (in_surveys (line + 1) rings b.k b.start (history b) s.seat s.position) (map SurveyLine ss)) none in
+pub surveys_mean : (version : ℕ) (b : Block) (line rings seat position : ℕ) (ss : List SavedSurvey) →
+    first_fault (in_surveys version line rings b.k b.start (history b) seat position) (map SurveyLine ss) ≡ None → AreOnward seat position ss × All (IsRightSurvey b) ss
+surveys_mean version b line rings seat position [] none = (tt, λ k d l. absurd (omega arith))
+surveys_mean version b line rings seat position (s ∷ ss) none =
+    let at = in_surveys version line rings b.k b.start (history b) seat position in
+    let p = behind_none (fault at (SurveyLine s)) line (first_fault (in_surveys version (line + 1) rings b.k b.start (history b) s.seat s.position) (map SurveyLine ss)) none in
     let q = both_none (nat_lt s.seat seat_limit) (is_onward seat position s && is_surveyed at s) p.0 in
     let on = both (is_onward seat position s) (is_surveyed at s) q.1 in
     let said = both (nat_le s.position (length (history b))) (same_survey s (survey_at till (first_state (ring_with b.k b.start)) (history b) s.position)) on.1 in
     let within = at_most s.position (length (history b)) said.0 in
-    let more = surveys_mean b (line + 1) rings s.seat s.position ss p.1 in
+    let more = surveys_mean version b (line + 1) rings s.seat s.position ss p.1 in
     let right : IsRightSurvey b s = record {
       seat = below s.seat seat_limit q.0;
       right = (within, same_survey_means s (survey_at till (first_state (ring_with b.k b.start)) (history b) s.position) refl said.1);
     } in
     ((onward_means seat position s on.0, more.0), All-cons (IsRightSurvey b) s ss right more.1)
 
-pub surveys_fine : (b : Block) (line rings seat position : ℕ) (ss : List SavedSurvey) → AreOnward seat position ss → All (IsRightSurvey b) ss →
-    first_fault (in_surveys line rings b.k b.start (history b) seat position) (map SurveyLine ss) ≡ None
-surveys_fine b line rings seat position [] order right = refl
-surveys_fine b line rings seat position (s ∷ ss) order right =
-    let at = in_surveys line rings b.k b.start (history b) seat position in
+pub surveys_fine : (version : ℕ) (b : Block) (line rings seat position : ℕ) (ss : List SavedSurvey) → AreOnward seat position ss → All (IsRightSurvey b) ss →
+    first_fault (in_surveys version line rings b.k b.start (history b) seat position) (map SurveyLine ss) ≡ None
+surveys_fine version b line rings seat position [] order right = refl
+surveys_fine version b line rings seat position (s ∷ ss) order right =
+    let at = in_surveys version line rings b.k b.start (history b) seat position in
     let here : IsRightSurvey b s = All-head (IsRightSurvey b) s ss right in
     let said : is_surveyed at s ≡ true =
     joined (nat_le s.position (length (history b))) _ (le_true s.position (length (history b)) here.right.0)
@@ -142,8 +142,8 @@ surveys_fine b line rings seat position (s ∷ ss) order right =
     let fine : fault at (SurveyLine s) ≡ None =
     ap (λ (x : Bool). cond {A = Option Kind} x (cond (is_onward seat position s && is_surveyed at s) None (Some SurveyKind)) (Some Range)) seats
     ∙ ap (λ (x : Bool). cond {A = Option Kind} x None (Some SurveyKind)) all in
-    let more = surveys_fine b (line + 1) rings s.seat s.position ss order.1 (All-tail (IsRightSurvey b) s ss right) in
-    ap (λ (x : Option Kind). or_behind x line (first_fault (in_surveys (line + 1) rings b.k b.start (history b) s.seat s.position) (map SurveyLine ss))) fine ∙ more
+    let more = surveys_fine version b (line + 1) rings s.seat s.position ss order.1 (All-tail (IsRightSurvey b) s ss right) in
+    ap (λ (x : Option Kind). or_behind x line (first_fault (in_surveys version (line + 1) rings b.k b.start (history b) s.seat s.position) (map SurveyLine ss))) fine ∙ more
 
 from_order : (ss : List SavedSurvey) → AreInOrder ss → AreOnward 0 0 ss
 from_order [] h = tt
@@ -167,19 +167,19 @@ below_means : (k : ℕ) (s : List ℕ) → list_all (λ v. nat_lt v k) s ≡ tru
 below_means k [] h = λ i d l. absurd (omega arith)
 below_means k (v ∷ s) h = let p = both (nat_lt v k) (list_all (λ v. nat_lt v k) s) h in All-cons (λ (v : ℕ). v < k) v s (below v k p.0) (below_means k s p.1)
 
-pub block_means : (b : Before) (r : Block) → length r.start ≡ r.n → first_fault b (block_lines r) ≡ None → IsRightBlock b.rings r
+pub block_means : (b : Before) (r : Block) → length r.start ≡ r.n → first_fault b (block_lines r) ≡ None → IsRightBlock b.version b.rings r
 block_means b r n none =
-    let par : are_parameters r.n r.k ≡ true = true_of (are_parameters r.n r.k) (λ f. clash (first_fault b (block_lines r)) (b.line + 1, Parameter) (head_bad b r f) none) in
+    let par : are_parameters b.version r.n r.k ≡ true = true_of (are_parameters b.version r.n r.k) (λ f. clash (first_fault b (block_lines r)) (b.line + 1, Parameter) (head_bad b r f) none) in
     let index : eqb r.index b.rings ≡ true = true_of (eqb r.index b.rings) (λ f. clash (first_fault b (block_lines r)) (b.line + 1, Count) (index_bad b r par f) none) in
     let values : list_all (λ v. nat_lt v r.k) r.start ≡ true =
     true_of (list_all (λ v. nat_lt v r.k) r.start) (λ f. clash (first_fault b (block_lines r)) (b.line + 2, Range) (start_bad b r par index f) none) in
     let parts = sym (block_parts b r b.line b.rings refl refl par (same r.index b.rings index) values n) ∙ none in
-    let p = else_none (first_fault (in_block (b.line + 2) (b.rings + 1) (length r.start) r.k r.start []) (map EventLine r.events)) _ parts in
+    let p = else_none (first_fault (in_block b.version (b.line + 2) (b.rings + 1) (length r.start) r.k r.start []) (map EventLine r.events)) _ parts in
     let q = behind_none (cond (eqb r.events_said (length r.events)) None (Some Count)) _ _ p.1 in
-    let limits = parameters_mean r.n r.k par in
-    let well : IsWell r.k r.start [] = record { ring = ring_of r.n r.k r.start par values n; long = refl } in
-    let events = events_mean (b.line + 2) (b.rings + 1) r.k r.start [] r.events well p.0 in
-    let surveys = surveys_mean r (b.line + 3 + length r.events) (b.rings + 1) 0 0 r.surveys q.1 in
+    let limits = parameters_mean b.version r.n r.k par in
+    let well : IsWell r.k r.start [] = record { ring = ring_of b.version r.n r.k r.start par values n; long = refl } in
+    let events = events_mean b.version (b.line + 2) (b.rings + 1) r.k r.start [] r.events well p.0 in
+    let surveys = surveys_mean b.version r (b.line + 3 + length r.events) (b.rings + 1) 0 0 r.surveys q.1 in
     record {
       index = same r.index b.rings index;
       two = limits.0;
@@ -194,49 +194,48 @@ block_means b r n none =
       order = to_order r.surveys surveys.0;
     }
 
-pub block_fine : (b : Before) (r : Block) → length r.start ≡ r.n → IsRightBlock b.rings r → first_fault b (block_lines r) ≡ None
+pub block_fine : (b : Before) (r : Block) → length r.start ≡ r.n → IsRightBlock b.version b.rings r → first_fault b (block_lines r) ≡ None
 block_fine b r n h =
-    let two = h.two in
-    let enough = h.enough in
-    let most = h.most in
-    let par : are_parameters r.n r.k ≡ true =
-    joined (nat_le 2 r.n) _ (le_true 2 r.n two) (joined (nat_le r.n machine_limit) _ (le_true r.n machine_limit h.most_machines) (joined (nat_le r.n r.k) (nat_le r.k value_limit) (le_true r.n r.k enough) (le_true r.k value_limit most))) in
+    let par = parameters_true b.version r.n r.k h.two h.most_machines h.enough h.most in
     let values = all_below_true r.k r.start h.below in
-    let well : IsWell r.k r.start [] = record { ring = ring_of r.n r.k r.start par values n; long = refl } in
-    let events = events_fine (b.line + 2) (b.rings + 1) r.k r.start [] r.events well h.seats h.legal in
-    let surveys = surveys_fine r (b.line + 3 + length r.events) (b.rings + 1) 0 0 r.surveys (from_order r.surveys h.order) h.surveys in
+    let well : IsWell r.k r.start [] = record { ring = ring_of b.version r.n r.k r.start par values n; long = refl } in
+    let events = events_fine b.version (b.line + 2) (b.rings + 1) r.k r.start [] r.events well h.seats h.legal in
+    let surveys = surveys_fine b.version r (b.line + 3 + length r.events) (b.rings + 1) 0 0 r.surveys (from_order r.surveys h.order) h.surveys in
     let said = eq_true r.events_said (length r.events) h.events_said in
     block_parts b r b.line b.rings refl refl par h.index values n ∙ rw (events, said, surveys) refl
 
 -- All blocks.
 
-pub blocks_mean : (b : Before) (bs : List Block) → All (λ (r : Block). length r.start ≡ r.n) bs → first_fault b (flat_map block_lines bs) ≡ None → AreRightBlocks b.rings bs
+pub blocks_mean : (b : Before) (bs : List Block) → All (λ (r : Block). length r.start ≡ r.n) bs → first_fault b (flat_map block_lines bs) ≡ None → AreRightBlocks b.version b.rings bs
 blocks_mean b [] whole none = tt
 blocks_mean b (r ∷ bs) whole none =
-    let p = else_none (first_fault b (block_lines r)) (first_fault (after_lines b (block_lines r)) (flat_map block_lines bs)) (sym (fault_append b (block_lines r) (flat_map block_lines bs)) ∙ none) in
-    let leaves = block_leaves b r in (
+    let p = else_none (first_fault b (block_lines r)) (first_fault (after_lines b (block_lines r)) (flat_map block_lines bs)) (sym (fault_append b (block_lines r) (flat_map block_lines bs)) ∙ none) in (
       block_means b r (All-head (λ (r : Block). length r.start ≡ r.n) r bs whole) p.0,
-      subst (λ (x : ℕ). AreRightBlocks x bs) leaves.1 (blocks_mean (after_lines b (block_lines r)) bs (All-tail (λ (r : Block). length r.start ≡ r.n) r bs whole) p.1),
+      subst (λ (x : ℕ). AreRightBlocks b.version x bs) (block_leaves b r).1
+          (subst (λ (v : ℕ). AreRightBlocks v (after_lines b (block_lines r)).rings bs) (version_kept b (block_lines r))
+          (blocks_mean (after_lines b (block_lines r)) bs (All-tail (λ (r : Block). length r.start ≡ r.n) r bs whole) p.1)),
     )
 
-pub blocks_fine : (b : Before) (bs : List Block) → All (λ (r : Block). length r.start ≡ r.n) bs → AreRightBlocks b.rings bs → first_fault b (flat_map block_lines bs) ≡ None
+pub blocks_fine : (b : Before) (bs : List Block) → All (λ (r : Block). length r.start ≡ r.n) bs → AreRightBlocks b.version b.rings bs → first_fault b (flat_map block_lines bs) ≡ None
 blocks_fine b [] whole h = refl
 blocks_fine b (r ∷ bs) whole h =
     let here = block_fine b r (All-head (λ (r : Block). length r.start ≡ r.n) r bs whole) h.0 in
-    let leaves = block_leaves b r in
-    let more = blocks_fine (after_lines b (block_lines r)) bs (All-tail (λ (r : Block). length r.start ≡ r.n) r bs whole) (subst (λ (x : ℕ). AreRightBlocks x bs) (sym leaves.1) h.1) in
+    let behind : AreRightBlocks (after_lines b (block_lines r)).version (after_lines b (block_lines r)).rings bs =
+    subst (λ (v : ℕ). AreRightBlocks v (after_lines b (block_lines r)).rings bs) (sym (version_kept b (block_lines r)))
+    (subst (λ (x : ℕ). AreRightBlocks b.version x bs) (sym (block_leaves b r).1) h.1) in
+    let more = blocks_fine (after_lines b (block_lines r)) bs (All-tail (λ (r : Block). length r.start ≡ r.n) r bs whole) behind in
     fault_append b (block_lines r) (flat_map block_lines bs) ∙ ap (λ (u : Option (ℕ × Kind)). or_else u (first_fault (after_lines b (block_lines r)) (flat_map block_lines bs))) here ∙ more
 
 pub legal_means : LegalMeans
 legal_means s whole = (
   (λ g.
-      let p = else_none (first_fault nothing (flat_map block_lines s.rings)) _ (sym (text_parts s) ∙ none_good nothing (lines s) g) in
+      let p = else_none (first_fault (nothing s.version) (flat_map block_lines s.rings)) _ (sym (text_parts s) ∙ none_good (nothing s.version) (lines s) g) in
       let q = behind_none (cond (eqb s.rings_said (length s.rings)) None (Some Count)) _ _ p.1 in
-      record { blocks = blocks_mean nothing s.rings whole p.0; rings_said = same s.rings_said (length s.rings) (count_none (eqb s.rings_said (length s.rings)) q.0) }),
+      record { blocks = blocks_mean (nothing s.version) s.rings whole p.0; rings_said = same s.rings_said (length s.rings) (count_none (eqb s.rings_said (length s.rings)) q.0) }),
   (λ h.
-      let blocks = blocks_fine nothing s.rings whole h.blocks in
+      let blocks = blocks_fine (nothing s.version) s.rings whole h.blocks in
       let said = eq_true s.rings_said (length s.rings) h.rings_said in
-      good_none nothing (lines s) (text_parts s ∙ rw (blocks, said) refl)),
+      good_none (nothing s.version) (lines s) (text_parts s ∙ rw (blocks, said) refl)),
 )
 
 -- each start that was read has n values: the type keeps it

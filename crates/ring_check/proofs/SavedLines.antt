@@ -4,7 +4,7 @@ use Rattle.std.specs.List.{flat_map}
 use Rattle.ring_text.specs.declared.saved.SavedEvent.{SavedEvent}
 use Rattle.ring_text.specs.declared.saved.SavedEvent.TheVariants.{Granted, Refused, Corrupted}
 use Rattle.ring_text.specs.Content.{Block, Content}
-use Rattle.ring_text.specs.Spelling.{head_line, head_of, start_line, event_line, end_line, survey_line, done_line, below_head, block_text, text}
+use Rattle.ring_text.specs.Spelling.{first_line, head_line, head_of, start_line, event_line, end_line, survey_line, done_line, below_head, block_text, text}
 use Rattle.ring_check.specs.Lines.{block_lines, lines}
 use Rattle.ring_check.proofs.Blocks.{block_long}
 use Rattle.ring_check.proofs.BlockLines.{lines_long}
@@ -49,5 +49,6 @@ lines_some s =
     let blocks = blocks_some s.rings in
     let done : 1 ≤ length (done_line s.rings_said) = omega arith in
     let long = lines_long s in
-    let whole = length-append (flat_map block_text s.rings) (done_line s.rings_said) in
+    let below = length-append (flat_map block_text s.rings) (done_line s.rings_said) in
+    let whole = length-append (first_line s.version) (flat_map block_text s.rings ++ done_line s.rings_said) in
     omega arith

@@ -59,6 +59,19 @@ line_next b (EndLine m) = refl
 line_next b (SurveyLine s) = refl
 line_next b (DoneLine m) = refl
 
+-- no line changes the version
+pub version_next : (b : Before) (l : Line) → (after_line b l).version ≡ b.version
+version_next b (RingLine index n k) = refl
+version_next b (StartLine s) = refl
+version_next b (EventLine e) = refl
+version_next b (EndLine m) = refl
+version_next b (SurveyLine s) = refl
+version_next b (DoneLine m) = refl
+
+pub version_kept : (b : Before) (ls : List Line) → (after_lines b ls).version ≡ b.version
+version_kept b [] = refl
+version_kept b (l ∷ ls) = version_kept (after_line b l) ls ∙ version_next b l
+
 -- what is found is the first bad line
 abbrev pub FoundAt : Before → List Line → ℕ → Kind → Type 0
 FoundAt b ls line kind = (front : List Line) × (l : Line) × (back : List Line) × (ls ≡ front ++ l ∷ back) × (line ≡ length front + b.line + 1) × IsGood b front × (fault (after_lines b front) l ≡ Some kind)
@@ -87,26 +100,26 @@ foundback b (x ∷ front) l back kind g h =
     let e : length front + (after_line b x).line + 1 ≡ length (x ∷ front) + b.line + 1 = let n = line_next b x in omega arith in
     ap (λ (f : Option Kind). or_behind f b.line (first_fault (after_line b x) (front ++ l ∷ back))) (good_head b x front g) ∙ more ∙ ap (λ (y : ℕ). Some (y, kind)) e
 
-pub bad_found : (ls : List Line) (line : ℕ) (kind : Kind) → IsFirstBad ls line kind → first_fault nothing ls ≡ Some (line, kind)
-bad_found ls line kind (front, l, back, cut, at, good, bad) =
+pub bad_found : (version : ℕ) (ls : List Line) (line : ℕ) (kind : Kind) → IsFirstBad version ls line kind → first_fault (nothing version) ls ≡ Some (line, kind)
+bad_found version ls line kind (front, l, back, cut, at, good, bad) =
     let e : length front + 1 + 1 ≡ line = omega arith in
-    ap (λ (x : List Line). first_fault nothing x) cut ∙ foundback nothing front l back kind good bad ∙ ap (λ (x : ℕ). Some (x, kind)) e
+    ap (λ (x : List Line). first_fault (nothing version) x) cut ∙ foundback (nothing version) front l back kind good bad ∙ ap (λ (x : ℕ). Some (x, kind)) e
 
-legal_apart : (ls : List Line) (line : ℕ) (kind : Kind) → IsGood nothing ls → IsFirstBad ls line kind → ⊥
-legal_apart ls line kind g f = let a = none_good nothing ls g in let b = bad_found ls line kind f in cc
+legal_apart : (version : ℕ) (ls : List Line) (line : ℕ) (kind : Kind) → IsGood (nothing version) ls → IsFirstBad version ls line kind → ⊥
+legal_apart version ls line kind g f = let a = none_good (nothing version) ls g in let b = bad_found version ls line kind f in cc
 
-bad_apart : (ls : List Line) (l m : ℕ) (j k : Kind) → IsFirstBad ls l j → IsFirstBad ls m k → (l ≡ m) × (j ≡ k)
-bad_apart ls l m j k f g =
-    let a = bad_found ls l j f in
-    let b = bad_found ls m k g in
+bad_apart : (version : ℕ) (ls : List Line) (l m : ℕ) (j k : Kind) → IsFirstBad version ls l j → IsFirstBad version ls m k → (l ≡ m) × (j ≡ k)
+bad_apart version ls l m j k f g =
+    let a = bad_found version ls l j f in
+    let b = bad_found version ls m k g in
     let e : (l, j) ≡ (m, k) = cc in
     (ap (λ (x : ℕ × Kind). x.0) e, ap (λ (x : ℕ × Kind). x.1) e)
 
 pub at_most_one : AtMostOneIsRight
 at_most_one s (Ok x) (Ok y) f g n m = let p = f.1 in let q = g.1 in cc
-at_most_one s (Ok x) (Err (Bad l j)) f g n m = absurd (legal_apart (lines s) l j f.0 g)
+at_most_one s (Ok x) (Err (Bad l j)) f g n m = absurd (legal_apart s.version (lines s) l j f.0 g)
 at_most_one s (Ok x) (Err OutOfMemory) f g n m = absurd (m refl)
-at_most_one s (Err (Bad l j)) (Ok y) f g n m = absurd (legal_apart (lines s) l j g.0 f)
-at_most_one s (Err (Bad l j)) (Err (Bad k i)) f g n m = let e = bad_apart (lines s) l k j i f g in let p = e.0 in let q = e.1 in cc
+at_most_one s (Err (Bad l j)) (Ok y) f g n m = absurd (legal_apart s.version (lines s) l j g.0 f)
+at_most_one s (Err (Bad l j)) (Err (Bad k i)) f g n m = let e = bad_apart s.version (lines s) l k j i f g in let p = e.0 in let q = e.1 in cc
 at_most_one s (Err (Bad l j)) (Err OutOfMemory) f g n m = absurd (m refl)
 at_most_one s (Err OutOfMemory) y f g n m = absurd (n refl)

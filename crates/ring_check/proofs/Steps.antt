@@ -1,6 +1,6 @@
 -- An event without a fault is a step of the ring, and a step keeps the ring.
 use Rattle.std.proofs.Common.{◌≡◌, ℕ, ◌+◌, ◌<◌, ◌≤◌, List, length, get_or, set, true, false, Bool, cond, refl, ap, subst, inl, inr, arith, ◌∙◌, ◌++◌, ◌∷◌, [], get_or-set_same, get_or-set_other, sym, eqb}
-use Rattle.std.specs.Prelude.{nat_lt, nat_le, Some, None}
+use Rattle.std.specs.Prelude.{nat_lt, Some, None}
 use Rattle.std.proofs.lemmas.Bool.{cases_Bool, cases_eq}
 use Rattle.std.proofs.lemmas.List.{length-set}
 use Rattle.ring_model.specs.Limits.{seat_limit}
@@ -16,7 +16,7 @@ use Rattle.ring_model.specs.History.{State, Step, StepOf, next, reply, after}
 use Rattle.ring_model.specs.Resources.{till}
 use Rattle.ring_check.specs.declared.answers.Kind.TheVariants.{Range, Reply as ReplyKind}
 use Rattle.ring_check.specs.Table.{first_state, same_reply, is_replied, op_in_range, in_range, event_fault}
-use Rattle.ring_check.proofs.Booleans.{both, joined, same, below, at_most, eq_true, lt_true, le_true}
+use Rattle.ring_check.proofs.Booleans.{both, joined, same, below, eq_true, lt_true}
 
 same_is : (r q : Reply) → same_reply r q ≡ true → r ≡ q
 same_is (Granted a b) (Granted c d) e = let p = both (eqb a c) (eqb b d) e in let x : a ≡ c = same a c p.0 in let y : b ≡ d = same b d p.1 in rw (x, y) refl

@@ -22,8 +22,8 @@ use Rattle.ring_check.proofs.Replaying.{survey_is}
 use Rattle.ring_check.proofs.Walk.{walk_bad, walk_good, walk_on}
 
 -- among the surveys, behind the one of this seat and position
-abbrev pub in_surveys : ℕ → ℕ → ℕ → List ℕ → List Event → ℕ → ℕ → Before
-in_surveys line rings k start h seat position = record { line = line; rings = rings; n = length start; k = k; start = start; events = h; seat = seat; position = position }
+abbrev pub in_surveys : ℕ → ℕ → ℕ → ℕ → List ℕ → List Event → ℕ → ℕ → Before
+in_surveys version line rings k start h seat position = record { version = version; line = line; rings = rings; n = length start; k = k; start = start; events = h; seat = seat; position = position }
 
 -- a survey that stands for none
 abbrev pub blank : SavedSurvey
@@ -54,10 +54,10 @@ survey_fine b s l w v =
     rw (t, e) refl
 
 -- a survey line is right where it says what a reading at its position says
-pub surveyed_by : (line rings k : ℕ) (start : List ℕ) (es : List SavedEvent) (seat position : ℕ) (s : SavedSurvey) (t : Reading) (said : Bool) →
+pub surveyed_by : (version line rings k : ℕ) (start : List ℕ) (es : List SavedEvent) (seat position : ℕ) (s : SavedSurvey) (t : Reading) (said : Bool) →
     IsReading (ring_with k start) es t → t.survey.position ≡ s.position → said ≡ same_survey s t.survey →
-    is_surveyed (in_surveys line rings k start (map event_of es) seat position) s ≡ said
-surveyed_by line rings k start es seat position s t said r at e =
+    is_surveyed (in_surveys version line rings k start (map event_of es) seat position) s ≡ said
+surveyed_by version line rings k start es seat position s t said r at e =
     let n : length (map event_of es) ≡ length es = length-map es event_of in
     let w = r.within in
     let i : nat_le s.position (length (map event_of es)) ≡ true = le_true s.position (length (map event_of es)) (omega arith) in
@@ -69,36 +69,36 @@ surveyed_by line rings k start es seat position s t said r at e =
 pub record AreRight (line k : ℕ) (start : List ℕ) (es : List SavedEvent) (ss : List SavedSurvey) (i seat position : ℕ) (r : Reading) : Type 0 where
   pub reading : IsReading (ring_with k start) es r
   pub same_k : r.replay.k ≡ k
-  pub none : (rings : ℕ) → first_fault (in_block line rings (length start) k start (map event_of es)) (map SurveyLine (take i ss)) ≡ None
-  pub here : (rings : ℕ) → after_lines (in_block line rings (length start) k start (map event_of es)) (map SurveyLine (take i ss))
-      ≡ in_surveys (line + i) rings k start (map event_of es) seat position
+  pub none : (version rings : ℕ) → first_fault (in_block version line rings (length start) k start (map event_of es)) (map SurveyLine (take i ss)) ≡ None
+  pub here : (version rings : ℕ) → after_lines (in_block version line rings (length start) k start (map event_of es)) (map SurveyLine (take i ss))
+      ≡ in_surveys version (line + i) rings k start (map event_of es) seat position
 
 module _ (line k : ℕ) (start : List ℕ) (es : List SavedEvent) (ss : List SavedSurvey) (i seat position : ℕ) (d : SavedSurvey) (lt : i < length ss) (r : Reading)
     (good : AreRight line k start es ss i seat position r) where
-  pub surveys_bad : (kind : Kind) → ((rings : ℕ) → fault (in_surveys (line + i) rings k start (map event_of es) seat position) (SurveyLine (get_or ss i d)) ≡ Some kind) → (rings : ℕ) →
-      first_fault (in_block line rings (length start) k start (map event_of es)) (map SurveyLine ss) ≡ Some (line + i + 1, kind)
-  surveys_bad kind h rings =
-      walk_bad SurveyLine (in_block line rings (length start) k start (map event_of es)) ss i d lt (in_surveys (line + i) rings k start (map event_of es) seat position)
-      (good.none rings) (good.here rings) kind (h rings)
+  pub surveys_bad : (kind : Kind) → ((version rings : ℕ) → fault (in_surveys version (line + i) rings k start (map event_of es) seat position) (SurveyLine (get_or ss i d)) ≡ Some kind) → (version rings : ℕ) →
+      first_fault (in_block version line rings (length start) k start (map event_of es)) (map SurveyLine ss) ≡ Some (line + i + 1, kind)
+  surveys_bad kind h version rings =
+      walk_bad SurveyLine (in_block version line rings (length start) k start (map event_of es)) ss i d lt (in_surveys version (line + i) rings k start (map event_of es) seat position)
+      (good.none version rings) (good.here version rings) kind (h version rings)
 
-  pub surveys_good : (t : Reading) → ((rings : ℕ) → fault (in_surveys (line + i) rings k start (map event_of es) seat position) (SurveyLine (get_or ss i d)) ≡ None) →
+  pub surveys_good : (t : Reading) → ((version rings : ℕ) → fault (in_surveys version (line + i) rings k start (map event_of es) seat position) (SurveyLine (get_or ss i d)) ≡ None) →
       IsReading (ring_with k start) es t → AreRight line k start es ss (i + 1) (get_or ss i d).seat (get_or ss i d).position t
   surveys_good t h reading =
-      let at : ℕ → Before = λ rings. in_surveys (line + i) rings k start (map event_of es) seat position in
-      let b : ℕ → Before = λ rings. in_block line rings (length start) k start (map event_of es) in
+      let at : ℕ → ℕ → Before = λ version rings. in_surveys version (line + i) rings k start (map event_of es) seat position in
+      let b : ℕ → ℕ → Before = λ version rings. in_block version line rings (length start) k start (map event_of es) in
       let n : line + i + 1 ≡ line + (i + 1) = omega arith in
       record {
         reading = reading;
         same_k = reading.stands.stands.same_k;
-        none = λ rings. walk_good SurveyLine (b rings) ss i d lt (at rings) (good.none rings) (good.here rings) (h rings);
-        here = λ rings. walk_on SurveyLine (b rings) ss i d lt (at rings) (good.none rings) (good.here rings)
-            ∙ ap (λ (x : ℕ). in_surveys x rings k start (map event_of es) (get_or ss i d).seat (get_or ss i d).position) n;
+        none = λ version rings. walk_good SurveyLine (b version rings) ss i d lt (at version rings) (good.none version rings) (good.here version rings) (h version rings);
+        here = λ version rings. walk_on SurveyLine (b version rings) ss i d lt (at version rings) (good.none version rings) (good.here version rings)
+            ∙ ap (λ (x : ℕ). in_surveys version x rings k start (map event_of es) (get_or ss i d).seat (get_or ss i d).position) n;
       }
 
 pub surveys_end : (line k : ℕ) (start : List ℕ) (es : List SavedEvent) (ss : List SavedSurvey) (i seat position : ℕ) (r : Reading) → length ss ≤ i →
-    AreRight line k start es ss i seat position r → (rings : ℕ) → first_fault (in_block line rings (length start) k start (map event_of es)) (map SurveyLine ss) ≡ None
-surveys_end line k start es ss i seat position r l good rings =
-    subst (λ (u : List SavedSurvey). first_fault (in_block line rings (length start) k start (map event_of es)) (map SurveyLine u) ≡ None) (take_all i ss l) (good.none rings)
+    AreRight line k start es ss i seat position r → (version rings : ℕ) → first_fault (in_block version line rings (length start) k start (map event_of es)) (map SurveyLine ss) ≡ None
+surveys_end line k start es ss i seat position r l good version rings =
+    subst (λ (u : List SavedSurvey). first_fault (in_block version line rings (length start) k start (map event_of es)) (map SurveyLine u) ≡ None) (take_all i ss l) (good.none version rings)
 
 -- a reading of a ring with this K
 pub reading_of : (j k : ℕ) (start : List ℕ) (es : List SavedEvent) (r : Reading) → j ≡ k → IsReading (ring_with j start) es r → IsReading (ring_with k start) es r

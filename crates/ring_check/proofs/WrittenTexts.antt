@@ -19,6 +19,7 @@ use Rattle.ring_model.specs.Logs.{IsSurvey, IsFollowed, Fits}
 use Rattle.ring_shared.specs.declared.seats.Log.{Log}
 use Rattle.ring_farm.specs.declared.outcomes.RingOutcome.{RingOutcome}
 use Rattle.ring_text.specs.declared.saved.SavedSurvey.{SavedSurvey}
+use Rattle.ring_text.specs.Versions.{latest_version}
 use Rattle.ring_text.specs.Content.{Block}
 use Rattle.ring_text.specs.SavedOf.{saved_for, saved_event, saved_survey, entry_surveys, log_surveys, block_at, blocks_from, saved_of}
 use Rattle.ring_check.specs.Table.{event_of}
@@ -114,7 +115,7 @@ run_placed r h i l at =
     let same = h.by_number i l at in
     (omega arith, fits.entries)
 
-run_right : (place : ℕ) (r : RingOutcome) → IsRightRun r → IsRightBlock place (block_at place r)
+run_right : (place : ℕ) (r : RingOutcome) → IsRightRun r → IsRightBlock latest_version place (block_at place r)
 run_right place r h =
     let same : history (block_at place r) ≡ r.book.history = told place r h.legal in
     let few = h.few in
@@ -133,7 +134,7 @@ run_right place r h =
       order = to_order (flat_map log_surveys r.logs.items) (logs_order (opening r.book.start 0) r.book.history 0 r.logs.items (run_placed r h));
     }
 
-runs_right : (place : ℕ) (rs : List RingOutcome) → All IsRightRun rs → AreRightBlocks place (blocks_from place rs)
+runs_right : (place : ℕ) (rs : List RingOutcome) → All IsRightRun rs → AreRightBlocks latest_version place (blocks_from place rs)
 runs_right place [] h = tt
 runs_right place (r ∷ rs) h = (run_right place r (All-head IsRightRun r rs h), runs_right (place + 1) rs (All-tail IsRightRun r rs h))
 

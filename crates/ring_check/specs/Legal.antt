@@ -3,7 +3,7 @@ use Rattle.std.specs.Prelude.{◌≡◌, ◌≢◌, ℕ, ◌+◌, List, ◌∷�
 use Rattle.std.specs.List.{sum_by}
 use Rattle.ring_model.specs.declared.events.Event.{Event}
 use Rattle.ring_model.specs.Surveys.{granted_count, corrupted_count}
-use Rattle.ring_text.specs.Content.{Content, Block}
+use Rattle.ring_text.specs.Content.{Content, Block, upgraded}
 use Rattle.ring_check.specs.declared.answers.Kind.{Kind}
 use Rattle.ring_check.specs.declared.answers.Summary.{Summary}
 use Rattle.ring_check.specs.declared.answers.CheckError.{CheckError}
@@ -17,13 +17,13 @@ IsGood b ls = (front : List Line) (l : Line) (back : List Line) → ls ≡ front
 
 -- a text is legal where no line of it has a fault
 abbrev pub IsLegalText : Content → Type 0
-IsLegalText s = IsGood nothing (lines s)
+IsLegalText s = IsGood (nothing s.version) (lines s)
 
--- The line of this number has this fault, and no line before it has one. Lines are numbered from 1, and line 1 is not among the list.
-abbrev pub IsFirstBad : List Line → ℕ → Kind → Type 0
-IsFirstBad ls line kind =
+-- In a text of this version the line of this number has this fault, and no line before it has one. Lines are numbered from 1, and line 1 is not among the list.
+abbrev pub IsFirstBad : ℕ → List Line → ℕ → Kind → Type 0
+IsFirstBad version ls line kind =
     (front : List Line) × (l : Line) × (back : List Line)
-    × (ls ≡ front ++ l ∷ back) × (line ≡ length front + 2) × IsGood nothing front × (fault (after_lines nothing front) l ≡ Some kind)
+    × (ls ≡ front ++ l ∷ back) × (line ≡ length front + 2) × IsGood (nothing version) front × (fault (after_lines (nothing version) front) l ≡ Some kind)
 
 -- the ring's history that a block tells of
 abbrev pub history : Block → List Event
@@ -42,9 +42,13 @@ summary_of s = record {
 -- the right answer: the sums of a legal text, else the first bad line with the least kind; memory aside
 abbrev pub IsRightCheck : Content → Result Summary CheckError → Type 0
 IsRightCheck s (Ok sums) = IsLegalText s × (sums ≡ summary_of s)
-IsRightCheck s (Err (Bad line kind)) = IsFirstBad (lines s) line kind
+IsRightCheck s (Err (Bad line kind)) = IsFirstBad s.version (lines s) line kind
 IsRightCheck s (Err OutOfMemory) = Unit {0}
 
 -- at most one answer is right, memory aside
 abbrev pub AtMostOneIsRight : Type 0
 AtMostOneIsRight = (s : Content) (a b : Result Summary CheckError) → IsRightCheck s a → IsRightCheck s b → a ≢ Err OutOfMemory → b ≢ Err OutOfMemory → a ≡ b
+
+-- where a text is legal, so is the same in the latest version, with the same sums
+abbrev pub UpgradeIsLegal : Type 0
+UpgradeIsLegal = (s : Content) → IsLegalText s → IsLegalText (upgraded s) × (summary_of (upgraded s) ≡ summary_of s)

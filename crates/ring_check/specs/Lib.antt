@@ -1,4 +1,5 @@
 pub mod Lines
+pub mod Limits
 pub mod Table
 pub mod Legal
 pub mod Meaning

@@ -2,7 +2,7 @@
 use Rattle.std.specs.Prelude.{◌≡◌, ℕ, ◌+◌, ◌<◌, ◌≤◌, List, [], ◌∷◌, length, ◌⊎◌}
 use Rattle.std.specs.List.{All}
 use Rattle.ring_model.specs.Ring.{ring_with}
-use Rattle.ring_model.specs.Limits.{machine_limit, value_limit, seat_limit}
+use Rattle.ring_model.specs.Limits.{seat_limit}
 use Rattle.ring_model.specs.declared.events.Event.{Event}
 use Rattle.ring_model.specs.declared.events.Survey.{Survey}
 use Rattle.ring_model.specs.History.{IsLegal}
@@ -10,6 +10,7 @@ use Rattle.ring_model.specs.Resources.{till}
 use Rattle.ring_model.specs.Logs.{IsSurvey}
 use Rattle.ring_text.specs.declared.saved.SavedSurvey.{SavedSurvey}
 use Rattle.ring_text.specs.Content.{Content, Block}
+use Rattle.ring_check.specs.Limits.{machine_limit_of, value_limit_of}
 use Rattle.ring_check.specs.Table.{first_state}
 use Rattle.ring_check.specs.Legal.{IsLegalText, history}
 
@@ -32,13 +33,13 @@ pub record IsRightSurvey (b : Block) (s : SavedSurvey) : Type 0 where
   pub seat : s.seat < seat_limit
   pub right : IsSurvey till (first_state (ring_with b.k b.start)) (history b) (survey_of s)
 
--- the block tells of a ring, of one legal history of it on one thread over the till, and of surveys of that history
-pub record IsRightBlock (place : ℕ) (b : Block) : Type 0 where
+-- in a text of this version the block tells of a ring, of one legal history of it on one thread over the till, and of surveys of that history
+pub record IsRightBlock (version place : ℕ) (b : Block) : Type 0 where
   pub index : b.index ≡ place
   pub two : 2 ≤ b.n
   pub enough : b.n ≤ b.k
-  pub most_machines : b.n ≤ machine_limit
-  pub most : b.k ≤ value_limit
+  pub most_machines : b.n ≤ machine_limit_of version
+  pub most : b.k ≤ value_limit_of version
   pub below : All (λ v. v < b.k) b.start
   pub seats : All (λ (e : Event). e.seat < seat_limit) (history b)
   pub legal : IsLegal till (first_state (ring_with b.k b.start)) (history b)
@@ -47,13 +48,13 @@ pub record IsRightBlock (place : ℕ) (b : Block) : Type 0 where
   pub order : AreInOrder b.surveys
 
 -- each block does, at its place
-abbrev pub AreRightBlocks : ℕ → List Block → Type 0
-AreRightBlocks place [] = Unit {0}
-AreRightBlocks place (b ∷ bs) = IsRightBlock place b × AreRightBlocks (place + 1) bs
+abbrev pub AreRightBlocks : ℕ → ℕ → List Block → Type 0
+AreRightBlocks version place [] = Unit {0}
+AreRightBlocks version place (b ∷ bs) = IsRightBlock version place b × AreRightBlocks version (place + 1) bs
 
 -- each block does, and their number is right
 pub record IsRightText (s : Content) : Type 0 where
-  pub blocks : AreRightBlocks 0 s.rings
+  pub blocks : AreRightBlocks s.version 0 s.rings
   pub rings_said : s.rings_said ≡ length s.rings
 
 -- each start has n values, as in every text of the grammar

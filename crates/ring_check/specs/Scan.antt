@@ -24,6 +24,6 @@ Finds (Some bad) (Err (Bad line kind)) = (line ≡ bad.0) × (kind ≡ bad.1)
 Finds f (Err OutOfMemory) = Unit {0}
 Finds _ _ = ⊥
 
--- in a block, behind its start line and some events, before any survey
-abbrev pub in_block : ℕ → ℕ → ℕ → ℕ → List ℕ → List Event → Before
-in_block line rings n k start events = record { line = line; rings = rings; n = n; k = k; start = start; events = events; seat = 0; position = 0 }
+-- in a block of a text of this version, behind its start line and some events, before any survey
+abbrev pub in_block : ℕ → ℕ → ℕ → ℕ → ℕ → List ℕ → List Event → Before
+in_block version line rings n k start events = record { version = version; line = line; rings = rings; n = n; k = k; start = start; events = events; seat = 0; position = 0 }

@@ -1,7 +1,7 @@
 -- What the checker refuses: the fault of a line, where the lines before it are known (this project's own).
 use Rattle.std.specs.Prelude.{ℕ, ◌+◌, cond, ◌==◌, nat_lt, nat_le, ◌&&◌, ◌||◌, List, [], ◌∷◌, ◌++◌, length, Option, Some, None, Bool, true, false}
 use Rattle.std.specs.List.{list_all}
-use Rattle.ring_model.specs.Limits.{machine_limit, value_limit, seat_limit}
+use Rattle.ring_model.specs.Limits.{seat_limit}
 use Rattle.ring_model.specs.declared.events.Op.{Op}
 use Rattle.ring_model.specs.declared.events.Op.TheVariants.{Pass, Corrupt}
 use Rattle.ring_model.specs.declared.events.Reply.{Reply}
@@ -17,6 +17,7 @@ use Rattle.ring_text.specs.declared.saved.SavedEvent.TheVariants as saved
 use Rattle.ring_text.specs.declared.saved.SavedSurvey.{SavedSurvey}
 use Rattle.ring_check.specs.declared.answers.Kind.{Kind}
 use Rattle.ring_check.specs.declared.answers.Kind.TheVariants.{Parameter, Range, Reply as ReplyKind, Count, Survey as SurveyKind}
+use Rattle.ring_check.specs.Limits.{machine_limit_of, value_limit_of}
 use Rattle.ring_check.specs.Lines.{Line, RingLine, StartLine, EventLine, EndLine, SurveyLine, DoneLine}
 
 -- the ring's event that an event line tells of
@@ -31,6 +32,8 @@ first_state ring = opening ring 0
 
 -- What the lines before a line say.
 pub record Before : Type 0 where
+  -- the version of the text
+  pub version : ℕ
   -- how many lines they are, the first line of the text too
   pub line : ℕ
   -- how many of them are ring lines
@@ -44,13 +47,13 @@ pub record Before : Type 0 where
   pub seat : ℕ
   pub position : ℕ
 
--- behind the first line of the text
-abbrev pub nothing : Before
-nothing = record { line = 1; rings = 0; n = 0; k = 0; start = []; events = []; seat = 0; position = 0 }
+-- behind the first line of a text, which says this version
+abbrev pub nothing : ℕ → Before
+nothing version = record { version = version; line = 1; rings = 0; n = 0; k = 0; start = []; events = []; seat = 0; position = 0 }
 
 -- with one line more
 abbrev pub after_line : Before → Line → Before
-after_line b (RingLine index n k) = record { line = b.line + 1; rings = b.rings + 1; n = n; k = k; start = []; events = []; seat = 0; position = 0 }
+after_line b (RingLine index n k) = record { version = b.version; line = b.line + 1; rings = b.rings + 1; n = n; k = k; start = []; events = []; seat = 0; position = 0 }
 after_line b (StartLine s) = record b { line = b.line + 1; start = s }
 after_line b (EventLine e) = record b { line = b.line + 1; events = b.events ++ event_of e ∷ [] }
 after_line b (EndLine said) = record b { line = b.line + 1 }
@@ -62,9 +65,9 @@ abbrev pub after_lines : Before → List Line → Before
 after_lines b [] = b
 after_lines b (l ∷ ls) = after_lines (after_line b l) ls
 
--- a ring may have n machines and K values: 2 machines or more, as many values or more, and neither past its limit
-abbrev pub are_parameters : ℕ → ℕ → Bool
-are_parameters n k = nat_le 2 n && (nat_le n machine_limit && (nat_le n k && nat_le k value_limit))
+-- a ring in a text of this version may have n machines and K values: 2 machines or more, as many values or more, and neither past its limit
+abbrev pub are_parameters : ℕ → ℕ → ℕ → Bool
+are_parameters version n k = nat_le 2 n && (nat_le n (machine_limit_of version) && (nat_le n k && nat_le k (value_limit_of version)))
 
 -- the one-thread ring's state after the events of the block so far
 abbrev pub now : Before → State ℕ
@@ -108,7 +111,7 @@ is_surveyed b s = nat_le s.position (length b.events) && same_survey s (survey_a
 
 -- the table: what is wrong with a line; where two things are, the kind with the lower number
 abbrev pub fault : Before → Line → Option Kind
-fault b (RingLine index n k) = cond (are_parameters n k) (cond (index == b.rings) None (Some Count)) (Some Parameter)
+fault b (RingLine index n k) = cond (are_parameters b.version n k) (cond (index == b.rings) None (Some Count)) (Some Parameter)
 fault b (StartLine s) = cond (list_all (λ v. nat_lt v b.k) s) None (Some Range)
 fault b (EventLine e) = event_fault b.n (now b) (event_of e)
 fault b (EndLine said) = cond (said == length b.events) None (Some Count)

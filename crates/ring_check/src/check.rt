@@ -15,12 +15,14 @@ use std::alloc::Global;
 /// Checks a saved text: whether each of its rings has one legal history from its start, on one thread over a till
 /// with the amount 0, whether each survey is that ring's at its place, and whether each count is right.
 ///
+/// How large a ring may be goes by the version of the text.
+///
 /// Answers the sums of a legal text. Of another it answers the first bad line, counted from 1 with the first line
 /// of the text, and the first thing in the order of [`Kind`] that is wrong with it.
 /// Memory can run out, and the text is then neither.
 ///
 /// It takes time in proportion to the length of the text, but for the surveys: each ring is replayed for them at most
-/// ten times more, and each place that a survey names costs a few passes over the machines and the values.
+/// ten times more, and each place that a survey names costs a few passes over the machines.
 ///
 /// That the text has fewer than 2 to the power 64 lines holds of each that was read ([`lines_law`](crate::lines_law)).
 pub fn check_saved(alloc: Global, saved: &Saved) -> Result<Summary, CheckError>
@@ -28,7 +30,7 @@ pub fn check_saved(alloc: Global, saved: &Saved) -> Result<Summary, CheckError>
     ensures right { IsRightCheck (content saved.now) result }
     ensures meaning { IfOk result (λ sums. IsRightText (content saved.now)) }
 {
-    let line = check_rings(alloc, &saved.rings)?;
+    let line = check_rings(alloc, saved.version, &saved.rings)?;
     if saved.rings_said as usize != saved.rings.len() {
         return Err(CheckError::Bad {
             line: line + 1,

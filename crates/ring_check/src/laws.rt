@@ -1,6 +1,6 @@
 //! Laws of the definitions that `check_saved` is told by: functions with an empty body, whose contract is the law.
 
-ghost use Rattle.ring_check.specs.Legal.{AtMostOneIsRight};
+ghost use Rattle.ring_check.specs.Legal.{AtMostOneIsRight, UpgradeIsLegal};
 ghost use Rattle.ring_check.specs.Lines.{LinesAreFew, LinesOfMemoryAreFew};
 ghost use Rattle.ring_check.specs.Meaning.{LegalMeans};
 ghost use Rattle.ring_check.specs.Written.{WrittenIsLegal, WrittenIsRight, OutcomeIsLegal, OutcomeIsRight};
@@ -15,6 +15,11 @@ pub fn legal_law()
 /// and a bad line exactly where that line is the first bad one.
 pub fn answers_are_apart()
     ensures { AtMostOneIsRight }
+{}
+
+/// Where a text is legal its upgrade is legal too, with the same sums: the latest version allows whatever an earlier one does.
+pub fn upgrade_law()
+    ensures { UpgradeIsLegal }
 {}
 
 /// A text has no more lines than bytes. So what was read of bytes in memory has fewer than 2 to the power 64 lines, as

@@ -9,16 +9,16 @@ ghost use Rattle.ring_check.specs.Scan.{first_fault, Finds};
 
 use crate::answers::{CheckError, Kind};
 use crate::events::check_events;
+use crate::limits::{machine_limit_of, value_limit_of};
 use crate::surveys::check_surveys;
-use ring_model::limits::{MACHINE_LIMIT, VALUE_LIMIT};
 use ring_text::SavedRing;
 use std::alloc::Global;
 
-/// Whether a ring may have n machines and K values.
-fn are_parameters(n: u32, k: u32) -> bool
-    ensures { result ≡ are_parameters n k }
+/// Whether a ring in a text of this version may have n machines and K values.
+fn are_parameters(version: u32, n: u32, k: u32) -> bool
+    ensures { result ≡ are_parameters version n k }
 {
-    2 <= n && n <= MACHINE_LIMIT && n <= k && k <= VALUE_LIMIT
+    2 <= n && n <= machine_limit_of(version) && n <= k && k <= value_limit_of(version)
 }
 
 /// Whether each value is below the limit.
@@ -28,12 +28,19 @@ fn all_below(values: &[u32], limit: u32) -> bool
     values.iter().all(|value| *value < limit)
 }
 
-/// Finds the first line of a block with a fault; `place` blocks and `line` lines stand before it.
-fn check_ring(alloc: Global, ring: &SavedRing, place: usize, line: u64) -> Result<(), CheckError>
+/// Finds the first line of a block with a fault, in a text of this version; `place` blocks and `line` lines stand
+/// before it.
+fn check_ring(
+    alloc: Global,
+    version: u32,
+    ring: &SavedRing,
+    place: usize,
+    line: u64,
+) -> Result<(), CheckError>
     requires room { line + length ring.now.events.items + length ring.now.surveys.items + 4 < 2 ^ 64 }
-    ensures { (b : Before) → b.line ≡ line → b.rings ≡ place → Finds (first_fault b (block_lines (block_of ring.now))) result }
+    ensures { (b : Before) → b.version ≡ version → b.line ≡ line → b.rings ≡ place → Finds (first_fault b (block_lines (block_of ring.now))) result }
 {
-    if !are_parameters(ring.n, ring.k) {
+    if !are_parameters(version, ring.n, ring.k) {
         return Err(CheckError::Bad {
             line: line + 1,
             kind: Kind::Parameter,
@@ -62,15 +69,20 @@ fn check_ring(alloc: Global, ring: &SavedRing, place: usize, line: u64) -> Resul
     check_surveys(alloc, ring.k, &ring.start, &ring.events, &ring.surveys, end)
 }
 
-/// Finds the first line of the blocks with a fault, and answers else how many lines there are so far.
-pub(crate) fn check_rings(alloc: Global, rings: &[SavedRing]) -> Result<u64, CheckError>
+/// Finds the first line of the blocks with a fault, in a text of this version, and answers else how many lines there
+/// are so far.
+pub(crate) fn check_rings(
+    alloc: Global,
+    version: u32,
+    rings: &[SavedRing],
+) -> Result<u64, CheckError>
     requires room { length (flat_map block_lines (map block_of rings.now)) + 2 < 2 ^ 64 }
-    ensures finds { Finds (first_fault nothing (flat_map block_lines (map block_of rings.now))) result }
+    ensures finds { Finds (first_fault (nothing version) (flat_map block_lines (map block_of rings.now))) result }
     ensures lines { IfOk result (λ line. line ≡ length (flat_map block_lines (map block_of rings.now)) + 1) }
 {
     let mut line: u64 = 1;
     for (i, ring) in rings.iter().enumerate() {
-        check_ring(alloc, ring, i, line)?;
+        check_ring(alloc, version, ring, i, line)?;
         line += 3 + ring.events.len() as u64 + ring.surveys.len() as u64;
     }
     Ok(line)

@@ -1,6 +1,6 @@
 //! The sums of a text.
 
-ghost use Rattle.std.specs.Prelude.{◌≡◌, ◌+◌, ◌<◌, ◌^◌, length, map};
+ghost use Rattle.std.specs.Prelude.{◌≡◌, ℕ, ◌+◌, ◌<◌, ◌^◌, length, map};
 ghost use Rattle.std.specs.List.{flat_map};
 ghost use Rattle.ring_model.specs.Surveys.{granted_count, corrupted_count};
 ghost use Rattle.ring_text.specs.Content.{block_of};
@@ -38,7 +38,7 @@ fn count_events(events: &[SavedEvent]) -> Tally
 pub(crate) fn sums_of(rings: &[SavedRing], count: u32) -> Summary
     requires count { count ≡ length rings.now }
     requires room { length (flat_map block_lines (map block_of rings.now)) < 2 ^ 64 }
-    ensures { result ≡ summary_of (record { rings = map block_of rings.now; rings_said = count }) }
+    ensures { (version : ℕ) → result ≡ summary_of (record { version = version; rings = map block_of rings.now; rings_said = count }) }
 {
     let mut sums = Summary {
         rings: count,

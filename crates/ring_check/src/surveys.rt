@@ -95,7 +95,7 @@ pub(crate) fn check_surveys(
     requires small { k ≤ value_limit }
     requires legal { IsLegal till (first_state (ring_with k start.now)) (map event_of events.now) }
     requires room { (length events.now + 1 < 2 ^ 64) × (line + length surveys.now + 1 < 2 ^ 64) }
-    ensures { (rings : ℕ) → Finds (first_fault (in_block line rings (length start.now) k start.now (map event_of events.now)) (map SurveyLine surveys.now)) result }
+    ensures { (version rings : ℕ) → Finds (first_fault (in_block version line rings (length start.now) k start.now (map event_of events.now)) (map SurveyLine surveys.now)) result }
 {
     if surveys.is_empty() {
         return Ok(());

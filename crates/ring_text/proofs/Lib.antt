@@ -7,3 +7,4 @@ pub mod TextParts
 pub mod Sums
 pub mod BookEnds
 pub mod RingLines
+pub mod ValueParts

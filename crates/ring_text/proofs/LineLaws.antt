@@ -1,5 +1,6 @@
 -- The lines are read just as they are spelled.
-use Rattle.std.proofs.Common.{◌≡◌, ◌≢◌, ℕ, ◌^◌, ◌<◌, List, [], ◌∷◌, ◌++◌, length, Option, Some, None, refl, sym, ◌⊎◌, inl, inr, arith}
+use Rattle.std.proofs.Common.{◌≡◌, ◌≢◌, ℕ, zero, suc, ◌^◌, ◌<◌, List, [], ◌∷◌, ◌++◌, length, Option, Some, None, refl, sym, ◌∙◌, ap, ◌⊎◌, inl, inr, arith}
+use Rattle.std.proofs.lemmas.Fmt.{decimal_digit}
 use Rattle.std.specs.Prelude.{codes}
 use Rattle.text_lines.specs.Reading.{Reader, Either, this, that, as_at, branch}
 use Rattle.text_lines.specs.Spelling.{spaced, ended, Below, OfEither, of_either}
@@ -12,8 +13,9 @@ use Rattle.ring_text.specs.declared.saved.SavedEvent.{SavedEvent}
 use Rattle.ring_text.specs.declared.saved.SavedEvent.TheVariants.{Granted, Refused, Corrupted}
 use Rattle.ring_text.specs.declared.saved.SavedSurvey.{SavedSurvey}
 use Rattle.ring_text.specs.declared.saved.Head.{Head}
+use Rattle.ring_text.specs.Versions.{first_version, latest_version, IsVersion}
 use Rattle.ring_text.specs.Spelling.{head_line, event_line, end_line, survey_line, done_line, EventFits, SurveyFits, HeadFits}
-use Rattle.ring_text.specs.Lines.{small, last_small, large, last_large, grant_branch, refusal_branch, reply_at, pass_of, pass_at, pass_branch, corruption_of, corruption_at, corruption_branch, end_at, end_branch, event_or_end_at, events_at, head_from, head_at, head_branch, done_at, done_branch, survey_of, survey_at, Follow, survey_branch, survey_or_next_at, surveys_at}
+use Rattle.ring_text.specs.Lines.{first_branch, latest_branch, version_at, small, last_small, large, last_large, grant_branch, refusal_branch, reply_at, pass_of, pass_at, pass_branch, corruption_of, corruption_at, corruption_branch, end_at, end_branch, event_or_end_at, events_at, head_from, head_at, head_branch, done_at, done_branch, survey_of, survey_at, Follow, survey_branch, survey_or_next_at, surveys_at}
 
 abbrev Small : ℕ → Type 0
 Small = Below (2 ^ 32)
@@ -32,6 +34,50 @@ large_reads = number_reads (2 ^ 64) 32 (omega arith) (omega arith) (omega arith)
 
 last_large_reads : Reads Large ended last_large
 last_large_reads = number_reads (2 ^ 64) 10 (omega arith) (omega arith) (omega arith)
+
+-- ---- the version
+
+first_spelled : ended first_version ≡ codes "1\n"
+first_spelled = ap (λ (u : List ℕ). u ++ 10 ∷ []) (decimal_digit 1 (omega arith))
+
+latest_spelled : ended latest_version ≡ codes "2\n"
+latest_spelled = ap (λ (u : List ℕ). u ++ 10 ∷ []) (decimal_digit 2 (omega arith))
+
+first_apart : StartsWith 50 (ended first_version) → ⊥
+first_apart s = starts_otherwise 49 50 (10 ∷ []) (λ e. omega arith) (s.0, sym first_spelled ∙ s.1)
+
+latest_apart : StartsWith 49 (ended latest_version) → ⊥
+latest_apart s = starts_otherwise 50 49 (10 ∷ []) (λ e. omega arith) (s.0, sym latest_spelled ∙ s.1)
+
+first_reads : ReadsBranch IsVersion ended first_branch
+first_reads = as_reads (λ a. IsVersion a × StartsWith 49 (ended a)) ended (λ u. first_version) (λ b. tt) (after_reads (codes "1\n") nothing_reads)
+    (λ u f. ((omega arith, omega arith), (10 ∷ [], first_spelled))) (λ b f. tt) same (λ u f. first_spelled)
+  where
+    same : (b : ℕ) → IsVersion b × StartsWith 49 (ended b) → first_version ≡ b
+    same zero f = absurd (let low = f.0.0 in omega arith)
+    same (suc zero) f = refl
+    same (suc (suc zero)) f = absurd (latest_apart f.1)
+    same (suc (suc (suc b))) f = absurd (let high = f.0.1 in omega arith)
+
+latest_reads : ReadsBranch IsVersion ended latest_branch
+latest_reads = as_reads (λ a. IsVersion a × StartsWith 50 (ended a)) ended (λ u. latest_version) (λ b. tt) (after_reads (codes "2\n") nothing_reads)
+    (λ u f. ((omega arith, omega arith), (10 ∷ [], latest_spelled))) (λ b f. tt) same (λ u f. latest_spelled)
+  where
+    same : (b : ℕ) → IsVersion b × StartsWith 50 (ended b) → latest_version ≡ b
+    same zero f = absurd (let low = f.0.0 in omega arith)
+    same (suc zero) f = absurd (first_apart f.1)
+    same (suc (suc zero)) f = refl
+    same (suc (suc (suc b))) f = absurd (let high = f.0.1 in omega arith)
+
+pub version_reads : Reads IsVersion ended version_at
+unfolding version_at
+version_reads = choice_reads IsVersion ended first_branch (latest_branch ∷ []) (first_reads, (latest_reads, tt)) (((λ e. omega arith), tt), (tt, tt)) kinds
+  where
+    kinds : (b : ℕ) → IsVersion b → StartsWith 49 (ended b) ⊎ (StartsWith 50 (ended b) ⊎ ⊥)
+    kinds zero f = absurd (let low = f.0 in omega arith)
+    kinds (suc zero) f = inl (10 ∷ [], first_spelled)
+    kinds (suc (suc zero)) f = inr (inl (10 ∷ [], latest_spelled))
+    kinds (suc (suc (suc b))) f = absurd (let high = f.1 in omega arith)
 
 -- ---- a pass
 
@@ -78,10 +124,10 @@ reply_reads = choice_reads ReplyFits reply_text grant_branch (refusal_branch ∷
     kinds (Some p) f = inl (_, refl)
     kinds None f = inr (inl (_, refl))
 
-abbrev PassFits : SavedEvent → Type 0
-PassFits (Granted seat machine order number answer) = EventFits (Granted seat machine order number answer)
-PassFits (Refused seat machine order) = EventFits (Refused seat machine order)
-PassFits (Corrupted seat machine value old) = ⊥
+abbrev PassFits : ℕ → SavedEvent → Type 0
+PassFits version (Granted seat machine order number answer) = EventFits version (Granted seat machine order number answer)
+PassFits version (Refused seat machine order) = EventFits version (Refused seat machine order)
+PassFits version (Corrupted seat machine value old) = ⊥
 
 abbrev Pass : Type 0
 Pass = ℕ × (ℕ × (ℕ × Option (ℕ × ℕ)))
@@ -97,20 +143,20 @@ PassParts p = Small p.0 × (Small p.1.0 × (Large p.1.1.0 × ReplyFits p.1.1.1))
 abbrev pass_parts : Pass → List ℕ
 pass_parts p = codes "p " ++ (spaced p.0 ++ (spaced p.1.0 ++ (spaced p.1.1.0 ++ reply_text p.1.1.1)))
 
-pass_reads : Reads PassFits event_line pass_at
+pass_reads : (version : ℕ) → Reads (PassFits version) event_line pass_at
 unfolding pass_at
-pass_reads = as_reads PassFits event_line pass_of pass_back (after_reads (codes "p ") (both_reads small_reads (both_reads small_reads (both_reads large_reads reply_reads)))) fits_to fits_back same spelled
+pass_reads version = as_reads (PassFits version) event_line pass_of pass_back (after_reads (codes "p ") (both_reads small_reads (both_reads small_reads (both_reads large_reads reply_reads)))) fits_to fits_back same spelled
   where
-    fits_to : (a : Pass) → PassParts a → PassFits (pass_of a)
+    fits_to : (a : Pass) → PassParts a → PassFits version (pass_of a)
     fits_to (s, (m, (o, Some (n, r)))) f = (f.0, f.1.0, f.1.1.0, f.1.1.1.0, f.1.1.1.1)
     fits_to (s, (m, (o, None))) f = (f.0, f.1.0, f.1.1.0)
 
-    fits_back : (b : SavedEvent) → PassFits b → PassParts (pass_back b)
+    fits_back : (b : SavedEvent) → PassFits version b → PassParts (pass_back b)
     fits_back (Granted s m o n r) f = (f.0, (f.1, (f.2, (f.3, f.4))))
     fits_back (Refused s m o) f = (f.0, (f.1, (f.2, tt)))
     fits_back (Corrupted s m v o) f = absurd f
 
-    same : (b : SavedEvent) → PassFits b → pass_of (pass_back b) ≡ b
+    same : (b : SavedEvent) → PassFits version b → pass_of (pass_back b) ≡ b
     same (Granted s m o n r) f = refl
     same (Refused s m o) f = refl
     same (Corrupted s m v o) f = absurd f
@@ -121,27 +167,27 @@ pass_reads = as_reads PassFits event_line pass_of pass_back (after_reads (codes 
 
 -- ---- a corruption
 
-abbrev CorruptionFits : SavedEvent → Type 0
-CorruptionFits (Granted seat machine order number answer) = ⊥
-CorruptionFits (Refused seat machine order) = ⊥
-CorruptionFits (Corrupted seat machine value old) = EventFits (Corrupted seat machine value old)
+abbrev CorruptionFits : ℕ → SavedEvent → Type 0
+CorruptionFits version (Granted seat machine order number answer) = ⊥
+CorruptionFits version (Refused seat machine order) = ⊥
+CorruptionFits version (Corrupted seat machine value old) = EventFits version (Corrupted seat machine value old)
 
 abbrev corruption_back : SavedEvent → ℕ × (ℕ × (ℕ × ℕ))
 corruption_back (Granted seat machine order number answer) = (0, (0, (0, 0)))
 corruption_back (Refused seat machine order) = (0, (0, (0, 0)))
 corruption_back (Corrupted seat machine value old) = (seat, (machine, (value, old)))
 
-corruption_reads : Reads CorruptionFits event_line corruption_at
+corruption_reads : (version : ℕ) → Reads (CorruptionFits version) event_line corruption_at
 unfolding corruption_at
-corruption_reads = as_reads CorruptionFits event_line corruption_of corruption_back (after_reads (codes "c ") (both_reads small_reads (both_reads small_reads (both_reads small_reads last_small_reads))))
+corruption_reads version = as_reads (CorruptionFits version) event_line corruption_of corruption_back (after_reads (codes "c ") (both_reads small_reads (both_reads small_reads (both_reads small_reads last_small_reads))))
     (λ a f. (f.0, f.1.0, f.1.1.0, f.1.1.1)) fits_back same (λ a f. refl)
   where
-    fits_back : (b : SavedEvent) → CorruptionFits b → (λ (p : ℕ × (ℕ × (ℕ × ℕ))). Small p.0 × (Small p.1.0 × (Small p.1.1.0 × Small p.1.1.1))) (corruption_back b)
+    fits_back : (b : SavedEvent) → CorruptionFits version b → (λ (p : ℕ × (ℕ × (ℕ × ℕ))). Small p.0 × (Small p.1.0 × (Small p.1.1.0 × Small p.1.1.1))) (corruption_back b)
     fits_back (Granted s m o n r) f = absurd f
     fits_back (Refused s m o) f = absurd f
     fits_back (Corrupted s m v o) f = (f.0, (f.1, (f.2, f.3)))
 
-    same : (b : SavedEvent) → CorruptionFits b → corruption_of (corruption_back b) ≡ b
+    same : (b : SavedEvent) → CorruptionFits version b → corruption_of (corruption_back b) ≡ b
     same (Granted s m o n r) f = absurd f
     same (Refused s m o) f = absurd f
     same (Corrupted s m v o) f = refl
@@ -158,48 +204,48 @@ Item = Either SavedEvent ℕ
 abbrev pub item_line : Item → List ℕ
 item_line = of_either event_line end_line
 
-abbrev pub ItemFits : Item → Type 0
-ItemFits = OfEither EventFits Large
+abbrev pub ItemFits : ℕ → Item → Type 0
+ItemFits version = OfEither (EventFits version) Large
 
 abbrev event_back : Item → SavedEvent
 event_back (this e) = e
 event_back (that n) = Refused 0 0 0
 
 -- a kind of event, by its byte
-event_branch_reads : (F : SavedEvent → Type 0) (at : Reader SavedEvent) (c : ℕ) → c ≢ 101 → ((e : SavedEvent) → F e → EventFits e × StartsWith c (event_line e))
-    → ((e : SavedEvent) → EventFits e × StartsWith c (event_line e) → F e) → Reads F event_line at → ReadsBranch ItemFits item_line (branch c (as_at this at))
-event_branch_reads F at c no_end to back reads = as_reads (λ a. ItemFits a × StartsWith c (item_line a)) item_line this event_back reads to fits_back same (λ a f. refl)
+event_branch_reads : (version : ℕ) (F : SavedEvent → Type 0) (at : Reader SavedEvent) (c : ℕ) → c ≢ 101 → ((e : SavedEvent) → F e → EventFits version e × StartsWith c (event_line e))
+    → ((e : SavedEvent) → EventFits version e × StartsWith c (event_line e) → F e) → Reads F event_line at → ReadsBranch (ItemFits version) item_line (branch c (as_at this at))
+event_branch_reads version F at c no_end to back reads = as_reads (λ a. ItemFits version a × StartsWith c (item_line a)) item_line this event_back reads to fits_back same (λ a f. refl)
   where
-    fits_back : (b : Item) → ItemFits b × StartsWith c (item_line b) → F (event_back b)
+    fits_back : (b : Item) → ItemFits version b × StartsWith c (item_line b) → F (event_back b)
     fits_back (this e) f = back e f
     fits_back (that n) f = absurd (starts_otherwise 101 c _ (λ e. no_end (sym e)) f.1)
 
-    same : (b : Item) → ItemFits b × StartsWith c (item_line b) → this (event_back b) ≡ b
+    same : (b : Item) → ItemFits version b × StartsWith c (item_line b) → this (event_back b) ≡ b
     same (this e) f = refl
     same (that n) f = absurd (starts_otherwise 101 c _ (λ e. no_end (sym e)) f.1)
 
-pass_branch_reads : ReadsBranch ItemFits item_line pass_branch
-pass_branch_reads = event_branch_reads PassFits pass_at 112 (λ e. omega arith) to back pass_reads
+pass_branch_reads : (version : ℕ) → ReadsBranch (ItemFits version) item_line pass_branch
+pass_branch_reads version = event_branch_reads version (PassFits version) pass_at 112 (λ e. omega arith) to back (pass_reads version)
   where
-    to : (e : SavedEvent) → PassFits e → EventFits e × StartsWith 112 (event_line e)
+    to : (e : SavedEvent) → PassFits version e → EventFits version e × StartsWith 112 (event_line e)
     to (Granted s m o n r) f = (f, (_, refl))
     to (Refused s m o) f = (f, (_, refl))
     to (Corrupted s m v o) f = absurd f
 
-    back : (e : SavedEvent) → EventFits e × StartsWith 112 (event_line e) → PassFits e
+    back : (e : SavedEvent) → EventFits version e × StartsWith 112 (event_line e) → PassFits version e
     back (Granted s m o n r) f = f.0
     back (Refused s m o) f = f.0
     back (Corrupted s m v o) f = absurd (starts_otherwise 99 112 _ (λ e. omega arith) f.1)
 
-corruption_branch_reads : ReadsBranch ItemFits item_line corruption_branch
-corruption_branch_reads = event_branch_reads CorruptionFits corruption_at 99 (λ e. omega arith) to back corruption_reads
+corruption_branch_reads : (version : ℕ) → ReadsBranch (ItemFits version) item_line corruption_branch
+corruption_branch_reads version = event_branch_reads version (CorruptionFits version) corruption_at 99 (λ e. omega arith) to back (corruption_reads version)
   where
-    to : (e : SavedEvent) → CorruptionFits e → EventFits e × StartsWith 99 (event_line e)
+    to : (e : SavedEvent) → CorruptionFits version e → EventFits version e × StartsWith 99 (event_line e)
     to (Granted s m o n r) f = absurd f
     to (Refused s m o) f = absurd f
     to (Corrupted s m v o) f = (f, (_, refl))
 
-    back : (e : SavedEvent) → EventFits e × StartsWith 99 (event_line e) → CorruptionFits e
+    back : (e : SavedEvent) → EventFits version e × StartsWith 99 (event_line e) → CorruptionFits version e
     back (Granted s m o n r) f = absurd (starts_otherwise 112 99 _ (λ e. omega arith) f.1)
     back (Refused s m o) f = absurd (starts_otherwise 112 99 _ (λ e. omega arith) f.1)
     back (Corrupted s m v o) f = f.0
@@ -213,41 +259,41 @@ no_event (Granted s m o n r) b = starts_otherwise 112 101 _ (λ e. omega arith) 
 no_event (Refused s m o) b = starts_otherwise 112 101 _ (λ e. omega arith) b
 no_event (Corrupted s m v o) b = starts_otherwise 99 101 _ (λ e. omega arith) b
 
-end_branch_reads : ReadsBranch ItemFits item_line end_branch
-end_branch_reads = as_reads (λ a. ItemFits a × StartsWith 101 (item_line a)) item_line that end_back end_reads (λ n f. (f, (_, refl))) back same (λ n f. refl)
+end_branch_reads : (version : ℕ) → ReadsBranch (ItemFits version) item_line end_branch
+end_branch_reads version = as_reads (λ a. ItemFits version a × StartsWith 101 (item_line a)) item_line that end_back end_reads (λ n f. (f, (_, refl))) back same (λ n f. refl)
   where
-    back : (b : Item) → ItemFits b × StartsWith 101 (item_line b) → Large (end_back b)
+    back : (b : Item) → ItemFits version b × StartsWith 101 (item_line b) → Large (end_back b)
     back (this e) f = absurd (no_event e f.1)
     back (that n) f = f.0
 
-    same : (b : Item) → ItemFits b × StartsWith 101 (item_line b) → that (end_back b) ≡ b
+    same : (b : Item) → ItemFits version b × StartsWith 101 (item_line b) → that (end_back b) ≡ b
     same (this e) f = absurd (no_event e f.1)
     same (that n) f = refl
 
-pub item_reads : Reads ItemFits item_line event_or_end_at
+pub item_reads : (version : ℕ) → Reads (ItemFits version) item_line (event_or_end_at version)
 unfolding event_or_end_at
-item_reads = choice_reads ItemFits item_line pass_branch (corruption_branch ∷ end_branch ∷ []) (pass_branch_reads, (corruption_branch_reads, (end_branch_reads, tt))) (((λ e. omega arith), ((λ e. omega arith), tt)), (((λ e. omega arith), tt), (tt, tt))) kinds
+item_reads version = choice_reads (ItemFits version) item_line pass_branch (corruption_branch ∷ end_branch ∷ []) (pass_branch_reads version, (corruption_branch_reads version, (end_branch_reads version, tt))) (((λ e. omega arith), ((λ e. omega arith), tt)), (((λ e. omega arith), tt), (tt, tt))) kinds
   where
-    kinds : (a : Item) → ItemFits a → StartsWith 112 (item_line a) ⊎ (StartsWith 99 (item_line a) ⊎ (StartsWith 101 (item_line a) ⊎ ⊥))
+    kinds : (a : Item) → ItemFits version a → StartsWith 112 (item_line a) ⊎ (StartsWith 99 (item_line a) ⊎ (StartsWith 101 (item_line a) ⊎ ⊥))
     kinds (this (Granted s m o n r)) f = inl (_, refl)
     kinds (this (Refused s m o)) f = inl (_, refl)
     kinds (this (Corrupted s m v o)) f = inr (inl (_, refl))
     kinds (that n) f = inr (inr (inl (_, refl)))
 
-event_long : (st : Unit {0}) (a : SavedEvent) → EventFits a → 0 < length (event_line a)
-event_long st (Granted s m o n r) f = omega arith
-event_long st (Refused s m o) f = omega arith
-event_long st (Corrupted s m v o) f = omega arith
+event_long : (version : ℕ) (st : Unit {0}) (a : SavedEvent) → EventFits version a → 0 < length (event_line a)
+event_long version st (Granted s m o n r) f = omega arith
+event_long version st (Refused s m o) f = omega arith
+event_long version st (Corrupted s m v o) f = omega arith
 
-pub events_repeat : Repeats {S = Unit {0}} Always (λ _. EventFits) event_line (λ _. Large) end_line (λ _. event_or_end_at) (λ _. tt)
-events_repeat = record { reads = λ st v. item_reads; keeps = λ st a f. tt; some = event_long; final = λ st v. (0, omega arith) }
+pub events_repeat : (version : ℕ) → Repeats {S = Unit {0}} Always (λ _. EventFits version) event_line (λ _. Large) end_line (λ _. event_or_end_at version) (λ _. tt)
+events_repeat version = record { reads = λ st v. item_reads version; keeps = λ st a f. tt; some = event_long version; final = λ st v. (0, omega arith) }
 
-abbrev pub EventsFit : List SavedEvent × ℕ → Type 0
-EventsFit p = RunFits {S = Unit {0}} (λ _. EventFits) (λ _. Large) (λ _. tt) tt p.0 p.1
+abbrev pub EventsFit : ℕ → List SavedEvent × ℕ → Type 0
+EventsFit version p = RunFits {S = Unit {0}} (λ _. EventFits version) (λ _. Large) (λ _. tt) tt p.0 p.1
 
-pub events_reads : Reads EventsFit (many event_line end_line) events_at
+pub events_reads : (version : ℕ) → Reads (EventsFit version) (many event_line end_line) (events_at version)
 unfolding events_at
-events_reads = many_reads events_repeat tt tt
+events_reads version = many_reads (events_repeat version) tt tt
 
 -- ---- a ring's first line, the last line, and surveys
 

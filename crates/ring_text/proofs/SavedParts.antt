@@ -9,6 +9,7 @@ use Rattle.ring_model.specs.declared.events.Entry.TheVariants as entry
 use Rattle.ring_shared.specs.declared.seats.Log.{Log}
 use Rattle.ring_farm.specs.declared.outcomes.RingOutcome.{RingOutcome}
 use Rattle.ring_text.specs.declared.saved.SavedSurvey.{SavedSurvey}
+use Rattle.ring_text.specs.Versions.{latest_version}
 use Rattle.ring_text.specs.Spelling.{event_line, survey_line, block_text, EventFits, SurveyFits, BlockFits}
 use Rattle.ring_text.specs.SavedOf.{saved_event, saved_survey, entry_surveys, log_surveys, block_at, blocks_from}
 use Rattle.ring_text.proofs.Passing.{Spelled}
@@ -28,13 +29,13 @@ abbrev pub events_text : ℕ → List Event → List ℕ
 events_text i es = flat_map event_line (map saved_event es)
 
 abbrev pub EventsFit : ℕ → List Event → Type 0
-EventsFit i es = AllByRecursion EventFits (map saved_event es)
+EventsFit i es = AllByRecursion (EventFits latest_version) (map saved_event es)
 
 abbrev pub event_text : ℕ → Event → List ℕ
 event_text i e = event_line (saved_event e)
 
 abbrev pub EventFit : ℕ → Event → Type 0
-EventFit i e = EventFits (saved_event e)
+EventFit i e = EventFits latest_version (saved_event e)
 
 pub events_spelled : Spelled event_text events_text EventFit EventsFit
 events_spelled = record { none = λ i. refl; next = λ i x xs. refl; fits_none = λ i. tt; fits_next = λ i x xs f h. (f, h) }
@@ -96,13 +97,13 @@ abbrev pub blocks_text : ℕ → List RingOutcome → List ℕ
 blocks_text i rs = flat_map block_text (blocks_from i rs)
 
 abbrev pub BlocksFit : ℕ → List RingOutcome → Type 0
-BlocksFit i rs = AllByRecursion BlockFits (blocks_from i rs)
+BlocksFit i rs = AllByRecursion (BlockFits latest_version) (blocks_from i rs)
 
 abbrev pub ring_text : ℕ → RingOutcome → List ℕ
 ring_text i r = block_text (block_at i r)
 
 abbrev pub RingFit : ℕ → RingOutcome → Type 0
-RingFit i r = BlockFits (block_at i r)
+RingFit i r = BlockFits latest_version (block_at i r)
 
 pub blocks_spelled : Spelled ring_text blocks_text RingFit BlocksFit
 blocks_spelled = record { none = λ i. refl; next = λ i x xs. refl; fits_none = λ i. tt; fits_next = λ i x xs f h. (f, h) }

@@ -5,36 +5,37 @@ use Rattle.std.specs.List.{flat_map, AllByRecursion}
 use Rattle.std.proofs.lemmas.List.{append-nil, length-replicate}
 use Rattle.text_lines.specs.declared.fault.Fault.{Fault}
 use Rattle.text_lines.specs.Reading.{Reader, ◌>>=◌, Either, this, that, then_at, as_at}
-use Rattle.text_lines.specs.Spelling.{row, OfEither, of_either, RowFits}
+use Rattle.text_lines.specs.Spelling.{ended, row, OfEither, of_either, RowFits}
 use Rattle.text_lines.specs.Grammar.{Reads, RunFits, many, Repeats}
-use Rattle.text_lines.proofs.Sequences.{then_reads, both_reads, as_reads, after_reads, like_reads}
+use Rattle.text_lines.proofs.Sequences.{then_reads, both_reads, as_reads, after_reads, like_reads, said_reads}
 use Rattle.text_lines.proofs.Repetitions.{many_reads, each_fits, run_fits}
 use Rattle.text_lines.proofs.Rows.{row_reads}
 use Rattle.ring_text.specs.declared.saved.Head.{Head}
 use Rattle.ring_text.specs.Content.{Block, Content}
-use Rattle.ring_text.specs.Spelling.{first_line, head_line, event_line, end_line, survey_line, done_line, head_of, below_head, block_text, text, EventFits, SurveyFits, HeadFits, BlockFits, Fits}
-use Rattle.ring_text.specs.Lines.{head_at, Part, part_at, block_with, ring_from, ring_at, Rings, linked_rings_at, blocks, rings_at, content_with, body_at, text_at}
-use Rattle.ring_text.proofs.LineLaws.{Large, EventsFit, events_reads, head_reads, NextFits, next_line, SurveysFit, surveys_reads}
+use Rattle.ring_text.specs.Versions.{IsVersion}
+use Rattle.ring_text.specs.Spelling.{head_line, event_line, end_line, survey_line, done_line, head_of, below_head, block_text, text, EventFits, SurveyFits, HeadFits, BlockFits, Fits}
+use Rattle.ring_text.specs.Lines.{head_at, Part, part_at, block_with, ring_from, ring_at, Rings, linked_rings_at, blocks, Body, rings_at, body_at, version_at, content_with, text_at}
+use Rattle.ring_text.proofs.LineLaws.{version_reads, Large, EventsFit, events_reads, head_reads, NextFits, next_line, SurveysFit, surveys_reads}
 
 -- ---- a ring below its first line
 
-abbrev PartFits : ℕ → Part → Type 0
-PartFits n p = RowFits (2 ^ 32) n p.0 × (EventsFit p.1.0 × SurveysFit p.1.1)
+abbrev PartFits : ℕ → ℕ → Part → Type 0
+PartFits version n p = RowFits (2 ^ 32) n p.0 × (EventsFit version p.1.0 × SurveysFit p.1.1)
 
 abbrev part_text : Part → List ℕ
 part_text p = codes "start " ++ (row p.0 ++ (many event_line end_line p.1.0 ++ many survey_line next_line p.1.1))
 
-part_reads : (n : ℕ) → Reads (PartFits n) part_text (part_at n)
+part_reads : (version n : ℕ) → Reads (PartFits version n) part_text (part_at version n)
 unfolding part_at
-part_reads n = after_reads (codes "start ") (both_reads (row_reads (2 ^ 32) (omega arith) (omega arith) n) (both_reads events_reads surveys_reads))
+part_reads version n = after_reads (codes "start ") (both_reads (row_reads (2 ^ 32) (omega arith) (omega arith) n) (both_reads (events_reads version) surveys_reads))
 
 -- ---- with the line behind it
 
-abbrev pub Inner : Head → Block × Head → Type 0
-Inner h p = BlockFits p.0 × (head_of p.0 ≡ h) × HeadFits p.1
+abbrev pub Inner : ℕ → Head → Block × Head → Type 0
+Inner version h p = BlockFits version p.0 × (head_of p.0 ≡ h) × HeadFits p.1
 
-abbrev pub Last : Head → Block × ℕ → Type 0
-Last h p = BlockFits p.0 × (head_of p.0 ≡ h) × (p.1 < 2 ^ 32)
+abbrev pub Last : ℕ → Head → Block × ℕ → Type 0
+Last version h p = BlockFits version p.0 × (head_of p.0 ≡ h) × (p.1 < 2 ^ 32)
 
 abbrev pub inner_text : Block × Head → List ℕ
 inner_text p = below_head p.0 ++ head_line p.1
@@ -45,8 +46,8 @@ last_text p = below_head p.0 ++ done_line p.1
 abbrev Linked : Type 0
 Linked = Either (Block × Head) (Block × ℕ)
 
-abbrev LinkedFits : Head → Linked → Type 0
-LinkedFits h = OfEither (Inner h) (Last h)
+abbrev LinkedFits : ℕ → Head → Linked → Type 0
+LinkedFits version h = OfEither (Inner version h) (Last version h)
 
 abbrev linked_text : Linked → List ℕ
 linked_text = of_either inner_text last_text
@@ -55,34 +56,34 @@ abbrev ring_back : Linked → Part
 ring_back (this (b, g)) = (b.start, ((b.events, b.events_said), (b.surveys, this g)))
 ring_back (that (b, n)) = (b.start, ((b.events, b.events_said), (b.surveys, that n)))
 
-block_fits : (h : Head) (p : Part) → HeadFits h → PartFits h.n p → BlockFits (block_with h p.0 p.1.0.0 p.1.0.1 p.1.1.0)
-block_fits h p v f =
-    let e = each_fits EventFits Large p.1.0.0 p.1.0.1 f.1.0 in
+block_fits : (version : ℕ) (h : Head) (p : Part) → HeadFits h → PartFits version h.n p → BlockFits version (block_with h p.0 p.1.0.0 p.1.0.1 p.1.1.0)
+block_fits version h p v f =
+    let e = each_fits (EventFits version) Large p.1.0.0 p.1.0.1 f.1.0 in
     let s = each_fits SurveyFits NextFits p.1.1.0 p.1.1.1 f.1.1 in
     record { head = v; start = f.0.0; values = f.0.1; events = e.0; events_said = e.1; surveys = s.0 }
 
-ring_fits : (h : Head) → HeadFits h → (p : Part) → PartFits h.n p → LinkedFits h (ring_from h p)
-ring_fits h v (start, (es, (ss, this g))) f = (block_fits h (start, (es, (ss, this g))) v f, refl, (each_fits SurveyFits NextFits ss (this g) f.1.1).1)
-ring_fits h v (start, (es, (ss, that n))) f = (block_fits h (start, (es, (ss, that n))) v f, refl, (each_fits SurveyFits NextFits ss (that n) f.1.1).1)
+ring_fits : (version : ℕ) (h : Head) → HeadFits h → (p : Part) → PartFits version h.n p → LinkedFits version h (ring_from h p)
+ring_fits version h v (start, (es, (ss, this g))) f = (block_fits version h (start, (es, (ss, this g))) v f, refl, (each_fits SurveyFits NextFits ss (this g) f.1.1).1)
+ring_fits version h v (start, (es, (ss, that n))) f = (block_fits version h (start, (es, (ss, that n))) v f, refl, (each_fits SurveyFits NextFits ss (that n) f.1.1).1)
 
-ring_fits_back : (h : Head) (b : Linked) → LinkedFits h b → PartFits h.n (ring_back b)
-ring_fits_back h (this (b, g)) f = ((f.0.start ∙ ap (λ (x : Head). x.n) f.1, f.0.values), (run_fits EventFits Large b.events b.events_said f.0.events f.0.events_said, run_fits SurveyFits NextFits b.surveys (this g) f.0.surveys f.2))
-ring_fits_back h (that (b, n)) f = ((f.0.start ∙ ap (λ (x : Head). x.n) f.1, f.0.values), (run_fits EventFits Large b.events b.events_said f.0.events f.0.events_said, run_fits SurveyFits NextFits b.surveys (that n) f.0.surveys f.2))
+ring_fits_back : (version : ℕ) (h : Head) (b : Linked) → LinkedFits version h b → PartFits version h.n (ring_back b)
+ring_fits_back version h (this (b, g)) f = ((f.0.start ∙ ap (λ (x : Head). x.n) f.1, f.0.values), (run_fits (EventFits version) Large b.events b.events_said f.0.events f.0.events_said, run_fits SurveyFits NextFits b.surveys (this g) f.0.surveys f.2))
+ring_fits_back version h (that (b, n)) f = ((f.0.start ∙ ap (λ (x : Head). x.n) f.1, f.0.values), (run_fits (EventFits version) Large b.events b.events_said f.0.events f.0.events_said, run_fits SurveyFits NextFits b.surveys (that n) f.0.surveys f.2))
 
-ring_same : (h : Head) (b : Linked) → LinkedFits h b → ring_from h (ring_back b) ≡ b
-ring_same h (this (b, g)) f = ap (λ (x : Head). this (block_with x b.start b.events b.events_said b.surveys, g)) (sym f.1)
-ring_same h (that (b, n)) f = ap (λ (x : Head). that (block_with x b.start b.events b.events_said b.surveys, n)) (sym f.1)
+ring_same : (version : ℕ) (h : Head) (b : Linked) → LinkedFits version h b → ring_from h (ring_back b) ≡ b
+ring_same version h (this (b, g)) f = ap (λ (x : Head). this (block_with x b.start b.events b.events_said b.surveys, g)) (sym f.1)
+ring_same version h (that (b, n)) f = ap (λ (x : Head). that (block_with x b.start b.events b.events_said b.surveys, n)) (sym f.1)
 
 regroup : (word r e v w : List ℕ) → ((word ++ r) ++ (e ++ v)) ++ w ≡ word ++ (r ++ (e ++ (v ++ w)))
 regroup word r e v w = simp append_assoc
 
-ring_spelled : (h : Head) (p : Part) → PartFits h.n p → linked_text (ring_from h p) ≡ part_text p
-ring_spelled h (start, (es, (ss, this g))) f = regroup (codes "start ") (row start) (many event_line end_line es) (flat_map survey_line ss) (head_line g)
-ring_spelled h (start, (es, (ss, that n))) f = regroup (codes "start ") (row start) (many event_line end_line es) (flat_map survey_line ss) (done_line n)
+ring_spelled : (version : ℕ) (h : Head) (p : Part) → PartFits version h.n p → linked_text (ring_from h p) ≡ part_text p
+ring_spelled version h (start, (es, (ss, this g))) f = regroup (codes "start ") (row start) (many event_line end_line es) (flat_map survey_line ss) (head_line g)
+ring_spelled version h (start, (es, (ss, that n))) f = regroup (codes "start ") (row start) (many event_line end_line es) (flat_map survey_line ss) (done_line n)
 
-ring_reads : (h : Head) → HeadFits h → Reads (LinkedFits h) linked_text (ring_at h)
+ring_reads : (version : ℕ) (h : Head) → HeadFits h → Reads (LinkedFits version h) linked_text (ring_at version h)
 unfolding ring_at
-ring_reads h v = as_reads (LinkedFits h) linked_text (ring_from h) ring_back (part_reads h.n) (ring_fits h v) (ring_fits_back h) (ring_same h) (ring_spelled h)
+ring_reads version h v = as_reads (LinkedFits version h) linked_text (ring_from h) ring_back (part_reads version h.n) (ring_fits version h v) (ring_fits_back version h) (ring_same version h) (ring_spelled version h)
 
 -- ---- the rings
 
@@ -94,19 +95,19 @@ zeros_fit (suc n) = (omega arith, zeros_fit n)
 plain : Head → Block
 plain h = record { index = h.index; n = h.n; k = h.k; start = replicate h.n 0; events = []; events_said = 0; surveys = [] }
 
-last_of : (h : Head) → HeadFits h → (p : Block × ℕ) × Last h p
+last_of : (version : ℕ) (h : Head) → HeadFits h → (p : Block × ℕ) × Last version h p
 unfolding plain
-last_of h v = ((plain h, 0), (record { head = v; start = length-replicate h.n 0; values = zeros_fit h.n; events = tt; events_said = omega arith; surveys = tt }, refl, omega arith))
+last_of version h v = ((plain h, 0), (record { head = v; start = length-replicate h.n 0; values = zeros_fit h.n; events = tt; events_said = omega arith; surveys = tt }, refl, omega arith))
 
-pub rings_repeat : Repeats HeadFits Inner inner_text Last last_text ring_at (λ p. p.1)
-rings_repeat = record { reads = ring_reads; keeps = λ st a f. f.2; some = λ st a f. omega arith; final = last_of }
+pub rings_repeat : (version : ℕ) → Repeats HeadFits (Inner version) inner_text (Last version) last_text (ring_at version) (λ p. p.1)
+rings_repeat version = record { reads = ring_reads version; keeps = λ st a f. f.2; some = λ st a f. omega arith; final = last_of version }
 
-abbrev RingsFit : Head → Rings → Type 0
-RingsFit h r = RunFits Inner Last (λ p. p.1) h r.0 r.1
+abbrev RingsFit : ℕ → Head → Rings → Type 0
+RingsFit version h r = RunFits (Inner version) (Last version) (λ p. p.1) h r.0 r.1
 
-linked_rings_reads : (h : Head) → HeadFits h → Reads (RingsFit h) (many inner_text last_text) (linked_rings_at h)
+linked_rings_reads : (version : ℕ) (h : Head) → HeadFits h → Reads (RingsFit version h) (many inner_text last_text) (linked_rings_at version h)
 unfolding linked_rings_at
-linked_rings_reads h v = many_reads rings_repeat h v
+linked_rings_reads version h v = many_reads (rings_repeat version) h v
 
 -- ---- the whole text
 
@@ -118,27 +119,30 @@ rings_back [] said = (record { index = 0; n = 0; k = 0 }, ([], (plain (record { 
 rings_back (b ∷ []) said = (head_of b, ([], (b, said)))
 rings_back (b ∷ c ∷ bs) said = (head_of b, ((b, (rings_back (c ∷ bs) said).0) ∷ (rings_back (c ∷ bs) said).1.0, (rings_back (c ∷ bs) said).1.1))
 
-abbrev WholeFits : Whole → Type 0
-WholeFits p = HeadFits p.0 × RingsFit p.0 p.1
+abbrev WholeFits : ℕ → Whole → Type 0
+WholeFits version p = HeadFits p.0 × RingsFit version p.0 p.1
 
 abbrev whole_text : Whole → List ℕ
 whole_text p = head_line p.0 ++ many inner_text last_text p.1
 
--- the text below its first line
-abbrev body : Content → List ℕ
-body s = flat_map block_text s.rings ++ done_line s.rings_said
+-- the text below its first line, and what has one
+abbrev body_text : Body → List ℕ
+body_text p = flat_map block_text p.0 ++ done_line p.1
 
-abbrev content_from : Whole → Content
-content_from p = record { rings = blocks p.1; rings_said = p.1.1.1 }
+abbrev BodyFits : ℕ → Body → Type 0
+BodyFits version p = (0 < length p.0) × AllByRecursion (BlockFits version) p.0 × (p.1 < 2 ^ 32)
 
-blocks_fit : (h : Head) (xs : List (Block × Head)) (last : Block × ℕ) → RingsFit h (xs, last) → AllByRecursion BlockFits (blocks (xs, last)) × (last.1 < 2 ^ 32) × (0 < length (blocks (xs, last)))
-blocks_fit h [] last f = ((f.0, tt), f.2, omega arith)
-blocks_fit h (x ∷ xs) last f = let k = blocks_fit x.1 xs last f.1 in ((f.0.0, k.0), k.1, omega arith)
+abbrev body_from : Whole → Body
+body_from p = (blocks p.1, p.1.1.1)
 
-back_fits : (bs : List Block) (said : ℕ) → AllByRecursion BlockFits bs → said < 2 ^ 32 → 0 < length bs → WholeFits (rings_back bs said)
-back_fits [] said f g l = absurd (omega arith)
-back_fits (b ∷ []) said f g l = (f.0.head, (f.0, refl, g))
-back_fits (b ∷ c ∷ bs) said f g l = let k = back_fits (c ∷ bs) said f.1 g (omega arith) in (f.0.head, ((f.0, refl, k.0), k.1))
+blocks_fit : (version : ℕ) (h : Head) (xs : List (Block × Head)) (last : Block × ℕ) → RingsFit version h (xs, last) → BodyFits version (blocks (xs, last), last.1)
+blocks_fit version h [] last f = (omega arith, (f.0, tt), f.2)
+blocks_fit version h (x ∷ xs) last f = let k = blocks_fit version x.1 xs last f.1 in (omega arith, (f.0.0, k.1), k.2)
+
+back_fits : (version : ℕ) (bs : List Block) (said : ℕ) → AllByRecursion (BlockFits version) bs → said < 2 ^ 32 → 0 < length bs → WholeFits version (rings_back bs said)
+back_fits version [] said f g l = absurd (omega arith)
+back_fits version (b ∷ []) said f g l = (f.0.head, (f.0, refl, g))
+back_fits version (b ∷ c ∷ bs) said f g l = let k = back_fits version (c ∷ bs) said f.1 g (omega arith) in (f.0.head, ((f.0, refl, k.0), k.1))
 
 back_same : (bs : List Block) (said : ℕ) → 0 < length bs → (blocks (rings_back bs said).1 ≡ bs) × ((rings_back bs said).1.1.1 ≡ said)
 back_same [] said l = absurd (omega arith)
@@ -148,63 +152,89 @@ back_same (b ∷ c ∷ bs) said l = let k = back_same (c ∷ bs) said (omega ari
 relink : (h b n f l : List ℕ) → (h ++ b) ++ (n ++ (f ++ l)) ≡ h ++ (((b ++ n) ++ f) ++ l)
 relink h b n f l = simp append_assoc
 
-blocks_spelled : (h : Head) (xs : List (Block × Head)) (last : Block × ℕ) → RingsFit h (xs, last) → flat_map block_text (blocks (xs, last)) ++ done_line last.1 ≡ head_line h ++ many inner_text last_text (xs, last)
-blocks_spelled h [] last f = ap (λ (g : Head). ((head_line g ++ below_head last.0) ++ []) ++ done_line last.1) f.1 ∙ simp (append-nil, append_assoc)
-blocks_spelled h (x ∷ xs) last f =
-    let k = blocks_spelled x.1 xs last f.1 in
+blocks_spelled : (version : ℕ) (h : Head) (xs : List (Block × Head)) (last : Block × ℕ) → RingsFit version h (xs, last) → flat_map block_text (blocks (xs, last)) ++ done_line last.1 ≡ head_line h ++ many inner_text last_text (xs, last)
+blocks_spelled version h [] last f = ap (λ (g : Head). ((head_line g ++ below_head last.0) ++ []) ++ done_line last.1) f.1 ∙ simp (append-nil, append_assoc)
+blocks_spelled version h (x ∷ xs) last f =
+    let k = blocks_spelled version x.1 xs last f.1 in
     append_assoc (block_text x.0) (flat_map block_text (blocks (xs, last))) (done_line last.1) ∙ ap (λ (r : List ℕ). block_text x.0 ++ r) k ∙ ap (λ (g : Head). (head_line g ++ below_head x.0) ++ (head_line x.1 ++ many inner_text last_text (xs, last))) f.0.1
     ∙ relink (head_line h) (below_head x.0) (head_line x.1) (flat_map inner_text xs) (last_text last)
 
-content_of : List Block → ℕ → Content
-content_of bs n = record { rings = bs; rings_said = n }
+body_of : List Block → ℕ → Body
+body_of bs n = (bs, n)
 
-same_content : (xs ys : List Block) (m n : ℕ) → xs ≡ ys → m ≡ n → content_of xs m ≡ content_of ys n
-same_content xs ys m n e g = ap (λ (bs : List Block). content_of bs m) e ∙ ap (content_of ys) g
+same_body : (xs ys : List Block) (m n : ℕ) → xs ≡ ys → m ≡ n → body_of xs m ≡ body_of ys n
+same_body xs ys m n e g = ap (λ (bs : List Block). body_of bs m) e ∙ ap (body_of ys) g
 
-linked_body_at : Reader Content
-linked_body_at = as_at content_from (then_at head_at linked_rings_at)
+linked_body_at : ℕ → Reader Body
+linked_body_at version = as_at body_from (then_at head_at (linked_rings_at version))
 
-linked_body_reads : Reads Fits body linked_body_at
-unfolding linked_body_at content_of
-linked_body_reads = as_reads Fits body content_from (λ s. rings_back s.rings s.rings_said) (then_reads head_reads linked_rings_reads)
-    (λ p f. let k = blocks_fit p.0 p.1.0 p.1.1 f.1 in record { some = k.2; rings = k.0; rings_said = k.1 })
-    (λ s f. back_fits s.rings s.rings_said f.rings f.rings_said f.some)
-    (λ s f. let k = back_same s.rings s.rings_said f.some in same_content _ _ _ _ k.0 k.1)
-    (λ p f. blocks_spelled p.0 p.1.0 p.1.1 f.1)
+linked_body_reads : (version : ℕ) → Reads (BodyFits version) body_text (linked_body_at version)
+unfolding linked_body_at body_of
+linked_body_reads version = as_reads (BodyFits version) body_text body_from (λ s. rings_back s.0 s.1) (then_reads head_reads (linked_rings_reads version))
+    (λ p f. blocks_fit version p.0 p.1.0 p.1.1 f.1)
+    (λ s f. back_fits version s.0 s.1 f.1 f.2 f.0)
+    (λ s f. let k = back_same s.0 s.1 f.0 in same_body _ _ _ _ k.0 k.1)
+    (λ p f. blocks_spelled version p.0 p.1.0 p.1.1 f.1)
 
 -- the body by its blocks is the body by its linked rings
 
 abbrev with_head : Head → Rings × List ℕ → Result ((Head × Rings) × List ℕ) Fault
 with_head h y = Ok ((h, y.0), y.1)
 
-abbrev with_first : Head → (List Block × ℕ) × List ℕ → Result ((Head × (List Block × ℕ)) × List ℕ) Fault
+abbrev with_first : Head → Body × List ℕ → Result ((Head × Body) × List ℕ) Fault
 with_first h y = Ok ((h, y.0), y.1)
 
-abbrev as_linked : (Head × Rings) × List ℕ → Result (Content × List ℕ) Fault
-as_linked z = Ok (content_from z.0, z.1)
+abbrev as_linked : (Head × Rings) × List ℕ → Result (Body × List ℕ) Fault
+as_linked z = Ok (body_from z.0, z.1)
 
-abbrev as_content : (Head × (List Block × ℕ)) × List ℕ → Result (Content × List ℕ) Fault
-as_content z = Ok (content_with z.0, z.1)
+abbrev as_body : (Head × Body) × List ℕ → Result (Body × List ℕ) Fault
+as_body z = Ok (z.0.1, z.1)
 
-abbrev pub as_blocks : Rings × List ℕ → Result ((List Block × ℕ) × List ℕ) Fault
+abbrev pub as_blocks : Rings × List ℕ → Result (Body × List ℕ) Fault
 as_blocks x = Ok ((blocks x.0, x.0.1.1), x.1)
 
-behind_rings : (h : Head) (r : Result (Rings × List ℕ) Fault) → (((r >>= as_blocks) >>= with_first h) >>= as_content) ≡ ((r >>= with_head h) >>= as_linked)
+behind_rings : (h : Head) (r : Result (Rings × List ℕ) Fault) → (((r >>= as_blocks) >>= with_first h) >>= as_body) ≡ ((r >>= with_head h) >>= as_linked)
 behind_rings h (Ok x) = refl
 behind_rings h (Err d) = refl
 
-behind_head : (r : Result (Head × List ℕ) Fault) → ((r >>= λ x. rings_at x.0 x.1 >>= with_first x.0) >>= as_content) ≡ ((r >>= λ x. linked_rings_at x.0 x.1 >>= with_head x.0) >>= as_linked)
+behind_head : (version : ℕ) (r : Result (Head × List ℕ) Fault) → ((r >>= λ x. rings_at version x.0 x.1 >>= with_first x.0) >>= as_body) ≡ ((r >>= λ x. linked_rings_at version x.0 x.1 >>= with_head x.0) >>= as_linked)
 unfolding rings_at
-behind_head (Ok x) = behind_rings x.0 (linked_rings_at x.0 x.1)
-behind_head (Err d) = refl
+behind_head version (Ok x) = behind_rings x.0 (linked_rings_at version x.0 x.1)
+behind_head version (Err d) = refl
 
-alike : (bytes : List ℕ) → body_at bytes ≡ linked_body_at bytes
+alike : (version : ℕ) (bytes : List ℕ) → body_at version bytes ≡ linked_body_at version bytes
 unfolding body_at linked_body_at
-alike bytes = behind_head (head_at bytes)
+alike version bytes = behind_head version (head_at bytes)
 
-body_reads : Reads Fits body body_at
-body_reads = like_reads Fits body linked_body_at body_at alike linked_body_reads
+body_reads : (version : ℕ) → Reads (BodyFits version) body_text (body_at version)
+body_reads version = like_reads (BodyFits version) body_text (linked_body_at version) (body_at version) (alike version) (linked_body_reads version)
+
+-- the version, and what stands below the first line
+
+abbrev parts : Content → ℕ × Body
+parts s = (s.version, (s.rings, s.rings_said))
+
+abbrev PartsFit : ℕ × Body → Type 0
+PartsFit p = IsVersion p.0 × BodyFits p.0 p.1
+
+abbrev parts_text : ℕ × Body → List ℕ
+parts_text p = ended p.0 ++ body_text p.1
+
+-- the text behind its first word
+abbrev below_word : Content → List ℕ
+below_word s = parts_text (parts s)
+
+below_word_reads : Reads Fits below_word (as_at content_with (then_at version_at body_at))
+below_word_reads = as_reads Fits below_word content_with parts (then_reads version_reads (λ version f. body_reads version))
+    (λ p f. record { version = f.0; some = f.1.0; rings = f.1.1; rings_said = f.1.2 })
+    (λ s f. (f.version, (f.some, f.rings, f.rings_said)))
+    (λ s f. refl)
+    (λ p f. refl)
+
+-- the first word and what follows it are the first line and what stands below it
+regrouped : (s : Content) → text s ≡ codes "ringfarm " ++ below_word s
+regrouped s = append_assoc (codes "ringfarm ") (ended s.version) (body_text (s.rings, s.rings_said))
 
 pub text_reads : Reads Fits text text_at
 unfolding text_at
-text_reads = after_reads first_line body_reads
+text_reads = said_reads Fits text (λ s f. f) (λ s f. f) (λ s f. regrouped s) (after_reads (codes "ringfarm ") below_word_reads)

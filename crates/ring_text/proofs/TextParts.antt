@@ -8,13 +8,12 @@ use Rattle.ring_model.specs.Limits.{value_limit, event_limit}
 use Rattle.text_lines.specs.declared.write.WriteFault.{WriteFault}
 use Rattle.text_lines.specs.Writing.{Wrote, Writes}
 use Rattle.text_lines.proofs.Writing.{wrote_none, wrote_piece, wrote_fault, wrote_all}
-use Rattle.ring_model.specs.Ring.{Ring}
-use Rattle.ring_model.specs.declared.events.Event.{Event}
 use Rattle.ring_state.specs.Sizes.{IsRingState}
-use Rattle.ring_shared.specs.declared.seats.Log.{Log}
 use Rattle.ring_farm.specs.declared.outcomes.Outcome.{Outcome}
 use Rattle.ring_farm.specs.declared.outcomes.RingOutcome.{RingOutcome}
-use Rattle.ring_text.specs.Spelling.{first_line, ring_line, start_line, event_line, end_line, survey_line, done_line, block_text, text, EventFits, SurveyFits, BlockFits, Fits}
+use Rattle.ring_text.specs.Versions.{latest_version}
+use Rattle.ring_text.specs.Content.{Block, Content}
+use Rattle.ring_text.specs.Spelling.{first_line, head_line, start_line, event_line, end_line, survey_line, done_line, head_of, below_head, block_text, text, EventFits, SurveyFits, BlockFits, Fits}
 use Rattle.ring_text.specs.SavedOf.{saved_event, log_surveys, block_at, blocks_from, saved_of}
 use Rattle.ring_text.proofs.SavedParts.{small_below}
 
@@ -22,51 +21,49 @@ use Rattle.ring_text.proofs.SavedParts.{small_below}
 wrote_last : (a b c : Option (List ℕ)) (e : WriteFault) (text x : List ℕ) → Wrote a b text x → Writes b c (Err e) x → Writes a c (Err e) text
 wrote_last a b c e text x h k = wrote_fault a b c e text x [] (subst (λ (u : List ℕ). Wrote a b text u) (sym (append-nil x)) h) k
 
+-- the last piece
+wrote_rest : (a b c : Option (List ℕ)) (text x : List ℕ) → Wrote a b text x → Appends b c x → Appends a c text
+wrote_rest a b c text x h k = wrote_all a c text (wrote_piece a b c text x [] (subst (λ (u : List ℕ). Wrote a b text u) (sym (append-nil x)) h) k)
+
 -- ---- a block
 
-abbrev pub size_line : ℕ → Ring → List ℕ
-size_line place start = ring_line place (length start.values) start.k
+abbrev pub history_lines : Block → List ℕ
+history_lines b = flat_map event_line b.events ++ end_line b.events_said
 
-abbrev pub history_lines : List Event → List ℕ
-history_lines h = flat_map event_line (map saved_event h) ++ end_line (length h)
+abbrev pub surveys_lines : Block → List ℕ
+surveys_lines b = flat_map survey_line b.surveys
 
-abbrev pub logs_lines : List Log → List ℕ
-logs_lines ls = flat_map survey_line (flat_map log_surveys ls)
+abbrev pub below_start : Block → List ℕ
+below_start b = history_lines b ++ surveys_lines b
 
-abbrev pub below_start : RingOutcome → List ℕ
-below_start r = history_lines r.book.history ++ logs_lines r.logs.items
+module _ (r : Block) (a b : Option (List ℕ)) where
+  pub head_done : Appends a b (head_line (head_of r)) → Wrote a b (block_text r) (below_head r)
+  head_done h = wrote_piece a a b (block_text r) (head_line (head_of r)) (below_head r) (wrote_none a (block_text r)) h
 
-abbrev pub below_size : RingOutcome → List ℕ
-below_size r = start_line r.book.start.values ++ below_start r
-
-module _ (place : ℕ) (r : RingOutcome) (a b : Option (List ℕ)) where
-  abbrev block : List ℕ
-  block = block_text (block_at place r)
-
-  pub size_done : (s : Ring) → s ≡ r.book.start → Appends a b (size_line place s) → Wrote a b block (below_size r)
-  size_done s is h = wrote_piece a a b block (size_line place r.book.start) (below_size r) (wrote_none a block) (subst (λ (u : Ring). Appends a b (size_line place u)) is h)
-
-  pub size_fault : (s : Ring) → s ≡ r.book.start → (e : WriteFault) → Writes a b (Err e) (size_line place s) → Writes a b (Err e) block
-  size_fault s is e h = wrote_fault a a b e block (size_line place r.book.start) (below_size r) (wrote_none a block) (subst (λ (u : Ring). Writes a b (Err e) (size_line place u)) is h)
+  pub head_fault : (e : WriteFault) → Writes a b (Err e) (head_line (head_of r)) → Writes a b (Err e) (block_text r)
+  head_fault e h = wrote_fault a a b e (block_text r) (head_line (head_of r)) (below_head r) (wrote_none a (block_text r)) h
 
   module _ (c : Option (List ℕ)) where
-    pub start_done : Wrote a b block (below_size r) → (s : Ring) → s ≡ r.book.start → Appends b c (start_line s.values) → Wrote a c block (below_start r)
-    start_done w s is h = wrote_piece a b c block (start_line r.book.start.values) (below_start r) w (subst (λ (u : Ring). Appends b c (start_line u.values)) is h)
+    pub start_done : Wrote a b (block_text r) (below_head r) → Appends b c (start_line r.start) → Wrote a c (block_text r) (below_start r)
+    start_done w h = wrote_piece a b c (block_text r) (start_line r.start) (below_start r) w h
 
-    pub start_fault : Wrote a b block (below_size r) → (s : Ring) → s ≡ r.book.start → (e : WriteFault) → Writes b c (Err e) (start_line s.values) → Writes a c (Err e) block
-    start_fault w s is e h = wrote_fault a b c e block (start_line r.book.start.values) (below_start r) w (subst (λ (u : Ring). Writes b c (Err e) (start_line u.values)) is h)
+    pub start_fault : Wrote a b (block_text r) (below_head r) → (e : WriteFault) → Writes b c (Err e) (start_line r.start) → Writes a c (Err e) (block_text r)
+    start_fault w e h = wrote_fault a b c e (block_text r) (start_line r.start) (below_start r) w h
 
-    pub history_done : Wrote a b block (below_start r) → (es : List Event) → es ≡ r.book.history → Appends b c (history_lines es) → Wrote a c block (logs_lines r.logs.items)
-    history_done w es is h = wrote_piece a b c block (history_lines r.book.history) (logs_lines r.logs.items) w (subst (λ (u : List Event). Appends b c (history_lines u)) is h)
+    pub history_done : Wrote a b (block_text r) (below_start r) → Appends b c (history_lines r) → Wrote a c (block_text r) (surveys_lines r)
+    history_done w h = wrote_piece a b c (block_text r) (history_lines r) (surveys_lines r) w h
 
-    pub history_fault : Wrote a b block (below_start r) → (es : List Event) → es ≡ r.book.history → (e : WriteFault) → Writes b c (Err e) (history_lines es) → Writes a c (Err e) block
-    history_fault w es is e h = wrote_fault a b c e block (history_lines r.book.history) (logs_lines r.logs.items) w (subst (λ (u : List Event). Writes b c (Err e) (history_lines u)) is h)
+    pub history_fault : Wrote a b (block_text r) (below_start r) → (e : WriteFault) → Writes b c (Err e) (history_lines r) → Writes a c (Err e) (block_text r)
+    history_fault w e h = wrote_fault a b c e (block_text r) (history_lines r) (surveys_lines r) w h
 
-    pub logs_fault : Wrote a b block (logs_lines r.logs.items) → (ls : List Log) → ls ≡ r.logs.items → (e : WriteFault) → Writes b c (Err e) (logs_lines ls) → Writes a c (Err e) block
-    logs_fault w ls is e h = wrote_last a b c e block (logs_lines r.logs.items) w (subst (λ (u : List Log). Writes b c (Err e) (logs_lines u)) is h)
+    pub surveys_fault : Wrote a b (block_text r) (surveys_lines r) → (e : WriteFault) → Writes b c (Err e) (surveys_lines r) → Writes a c (Err e) (block_text r)
+    surveys_fault w e h = wrote_last a b c e (block_text r) (surveys_lines r) w h
+
+    pub surveys_done : Wrote a b (block_text r) (surveys_lines r) → Appends b c (surveys_lines r) → Appends a c (block_text r)
+    surveys_done w h = wrote_rest a b c (block_text r) (surveys_lines r) w h
 
 -- a book's start and the number of its events are small
-pub block_fits : (place : ℕ) (r : RingOutcome) → place < 2 ^ 32 → IsRingState r.book.start → length r.book.history ≤ event_limit → AllByRecursion EventFits (map saved_event r.book.history) → AllByRecursion SurveyFits (flat_map log_surveys r.logs.items) → BlockFits (block_at place r)
+pub block_fits : (place : ℕ) (r : RingOutcome) → place < 2 ^ 32 → IsRingState r.book.start → length r.book.history ≤ event_limit → AllByRecursion (EventFits latest_version) (map saved_event r.book.history) → AllByRecursion SurveyFits (flat_map log_surveys r.logs.items) → BlockFits latest_version (block_at place r)
 block_fits place r small state few events surveys =
     let two : 2 ≤ length r.book.start.values = state.ring.two in
     let enough : length r.book.start.values ≤ r.book.start.k = state.ring.enough in
@@ -82,43 +79,36 @@ block_fits place r small state few events surveys =
 
 -- ---- a text
 
-abbrev pub blocks_lines : List RingOutcome → List ℕ
-blocks_lines rs = flat_map block_text (blocks_from 0 rs)
+abbrev pub blocks_lines : Content → List ℕ
+blocks_lines s = flat_map block_text s.rings
 
-abbrev pub below_first : Outcome → List ℕ
-below_first o = blocks_lines o.rings.items ++ done_line (length o.rings.items)
+abbrev pub below_first : Content → List ℕ
+below_first s = blocks_lines s ++ done_line s.rings_said
 
-module _ (o : Outcome) (a b : Option (List ℕ)) where
-  abbrev whole : List ℕ
-  whole = text (saved_of o)
+module _ (s : Content) (a b : Option (List ℕ)) where
+  pub first_done : Appends a b (first_line s.version) → Wrote a b (text s) (below_first s)
+  first_done h = wrote_piece a a b (text s) (first_line s.version) (below_first s) (wrote_none a (text s)) h
 
-  pub first_done : Appends a b first_line → Wrote a b whole (below_first o)
-  first_done h = wrote_piece a a b whole first_line (below_first o) (wrote_none a whole) h
-
-  pub first_fault : (e : WriteFault) → Writes a b (Err e) first_line → Writes a b (Err e) whole
-  first_fault e h = wrote_fault a a b e whole first_line (below_first o) (wrote_none a whole) h
+  pub first_fault : (e : WriteFault) → Writes a b (Err e) (first_line s.version) → Writes a b (Err e) (text s)
+  first_fault e h = wrote_fault a a b e (text s) (first_line s.version) (below_first s) (wrote_none a (text s)) h
 
   module _ (c : Option (List ℕ)) where
-    pub blocks_done : Wrote a b whole (below_first o) → (rs : List RingOutcome) → rs ≡ o.rings.items → Appends b c (blocks_lines rs) → Wrote a c whole (done_line (length o.rings.items))
-    blocks_done w rs is h = wrote_piece a b c whole (blocks_lines o.rings.items) (done_line (length o.rings.items)) w (subst (λ (u : List RingOutcome). Appends b c (blocks_lines u)) is h)
+    pub blocks_done : Wrote a b (text s) (below_first s) → Appends b c (blocks_lines s) → Wrote a c (text s) (done_line s.rings_said)
+    blocks_done w h = wrote_piece a b c (text s) (blocks_lines s) (done_line s.rings_said) w h
 
-    pub blocks_fault : Wrote a b whole (below_first o) → (rs : List RingOutcome) → rs ≡ o.rings.items → (e : WriteFault) → Writes b c (Err e) (blocks_lines rs) → Writes a c (Err e) whole
-    blocks_fault w rs is e h = wrote_fault a b c e whole (blocks_lines o.rings.items) (done_line (length o.rings.items)) w (subst (λ (u : List RingOutcome). Writes b c (Err e) (blocks_lines u)) is h)
+    pub blocks_fault : Wrote a b (text s) (below_first s) → (e : WriteFault) → Writes b c (Err e) (blocks_lines s) → Writes a c (Err e) (text s)
+    blocks_fault w e h = wrote_fault a b c e (text s) (blocks_lines s) (done_line s.rings_said) w h
 
-    pub done_fault : Wrote a b whole (done_line (length o.rings.items)) → (n : ℕ) → n ≡ length o.rings.items → (e : WriteFault) → Writes b c (Err e) (done_line n) → Writes a c (Err e) whole
-    done_fault w n is e h = wrote_last a b c e whole (done_line (length o.rings.items)) w (subst (λ (u : ℕ). Writes b c (Err e) (done_line u)) is h)
+    pub done_fault : Wrote a b (text s) (done_line s.rings_said) → (e : WriteFault) → Writes b c (Err e) (done_line s.rings_said) → Writes a c (Err e) (text s)
+    done_fault w e h = wrote_last a b c e (text s) (done_line s.rings_said) w h
 
-    pub done_done : Wrote a b whole (done_line (length o.rings.items)) → (n : ℕ) → n ≡ length o.rings.items → Appends b c (done_line n) → Appends a c whole
-    done_done w n is h =
-        let rest = done_line (length o.rings.items) in
-        let g : Appends b c rest = subst (λ (u : ℕ). Appends b c (done_line u)) is h in
-        let left : Wrote a b whole (rest ++ []) = subst (λ (u : List ℕ). Wrote a b whole u) (sym (append-nil rest)) w in
-        wrote_all a c whole (wrote_piece a b c whole rest [] left g)
+    pub done_done : Wrote a b (text s) (done_line s.rings_said) → Appends b c (done_line s.rings_said) → Appends a c (text s)
+    done_done w h = wrote_rest a b c (text s) (done_line s.rings_said) w h
 
 pub blocks_count : (place : ℕ) (rs : List RingOutcome) → length (blocks_from place rs) ≡ length rs
 blocks_count place [] = refl
 blocks_count place (r ∷ rs) = ap suc (blocks_count (place + 1) rs)
 
 -- each block fits, there is one at least, and they are few
-pub text_fits : (o : Outcome) → 1 ≤ length o.rings.items → length o.rings.items ≤ ring_limit → AllByRecursion BlockFits (blocks_from 0 o.rings.items) → Fits (saved_of o)
-text_fits o some most blocks = record { some = omega (arith, blocks_count 0 o.rings.items, some); rings = blocks; rings_said = omega (arith, most) }
+pub text_fits : (o : Outcome) → 1 ≤ length o.rings.items → length o.rings.items ≤ ring_limit → AllByRecursion (BlockFits latest_version) (blocks_from 0 o.rings.items) → Fits (saved_of o)
+text_fits o some most blocks = record { version = (omega arith, omega arith); some = omega (arith, blocks_count 0 o.rings.items, some); rings = blocks; rings_said = omega (arith, most) }

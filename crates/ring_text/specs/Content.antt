@@ -4,6 +4,7 @@ use Rattle.ring_text.specs.declared.saved.Saved.{Saved}
 use Rattle.ring_text.specs.declared.saved.SavedRing.{SavedRing}
 use Rattle.ring_text.specs.declared.saved.SavedEvent.{SavedEvent}
 use Rattle.ring_text.specs.declared.saved.SavedSurvey.{SavedSurvey}
+use Rattle.ring_text.specs.Versions.{latest_version}
 
 -- one block: a ring, its start, its events and its surveys (this project's own)
 pub record Block : Type 0 where
@@ -15,8 +16,9 @@ pub record Block : Type 0 where
   pub events_said : ℕ
   pub surveys : List SavedSurvey
 
--- a whole saved text: its blocks, and how many it says that it has (this project's own)
+-- a whole saved text: the version of its grammar, its blocks, and how many it says that it has (this project's own)
 pub record Content : Type 0 where
+  pub version : ℕ
   pub rings : List Block
   pub rings_said : ℕ
 
@@ -34,4 +36,8 @@ block_of r = record {
 
 -- what a saved value says
 abbrev pub content : Saved → Content
-content s = record { rings = map block_of s.rings.items; rings_said = s.rings_said }
+content s = record { version = s.version; rings = map block_of s.rings.items; rings_said = s.rings_said }
+
+-- the same in the latest version
+abbrev pub upgraded : Content → Content
+upgraded s = record s { version = latest_version }

@@ -1,3 +1,4 @@
+pub mod Versions
 pub mod Content
 pub mod Spelling
 pub mod Lines

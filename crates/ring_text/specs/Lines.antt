@@ -1,4 +1,4 @@
--- The readers of the lines, blocks and texts as functions on lists. None of those below `text_at` knows the text's first line.
+-- The readers of the lines, blocks and texts as functions on lists. Those below `text_at` are given the version, which the text's first line says.
 use Rattle.std.specs.Prelude.{ℕ, ◌^◌, List, [], ◌∷◌, ◌++◌, codes, map, Option, Some, None}
 use Rattle.text_lines.specs.Reading.{Reader, Either, this, that, number_at, positive_at, row_at, after_at, nothing_at, then_at, as_at, Branch, branch, choice_at, many_at}
 use Rattle.ring_text.specs.declared.saved.SavedEvent.{SavedEvent}
@@ -12,6 +12,7 @@ use Rattle.ring_text.specs.declared.lines.Next.TheVariants as nexts
 use Rattle.ring_text.specs.declared.lines.SurveyOrNext.{SurveyOrNext}
 use Rattle.ring_text.specs.declared.lines.SurveyOrNext.TheVariants as follows
 use Rattle.ring_text.specs.Content.{Block, Content}
+use Rattle.ring_text.specs.Versions.{first_version, latest_version}
 
 -- ---- numbers: below 2 ^ 32 or 2 ^ 64, with a space behind them or at the end of the line
 
@@ -69,12 +70,12 @@ corruption_branch = branch 99 (as_at this corruption_at)
 abbrev pub end_branch : Branch (Either SavedEvent ℕ)
 end_branch = branch 101 (as_at that end_at)
 
--- an event's line, or the line that ends them: a branch for each kind of line
-unfoldable pub event_or_end_at : Reader (Either SavedEvent ℕ)
-event_or_end_at = choice_at (pass_branch ∷ corruption_branch ∷ end_branch ∷ [])
+-- an event's line, or the line that ends them, in a text of this version: a branch for each kind of line
+unfoldable pub event_or_end_at : ℕ → Reader (Either SavedEvent ℕ)
+event_or_end_at version = choice_at (pass_branch ∷ corruption_branch ∷ end_branch ∷ [])
 
-unfoldable pub events_at : Reader (List SavedEvent × ℕ)
-events_at = many_at {S = Unit {0}} (λ _. event_or_end_at) (λ _. tt) tt
+unfoldable pub events_at : ℕ → Reader (List SavedEvent × ℕ)
+events_at version = many_at {S = Unit {0}} (λ _. event_or_end_at version) (λ _. tt) tt
 
 -- ---- a ring's first line, and the last line
 
@@ -118,8 +119,8 @@ surveys_at = many_at {S = Unit {0}} (λ _. survey_or_next_at) (λ _. tt) tt
 abbrev pub Part : Type 0
 Part = List ℕ × ((List SavedEvent × ℕ) × (List SavedSurvey × Either Head ℕ))
 
-unfoldable pub part_at : ℕ → Reader Part
-part_at n = after_at (codes "start ") (row_at (2 ^ 32) n then events_at then surveys_at)
+unfoldable pub part_at : ℕ → ℕ → Reader Part
+part_at version n = after_at (codes "start ") (row_at (2 ^ 32) n then events_at version then surveys_at)
 
 abbrev pub block_with : Head → List ℕ → List SavedEvent → ℕ → List SavedSurvey → Block
 block_with h start events said surveys = record { index = h.index; n = h.n; k = h.k; start = start; events = events; events_said = said; surveys = surveys }
@@ -131,34 +132,47 @@ with_next b (that n) = that (b, n)
 abbrev pub ring_from : Head → Part → Either (Block × Head) (Block × ℕ)
 ring_from h p = with_next (block_with h p.0 p.1.0.0 p.1.0.1 p.1.1.0) p.1.1.1
 
-unfoldable pub ring_at : Head → Reader (Either (Block × Head) (Block × ℕ))
-ring_at h = as_at (ring_from h) (part_at h.n)
+unfoldable pub ring_at : ℕ → Head → Reader (Either (Block × Head) (Block × ℕ))
+ring_at version h = as_at (ring_from h) (part_at version h.n)
 
 -- ---- the rings: each with the first line of the one behind it, the last with the last line
 
 abbrev pub Rings : Type 0
 Rings = List (Block × Head) × (Block × ℕ)
 
-unfoldable pub linked_rings_at : Head → Reader Rings
-linked_rings_at h = many_at ring_at (λ p. p.1) h
+unfoldable pub linked_rings_at : ℕ → Head → Reader Rings
+linked_rings_at version h = many_at (ring_at version) (λ p. p.1) h
 
 abbrev pub blocks : Rings → List Block
 blocks r = map (λ p. p.0) r.0 ++ r.1.0 ∷ []
 
-unfoldable pub rings_at : Head → Reader (List Block × ℕ)
-rings_at h = as_at (λ (r : Rings). (blocks r, r.1.1)) (linked_rings_at h)
+-- what stands below the text's first line: the blocks, and how many the text says that it has
+abbrev pub Body : Type 0
+Body = List Block × ℕ
+
+unfoldable pub rings_at : ℕ → Head → Reader Body
+rings_at version h = as_at (λ (r : Rings). (blocks r, r.1.1)) (linked_rings_at version h)
+
+unfoldable pub body_at : ℕ → Reader Body
+body_at version = as_at (λ (p : Head × Body). p.1) (then_at head_at (rings_at version))
 
 -- ---- the text
 
-abbrev pub content_with : Head × (List Block × ℕ) → Content
-content_with p = record { rings = p.1.0; rings_said = p.1.1 }
+abbrev pub first_branch : Branch ℕ
+first_branch = branch 49 (as_at (λ u. first_version) (after_at (codes "1\n") nothing_at))
 
--- what stands below the text's first line
-unfoldable pub body_at : Reader Content
-body_at = as_at content_with (then_at head_at rings_at)
+abbrev pub latest_branch : Branch ℕ
+latest_branch = branch 50 (as_at (λ u. latest_version) (after_at (codes "2\n") nothing_at))
+
+-- the version, and the end of the first line: a branch for each version
+unfoldable pub version_at : Reader ℕ
+version_at = choice_at (first_branch ∷ latest_branch ∷ [])
+
+abbrev pub content_with : ℕ × Body → Content
+content_with (version, (rings, said)) = record { version = version; rings = rings; rings_said = said }
 
 unfoldable pub text_at : Reader Content
-text_at = after_at (codes "ringfarm 1\n") body_at
+text_at = after_at (codes "ringfarm ") (as_at content_with (then_at version_at body_at))
 
 -- ---- what the program's own types say
 

@@ -15,6 +15,7 @@ use Rattle.ring_farm.specs.declared.outcomes.RingOutcome.{RingOutcome}
 use Rattle.ring_text.specs.declared.saved.SavedEvent.{SavedEvent}
 use Rattle.ring_text.specs.declared.saved.SavedEvent.TheVariants as saved
 use Rattle.ring_text.specs.declared.saved.SavedSurvey.{SavedSurvey}
+use Rattle.ring_text.specs.Versions.{latest_version}
 use Rattle.ring_text.specs.Content.{Content, Block}
 
 -- the line of an event; where call and reply do not belong together there is none, and a refused pass stands for it
@@ -59,6 +60,6 @@ abbrev pub blocks_from : ℕ → List RingOutcome → List Block
 blocks_from place [] = []
 blocks_from place (r ∷ rs) = block_at place r ∷ blocks_from (place + 1) rs
 
--- the saved text of an outcome says these blocks, and their number
+-- the saved text of an outcome, in the latest version, says these blocks, and their number
 abbrev pub saved_of : Outcome → Content
-saved_of o = record { rings = blocks_from 0 o.rings.items; rings_said = length o.rings.items }
+saved_of o = record { version = latest_version; rings = blocks_from 0 o.rings.items; rings_said = length o.rings.items }

@@ -7,12 +7,13 @@ use Rattle.ring_text.specs.declared.saved.SavedEvent.TheVariants.{Granted, Refus
 use Rattle.ring_text.specs.declared.saved.SavedSurvey.{SavedSurvey}
 use Rattle.ring_text.specs.declared.saved.Head.{Head}
 use Rattle.ring_text.specs.Content.{Block, Content}
+use Rattle.ring_text.specs.Versions.{IsVersion}
 
 -- ---- the lines
 
--- the text's first line
-abbrev pub first_line : List ℕ
-first_line = codes "ringfarm 1\n"
+-- the text's first line, which says the version
+abbrev pub first_line : ℕ → List ℕ
+first_line version = codes "ringfarm " ++ ended version
 
 -- a ring's place, its number of machines and its number of values
 abbrev pub ring_line : ℕ → ℕ → ℕ → List ℕ
@@ -58,14 +59,15 @@ block_text b = head_line (head_of b) ++ below_head b
 
 -- The text: the first line, the blocks, and the number of rings.
 abbrev pub text : Content → List ℕ
-text s = first_line ++ (flat_map block_text s.rings ++ done_line s.rings_said)
+text s = first_line s.version ++ (flat_map block_text s.rings ++ done_line s.rings_said)
 
--- ---- what has a text: each number within its range, a start of exactly n values, and a ring at least
+-- ---- what has a text: a version that there is, each number within its range, a start of exactly n values, and a ring at least
 
-abbrev pub EventFits : SavedEvent → Type 0
-EventFits (Granted seat machine order number answer) = (seat < 2 ^ 32) × (machine < 2 ^ 32) × (order < 2 ^ 64) × (number < 2 ^ 64) × (answer < 2 ^ 64)
-EventFits (Refused seat machine order) = (seat < 2 ^ 32) × (machine < 2 ^ 32) × (order < 2 ^ 64)
-EventFits (Corrupted seat machine value old) = (seat < 2 ^ 32) × (machine < 2 ^ 32) × (value < 2 ^ 32) × (old < 2 ^ 32)
+-- an event in a text of this version: so far each version has all kinds of events
+abbrev pub EventFits : ℕ → SavedEvent → Type 0
+EventFits version (Granted seat machine order number answer) = (seat < 2 ^ 32) × (machine < 2 ^ 32) × (order < 2 ^ 64) × (number < 2 ^ 64) × (answer < 2 ^ 64)
+EventFits version (Refused seat machine order) = (seat < 2 ^ 32) × (machine < 2 ^ 32) × (order < 2 ^ 64)
+EventFits version (Corrupted seat machine value old) = (seat < 2 ^ 32) × (machine < 2 ^ 32) × (value < 2 ^ 32) × (old < 2 ^ 32)
 
 pub record SurveyFits (v : SavedSurvey) : Type 0 where
   pub seat : v.seat < 2 ^ 32
@@ -81,15 +83,16 @@ pub record HeadFits (h : Head) : Type 0 where
   pub n : h.n < 2 ^ 32
   pub k : h.k < 2 ^ 32
 
-pub record BlockFits (b : Block) : Type 0 where
+pub record BlockFits (version : ℕ) (b : Block) : Type 0 where
   pub head : HeadFits (head_of b)
   pub start : length b.start ≡ b.n
   pub values : AllByRecursion (λ x. x < 2 ^ 32) b.start
-  pub events : AllByRecursion EventFits b.events
+  pub events : AllByRecursion (EventFits version) b.events
   pub events_said : b.events_said < 2 ^ 64
   pub surveys : AllByRecursion SurveyFits b.surveys
 
 pub record Fits (s : Content) : Type 0 where
+  pub version : IsVersion s.version
   pub some : 0 < length s.rings
-  pub rings : AllByRecursion BlockFits s.rings
+  pub rings : AllByRecursion (BlockFits s.version) s.rings
   pub rings_said : s.rings_said < 2 ^ 32

@@ -6,19 +6,19 @@ ghost use Rattle.ring_text.specs.Content.{block_of, content};
 ghost use Rattle.ring_text.specs.Spelling.{HeadFits};
 ghost use Rattle.ring_text.specs.Lines.{events_at, surveys_at, ring_at, rings_at, body_at, text_at, next_of, with_next};
 
-use crate::lines::{EventOrEnd, Next, SurveyOrNext, event_or_end, head, survey_or_next};
+use crate::lines::{EventOrEnd, Next, SurveyOrNext, event_or_end, head, survey_or_next, version};
 use crate::saved::{Head, Saved, SavedEvent, SavedRing, SavedSurvey};
 use std::alloc::Global;
 use text_lines::{Stop, nothing_more, row32, word};
 
-/// The events, the number of them that the text says, and what stands behind.
-fn events(alloc: Global, bytes: &[u8]) -> Result<(Vec<SavedEvent>, u64, &[u8]), Stop>
-    ensures { Gives (λ x. ((x.0.items, x.1), x.2.now)) result (events_at bytes.now) }
+/// The events of a block in a text of this version, the number of them that the text says, and what stands behind.
+fn events(alloc: Global, version: u32, bytes: &[u8]) -> Result<(Vec<SavedEvent>, u64, &[u8]), Stop>
+    ensures { Gives (λ x. ((x.0.items, x.1), x.2.now)) result (events_at version bytes.now) }
 {
     let mut found = Vec::new(alloc);
     let mut rest = bytes;
     loop {
-        let (item, after) = event_or_end(rest)?;
+        let (item, after) = event_or_end(version, rest)?;
         match item {
             EventOrEnd::Event(event) => found.push(event)?,
             EventOrEnd::End(said) => return Ok((found, said, after)),
@@ -45,13 +45,18 @@ fn surveys(alloc: Global, bytes: &[u8]) -> Result<(Vec<SavedSurvey>, Next, &[u8]
 
 /// A block below its first line, and the line behind it.
 #[tactic(auto, unfolding(crate::specs::Lines::ring_at, crate::specs::Lines::part_at))]
-fn ring(alloc: Global, head: Head, bytes: &[u8]) -> Result<(SavedRing, Next, &[u8]), Stop>
+fn ring(
+    alloc: Global,
+    version: u32,
+    head: Head,
+    bytes: &[u8],
+) -> Result<(SavedRing, Next, &[u8]), Stop>
     requires { 0 < head.n }
-    ensures { Gives (λ x. (with_next (block_of x.0) (next_of x.1), x.2.now)) result (ring_at head bytes.now) }
+    ensures { Gives (λ x. (with_next (block_of x.0) (next_of x.1), x.2.now)) result (ring_at version head bytes.now) }
 {
     let rest = word(bytes, b"start ")?;
     let (start, rest) = row32(alloc, head.n, rest)?;
-    let (events, events_said, rest) = events(alloc, rest)?;
+    let (events, events_said, rest) = events(alloc, version, rest)?;
     let (surveys, next, rest) = surveys(alloc, rest)?;
     let Head { index, n, k } = head;
     let ring = SavedRing {
@@ -67,15 +72,20 @@ fn ring(alloc: Global, head: Head, bytes: &[u8]) -> Result<(SavedRing, Next, &[u
 }
 
 /// The blocks, of which the first has this first line, and the number of them that the text says.
-fn rings(alloc: Global, first: Head, bytes: &[u8]) -> Result<(Vec<SavedRing>, u32, &[u8]), Stop>
+fn rings(
+    alloc: Global,
+    version: u32,
+    first: Head,
+    bytes: &[u8],
+) -> Result<(Vec<SavedRing>, u32, &[u8]), Stop>
     requires { HeadFits first }
-    ensures { Gives (λ x. ((map block_of x.0.items, x.1), x.2.now)) result (rings_at first bytes.now) }
+    ensures { Gives (λ x. ((map block_of x.0.items, x.1), x.2.now)) result (rings_at version first bytes.now) }
 {
     let mut found = Vec::new(alloc);
     let mut head = first;
     let mut rest = bytes;
     loop {
-        let (one, next, after) = ring(alloc, head, rest)?;
+        let (one, next, after) = ring(alloc, version, head, rest)?;
         found.push(one)?;
         rest = after;
         match next {
@@ -85,14 +95,13 @@ fn rings(alloc: Global, first: Head, bytes: &[u8]) -> Result<(Vec<SavedRing>, u3
     }
 }
 
-/// What stands below the text's first line.
+/// What stands below the first line of a text of this version: the blocks, and the number of them that the text says.
 #[tactic(auto, unfolding(crate::specs::Lines::body_at))]
-fn body(alloc: Global, bytes: &[u8]) -> Result<(Saved, &[u8]), Stop>
-    ensures { Gives (λ x. (content x.0, x.1.now)) result (body_at bytes.now) }
+fn body(alloc: Global, version: u32, bytes: &[u8]) -> Result<(Vec<SavedRing>, u32, &[u8]), Stop>
+    ensures { Gives (λ x. ((map block_of x.0.items, x.1), x.2.now)) result (body_at version bytes.now) }
 {
     let (first, rest) = head(bytes)?;
-    let (rings, rings_said, rest) = rings(alloc, first, rest)?;
-    Ok((Saved { rings, rings_said }, rest))
+    rings(alloc, version, first, rest)
 }
 
 /// A whole text, behind which nothing stands.
@@ -100,8 +109,13 @@ fn body(alloc: Global, bytes: &[u8]) -> Result<(Saved, &[u8]), Stop>
 pub fn whole(alloc: Global, bytes: &[u8]) -> Result<Saved, Stop>
     ensures { Gives content result (whole_at text_at bytes.now) }
 {
-    let rest = word(bytes, b"ringfarm 1\n")?;
-    let (saved, rest) = body(alloc, rest)?;
+    let rest = word(bytes, b"ringfarm ")?;
+    let (version, rest) = version(rest)?;
+    let (rings, rings_said, rest) = body(alloc, version, rest)?;
     nothing_more(rest)?;
-    Ok(saved)
+    Ok(Saved {
+        version,
+        rings,
+        rings_said,
+    })
 }

@@ -1,10 +1,11 @@
-//! The readers of single lines. None of them knows the text's first line.
+//! The readers of single lines.
 
 ghost use Rattle.std.specs.Prelude.{◌≡◌};
 ghost use Rattle.text_lines.specs.Reading.{Gives};
-ghost use Rattle.ring_text.specs.Lines.{reply_at, pass_at, corruption_at, end_at, event_or_end_at, head_at, done_at, survey_at, survey_or_next_at, item_of, follow_of};
+ghost use Rattle.ring_text.specs.Lines.{version_at, reply_at, pass_at, corruption_at, end_at, event_or_end_at, head_at, done_at, survey_at, survey_or_next_at, item_of, follow_of};
 
 use crate::saved::{Head, SavedEvent, SavedSurvey};
+use crate::versions::{FIRST_VERSION, LATEST_VERSION};
 use text_lines::{Fault, Stop, number32, number64, positive32, word};
 
 /// The line of an event, or the line behind the events.
@@ -26,6 +27,25 @@ pub enum Next {
 pub enum SurveyOrNext {
     Survey(SavedSurvey),
     Next(Next),
+}
+
+/// The version, and the end of the text's first line.
+#[tactic(auto, unfolding(crate::specs::Lines::version_at))]
+pub fn version(bytes: &[u8]) -> Result<(u32, &[u8]), Stop>
+    ensures { Gives (λ x. (x.0, x.1.now)) result (version_at bytes.now) }
+{
+    match bytes {
+        [] => Err(Stop::Fault(Fault::Short)),
+        [b'1', ..] => {
+            let rest = word(bytes, b"1\n")?;
+            Ok((FIRST_VERSION, rest))
+        }
+        [b'2', ..] => {
+            let rest = word(bytes, b"2\n")?;
+            Ok((LATEST_VERSION, rest))
+        }
+        [_, ..] => Err(Stop::Fault(Fault::Bad(bytes.len()))),
+    }
 }
 
 /// The number and the result of a grant, or none.
@@ -102,10 +122,11 @@ fn end(bytes: &[u8]) -> Result<(u64, &[u8]), Stop>
     number64(rest, b'\n')
 }
 
-/// The line of an event of any kind, or the line behind the events.
+/// The line of an event of any kind that a text of this version has, or the line behind the events.
+/// So far each version has all kinds.
 #[tactic(auto, unfolding(crate::specs::Lines::event_or_end_at))]
-pub fn event_or_end(bytes: &[u8]) -> Result<(EventOrEnd, &[u8]), Stop>
-    ensures { Gives (λ x. (item_of x.0, x.1.now)) result (event_or_end_at bytes.now) }
+pub fn event_or_end(version: u32, bytes: &[u8]) -> Result<(EventOrEnd, &[u8]), Stop>
+    ensures { Gives (λ x. (item_of x.0, x.1.now)) result (event_or_end_at version bytes.now) }
 {
     match bytes {
         [] => Err(Stop::Fault(Fault::Short)),

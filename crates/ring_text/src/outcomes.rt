@@ -6,12 +6,14 @@ ghost use Rattle.ring_settings.specs.Limits.{ring_limit};
 ghost use Rattle.text_lines.specs.Spelling.{row};
 ghost use Rattle.text_lines.specs.Writing.{Writes};
 ghost use Rattle.ring_text.specs.Spelling.{ring_line, start_line, event_line, end_line, survey_line, block_text, text, EventFits, SurveyFits, BlockFits, Fits};
+ghost use Rattle.ring_text.specs.Versions.{latest_version};
 ghost use Rattle.ring_text.specs.SavedOf.{saved_event, saved_survey, entry_surveys, log_surveys, block_at, blocks_from, saved_of};
 
 use crate::put_lines::{
     put_done_line, put_end_line, put_event_line, put_first_line, put_ring_line, put_survey_line,
 };
 use crate::saved::{SavedEvent, SavedSurvey};
+use crate::versions::LATEST_VERSION;
 use ring_book::{Entry, Event, Op, Reply, Survey};
 use ring_farm::{Outcome, RingOutcome};
 use ring_shared::Log;
@@ -23,7 +25,7 @@ use text_lines::{WriteFault, put, put_numbers};
 /// such an event, and a refused pass stands for it.
 fn saved_event(event: Event) -> SavedEvent
     ensures is { result ≡ saved_event event }
-    ensures fits { EventFits result }
+    ensures fits { EventFits latest_version result }
 {
     let Event { seat, op, reply } = event;
     match op {
@@ -94,7 +96,7 @@ fn put_start<W: Write>(out: &mut W, start: &RingState) -> Result<(), WriteFault>
 /// Writes the line of an event.
 fn put_event<W: Write>(out: &mut W, event: Event) -> Result<(), WriteFault>
     ensures written { Writes (W.contents out.old) (W.contents out.new) result (event_line (saved_event event)) }
-    ensures fits { IfOk result (λ _. EventFits (saved_event event)) }
+    ensures fits { IfOk result (λ _. EventFits latest_version (saved_event event)) }
 {
     put_event_line(out, saved_event(event))
 }
@@ -102,7 +104,7 @@ fn put_event<W: Write>(out: &mut W, event: Event) -> Result<(), WriteFault>
 /// Writes a line for each event.
 fn put_events<W: Write>(out: &mut W, history: &[Event]) -> Result<(), WriteFault>
     ensures written { Writes (W.contents out.old) (W.contents out.new) result (flat_map event_line (map saved_event history.now)) }
-    ensures fits { IfOk result (λ _. AllByRecursion EventFits (map saved_event history.now)) }
+    ensures fits { IfOk result (λ _. AllByRecursion (EventFits latest_version) (map saved_event history.now)) }
 {
     for event in history {
         match put_event(out, *event) {
@@ -156,7 +158,7 @@ fn put_logs<W: Write>(out: &mut W, logs: &[Log]) -> Result<(), WriteFault>
 #[tactic(auto, using(text_lines::proofs::Writing::writes_then))]
 fn put_history<W: Write>(out: &mut W, history: &[Event]) -> Result<(), WriteFault>
     ensures written { Writes (W.contents out.old) (W.contents out.new) result (flat_map event_line (map saved_event history.now) ++ end_line (length history.now)) }
-    ensures fits { IfOk result (λ _. AllByRecursion EventFits (map saved_event history.now)) }
+    ensures fits { IfOk result (λ _. AllByRecursion (EventFits latest_version) (map saved_event history.now)) }
 {
     match put_events(out, history) {
         Ok(()) => put_end_line(out, history.len() as u64),
@@ -175,7 +177,7 @@ fn put_size<W: Write>(out: &mut W, place: u32, start: &RingState) -> Result<(), 
 /// Writes the block of a ring at its place.
 fn put_block<W: Write>(out: &mut W, place: u32, ring: &RingOutcome) -> Result<(), WriteFault>
     ensures written { Writes (W.contents out.old) (W.contents out.new) result (block_text (block_at place ring.now)) }
-    ensures fits { IfOk result (λ _. BlockFits (block_at place ring.now)) }
+    ensures fits { IfOk result (λ _. BlockFits latest_version (block_at place ring.now)) }
 {
     let start = ring.book.start();
     put_size(out, place, start)?;
@@ -189,7 +191,7 @@ fn put_block<W: Write>(out: &mut W, place: u32, ring: &RingOutcome) -> Result<()
 fn put_blocks<W: Write>(out: &mut W, rings: &[RingOutcome]) -> Result<(), WriteFault>
     requires { length rings.now ≤ ring_limit }
     ensures written { Writes (W.contents out.old) (W.contents out.new) result (flat_map block_text (blocks_from 0 rings.now)) }
-    ensures fits { IfOk result (λ _. AllByRecursion BlockFits (blocks_from 0 rings.now)) }
+    ensures fits { IfOk result (λ _. AllByRecursion (BlockFits latest_version) (blocks_from 0 rings.now)) }
 {
     for (place, ring) in rings.iter().enumerate() {
         match put_block(out, place as u32, ring) {
@@ -200,8 +202,8 @@ fn put_blocks<W: Write>(out: &mut W, rings: &[RingOutcome]) -> Result<(), WriteF
     Ok(())
 }
 
-/// Writes the saved text of what a farm handed out, of 1 to `RING_LIMIT` rings: for each ring its place from
-/// 0, its size, its start, the events of its history and their number, and the surveys of its logs,
+/// Writes the saved text of what a farm handed out, of 1 to `RING_LIMIT` rings, in the latest version: for each ring
+/// its place from 0, its size, its start, the events of its history and their number, and the surveys of its logs,
 /// log by log with the log's seat; behind them the number of rings. Receipts are not written, since
 /// the history holds them.
 ///
@@ -217,7 +219,7 @@ pub fn write_outcome<W: Write>(outcome: &Outcome, out: &mut W) -> Result<(), Wri
     ensures written { Writes (W.contents out.old) (W.contents out.new) result (text (saved_of outcome.now)) }
     ensures fits { IfOk result (λ _. Fits (saved_of outcome.now)) }
 {
-    put_first_line(out)?;
+    put_first_line(out, LATEST_VERSION)?;
     put_blocks(out, &outcome.rings)?;
     put_done_line(out, outcome.rings.len() as u32)?;
     Ok(())

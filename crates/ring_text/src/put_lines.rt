@@ -1,20 +1,25 @@
 //! The writers of single lines. Each writes just the line's text, and takes no memory.
 
-ghost use Rattle.std.specs.Prelude.{◌≡◌};
+ghost use Rattle.std.specs.Prelude.{◌≡◌, ℕ, ◌<◌, ◌^◌, IfOk};
+ghost use Rattle.std.specs.List.{AllByRecursion};
 ghost use Rattle.text_lines.specs.Writing.{Writes};
 ghost use Rattle.ring_text.specs.declared.saved.SavedEvent.TheVariants.{Granted, Refused, Corrupted};
-ghost use Rattle.ring_text.specs.Spelling.{first_line, ring_line, start_line, event_line, end_line, survey_line, done_line};
+ghost use Rattle.ring_text.specs.Spelling.{first_line, ring_line, start_line, event_line, end_line, survey_line, done_line, EventFits, SurveyFits};
 
 use crate::saved::{SavedEvent, SavedSurvey};
 use itoa::Buffer;
 use std::io::Write;
 use text_lines::{Line, WriteFault, put, put_all, put_row};
 
-/// Writes the text's first line.
-pub fn put_first_line<W: Write>(out: &mut W) -> Result<(), WriteFault>
-    ensures { Writes (W.contents out.old) (W.contents out.new) result first_line }
+/// Writes the text's first line, which says the version.
+pub fn put_first_line<W: Write>(out: &mut W, version: u32) -> Result<(), WriteFault>
+    ensures { Writes (W.contents out.old) (W.contents out.new) result (first_line version) }
 {
-    put(out, b"ringfarm 1\n")
+    let mut buffer = Buffer::new();
+    put_all(
+        out,
+        &[b"ringfarm ", buffer.format(version).as_bytes(), b"\n"],
+    )
 }
 
 /// Writes the first line of a ring: its place, its number of machines and its number of values.
@@ -28,10 +33,11 @@ pub fn put_ring_line<W: Write>(out: &mut W, index: u32, n: u32, k: u32) -> Resul
     put_all(out, &[b"ring ", index, b" ", n, b" ", k, b"\n"])
 }
 
-/// Writes the line of the values that a ring started from.
+/// Writes the line of the values that a ring started from, each of them small by its type.
 #[tactic(auto, using(text_lines::proofs::Writing::writes_then))]
 pub fn put_start_line<W: Write>(out: &mut W, values: &[u32]) -> Result<(), WriteFault>
-    ensures { Writes (W.contents out.old) (W.contents out.new) result (start_line values.now) }
+    ensures written { Writes (W.contents out.old) (W.contents out.new) result (start_line values.now) }
+    ensures small { IfOk result (λ _. AllByRecursion (λ x. x < 2 ^ 32) values.now) }
 {
     match put(out, b"start ") {
         Ok(()) => put_row(out, values),
@@ -107,9 +113,10 @@ fn put_corrupted<W: Write>(
     put(out, line.as_bytes())
 }
 
-/// Writes the line of an event.
+/// Writes the line of an event, each of whose numbers is within its range by its type.
 pub fn put_event_line<W: Write>(out: &mut W, event: SavedEvent) -> Result<(), WriteFault>
-    ensures { Writes (W.contents out.old) (W.contents out.new) result (event_line event) }
+    ensures written { Writes (W.contents out.old) (W.contents out.new) result (event_line event) }
+    ensures fits { (version : ℕ) → EventFits version event }
 {
     match event {
         SavedEvent::Granted {
@@ -141,9 +148,10 @@ pub fn put_end_line<W: Write>(out: &mut W, events: u64) -> Result<(), WriteFault
     put_all(out, &[b"end ", buffer.format(events).as_bytes(), b"\n"])
 }
 
-/// Writes the line of a survey.
+/// Writes the line of a survey, each of whose numbers is within its range by its type.
 pub fn put_survey_line<W: Write>(out: &mut W, survey: SavedSurvey) -> Result<(), WriteFault>
-    ensures { Writes (W.contents out.old) (W.contents out.new) result (survey_line survey) }
+    ensures written { Writes (W.contents out.old) (W.contents out.new) result (survey_line survey) }
+    ensures fits { SurveyFits survey }
 {
     let mut line = Line::new();
     line.byte(b'\n');

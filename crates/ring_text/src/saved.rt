@@ -56,9 +56,11 @@ pub struct SavedRing {
     ghost has_n: { vec_len start ≡ n },
 }
 
-/// A saved text: its blocks, and the number of them as the text says it.
+/// A saved text: the version of its grammar, its blocks, and the number of them as the text says it.
 #[derive(Debug, Drop)]
 pub struct Saved {
+    /// [`FIRST_VERSION`](crate::FIRST_VERSION) to [`LATEST_VERSION`](crate::LATEST_VERSION), where it was read.
+    pub version: u32,
     pub rings: Vec<SavedRing>,
     pub rings_said: u32,
 }

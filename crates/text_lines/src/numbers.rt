@@ -1,6 +1,6 @@
 //! Numbers, one after the other: the one loop behind rows and lists.
 
-ghost use Rattle.std.specs.Prelude.{◌≡◌, ◌<◌, ℕ, List};
+ghost use Rattle.std.specs.Prelude.{◌≡◌, ◌<◌, ℕ, List, IfOk};
 ghost use Rattle.text_lines.specs.Spelling.{numbers_text, stop_text};
 ghost use Rattle.text_lines.specs.Writing.{AreAnswers, Writes};
 
@@ -19,7 +19,8 @@ fn stop(left: usize, between: &'static [u8], behind: &'static [u8]) -> &'static 
 }
 
 /// Writes so many numbers, the one at place `i`, from 0, as `number` answers it: `between` stands between two of them,
-/// and `behind` behind the last. Where there is none it writes nothing. It takes no memory.
+/// and `behind` behind the last. Where there is none it writes nothing. Where all is written each number was asked for.
+/// It takes no memory.
 ///
 /// # Errors
 ///
@@ -32,7 +33,8 @@ pub fn put_numbers<W: Write, F: Fn(usize) -> u64>(
     number: F,
 ) -> Result<(), WriteFault>
     requires { (i : ℕ) → i < count → F.pre number i }
-    ensures { (numbers : List ℕ) → AreAnswers (F.post number) count numbers → Writes (W.contents out.old) (W.contents out.new) result (numbers_text between.now behind.now numbers) }
+    ensures text { (numbers : List ℕ) → AreAnswers (F.post number) count numbers → Writes (W.contents out.old) (W.contents out.new) result (numbers_text between.now behind.now numbers) }
+    ensures asked { IfOk result (λ _. (i : ℕ) → i < count → (answer : ℕ) × F.post number i answer) }
 {
     for i in 0..count {
         let mut buffer = Buffer::new();

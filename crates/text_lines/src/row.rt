@@ -1,6 +1,7 @@
 //! A line of numbers.
 
-ghost use Rattle.std.specs.Prelude.{◌≡◌, ◌^◌, vec_len, IfOk};
+ghost use Rattle.std.specs.Prelude.{◌≡◌, ◌<◌, ◌^◌, vec_len, IfOk};
+ghost use Rattle.std.specs.List.{AllByRecursion};
 ghost use Rattle.text_lines.specs.Reading.{Gives, row_at, stop_of};
 ghost use Rattle.text_lines.specs.Spelling.{row};
 ghost use Rattle.text_lines.specs.Writing.{Writes};
@@ -46,13 +47,14 @@ pub fn row32(alloc: Global, n: u32, bytes: &[u8]) -> Result<(Vec<u32>, &[u8]), S
 }
 
 /// Writes the numbers, one space between two of them and an LF behind the last; nothing where there
-/// is none. It takes no memory.
+/// is none. It takes no memory. The second clause says what the type of the numbers keeps.
 ///
 /// # Errors
 ///
 /// As [`put_all`](crate::put_all).
 pub fn put_row<W: Write>(out: &mut W, values: &[u32]) -> Result<(), WriteFault>
-    ensures { Writes (W.contents out.old) (W.contents out.new) result (row values.now) }
+    ensures text { Writes (W.contents out.old) (W.contents out.new) result (row values.now) }
+    ensures small { IfOk result (λ _. AllByRecursion (λ x. x < 2 ^ 32) values.now) }
 {
     put_numbers(out, values.len(), b" ", b"\n", |i| values[i] as u64)
 }

@@ -34,7 +34,7 @@ pub returns-clause-right : goal.returns-clause-right
 returns-clause-right c =
     let n : length (map block_of c.args.saved.now.rings.items) ≡ length c.args.saved.now.rings.items = length-map c.args.saved.now.rings.items block_of in
     let m : c.args.saved.now.rings_said ≡ length (map block_of c.args.saved.now.rings.items) = omega (arith, n, c.len.ensures, c.args.saved.now.rings.ok.0, c.if-saved-len.false) in
-    (text_right ℕ c.in_ok-line.line (content c.args.saved.now) (rw c.deref.ensures.value at c.in_ok-line.ensures.finds) (eq-eqb _ _ m), rw c.deref-2.ensures.value at c.sums_of.ensures)
+    (text_right ℕ c.in_ok-line.line (content c.args.saved.now) (rw c.deref.ensures.value at c.in_ok-line.ensures.finds) (eq-eqb _ _ m), rw c.deref-2.ensures.value at (c.sums_of.ensures c.args.saved.now.version))
 
 pub returns-clause-meaning : goal.returns-clause-meaning
 returns-clause-meaning c =

@@ -4,7 +4,7 @@ use Rattle.ring_text.specs.Lines.{events_at}
 use Rattle.ring_text.proofs.blocks.events.Given as goal
 
 abbrev pub invariant-loop-found : goal.invariant-loop-found
-invariant-loop-found l = with_items l.found.items (events_at l.rest) ≡ events_at l.bytes
+invariant-loop-found l = with_items l.found.items (events_at l.version l.rest) ≡ events_at l.version l.bytes
 
 abbrev pub decreases-loop-found : goal.decreases-loop-found
 decreases-loop-found l = length l.rest

@@ -6,7 +6,7 @@ use Rattle.ring_text.proofs.Loops.{with_blocks}
 use Rattle.ring_text.proofs.blocks.rings.Given as goal
 
 abbrev pub invariant-loop-found : goal.invariant-loop-found
-invariant-loop-found l = (with_blocks (map block_of l.found.items) (rings_at l.head l.rest) ≡ rings_at l.fn.first l.bytes) × HeadFits l.head
+invariant-loop-found l = (with_blocks (map block_of l.found.items) (rings_at l.version l.head l.rest) ≡ rings_at l.version l.fn.first l.bytes) × HeadFits l.head
 
 abbrev pub decreases-loop-found : goal.decreases-loop-found
 decreases-loop-found l = length l.rest

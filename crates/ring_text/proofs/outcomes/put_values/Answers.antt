@@ -6,5 +6,5 @@ use Rattle.ring_text.proofs.outcomes.put_values.Goals as goal
 
 pub returns : goal.returns
 returns g c =
-    let row = c.put_numbers.ensures c.args.state.now.values (record { many = omega (arith, ap (λ (s : Size). s.n) c.params.ensures.is, c.n-n.ensures.is); each = λ i answer lt said. search rules }) in
+    let row = c.put_numbers.ensures.text c.args.state.now.values (record { many = omega (arith, ap (λ (s : Size). s.n) c.params.ensures.is, c.n-n.ensures.is); each = λ i answer lt said. search rules }) in
     writes_same _ _ c.put_numbers.result _ _ (row_is c.args.state.now.values) row

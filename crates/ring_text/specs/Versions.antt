@@ -1,0 +1,14 @@
+-- The versions of the saved text (this project's own).
+use Rattle.std.specs.Prelude.{ℕ, ◌≤◌}
+
+-- the first one
+abbrev pub first_version : ℕ
+first_version = 1
+
+-- the one that is written of what a farm hands out
+abbrev pub latest_version : ℕ
+latest_version = 2
+
+-- there are these, and those between them
+abbrev pub IsVersion : ℕ → Type 0
+IsVersion version = (first_version ≤ version) × (version ≤ latest_version)

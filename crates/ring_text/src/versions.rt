@@ -1,0 +1,29 @@
+//! The versions of the saved text.
+
+ghost use Rattle.std.specs.Prelude.{◌≡◌};
+ghost use Rattle.ring_text.specs.Versions.{first_version, latest_version};
+ghost use Rattle.ring_text.specs.Content.{content, upgraded};
+
+use crate::saved::Saved;
+
+/// The first version.
+pub const FIRST_VERSION: u32 = 1;
+
+/// The version that is written of what a farm hands out, and that an upgrade gives.
+pub const LATEST_VERSION: u32 = 2;
+
+/// The versions are those of the definitions.
+pub fn versions_as_defined()
+    ensures first { FIRST_VERSION ≡ first_version }
+    ensures latest { LATEST_VERSION ≡ latest_version }
+{}
+
+/// The same value in the latest version of the text: nothing else changes. It takes no memory.
+pub fn upgrade(saved: Saved) -> Saved
+    ensures { content result ≡ upgraded (content saved) }
+{
+    Saved {
+        version: LATEST_VERSION,
+        ..saved
+    }
+}
