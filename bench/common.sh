@@ -3,6 +3,11 @@ top=$(cd "$(dirname "$0")/.." && pwd)
 out=$top/bench/out
 mkdir -p "$out"
 
+# row WHAT HOW_MANY FAILED: a row of the table of hostile.sh, where it asks for one
+row() {
+    [ -z "${HOSTILE_ROWS:-}" ] || printf '%s\t%s\t%s\n' "$1" "$2" "$3" >>"$HOSTILE_ROWS"
+}
+
 # build CRATE [WORD]: proves and builds the program of a crate, and runs it once with the word
 build() {
     echo "proving and building $1"

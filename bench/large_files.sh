@@ -5,21 +5,26 @@ set -eu
 . "$(dirname "$0")/common.sh"
 build ring_tool --help
 program=$top/crates/ring_tool/out/ring_tool
+tried=1
 failed=0
 
-# told WANTED COMMAND FILE: the program refuses the file so, with status 1, and prints nothing else
+# told WANTED COMMAND FILE [INPUT]: the program refuses the file, or its standard input, so, with status 1, and prints nothing else
 told() {
     status=0
-    (cd "$out" && "$program" "$2" "$3" >got.txt 2>got-fault.txt) || status=$?
+    tried=$((tried + 1))
+    (cd "$out" && "$program" "$2" "$3" <"${4:-/dev/null}" >got.txt 2>got-fault.txt) || status=$?
     if [ "$status" != 1 ] || [ -s "$out/got.txt" ] || [ "$(cat "$out/got-fault.txt")" != "$1" ]; then
         echo "$2 $3: status $status, $(cat "$out/got-fault.txt")"
-        failed=1
+        failed=$((failed + 1))
     fi
 }
 
 passes long.json 8 200000 0
 "$program" run "$out/long.json" --history "$out/long.txt" >/dev/null
-[ "$("$program" check "$out/long.txt")" = "legal rings 1 events 200000 granted 200000 corrupted 0 surveys 0" ] || { echo "a long history is not legal"; failed=1; }
+[ "$("$program" check "$out/long.txt")" = "legal rings 1 events 200000 granted 200000 corrupted 0 surveys 0" ] || {
+    echo "a long history is not legal"
+    failed=1
+}
 
 rm -f "$out/limit" "$out/over"
 truncate -s 1073741824 "$out/limit"
@@ -29,6 +34,9 @@ told "over is too large" check over
 told "settings are not JSON" run limit
 told "over is too large" run over
 told "/dev/zero is too large" check /dev/zero
+told "- is too large" check - over
+told "- is too large" run - /dev/zero
 rm -f "$out/limit" "$out/over"
-[ "$failed" = 1 ] || echo "each large file is answered"
-exit "$failed"
+row "large files, and standard input without an end" "$tried" "$failed"
+[ "$failed" != 0 ] || echo "each large file is answered"
+[ "$failed" = 0 ]

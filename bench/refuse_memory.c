@@ -1,5 +1,8 @@
-// Refuses requests for memory of a process: preloaded, with the number of the one request, from 1, in REFUSED_REQUEST, or
-// with the largest number of bytes that one request may be for in LARGEST_REQUEST.
+// Refuses requests for memory of a process, preloaded, by one of:
+//   REFUSED_REQUEST   the number of the one request, from 1;
+//   LARGEST_REQUEST   the largest number of bytes that one request may be for;
+//   REFUSED_FROM      a number of bytes: a request for just so many is the mark from which on each is refused, itself too, up to
+//                     a request for one byte more. A test makes the two requests round the calls that take no memory.
 // Where it refused a request, it makes the file that REFUSED_MARK names.
 #define _GNU_SOURCE
 #include <dlfcn.h>
@@ -11,13 +14,17 @@
 #include <unistd.h>
 
 static atomic_long requests;
+static atomic_int behind_mark;
 
-// whether it is the one request, or is for too many bytes
+// whether it is the one request, is for too many bytes, or comes behind the mark
 static int is_named(size_t size) {
     const char *number = getenv("REFUSED_REQUEST");
     const char *largest = getenv("LARGEST_REQUEST");
+    const char *from = getenv("REFUSED_FROM");
     if (number && atomic_fetch_add(&requests, 1) + 1 == atol(number)) return 1;
-    return largest && size > strtoull(largest, NULL, 10);
+    if (from && size == strtoull(from, NULL, 10)) atomic_store(&behind_mark, 1);
+    if (from && size == strtoull(from, NULL, 10) + 1) atomic_store(&behind_mark, 0);
+    return atomic_load(&behind_mark) || (largest && size > strtoull(largest, NULL, 10));
 }
 
 static int is_refused(size_t size) {

@@ -140,6 +140,10 @@ def main(program, room, minutes, first):
             print(f"seed {seed}: {difference}; the files are in {room}, bench/soak.sh 0.01 {seed} repeats it")
             return 1
         seed += 1
+    if "HOSTILE_ROWS" in os.environ:
+        with open(os.environ["HOSTILE_ROWS"], "a", encoding="utf-8") as rows:
+            rows.write(f"drawn settings, from seed {first}: run, reported, checked alike\t{soak.runs}\t0\n")
+            rows.write(f"damaged texts of them: refused alike by a second checker\t{soak.damages}\t0\n")
     print(f"runs {soak.runs} events {soak.events} damaged texts {soak.damages} of which still legal {soak.still_legal} differences 0")
     return 0
 

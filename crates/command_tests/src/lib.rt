@@ -17,4 +17,6 @@ mod run;
 #[cfg(test)]
 mod step;
 #[cfg(test)]
+mod streams;
+#[cfg(test)]
 mod words;

@@ -1,6 +1,7 @@
 //! Writers into memory, and the program run on words.
 
-use ring_words::run_tool;
+use crate::reading::Giver;
+use ring_words::run_tool_on;
 use std::alloc::{AllocError, Global};
 use std::io::{self, Write};
 use std::process::Abort;
@@ -55,10 +56,11 @@ impl Write for Paper {
     }
 }
 
-/// The program's status on a line of words.
-pub fn status_on<R: AllocGlobal + Files + Threads + Wait + Sync>(
+/// The program's status on a line of words, with this standard input.
+fn status_from<R: AllocGlobal + Files + Threads + Wait + Sync>(
     rt: &R,
     line: &[&str],
+    input: &mut Giver<'_>,
     out: &mut Paper,
     err: &mut Paper,
 ) -> Result<u8, AllocError> {
@@ -66,7 +68,35 @@ pub fn status_on<R: AllocGlobal + Files + Threads + Wait + Sync>(
     for word in line {
         words.push(String::from_str(rt.alloc(), word)?)?;
     }
-    Ok(run_tool(rt, words.as_slice(), out, err))
+    Ok(run_tool_on(rt, words.as_slice(), input, out, err))
+}
+
+/// The program's status on a line of words, with an empty standard input.
+pub fn status_on<R: AllocGlobal + Files + Threads + Wait + Sync>(
+    rt: &R,
+    line: &[&str],
+    out: &mut Paper,
+    err: &mut Paper,
+) -> Result<u8, AllocError> {
+    status_from(rt, line, &mut Giver::new(b""), out, err)
+}
+
+/// Runs the program with this standard input, and compares its status, all that it prints, and how much it read.
+pub fn expect_from<R: Abort + AllocGlobal + Files + Threads + Wait + Sync>(
+    rt: &R,
+    line: &[&str],
+    input: &mut Giver<'_>,
+    given: usize,
+    status: u8,
+    out: &str,
+    err: &str,
+) -> Result<(), AllocError> {
+    let mut printed = Paper::new(rt.alloc());
+    let mut told = Paper::new(rt.alloc());
+    let got = status_from(rt, line, input, &mut printed, &mut told)?;
+    let right = printed.holds(out) && told.holds(err) && got == status && input.given == given;
+    assert!(rt; right, "at {line:?}: status {got}");
+    Ok(())
 }
 
 /// Runs the program, and compares its status and all that it prints.

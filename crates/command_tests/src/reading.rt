@@ -7,17 +7,17 @@ use std::test::Fail;
 
 /// A reader that gives at most `at_most` bytes a call, and then no more, or the error if it has one.
 #[derive(Drop)]
-struct Giver<'a> {
-    text: &'a [u8],
-    given: usize,
-    at_most: usize,
-    error: Option<ErrorKind>,
+pub struct Giver<'a> {
+    pub text: &'a [u8],
+    pub given: usize,
+    pub at_most: usize,
+    pub error: Option<ErrorKind>,
     /// How often it answered the error.
-    errors: usize,
+    pub errors: usize,
 }
 
 impl<'a> Giver<'a> {
-    fn new(text: &'a [u8]) -> Giver<'a> {
+    pub fn new(text: &'a [u8]) -> Giver<'a> {
         Giver {
             text,
             given: 0,

@@ -12,7 +12,7 @@ use std::thread::Threads;
 
 /// One ring, and one client: a grant at machine 0, a pass there that finds no privilege, a grant at
 /// machine 2, and a survey.
-const SETTINGS: &str =
+pub const SETTINGS: &str =
     r#"{"rings":[{"n":3,"k":3,"start":[0,2,0]}],"workers":[{"script":[["pass",0,0,5],["pass",0,0,1],["pass",0,2,4],["survey",0]]}]}"#;
 
 /// Its report.
@@ -75,15 +75,15 @@ fn a_history_is_saved_and_is_legal(rt: HostRuntime) -> Result<(), Fail> {
 }
 
 /// Three rings, and one client that lets machine 0 of each pass, the last ring first.
-const THREE: &str =
+pub const THREE: &str =
     r#"{"rings":[{"n":2,"k":2,"start":[0,0]},{"n":2,"k":3,"start":[1,1]},{"n":2,"k":2,"start":[1,1]}],"workers":[{"script":[["pass",2,0,7],["pass",1,0,8],["pass",0,0,9]]}]}"#;
 
 /// What is saved of them.
-const THREE_SAVED: &str =
+pub const THREE_SAVED: &str =
     "ringfarm 1\nring 0 2 2\nstart 0 0\np 0 0 9 g 1 9\nend 1\nring 1 2 3\nstart 1 1\np 0 0 8 g 1 8\nend 1\nring 2 2 2\nstart 1 1\np 0 0 7 g 1 7\nend 1\ndone 3\n";
 
 /// Their report.
-const THREE_REPORT: &str =
+pub const THREE_REPORT: &str =
     "ring 0 n 2 k 2 events 1 granted 1 refused 0 corrupted 0 surveys 0\nstates 1,0\nprivileged 1 first 1 calm 1 rest 0 bound 3\ngrants 1,0 settled 1,0\nring 1 n 2 k 3 events 1 granted 1 refused 0 corrupted 0 surveys 0\nstates 2,1\nprivileged 1 first 1 calm 1 rest 0 bound 3\ngrants 1,0 settled 1,0\nring 2 n 2 k 2 events 1 granted 1 refused 0 corrupted 0 surveys 0\nstates 0,1\nprivileged 1 first 1 calm 1 rest 0 bound 3\ngrants 1,0 settled 1,0\ntotal rings 3 events 3 granted 3 surveys 0\n";
 
 #[test]

@@ -1,7 +1,7 @@
 //! What `clap` answers itself: help, and words that cannot be read.
 
 use crate::check::PASSES_SUMS;
-use crate::paper::expect_clap;
+use crate::paper::{expect, expect_clap};
 use crate::run::REPORT;
 use crate::step::ROW_TEXT;
 use std::test::Fail;
@@ -163,6 +163,83 @@ fn help_of_run_has_an_example(rt: HostRuntime) -> Result<(), Fail> {
         for part in REPORT.lines() {
             expect_clap(&rt, &line, 0, &[part])?;
         }
+    }
+    Ok(())
+}
+
+#[test]
+fn the_version_is_that_of_the_program_and_its_kit(rt: HostRuntime) -> Result<(), Fail> {
+    for word in ["--version", "-V"] {
+        expect(
+            &rt,
+            &[word],
+            0,
+            "ring_tool 0.1.0\nrattle-kit-13b logic dac8208d650f15bf\n",
+            "",
+        )?;
+    }
+    Ok(())
+}
+
+#[test]
+fn help_names_every_exit_status(rt: HostRuntime) -> Result<(), Fail> {
+    expect_clap(
+        &rt,
+        &["--help"],
+        0,
+        &["Exit status:", "\n  0  ", "\n  1  ", "\n  2  "],
+    )?;
+    for command in ["step", "run", "check"] {
+        expect_clap(
+            &rt,
+            &[command, "--help"],
+            0,
+            &["Exit status: 0 where", ", 1 ", ", 2 where"],
+        )?;
+    }
+    Ok(())
+}
+
+#[test]
+fn a_name_that_begins_with_a_dash_stands_behind_two(rt: HostRuntime) -> Result<(), Fail> {
+    for (line, text) in [
+        (
+            ["check", "--", "-missing.txt"].as_slice(),
+            "cannot read -missing.txt\n",
+        ),
+        (
+            ["run", "--quiet", "--", "-missing.json"].as_slice(),
+            "cannot read -missing.json\n",
+        ),
+        (
+            ["run", "--history", "a.txt", "--", "--quiet"].as_slice(),
+            "cannot read --quiet\n",
+        ),
+        (["check", "--", "--"].as_slice(), "cannot read --\n"),
+        (["check", "./-"].as_slice(), "cannot read ./-\n"),
+    ] {
+        expect(&rt, line, 1, "", text)?;
+    }
+    Ok(())
+}
+
+#[test]
+fn a_name_that_begins_with_a_dash_is_no_word_by_itself(rt: HostRuntime) -> Result<(), Fail> {
+    for (line, part) in [
+        (
+            ["check", "-missing.txt"].as_slice(),
+            "unexpected argument '-m'",
+        ),
+        (
+            ["run", "a.json", "--history", "-a.txt"].as_slice(),
+            "unexpected argument '-a'",
+        ),
+        (
+            ["run", "a.json", "--quiet=yes"].as_slice(),
+            "unexpected value 'yes' for '--quiet'",
+        ),
+    ] {
+        expect_clap(&rt, line, 2, &[part])?;
     }
     Ok(())
 }

@@ -1,5 +1,6 @@
 -- What reading up to a limit gives.
-use Rattle.std.specs.Prelude.{◌≡◌, ℕ, ◌+◌, ◌≤◌, List, length, Option}
+use Rattle.std.specs.Prelude.{◌≡◌, ℕ, ◌+◌, ◌≤◌, List, length, Option, Bool, true, codes}
+use Rattle.std.specs.Str.{bytes_eq}
 use Rattle.std.specs.Io.KnownBytes.{Consumes, IsAtEnd}
 
 -- how many bytes of a file are read at most
@@ -11,6 +12,15 @@ pub record IsAllOf (limit : ℕ) (old new : Option (List ℕ)) (bytes : List ℕ
   pub within : length bytes ≤ limit
   pub given : Consumes old new bytes
   pub end : IsAtEnd new
+
+-- whether a word is the dash, which stands for a standard stream in the place of a file's name
+abbrev pub is_dash : List ℕ → Bool
+is_dash word = bytes_eq word (codes "-")
+
+-- What a word names was read by a reader that had the bytes `from` left before and `left` after: where it is the dash, that reader is standard input, which had
+-- `was` before and has `is` after. Of what a file gives nothing is said.
+abbrev pub IsReadBy : List ℕ → Option (List ℕ) → Option (List ℕ) → Option (List ℕ) → Option (List ℕ) → Type 0
+IsReadBy word was is from left = is_dash word ≡ true → (from ≡ was) × (left ≡ is)
 
 -- it gave one byte more than so many
 abbrev pub IsOver : ℕ → Option (List ℕ) → Option (List ℕ) → Type 0

@@ -7,11 +7,11 @@ use Rattle.ring_farm.specs.Headline.{IsFarmOf}
 use Rattle.ring_farm.specs.declared.outcomes.Outcome.{Outcome}
 use Rattle.ring_text.specs.declared.saved.Saved.{Saved}
 use Rattle.ring_text.specs.Meaning.{IsRightRead, IsReadAs}
-use Rattle.ring_text.specs.Report.{report}
 use Rattle.ring_text.specs.SavedOf.{saved_of}
 use Rattle.ring_text.specs.Spelling.{text}
 use Rattle.ring_check.specs.Legal.{IsLegalText, summary_of}
 use Rattle.ring_commands.specs.Checked.{IsLegalSavedText}
+use Rattle.ring_commands.specs.Ran.{printed, IsFarmNamed}
 use Rattle.ring_commands.specs.declared.run.RunWords.{RunWords}
 
 -- The saved text of an outcome is legal, in the subject's words with the outcome's sums, and by the table of what is refused; and the one right
@@ -25,7 +25,7 @@ pub record IsSavedLegal (o : Outcome) : Type 0 where
 abbrev pub IsLegalOfFarm : Outcome → Type 0
 IsLegalOfFarm o = (settings : SettingsData) → IsFarmOf settings o → IsSavedLegal o
 
--- an outcome of a farm is reported, and where its history is asked for, what was saved of it is legal
-abbrev pub IsRunAnswer : RunWords → Option (List ℕ) → Option (List ℕ) → Type 0
-IsRunAnswer words old new =
-    (settings : SettingsData) × (outcome : Outcome) × IsFarmOf settings outcome × Appends old new (report outcome) × (IsSome words.history → IsSavedLegal outcome)
+-- An outcome of the farm of what the word names is printed as the words say, and where its history is asked for, what was saved of it is legal.
+abbrev pub IsRunAnswer : RunWords → Option (List ℕ) → Option (List ℕ) → Option (List ℕ) → Option (List ℕ) → Type 0
+IsRunAnswer words was is old new =
+    (outcome : Outcome) × IsFarmNamed words.settings.now was is outcome × Appends old new (printed words outcome) × (IsSome words.history → IsSavedLegal outcome)

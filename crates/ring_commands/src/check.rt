@@ -1,15 +1,15 @@
 //! `check`: whether a saved text is that of legal histories.
 
-ghost use Rattle.std.specs.Prelude.{◌≡◌, ◌≢◌, ℕ, List, OnOk, IfOk, IfErr};
+ghost use Rattle.std.specs.Prelude.{false, ◌≡◌, ◌≢◌, OnOk, IfOk, IfErr};
 ghost use Rattle.std.specs.Io.KnownBytes.{Appends};
 ghost use Rattle.text_lines.specs.Writing.{Writes};
 ghost use Rattle.ring_check.specs.declared.answers.Summary.{Summary};
 ghost use Rattle.ring_commands.specs.CheckText.{legal_line};
-ghost use Rattle.ring_commands.specs.Checked.{IsLegalSavedText, IsSavedTextRefusal, IsCheckAnswer, IsCheckRefusal, IsCheckFileRefusal, IsCheckRunRefusal};
-ghost use Rattle.ring_commands.specs.Reading.{most_bytes, IsAllOf};
+ghost use Rattle.ring_commands.specs.Checked.{IsLegalSavedText, IsSavedTextRefusal, IsCheckFileAnswer, IsCheckAnswer, IsCheckRefusal, IsCheckFileRefusal, IsCheckRunRefusal};
+ghost use Rattle.ring_commands.specs.Reading.{is_dash};
 
 use crate::faults::ToolError;
-use crate::reading::read_whole;
+use crate::reading::{names_stream, read_whole};
 use itoa::Buffer;
 use ring_check::{Summary, check_saved};
 use ring_text::read_saved;
@@ -22,6 +22,7 @@ use text_lines::{WriteFault, put_all};
 /// What `check` was asked for.
 #[derive(Clone, Copy, Debug)]
 pub struct CheckWords<'a> {
+    /// The file's name; `-` is standard input.
     pub file: &'a str,
 }
 
@@ -108,8 +109,7 @@ pub fn check_file<'a, I: Read, W: Write>(
     reader: &mut I,
     out: &mut W,
 ) -> Result<(), ToolError<'a>>
-    ensures ok { OnOk result ((bytes : List ℕ) × (sums : Summary) × IsAllOf most_bytes (I.remaining reader.old) (I.remaining reader.new) bytes
-        × IsLegalSavedText bytes sums × Appends (W.contents out.old) (W.contents out.new) (legal_line sums)) }
+    ensures ok { OnOk result (IsCheckFileAnswer (I.remaining reader.old) (I.remaining reader.new) (W.contents out.old) (W.contents out.new)) }
     ensures err { IfErr result (λ e. IsCheckFileRefusal file.now (I.remaining reader.old) (I.remaining reader.new) (W.contents out.old) (W.contents out.new) e) }
     ensures nothing { IfErr result (λ e. e ≢ ToolError.Write → out.new ≡ out.old) }
 {
@@ -117,20 +117,25 @@ pub fn check_file<'a, I: Read, W: Write>(
     check_bytes(alloc, bytes.as_slice(), out)
 }
 
-/// `check`, from its words: opens the file, and checks it.
+/// `check`, from its words: reads standard input, or opens the file, and checks it.
 ///
 /// # Errors
 ///
-/// `Read` where the file cannot be opened, and those of [`check_file`].
-pub fn run<'a, R: AllocGlobal + Files, W: Write>(
+/// `Read` where the file cannot be opened, and those of [`check_file`]. Where a file is named, standard input stays as it was.
+pub fn run<'a, R: AllocGlobal + Files, I: Read, W: Write>(
     rt: &R,
     words: &CheckWords<'a>,
+    input: &mut I,
     out: &mut W,
 ) -> Result<(), ToolError<'a>>
-    ensures ok { OnOk result (IsCheckAnswer (W.contents out.old) (W.contents out.new)) }
-    ensures err { IfErr result (λ e. IsCheckRunRefusal words.now (W.contents out.old) (W.contents out.new) e) }
+    ensures ok { OnOk result (IsCheckAnswer words.now (I.remaining input.old) (I.remaining input.new) (W.contents out.old) (W.contents out.new)) }
+    ensures err { IfErr result (λ e. IsCheckRunRefusal words.now (I.remaining input.old) (I.remaining input.new) (W.contents out.old) (W.contents out.new) e) }
     ensures nothing { IfErr result (λ e. e ≢ ToolError.Write → out.new ≡ out.old) }
+    ensures unread { is_dash words.now.file.now ≡ false → input.new ≡ input.old }
 {
+    if names_stream(words.file) {
+        return check_file(rt.alloc(), words.file, input, out);
+    }
     let Ok(mut reader) = fs::open(rt, words.file) else {
         return Err(ToolError::Read(words.file));
     };

@@ -3,7 +3,7 @@
 ghost use Rattle.std.specs.Prelude.{◌≡◌, ◌≤◌, vec_len, IfOk, OnOk, IfErr, IsErrOf};
 ghost use Rattle.std.specs.Io.KnownBytes.{Consumes, IsAtEnd};
 ghost use Rattle.ring_commands.specs.Faults.{IsReadRefusal};
-ghost use Rattle.ring_commands.specs.Reading.{most_bytes, IsAllOf, IsOver};
+ghost use Rattle.ring_commands.specs.Reading.{most_bytes, is_dash, IsAllOf, IsOver};
 
 use crate::faults::ToolError;
 use std::alloc::Global;
@@ -80,4 +80,11 @@ pub fn read_whole<'a, R: Read>(
         Err(ReadFault::TooLarge) => Err(ToolError::TooLarge(file)),
         Err(ReadFault::OutOfMemory) => Err(ToolError::OutOfMemory),
     }
+}
+
+/// Whether a word stands for a standard stream, and not for a file of its own name: `-`.
+pub fn names_stream(word: &str) -> bool
+    ensures { result ≡ is_dash word.now }
+{
+    word == "-"
 }

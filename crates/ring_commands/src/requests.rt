@@ -1,13 +1,13 @@
 //! What the program can be asked for.
 
-ghost use Rattle.std.specs.Prelude.{OnOk, IfErr};
-ghost use Rattle.ring_commands.specs.Answered.{IsAnswer, IsRefusal};
+ghost use Rattle.std.specs.Prelude.{◌≡◌, OnOk, IfErr};
+ghost use Rattle.ring_commands.specs.Answered.{IsAnswer, IsRefusal, IsOfFile};
 
 use crate::check::{self, CheckWords};
 use crate::faults::ToolError;
 use crate::run::{self, RunWords};
 use crate::step::{self, StepWords};
-use std::io::Write;
+use std::io::{Read, Write};
 use std::rt::Files;
 use std::sync::Wait;
 use std::thread::Threads;
@@ -20,22 +20,24 @@ pub enum Request<'a> {
     Check(CheckWords<'a>),
 }
 
-/// Does what was asked for.
+/// Does what was asked for. A word `-` for what is read names `input`; where there is none it stays as it was.
 ///
 /// # Errors
 ///
 /// The refusals of the command.
-pub fn answer<'a, R: AllocGlobal + Files + Threads + Wait + Sync, O: Write>(
+pub fn answer<'a, R: AllocGlobal + Files + Threads + Wait + Sync, I: Read, O: Write>(
     rt: &R,
     request: &Request<'a>,
+    input: &mut I,
     out: &mut O,
 ) -> Result<(), ToolError<'a>>
-    ensures ok { OnOk result (IsAnswer request.now (O.contents out.old) (O.contents out.new)) }
-    ensures err { IfErr result (λ e. IsRefusal request.now (O.contents out.old) (O.contents out.new) e) }
+    ensures ok { OnOk result (IsAnswer request.now (I.remaining input.old) (I.remaining input.new) (O.contents out.old) (O.contents out.new)) }
+    ensures err { IfErr result (λ e. IsRefusal request.now (I.remaining input.old) (I.remaining input.new) (O.contents out.old) (O.contents out.new) e) }
+    ensures unread { IsOfFile request.now → input.new ≡ input.old }
 {
     match request {
         Request::Step(words) => step::run(rt.alloc(), words, out),
-        Request::Run(words) => run::run(rt, words, out),
-        Request::Check(words) => check::run(rt, words, out),
+        Request::Run(words) => run::run(rt, words, input, out),
+        Request::Check(words) => check::run(rt, words, input, out),
     }
 }

@@ -18,3 +18,15 @@ pub fn three(rt: &impl Abort, state: &RingState) -> (u32, u32, u32) {
     assert_eq!(rt; state.params().n(), 3);
     (state.get(0), state.get(1), state.get(2))
 }
+
+/// A request for so many bytes, and one for a byte more, stand round calls that take no memory: `bench/refused_memory.sh`
+/// refuses each request from the one to the other.
+const MARK: usize = 1_234_567;
+
+pub fn memory_ends(alloc: Global) {
+    let _ = "x".repeat(alloc, MARK);
+}
+
+pub fn memory_is_back(alloc: Global) {
+    let _ = "x".repeat(alloc, MARK + 1);
+}

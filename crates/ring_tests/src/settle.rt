@@ -1,4 +1,4 @@
-use crate::rings::{state_of, three};
+use crate::rings::{memory_ends, memory_is_back, state_of, three};
 use ring_settle::{bound, follow, is_settled, lead, rest};
 
 #[test]
@@ -72,4 +72,15 @@ fn follows_choices(rt: HostRuntime) {
     assert_eq!(rt; state.params().n(), 3);
     assert_eq!(rt; follow(&mut state, &[]), 0);
     assert_eq!(rt; three(&rt, &state), (1, 2, 2));
+}
+
+// Passes too where each request for memory between the marks is refused, as `bench/refused_memory.sh` has it.
+#[test]
+fn following_takes_no_memory(rt: HostRuntime) {
+    let mut state = state_of(&rt, rt.alloc(), 3, 3, &[0, 2, 0]);
+    assert_eq!(rt; state.params().n(), 3);
+    memory_ends(rt.alloc());
+    let granted = follow(&mut state, &[0, 0, 2]);
+    memory_is_back(rt.alloc());
+    assert_eq!(rt; (granted, three(&rt, &state)), (2, (1, 2, 2)));
 }

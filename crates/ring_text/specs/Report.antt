@@ -47,9 +47,12 @@ surveys_in logs = sum_by (λ (l : Log). survey_count l.entries.items) logs
 abbrev pub entries_of : List Log → ℕ
 entries_of logs = sum_by (λ (l : Log). length l.entries.items) logs
 
--- the entries in all logs of an outcome
+-- the entries in all logs of rings, and of an outcome
+abbrev pub entries_among : List RingOutcome → ℕ
+entries_among rings = sum_by (λ (r : RingOutcome). entries_of r.logs.items) rings
+
 abbrev pub entries_in : Outcome → ℕ
-entries_in o = sum_by (λ (r : RingOutcome). entries_of r.logs.items) o.rings.items
+entries_in o = entries_among o.rings.items
 
 -- what is counted of a ring: its events, among them the granted passes, the passes that found no privilege and the corruptions, and the surveys in its logs
 abbrev pub counts_of : RingOutcome → Counts
@@ -129,6 +132,10 @@ abbrev pub rings_from : ℕ → List RingOutcome → List ℕ
 rings_from place [] = []
 rings_from place (r ∷ rs) = ring_lines place r ++ rings_from (place + 1) rs
 
+-- the line of the farm
+abbrev pub farm_line : Outcome → List ℕ
+farm_line o = total_line (length o.rings.items) (totals_of o.rings.items)
+
 -- the lines of each ring, and the line of the farm
 abbrev pub report : Outcome → List ℕ
-report o = rings_from 0 o.rings.items ++ total_line (length o.rings.items) (totals_of o.rings.items)
+report o = rings_from 0 o.rings.items ++ farm_line o

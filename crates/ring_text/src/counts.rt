@@ -1,9 +1,10 @@
 //! What a report counts.
 
-ghost use Rattle.std.specs.Prelude.{◌≡◌, ◌+◌, ◌<◌, ◌≤◌, ◌^◌, []};
+ghost use Rattle.std.specs.Prelude.{◌≡◌, ◌+◌, ◌<◌, ◌≤◌, ◌^◌, [], length};
 ghost use Rattle.ring_model.specs.Surveys.{granted_count, corrupted_count};
 ghost use Rattle.ring_model.specs.Limits.{event_limit};
-ghost use Rattle.ring_text.specs.Report.{refused_count, survey_count, surveys_in, entries_of, counts_of, totals_of};
+ghost use Rattle.ring_settings.specs.Limits.{ring_limit};
+ghost use Rattle.ring_text.specs.Report.{refused_count, survey_count, surveys_in, entries_of, entries_among, counts_of, totals_of};
 
 use ring_farm::RingOutcome;
 use ring_model::{Entry, Event, Reply};
@@ -117,4 +118,17 @@ pub fn counted(ring: &RingOutcome) -> Counts
         corrupted: corrupted(history) as u64,
         surveys: surveys_of(ring.logs.as_slice()),
     }
+}
+
+/// Counts what adds up over rings.
+pub fn added_up(rings: &[RingOutcome]) -> Totals
+    requires most { length rings.now ≤ ring_limit }
+    requires few { entries_among rings.now < 2 ^ 64 }
+    ensures { result ≡ totals_of rings.now }
+{
+    let mut all = Totals::new();
+    for ring in rings {
+        all.add(counted(ring));
+    }
+    all
 }

@@ -23,7 +23,7 @@ pub use put_lines::{
     put_survey_line,
 };
 pub use read::{answers_are_apart, read_saved, texts_are_apart, texts_read_back};
-pub use report::write_report;
+pub use report::{write_report, write_total};
 pub use saved::{Saved, SavedEvent, SavedRing, SavedSurvey};
 pub use text_lines::{ReadError, WriteFault};
 pub use versions::{FIRST_VERSION, LATEST_VERSION, upgrade, versions_as_defined};

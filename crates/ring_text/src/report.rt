@@ -6,9 +6,9 @@ ghost use Rattle.text_lines.specs.Spelling.{list_text};
 ghost use Rattle.text_lines.specs.Writing.{AreAnswers, Writes};
 ghost use Rattle.ring_model.specs.History.{after, opening};
 ghost use Rattle.ring_model.specs.Resources.{till};
-ghost use Rattle.ring_text.specs.Report.{entries_in, counts_of, size_words, count_words, counts_line, states_line, standing_line, grants_line, end_lines, ring_lines, total_line, report};
+ghost use Rattle.ring_text.specs.Report.{entries_in, counts_of, size_words, count_words, counts_line, states_line, standing_line, grants_line, end_lines, ring_lines, total_line, farm_line, report};
 
-use crate::counts::{Counts, Totals, counted};
+use crate::counts::{Counts, Totals, added_up, counted};
 use itoa::Buffer;
 use ring_book::{Book, GrantBook, Survey, Till};
 use ring_farm::{Outcome, RingOutcome};
@@ -245,4 +245,19 @@ pub fn write_report<W: Write>(outcome: &Outcome, out: &mut W) -> Result<(), Writ
         }
     }
     put_total_line(out, outcome.rings.len() as u32, totals)
+}
+
+/// Writes the line of the farm alone, as it stands at the end of the report: what adds up over the rings. It takes no
+/// memory.
+///
+/// # Errors
+///
+/// `WriteFault` as at [`write_report`]. The writer then holds a beginning of the line, but not all of it, behind what it
+/// held.
+pub fn write_total<W: Write>(outcome: &Outcome, out: &mut W) -> Result<(), WriteFault>
+    requires most { length outcome.now.rings.items ≤ ring_limit }
+    requires few { entries_in outcome.now < 2 ^ 64 }
+    ensures { Writes (W.contents out.old) (W.contents out.new) result (farm_line outcome.now) }
+{
+    put_total_line(out, outcome.rings.len() as u32, added_up(&outcome.rings))
 }

@@ -6,7 +6,7 @@ pub use ring_commands::faults::ToolError;
 pub use ring_commands::reading::read_limited;
 pub use ring_commands::step::step_lines;
 pub use ring_words::run_tool;
-use std::io::{self, BufWriter, ErrorKind, Write};
+use std::io::{self, BufWriter, ErrorKind, Input, Write};
 use std::process::ExitCode;
 use std::rt::{Env, Files};
 use std::sync::Wait;
@@ -29,7 +29,7 @@ fn words_of<R: AllocGlobal + Env>(rt: &R) -> Result<Option<Vec<String>>, ToolErr
 }
 
 /// The whole run: what it prints goes through a buffer to standard output.
-fn run<R: AllocGlobal + Env + Files + Print + Threads + Wait + Sync, E: Write>(
+fn run<R: AllocGlobal + Env + Files + Input + Print + Threads + Wait + Sync, E: Write>(
     rt: &R,
     err: &mut E,
 ) -> Result<u8, ToolError<'static>> {

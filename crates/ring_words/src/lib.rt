@@ -2,6 +2,8 @@
 #![tactic(auto)]
 
 mod program;
+mod version;
 mod words;
 
-pub use program::run_tool;
+pub use program::{run_tool, run_tool_on};
+pub use version::VERSION;

@@ -1,7 +1,8 @@
 //! The program's command line, as `clap` reads it.
 
+use crate::version::VERSION;
 use clap::error::ErrorKind;
-use clap::{Arg, ArgMatches, Command, Error, value_parser};
+use clap::{Arg, ArgAction, ArgMatches, Command, Error, value_parser};
 use ring_commands::check::CheckWords;
 use ring_commands::requests::Request;
 use ring_commands::run::RunWords;
@@ -10,6 +11,13 @@ use std::alloc::Global;
 
 const ABOUT: &str =
     "A verified arbiter: rings of machines that pass a token, after E. W. Dijkstra (1974)";
+
+const STATUSES: &str = "\
+Exit status:
+  0  it was done
+  1  it was refused, input or output failed, or there was too little memory or no thread
+  2  the words, or a list of `step`, cannot be read
+Where it is not 0, standard error says why.";
 
 const STEP_ABOUT: &str = "Lets chosen machines of one ring ask to pass, one after the other";
 
@@ -23,7 +31,9 @@ Example:
   0 not privileged
   2 granted 2
   states 1,2,2
-  privileged 1 first 1";
+  privileged 1 first 1
+
+Exit status: 0 where it was done, 2 where the words or a list cannot be read, 1 after each other refusal.";
 
 const RUN_ABOUT: &str =
     "Runs the rings of a settings file, driven by clients on threads, and prints a report";
@@ -31,7 +41,8 @@ const RUN_ABOUT: &str =
 const RUN_HELP: &str = "\
 Each client of the settings, and the injector of faults, has a thread of its own on each ring. When all have
 done their actions, the report has four lines for each ring and one for the farm. Where FILE is the settings file
-itself, it is replaced too. A file that is a pipe is waited for until somebody opens its other end.
+itself, it is replaced too. A file that is a pipe is waited for until somebody opens its other end. A file whose name
+is `-` is `./-`; one whose name begins with a dash stands behind `--`, or as `--history=FILE`.
 
 Example, where settings.json is {\"rings\":[{\"n\":3,\"k\":3,\"start\":[0,2,0]}],
 \"workers\":[{\"script\":[[\"pass\",0,0,5],[\"pass\",0,0,1],[\"pass\",0,2,4],[\"survey\",0]]}]}:
@@ -40,7 +51,10 @@ Example, where settings.json is {\"rings\":[{\"n\":3,\"k\":3,\"start\":[0,2,0]}]
   states 1,2,2
   privileged 1 first 1 calm 2 rest 0 bound 9
   grants 1,0,1 settled 0,0,0
-  total rings 1 events 3 granted 2 surveys 1";
+  total rings 1 events 3 granted 2 surveys 1
+
+Exit status: 0 where all was run and written, 2 where the words cannot be read, 1 after each refusal of the settings, of
+the run, or of a file.";
 
 const CHECK_ABOUT: &str = "Checks a saved history, line by line";
 
@@ -51,7 +65,10 @@ and why: `parameter`, `range`, `reply`, `count`, `survey`, or `syntax` where the
 
 Example:
   $ ring_tool check saved.txt
-  legal rings 1 events 3 granted 2 corrupted 0 surveys 1";
+  legal rings 1 events 3 granted 2 corrupted 0 surveys 1
+
+Exit status: 0 where it is legal, 1 where it is not or cannot be read, 2 where the words cannot be read. A file whose
+name is `-` is `./-`; one whose name begins with a dash stands behind `--`.";
 
 /// A number that has to be there.
 fn needed_number<'a>(alloc: Global, name: &'a str, help: &'a str) -> Arg<'a> {
@@ -104,8 +121,16 @@ fn history_word<'a>(alloc: Global) -> Arg<'a> {
         .long("history")
         .value_name("FILE")
         .help(
-            "Writes each ring's history to FILE, which `check` reads; a file that is there is replaced",
+            "Writes each ring's history to FILE, which `check` reads; a file that is there is replaced, and `-` is standard output, in the place of the report",
         )
+}
+
+/// Whether the last line of the report is enough.
+fn quiet_word<'a>(alloc: Global) -> Arg<'a> {
+    Arg::new(alloc, "QUIET")
+        .long("quiet")
+        .action(ArgAction::SetTrue)
+        .help("Prints the report's last line alone, which adds up over the rings")
 }
 
 /// The words of `run`.
@@ -113,14 +138,15 @@ fn run_command<'a>(alloc: Global) -> Result<Command<'a>, Error> {
     let settings = needed_text(
         alloc,
         "SETTINGS",
-        "The settings, a JSON file of at most 1,073,741,824 bytes",
+        "The settings, a JSON file of at most 1,073,741,824 bytes; `-` is standard input",
     );
     Ok(
         Command::new(alloc, "run")
             .about(RUN_ABOUT)
             .after_help(RUN_HELP)
             .arg(settings)?
-            .arg(history_word(alloc))?,
+            .arg(history_word(alloc))?
+            .arg(quiet_word(alloc))?,
     )
 }
 
@@ -129,7 +155,7 @@ fn check_command<'a>(alloc: Global) -> Result<Command<'a>, Error> {
     let file = needed_text(
         alloc,
         "FILE",
-        "The saved history, as `run --history` writes it, of at most 1,073,741,824 bytes",
+        "The saved history, as `run --history` writes it, of at most 1,073,741,824 bytes; `-` is standard input",
     );
     Ok(
         Command::new(alloc, "check")
@@ -146,6 +172,8 @@ fn command_line<'a>(alloc: Global) -> Result<Command<'a>, Error> {
             .bin_name("ring_tool")?
             .no_binary_name(true)
             .about(ABOUT)
+            .version(VERSION)
+            .after_help(STATUSES)
             .subcommand_required(true)
             .subcommand(step_command(alloc)?)?
             .subcommand(run_command(alloc)?)?
@@ -168,6 +196,7 @@ fn run_words<'a>(words: &ArgMatches<'a>) -> Option<Request<'a>> {
     Some(Request::Run(RunWords {
         settings: words.get_str("SETTINGS")?,
         history: words.get_str("HISTORY"),
+        quiet: words.get_flag("QUIET"),
     }))
 }
 

@@ -55,3 +55,15 @@ pub fn writer_with(alloc: Global, room: usize, at_most: usize, then: Refusal) ->
         then,
     }
 }
+
+/// A request for so many bytes, and one for a byte more, stand round calls that take no memory: `bench/refused_memory.sh`
+/// refuses each request from the one to the other.
+const MARK: usize = 1_234_567;
+
+pub fn memory_ends(alloc: Global) {
+    let _ = "x".repeat(alloc, MARK);
+}
+
+pub fn memory_is_back(alloc: Global) {
+    let _ = "x".repeat(alloc, MARK + 1);
+}

@@ -1,4 +1,5 @@
 use super::{Answer, Ask, asks_pass, book_of, check_passes, granted, play, survey};
+use crate::rings::{memory_ends, memory_is_back};
 use ring_book::{Idle, Reply};
 
 #[test]
@@ -72,4 +73,15 @@ fn a_ring_that_starts_settled_goes_round(rt: HostRuntime) {
             (Ask::Grants, Answer::Grants([1, 2, 1], [1, 2, 1])),
         ],
     );
+}
+
+// Passes too where each request for memory between the marks is refused, as `bench/refused_memory.sh` has it.
+#[test]
+fn a_survey_takes_no_memory(rt: HostRuntime) {
+    let mut book = book_of(&rt, rt.alloc(), (4, 4), &[0, 2, 1, 0], Idle);
+    play(&rt, &mut book, &[(Ask::Settle, Answer::Settled(2))]);
+    memory_ends(rt.alloc());
+    let seen = Answer::Seen(book.survey());
+    memory_is_back(rt.alloc());
+    assert_eq!(rt; seen, survey(2, 1, 3, 2, 0));
 }

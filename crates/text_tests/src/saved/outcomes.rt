@@ -2,7 +2,7 @@
 
 use super::scenes::{Act, Scene, book_of, outcome_of};
 use super::texts::{PASSES, TWO_CLIENTS, write};
-use crate::scripted::{REFUSALS, Refusal, writer_with};
+use crate::scripted::{REFUSALS, Refusal, memory_ends, memory_is_back, writer_with};
 use ring_farm::{Open, Outcome, RingOutcome, run_farm};
 use ring_settings::read_settings;
 use ring_text::{read_saved, write_outcome};
@@ -183,5 +183,19 @@ fn short_writes_go_on(rt: HostRuntime) -> Result<(), Fail> {
         );
         assert_eq!(rt; out.held.as_slice(), TWO_CLIENTS, "{at_most} a call");
     }
+    Ok(())
+}
+
+// Passes too where each request for memory between the marks is refused, as `bench/refused_memory.sh` has it.
+#[test]
+fn writing_takes_no_memory(rt: HostRuntime) -> Result<(), Fail> {
+    let alloc = rt.alloc();
+    let outcome = two_clients(&rt, alloc)?;
+    assert!(rt; !outcome.rings.is_empty() && outcome.rings.len() <= 16);
+    let mut out = Vec::with_capacity(alloc, TWO_CLIENTS.len())?;
+    memory_ends(alloc);
+    let done = write_outcome(&outcome, &mut out);
+    memory_is_back(alloc);
+    assert_eq!(rt; (done, out.as_slice()), (Ok(()), TWO_CLIENTS));
     Ok(())
 }

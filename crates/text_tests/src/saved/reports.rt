@@ -5,11 +5,11 @@ ghost use Rattle.ring_text.specs.Report.{entries_of, entries_in};
 
 use super::outcomes::SCRIPT;
 use super::scenes::{Act, Scene, outcome_of};
-use crate::scripted::{REFUSALS, Refusal, writer_with};
+use crate::scripted::{REFUSALS, Refusal, memory_ends, memory_is_back, writer_with};
 use ring_farm::{Open, Outcome, RingOutcome, run_farm};
 use ring_settings::read_settings;
 use ring_shared::Log;
-use ring_text::{WriteFault, write_report};
+use ring_text::{WriteFault, write_report, write_total};
 use std::alloc::Global;
 use std::io::Write;
 use std::process::Abort;
@@ -109,6 +109,15 @@ fn put_report<W: Write>(rt: &impl Abort, outcome: &Outcome, out: &mut W) -> Resu
     }
 }
 
+/// Writes the last line of that report alone.
+fn put_total<W: Write>(rt: &impl Abort, outcome: &Outcome, out: &mut W) -> Result<(), WriteFault> {
+    assert!(rt; outcome.rings.len() <= 16);
+    match ring_entries(outcome.rings.as_slice()) {
+        Some(_) => write_total(outcome, out),
+        None => panic!(rt; "too many entries"),
+    }
+}
+
 fn reported(rt: &impl Abort, alloc: Global, outcome: &Outcome) -> Vec<u8> {
     let mut out = Vec::new(alloc);
     assert_eq!(rt; put_report(rt, outcome, &mut out), Ok(()));
@@ -187,5 +196,43 @@ fn short_writes_of_a_report_go_on(rt: HostRuntime) -> Result<(), Fail> {
         );
         assert_eq!(rt; out.held.as_slice(), CORRUPTED_REPORT, "{at_most} a call");
     }
+    Ok(())
+}
+
+// Passes too where each request for memory between the marks is refused, as `bench/refused_memory.sh` has it.
+#[test]
+fn reporting_takes_no_memory(rt: HostRuntime) -> Result<(), Fail> {
+    let alloc = rt.alloc();
+    let outcome = corrupted(&rt, alloc)?;
+    let mut out = Vec::with_capacity(alloc, CORRUPTED_REPORT.len())?;
+    memory_ends(alloc);
+    let done = put_report(&rt, &outcome, &mut out);
+    memory_is_back(alloc);
+    assert_eq!(rt; (done, out.as_slice()), (Ok(()), CORRUPTED_REPORT));
+    Ok(())
+}
+
+/// Writes the total of an outcome to writers that take all, or stop after so many bytes.
+fn expect_total(rt: &impl Abort, alloc: Global, outcome: &Outcome, total: &[u8]) {
+    let mut out = Vec::new(alloc);
+    assert_eq!(rt; put_total(rt, outcome, &mut out), Ok(()));
+    assert_eq!(rt; out.as_slice(), total);
+    for then in REFUSALS {
+        for k in 0..total.len() {
+            let mut out = writer_with(alloc, k, 1000, then);
+            let done = put_total(rt, outcome, &mut out);
+            assert!(rt; done.is_err(), "{then:?} at {k}");
+            assert_eq!(rt; out.held.as_slice(), &total[..k], "{then:?} at {k}");
+        }
+    }
+}
+
+#[test]
+fn a_total_is_the_last_line_alone(rt: HostRuntime) -> Result<(), Fail> {
+    let alloc = rt.alloc();
+    let total = b"total rings 2 events 11 granted 7 surveys 4\n";
+    expect_total(&rt, alloc, &corrupted(&rt, alloc)?, total.as_slice());
+    let rings = Vec::new(alloc);
+    expect_total(&rt, alloc, &Outcome { rings }, NO_RINGS_REPORT);
     Ok(())
 }

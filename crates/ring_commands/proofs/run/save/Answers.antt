@@ -1,18 +1,18 @@
 use Rattle.std.proofs.Common.{refl}
 use Rattle.ring_text.specs.SavedOf.{saved_of}
 use Rattle.ring_check.proofs.Promised.{outcome_is_legal, outcome_is_right}
-use Rattle.ring_commands.proofs.run.save_to.Goals as goal
+use Rattle.ring_commands.proofs.run.save.Goals as goal
 
-pub returns-clause-legal : goal.returns-clause-legal
-returns-clause-legal g c = λ settings farm.
+pub returns-in-Ok-clause-legal : goal.returns-in-Ok-clause-legal
+returns-in-Ok-clause-legal g c = λ settings farm.
     record {
       legal = record {
         content = saved_of c.args.outcome.now;
-        fits = c.in-Ok-write_outcome.ensures.fits;
+        fits = c.in-Ok.ensures.fits;
         spelled = refl;
         right = outcome_is_right settings c.args.outcome.now farm;
         sums_right = refl;
       };
       table = outcome_is_legal settings c.args.outcome.now farm;
-      alone = λ answer right. c.texts_read_back.ensures (saved_of c.args.outcome.now) answer c.in-Ok-write_outcome.ensures.fits right;
+      alone = λ answer right. c.texts_read_back.ensures (saved_of c.args.outcome.now) answer c.in-Ok.ensures.fits right;
     }
