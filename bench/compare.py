@@ -8,6 +8,7 @@ import sys
 import time
 
 RUNS = 5
+HISTORY = "HISTORY"
 
 
 def cost(program, words):
@@ -26,14 +27,18 @@ def least(pairs):
 
 
 def compare(before, now, what, words):
-    """Prints one row; the two programs take turns, so that both see the same machine."""
+    """Prints one row; the two programs take turns, so that both see the same machine. The word HISTORY is a file of each
+    program's own, since the two may write different texts."""
+    names = {before: "compared-before.txt", now: "compared-now.txt"}
     costs = {before: [], now: []}
     for _ in range(RUNS):
         for program in (before, now):
-            costs[program].append(cost(program, words))
+            own = [names[program] if word == HISTORY else word for word in words]
+            costs[program].append(cost(program, own))
     old, new = least(costs[before]), least(costs[now])
     ratios = [f"{b / a:.2f}" for a, b in zip(old, new)]
-    print(f"| {what} | {old[0]:.3f} | {new[0]:.3f} | {ratios[0]} | {ratios[1]} | {ratios[2]} |", flush=True)
+    sizes = f"{old[2] / 1024:.0f} | {new[2] / 1024:.0f}"
+    print(f"| {what} | {old[0]:.3f} | {new[0]:.3f} | {ratios[0]} | {ratios[1]} | {sizes} | {ratios[2]} |", flush=True)
 
 
 def speeds(program, settings):
@@ -44,13 +49,13 @@ def speeds(program, settings):
 
 def main(before, now):
     tools = [f"{it}/ring_tool/out/ring_tool" for it in (before, now)]
-    print("| What | s before | s now | by processor | by the clock | memory |")
-    print("|---|---|---|---|---|---|")
+    print("| What | s before | s now | by processor | by the clock | MiB before | MiB now | memory |")
+    print("|---|---|---|---|---|---|---|---|")
     for n in (16, 256):
         one, many = f"one-ring-{n}.json", f"sixteen-long-{n}.json"
         compare(*tools, f"run, one ring, nine of 100,000, n = {n}", ["run", one])
-        compare(*tools, f"the same with a history, n = {n}", ["run", one, "--history", "compared.txt"])
-        compare(*tools, f"check of that history, n = {n}", ["check", "compared.txt"])
+        compare(*tools, f"the same with a history, n = {n}", ["run", one, "--history", HISTORY])
+        compare(*tools, f"check of that history, n = {n}", ["check", HISTORY])
         compare(*tools, f"run, sixteen rings, nine of 320,000, n = {n}", ["run", many])
     for n in (16, 256):
         for tree, name in ((before, "before"), (now, "now")):

@@ -5,9 +5,10 @@
 # bench/compare.sh COMMIT. Needs rt, git, awk and python3. Nothing else should run on the machine.
 set -eu
 . "$(dirname "$0")/common.sh"
-base=${TMPDIR:-/tmp}/wozgirt-$(git -C "$top" rev-parse --short "$1")
+commit=$(git -C "$top" rev-parse "$1^{commit}")
+base=${TMPDIR:-/tmp}/wozgirt-$(git -C "$top" rev-parse --short "$commit")
 [ -d "$base" ] || git clone -q "$top" "$base"
-git -C "$base" checkout -q "$1"
+git -C "$base" checkout -q "$commit"
 # both PROGRAM [WORD]: builds the program now, and at the commit where it has it
 both() {
     build "$@"

@@ -159,7 +159,7 @@ fn all_fit<N: Name, R: Resource + Drop>(
     if !placed {
         return Ok(false);
     }
-    let surveys = surveys_in_order(alloc, seats)?;
+    let surveys = surveys_in_order(alloc, seats, book.history().len())?;
     are_right(alloc, book, surveys.as_slice())
 }
 

@@ -9,16 +9,11 @@ use crate::seats::Seat;
 use ring_model::{Entry, Survey};
 use std::alloc::{AllocError, Global};
 
-/// How many surveys the logs have, for which room is asked for once.
-fn survey_count<N: Name>(seats: &[Seat<N>]) -> usize {
+/// How many entries the logs have.
+fn entry_count<N: Name>(seats: &[Seat<N>]) -> usize {
     let mut count: usize = 0;
     for seat in seats {
-        let surveys = seat
-            .log()
-            .iter()
-            .filter(|entry| matches!(entry, Entry::Survey(_)))
-            .count();
-        count = count.saturating_add(surveys);
+        count = count.saturating_add(seat.log().len());
     }
     count
 }
@@ -43,18 +38,23 @@ fn add_all(surveys: &mut Vec<Survey>, log: &[Entry]) -> Result<(), AllocError>
     Ok(())
 }
 
-/// The surveys of the seats' logs, one log after another.
-fn gathered<N: Name>(alloc: Global, seats: &[Seat<N>]) -> Result<Vec<Survey>, AllocError>
+/// The surveys of the seats' logs, one log after another. Room is asked for once, for as many entries as there are
+/// besides the receipts of so many calls.
+fn gathered<N: Name>(
+    alloc: Global,
+    seats: &[Seat<N>],
+    calls: usize,
+) -> Result<Vec<Survey>, AllocError>
     ensures { IfOk result (λ v. v.items ≡ all_surveys seats.now) }
 {
-    let mut surveys = Vec::with_capacity(alloc, survey_count(seats))?;
+    let mut surveys = Vec::with_capacity(alloc, entry_count(seats).saturating_sub(calls))?;
     for seat in seats {
         add_all(&mut surveys, seat.log())?;
     }
     Ok(surveys)
 }
 
-/// The surveys of the seats' logs, in the order of their places.
+/// The surveys of the seats' logs, which have the receipts of so many calls, in the order of their places.
 ///
 /// # Errors
 ///
@@ -62,11 +62,12 @@ fn gathered<N: Name>(alloc: Global, seats: &[Seat<N>]) -> Result<Vec<Survey>, Al
 pub(crate) fn surveys_in_order<N: Name>(
     alloc: Global,
     seats: &[Seat<N>],
+    calls: usize,
 ) -> Result<Vec<Survey>, AllocError>
     ensures permutation { IfOk result (λ v. IsPermutation (all_surveys seats.now) v.items) }
     ensures sorted { IfOk result (λ v. IsNonDecreasingBy (λ s. s.position) v.items) }
 {
-    let mut surveys = gathered(alloc, seats)?;
+    let mut surveys = gathered(alloc, seats, calls)?;
     surveys.sort_unstable_by_key(|survey| survey.position);
     Ok(surveys)
 }

@@ -1,6 +1,6 @@
 //! Whether the receipts of a seat's log are the seat's calls where they stand, and no entry goes back.
-ghost use Rattle.std.specs.Prelude.{◌≡◌, ◌<◌, ◌≤◌, ◌^◌, ◌-◌, ◌↔◌, None, Some, All, drop, map, slice_get, length, IsTrue, IsFalse, IfSome, IfOk};
-ghost use Rattle.ring_shared.specs.Fronts.{front_of, receipt_count as receipts_in, IsReceiptFrom, IsPlacedFrom, ArePlaced, IsPlaced};
+ghost use Rattle.std.specs.Prelude.{◌≡◌, ◌<◌, ◌≤◌, ◌^◌, ◌-◌, ◌↔◌, None, Some, All, take, drop, map, slice_get, length, IsTrue, IsFalse, IfSome, IfOk};
+ghost use Rattle.ring_shared.specs.Fronts.{front_of, is_receipt as is_receipt_entry, receipt_count, IsReceiptFrom, IsPlacedFrom, ArePlaced, IsPlaced};
 ghost use Rattle.ring_shared.specs.Walks.{IsPlacedWalk};
 
 use crate::names::Name;
@@ -52,20 +52,18 @@ fn front_past(history: &[Event], seat: u32, front: u64, entry: Entry) -> Option<
     }
 }
 
-/// How many entries of a log are receipts.
-fn receipt_count(log: &[Entry]) -> u64
-    ensures { result ≡ receipts_in log.now }
+fn is_receipt(entry: Entry) -> bool
+    ensures { result ≡ is_receipt_entry entry }
 {
-    log.iter()
-        .filter(|entry| matches!(entry, Entry::Receipt(_)))
-        .count() as u64
+    matches!(entry, Entry::Receipt(_))
 }
 
-/// How far a log was followed: up to an entry of it, and the front there.
+/// How far a log was followed: up to an entry of it, the front there, and how many entries before it are receipts.
 #[derive(Clone, Copy, Debug)]
 struct Reached {
     entry: usize,
     front: u64,
+    receipts: u64,
 }
 
 /// Where an entry says that it stands.
@@ -85,29 +83,39 @@ fn followed(
     from: Reached,
     until: u64,
 ) -> Option<Reached>
-    requires { from.entry ≤ length log.now }
+    requires within { from.entry ≤ length log.now }
+    requires few { from.receipts ≤ from.entry }
+    requires counted { from.receipts ≡ receipt_count (take from.entry log.now) }
     ensures within { IfSome result (λ to. to.entry ≤ length log.now) }
+    ensures few { IfSome result (λ to. to.receipts ≤ to.entry) }
+    ensures counted { IfSome result (λ to. to.receipts ≡ receipt_count (take to.entry log.now)) }
     ensures some { IfSome result (λ to. ArePlaced history.now seat to.front (drop to.entry log.now) ↔ ArePlaced history.now seat from.front (drop from.entry log.now)) }
     ensures none { result ≡ None → ArePlaced history.now seat from.front (drop from.entry log.now) → ⊥ }
     ensures all { until ≡ 2 ^ 64 - 1 → IfSome result (λ to. to.entry ≡ length log.now) }
 {
     let mut front = from.front;
+    let mut receipts = from.receipts;
     for place in from.entry..log.len() {
         let entry = log[place];
         if until != u64::MAX && place_of(entry) >= until {
             return Some(Reached {
                 entry: place,
                 front,
+                receipts,
             });
         }
         let Some(past) = front_past(history, seat, front, entry) else {
             return None;
         };
         front = past;
+        if is_receipt(entry) {
+            receipts += 1;
+        }
     }
     Some(Reached {
         entry: log.len(),
         front,
+        receipts,
     })
 }
 
@@ -124,16 +132,16 @@ struct Walk<'a> {
 }
 
 impl<'a> Model for Walk<'a> {
-    ghost use Rattle.std.specs.Prelude.{◌≡◌, ◌≤◌, ◌↔◌, length, drop};
+    ghost use Rattle.std.specs.Prelude.{◌≡◌, ◌≤◌, ◌↔◌, length, take, drop};
     ghost use Rattle.ring_model.specs.Logs.{calls_of};
-    ghost use Rattle.ring_shared.specs.Fronts.{ArePlaced};
+    ghost use Rattle.ring_shared.specs.Fronts.{ArePlaced, receipt_count};
     ghost use Rattle.ring_shared.specs.Walks.{Walked};
 
     ghost Value = { Walked };
 
     ghost view = { λ w. record { history = w.history.now; client = record { number = w.seat; log = w.log.now } } };
 
-    ghost invariant = { λ w. (w.reached.entry ≤ length w.log.now) × (w.calls ≡ length (calls_of w.seat w.history.now)) × (ArePlaced w.history.now w.seat w.reached.front (drop w.reached.entry w.log.now) ↔ ArePlaced w.history.now w.seat 0 w.log.now) };
+    ghost invariant = { λ w. (w.reached.entry ≤ length w.log.now) × (w.reached.receipts ≤ w.reached.entry) × (w.reached.receipts ≡ receipt_count (take w.reached.entry w.log.now)) × (w.calls ≡ length (calls_of w.seat w.history.now)) × (ArePlaced w.history.now w.seat w.reached.front (drop w.reached.entry w.log.now) ↔ ArePlaced w.history.now w.seat 0 w.log.now) };
 }
 
 impl<'a> Walk<'a> {
@@ -147,7 +155,11 @@ impl<'a> Walk<'a> {
             seat: number,
             log: seat.log(),
             calls: book.calls_of(number),
-            reached: Reached { entry: 0, front: 0 },
+            reached: Reached {
+                entry: 0,
+                front: 0,
+                receipts: 0,
+            },
         }
     }
 
@@ -169,8 +181,10 @@ impl<'a> Walk<'a> {
     fn is_placed(&self) -> bool
         ensures { IsTrue result ↔ IsPlacedWalk self.now }
     {
-        followed(self.history, self.seat, self.log, self.reached, u64::MAX).is_some()
-            && receipt_count(self.log) == self.calls
+        match followed(self.history, self.seat, self.log, self.reached, u64::MAX) {
+            Some(end) => end.receipts == self.calls,
+            None => false,
+        }
     }
 }
 
