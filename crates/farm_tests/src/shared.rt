@@ -1,19 +1,22 @@
 //! Two seats of one ring, by its calls and its close.
 
 mod calls;
+mod readers;
 mod threads;
+mod watched;
 
-ghost use Rattle.std.specs.Prelude.{◌≡◌, ◌≢◌, ◌<◌, ◌≤◌, ◌∷◌, [], eqb, length, map, vec_capacity};
+ghost use Rattle.std.specs.Prelude.{◌≡◌, ◌≢◌, ◌<◌, ◌≤◌, ◌∷◌, [], eqb, length, map, vec_capacity, IfSome};
 ghost use Rattle.std.specs.List.{IsDistinct};
 ghost use Rattle.ring_model.specs.Resources.{till};
 ghost use Rattle.ring_shared.specs.Holding.{MeansLegal};
-ghost use Rattle.ring_shared.specs.Opening.{AreFresh};
 
 use crate::events::{granted, refused, told};
-use calls::{Act, closed_well, handed_back, is_told, pass_often, play, seen, told_by, with_room};
+use calls::{
+    Act, closed_well, glanced, handed_back, is_told, pass_often, play, seen, told_by, with_room,
+};
 use ring_book::{Book, BookError, Till};
 use ring_model::{Event, Op, Reply, Survey};
-use ring_shared::{CloseReason, Draft, Entry, Name, Ring, Seat};
+use ring_shared::{CloseReason, Draft, Entry, Name, OpenReason, Ring, Seat};
 use ring_state::{Params, RingState};
 use std::alloc::Global;
 use std::marker::Brand;
@@ -68,36 +71,31 @@ fn book_of(rt: &impl Abort, alloc: Global, start: &[u32]) -> Book<Till>
     }
 }
 
+/// Plays the script on a new ring; where there was no memory to open one, on one over the book that was handed back.
 fn run<W: Threads + Wait + Abort + Sync>(rt: &W, alloc: Global, script: Script) {
-    let Ok(draft) = Draft::new(book_of(rt, alloc, start_of(script)), 2) else {
+    let book = book_of(rt, alloc, start_of(script));
+    if let Some(book) = run_over(rt, alloc, book, script) {
+        let again = run_over(rt, alloc, book, script);
+        assert!(rt; again.is_none());
+    }
+}
+
+/// The book is handed back where no ring was opened.
+fn run_over<W: Threads + Wait + Abort + Sync>(
+    rt: &W,
+    alloc: Global,
+    book: Book<Till>,
+    script: Script,
+) -> Option<Book<Till>>
+    requires machines { 2 ≤ length book.start.values }
+    requires values { 2 ≤ book.start.k }
+    requires empty { book.history ≡ [] }
+    ensures { IfSome result (λ b. b ≡ book) }
+{
+    let Ok(draft) = Draft::new(book, 2) else {
         panic!(rt; "a draft takes no memory");
     };
     run_named::<Brand, W>(rt, alloc, draft, script)
-}
-
-/// The ring of a draft and its seats; where there was no memory, by the book that was handed back.
-fn opened<N: Name>(
-    rt: &impl Abort,
-    alloc: Global,
-    draft: Draft<Till>,
-) -> (Ring<N, Till>, Vec<Seat<N>>)
-    requires start { draft.book.start ≡ N.start }
-    requires seats { draft.seats ≡ N.seats }
-    requires legal { MeansLegal till 0 N.start N.legal }
-    requires two { N.seats ≡ 2 }
-    ensures { AreFresh N.seats result.1.items }
-{
-    let fault = match Ring::<N, Till>::open(alloc, draft) {
-        Ok(opened) => return opened,
-        Err(fault) => fault,
-    };
-    let Ok(draft) = Draft::new(fault.book, 2) else {
-        panic!(rt; "a draft takes no memory");
-    };
-    match Ring::<N, Till>::open(alloc, draft) {
-        Ok(opened) => opened,
-        Err(_) => panic!(rt; "memory is refused twice"),
-    }
 }
 
 fn run_named<N: Name + Send + Sync, W: Threads + Wait + Abort + Sync>(
@@ -105,15 +103,23 @@ fn run_named<N: Name + Send + Sync, W: Threads + Wait + Abort + Sync>(
     alloc: Global,
     draft: Draft<Till>,
     script: Script,
-)
+) -> Option<Book<Till>>
     requires start { draft.book.start ≡ N.start }
     requires seats { draft.seats ≡ N.seats }
+    requires log { draft.log ≡ N.log }
     requires legal { MeansLegal till 0 N.start N.legal }
     requires machines { 2 ≤ length N.start.values }
     requires values { 2 ≤ N.start.k }
     requires two { N.seats ≡ 2 }
+    ensures { IfSome result (λ b. b ≡ draft.book) }
 {
-    let (ring, mut seats) = opened::<N>(rt, alloc, draft);
+    let (ring, mut seats) = match Ring::<N, Till>::open(alloc, draft) {
+        Ok(opened) => opened,
+        Err(fault) => {
+            assert_eq!(rt; fault.reason, OpenReason::OutOfMemory);
+            return Some(fault.into_book(rt));
+        }
+    };
     let (Some(second), Some(first)) = (seats.pop(), seats.pop()) else {
         panic!(rt; "there are two seats");
     };
@@ -129,6 +135,7 @@ fn run_named<N: Name + Send + Sync, W: Threads + Wait + Abort + Sync>(
         Script::CloseOneSeatShort => close_one_seat_short(rt, alloc, ring, first, second),
         Script::CallUntilFull => call_until_full(rt, alloc, ring, first, second),
     }
+    None
 }
 
 /// Room for two seats; where there was no memory, it is asked for again.
@@ -186,6 +193,7 @@ fn call_in_turn<N: Name, W: Wait + Abort>(
         reply: Reply::Corrupted { old: 1 },
     };
     let survey = seen(1, 1, 1, 1, 0);
+    let survey_behind_both = seen(2, 1, 0, 0, 0);
     let passing = Act::Pass {
         machine: 0,
         order: 3,
@@ -198,7 +206,11 @@ fn call_in_turn<N: Name, W: Wait + Abort>(
     let second_calls = [(Act::Survey, survey), (corrupting, told(1, corruption))];
     let first = play(rt, &ring, first, &first_calls, scarce);
     let first = with_room(rt, first, scarce);
-    let second = play(rt, &ring, second, &second_calls, scarce);
+    let second = play(rt, &ring, second, &second_calls[..1], scarce);
+    let second = glanced(rt, &ring, second, survey);
+    let second = play(rt, &ring, second, &second_calls[1..], scarce);
+    let first = glanced(rt, &ring, first, survey_behind_both);
+    let second = glanced(rt, &ring, second, survey_behind_both);
     let seats = both(rt, alloc, second, first);
     let events = [pass, corruption];
     match ring.close(rt, alloc, seats) {

@@ -1,7 +1,7 @@
 //! Whether the receipts of a seat's log are the seat's calls where they stand, and no entry goes back.
 ghost use Rattle.std.specs.Prelude.{◌≡◌, ◌<◌, ◌≤◌, ◌^◌, ◌-◌, ◌↔◌, None, Some, All, take, drop, map, slice_get, length, IsTrue, IsFalse, IfSome, IfOk};
 ghost use Rattle.ring_shared.specs.Fronts.{front_of, is_receipt as is_receipt_entry, receipt_count, IsReceiptFrom, IsPlacedFrom, ArePlaced, IsPlaced};
-ghost use Rattle.ring_shared.specs.Walks.{IsPlacedWalk};
+ghost use Rattle.ring_shared.specs.Walks.{IsPlacedWalk, walk_of};
 
 use crate::names::Name;
 use crate::seats::Seat;
@@ -139,7 +139,7 @@ impl<'a> Model for Walk<'a> {
 
     ghost Value = { Walked };
 
-    ghost view = { λ w. record { history = w.history.now; client = record { number = w.seat; log = w.log.now } } };
+    ghost view = { λ w. record { history = w.history.now; number = w.seat; log = w.log.now } };
 
     ghost invariant = { λ w. (w.reached.entry ≤ length w.log.now) × (w.reached.receipts ≤ w.reached.entry) × (w.reached.receipts ≡ receipt_count (take w.reached.entry w.log.now)) × (w.calls ≡ length (calls_of w.seat w.history.now)) × (ArePlaced w.history.now w.seat w.reached.front (drop w.reached.entry w.log.now) ↔ ArePlaced w.history.now w.seat 0 w.log.now) };
 }
@@ -147,7 +147,7 @@ impl<'a> Model for Walk<'a> {
 impl<'a> Walk<'a> {
     /// At the start of the seat's log.
     fn new<N: Name, R: Resource + Drop>(book: &'a Book<R>, seat: &'a Seat<N>) -> Walk<'a>
-        ensures { result ≡ record { history = book.now.history; client = seat.now } }
+        ensures { result ≡ walk_of book.now.history seat.now }
     {
         let number = seat.number();
         Walk {
@@ -194,7 +194,7 @@ fn walks_of<'a, N: Name, R: Resource + Drop>(
     book: &'a Book<R>,
     seats: &'a [Seat<N>],
 ) -> Result<Vec<Walk<'a>>, AllocError>
-    ensures { IfOk result (λ v. v.items ≡ map (λ s. record { history = book.now.history; client = s }) seats.now) }
+    ensures { IfOk result (λ v. v.items ≡ map (walk_of book.now.history) seats.now) }
 {
     let mut walks = Vec::with_capacity(alloc, seats.len())?;
     for seat in seats {

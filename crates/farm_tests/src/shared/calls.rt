@@ -2,7 +2,7 @@
 
 ghost use Rattle.std.specs.Prelude.{◌≡◌, ◌<◌, ◌≤◌, length};
 
-use ring_book::Till;
+use ring_book::{Resource, Till};
 use ring_model::{Event, Survey};
 use ring_shared::{CloseFault, CloseReason, Closed, Entry, Name, Ring, Seat};
 use std::process::Abort;
@@ -43,7 +43,7 @@ pub(super) fn told_by<N: Name, W: Wait + Abort>(
                 Err(_) => None,
             }
         }
-        Act::Survey => match ring.survey(rt, seat) {
+        Act::Survey => match ring.survey(seat) {
             Ok(survey) => Some(Entry::Survey(survey)),
             Err(_) => None,
         },
@@ -108,6 +108,23 @@ pub(super) fn with_room<N: Name>(rt: &impl Abort, seat: Seat<N>, scarce: bool) -
     };
     assert_eq!(rt; room, 3);
     assert_eq!(rt; seat.reserve(1).ok(), Some(3));
+    seat
+}
+
+/// Glances, and compares the answer, which is not logged.
+pub(super) fn glanced<N: Name, R: Resource + Drop>(
+    rt: &impl Abort,
+    ring: &Ring<N, R>,
+    seat: Seat<N>,
+    want: Entry,
+) -> Seat<N>
+    ensures { result.number ≡ seat.number }
+{
+    let mut seat = seat;
+    let logged = seat.log().len();
+    let glance = ring.glance(&mut seat);
+    assert_eq!(rt; Entry::Survey(glance), want);
+    assert_eq!(rt; seat.log().len(), logged);
     seat
 }
 

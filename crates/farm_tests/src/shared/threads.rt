@@ -12,8 +12,8 @@ use std::thread::{Promise, PromisedHandle, Scope, Threads};
 
 /// What a thread promises: to hand back the seat of this number.
 #[derive(Drop)]
-struct HandsBack {
-    number: u32,
+pub(super) struct HandsBack {
+    pub(super) number: u32,
 }
 
 impl<N: Name> Promise<Seat<N>> for HandsBack {
