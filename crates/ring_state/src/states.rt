@@ -16,7 +16,6 @@ use std::marker::Model;
 /// The state of a ring: n machines, each with a value below K.
 ///
 /// Contracts see K and the list of values. One byte is stored for each machine where K is at most 256, else two.
-#[derive(Drop)]
 pub struct RingState {
     cells: Cells,
 }
@@ -37,6 +36,13 @@ impl Model for RingState {
     ghost view = { λ s. held s.cells };
 
     ghost invariant = { λ s. IsRightWidth s.cells };
+}
+
+// By hand, so that whoever lets a state go calls this, and has no two cases for the two widths.
+impl Drop for RingState {
+    fn drop(self) {
+        let RingState { cells: _ } = self;
+    }
 }
 
 // What is asked of a state is asked of its cells, whichever their width.

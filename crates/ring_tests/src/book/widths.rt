@@ -11,9 +11,8 @@ fn one_byte_and_two_answer_alike(rt: HostRuntime) {
     }
     let mut narrow = book_of(&rt, rt.alloc(), (33, 256), &values, Till::new());
     let mut wide = book_of(&rt, rt.alloc(), (33, 257), &values, Till::new());
-    let mut drawn: u32 = 1;
     for call in 0..2_000u32 {
-        drawn = (drawn * 75 + 74) % 65_537;
+        let drawn = call * (call * 31 + 17) % 65_537;
         let ask = if call % 97 == 96 {
             asks_corrupt(drawn % 33, drawn / 33 % 16)
         } else {
