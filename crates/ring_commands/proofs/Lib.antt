@@ -1,5 +1,4 @@
 pub mod Entries
 pub mod FirstFaults
 pub mod ListTexts
-pub mod SavedLines
 pub mod StepLemmas
