@@ -86,5 +86,9 @@ curve_text b from columns = rest_points b from columns ++ ending_text
 abbrev pub lower_text : Block → ℕ → ℕ → List ℕ
 lower_text b from columns = between_text columns (bound b.n) ++ curve_text b from columns
 
+abbrev pub picture_over : Block → ℕ → ℕ → List ℕ
+picture_over b from columns = upper_text b from columns ++ lower_text b from columns
+
+-- for so many events: a column before the first of them and one behind each
 abbrev pub picture : Block → ℕ → ℕ → List ℕ
-picture b from columns = upper_text b from columns ++ lower_text b from columns
+picture b from count = picture_over b from (count + 1)

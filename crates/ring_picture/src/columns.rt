@@ -76,7 +76,7 @@ fn go_to(ring: &SavedRing, place: usize, values: &mut Vec<u32>)
 }
 
 /// The values of a ring's machines behind its first so many events.
-pub fn values_at(alloc: Global, ring: &SavedRing, place: usize) -> Result<Vec<u32>, AllocError>
+pub(crate) fn values_at(alloc: Global, ring: &SavedRing, place: usize) -> Result<Vec<u32>, AllocError>
     requires { 0 < ring.now.k }
     ensures ring { IfOk result (λ values. ring_with ring.now.k values.items ≡ ring_at (block_of ring.now) place) }
     ensures len { IfOk result (λ values. vec_len values ≡ ring.now.n) }

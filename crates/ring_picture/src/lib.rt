@@ -10,6 +10,5 @@ mod laws;
 mod picture;
 mod rows;
 
-pub use columns::values_at;
 pub use laws::stretches_cover;
-pub use picture::write_picture;
+pub use picture::{PictureFault, write_picture};

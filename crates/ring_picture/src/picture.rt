@@ -1,18 +1,29 @@
 //! The curve of the rest, and the whole picture.
 
-ghost use Rattle.std.specs.Prelude.{◌≡◌, ◌+◌, ◌<◌, ◌≤◌, ◌^◌, length, vec_len};
-ghost use Rattle.text_lines.specs.Writing.{Writes};
+ghost use Rattle.std.specs.Prelude.{◌≡◌, ℕ, ◌+◌, ◌<◌, ◌≤◌, ◌^◌, List, length, vec_len, OnOk, IsErrOf};
+ghost use Rattle.std.specs.Io.KnownBytes.{Appends};
+ghost use Rattle.text_lines.specs.Writing.{Wrote, Writes};
+ghost use Rattle.ring_model.specs.Limits.{machine_limit};
 ghost use Rattle.ring_model.specs.Ring.{ring_with, bound};
 ghost use Rattle.ring_text.specs.Content.{block_of};
-ghost use Rattle.ring_picture.specs.Picture.{ring_at, point, rest_points, opening_text, between_text, ending_text, upper_text, curve_text, lower_text, picture};
+ghost use Rattle.ring_picture.specs.Picture.{ring_at, point, rest_points, opening_text, between_text, ending_text, upper_text, curve_text, lower_text, picture_over, picture};
 
-use crate::columns::{bring_back, go_on};
+use crate::columns::{bring_back, go_on, values_at};
 use crate::rows::put_rows;
 use itoa::Buffer;
 use ring_model::plain::{bound, rest};
 use ring_text::SavedRing;
+use std::alloc::Global;
 use std::io::Write;
 use text_lines::{WriteFault, put, put_all};
+
+/// Why a picture does not stand behind what a writer held.
+#[derive(Clone, Copy, Debug, PartialEq, Eq)]
+pub enum PictureFault {
+    /// The writer failed, or took no byte.
+    Write,
+    OutOfMemory,
+}
 
 /// One point of a curve.
 fn put_point<W: Write>(out: &mut W, x: u32, y: u64) -> Result<(), WriteFault>
@@ -34,7 +45,7 @@ fn put_rests<W: Write>(
 ) -> Result<(), WriteFault>
     requires some { 0 < ring.now.k }
     requires one { 1 ≤ vec_len values.old }
-    requires few { vec_len values.old ≤ 256 }
+    requires few { vec_len values.old ≤ machine_limit }
     requires ring { ring_with ring.now.k values.old.items ≡ ring_at (block_of ring.now) from }
     requires room { from + columns < 2 ^ 63 }
     ensures { Writes (W.contents out.old) (W.contents out.new) result (rest_points (block_of ring.now) from columns) }
@@ -57,7 +68,7 @@ fn put_opening<W: Write>(
     from: usize,
     columns: u32,
 ) -> Result<(), WriteFault>
-    requires { ring.now.n ≤ 256 }
+    requires { ring.now.n ≤ machine_limit }
     ensures { Writes (W.contents out.old) (W.contents out.new) result (opening_text ring.now.index ring.now.n ring.now.k from (length ring.now.events.items) columns) }
 {
     let mut sizes = (Buffer::new(), Buffer::new(), Buffer::new());
@@ -125,7 +136,7 @@ fn put_upper<W: Write>(
     values: &mut Vec<u32>,
 ) -> Result<(), WriteFault>
     requires some { 0 < ring.now.k }
-    requires few { ring.now.n ≤ 256 }
+    requires few { ring.now.n ≤ machine_limit }
     requires same { length base.now ≡ ring.now.n }
     requires len { vec_len values.old ≡ ring.now.n }
     requires ring { ring_with ring.now.k base.now ≡ ring_at (block_of ring.now) from }
@@ -150,7 +161,7 @@ fn put_curve<W: Write>(
 ) -> Result<(), WriteFault>
     requires some { 0 < ring.now.k }
     requires one { 1 ≤ vec_len values.old }
-    requires few { vec_len values.old ≤ 256 }
+    requires few { vec_len values.old ≤ machine_limit }
     requires ring { ring_with ring.now.k values.old.items ≡ ring_at (block_of ring.now) from }
     requires room { from + columns < 2 ^ 63 }
     ensures { Writes (W.contents out.old) (W.contents out.new) result (curve_text (block_of ring.now) from columns) }
@@ -171,7 +182,7 @@ fn put_lower<W: Write>(
     values: &mut Vec<u32>,
 ) -> Result<(), WriteFault>
     requires some { 0 < ring.now.k }
-    requires few { ring.now.n ≤ 256 }
+    requires few { ring.now.n ≤ machine_limit }
     requires len { vec_len values.old ≡ ring.now.n }
     requires ring { ring_with ring.now.k values.old.items ≡ ring_at (block_of ring.now) from }
     requires room { from + columns < 2 ^ 63 }
@@ -183,15 +194,9 @@ fn put_lower<W: Write>(
     }
 }
 
-/// Writes the picture of a ring from behind its first `from` events on, over so many columns. `base` are the values
-/// there, as [`values_at`](crate::values_at) answers them, and `values` is room for as many. It takes no memory.
-///
-/// # Errors
-///
-/// `WriteFault` at the first error of the writer, an interruption too, or write of 0 bytes. The writer then holds a
-/// beginning of the picture, but not all of it, behind what it held.
+/// The picture over so many columns, from the values at the first one on.
 #[tactic(auto, using(text_lines::proofs::Writing::writes_then))]
-pub fn write_picture<W: Write>(
+fn put_picture<W: Write>(
     out: &mut W,
     ring: &SavedRing,
     from: usize,
@@ -200,12 +205,12 @@ pub fn write_picture<W: Write>(
     values: &mut Vec<u32>,
 ) -> Result<(), WriteFault>
     requires some { 0 < ring.now.k }
-    requires few { ring.now.n ≤ 256 }
+    requires few { ring.now.n ≤ machine_limit }
     requires same { length base.now ≡ ring.now.n }
     requires len { vec_len values.old ≡ ring.now.n }
     requires ring { ring_with ring.now.k base.now ≡ ring_at (block_of ring.now) from }
     requires room { from + columns < 2 ^ 63 }
-    ensures { Writes (W.contents out.old) (W.contents out.new) result (picture (block_of ring.now) from columns) }
+    ensures { Writes (W.contents out.old) (W.contents out.new) result (picture_over (block_of ring.now) from columns) }
 {
     match put_upper(out, ring, from, columns, base, values) {
         Ok(()) => {
@@ -213,5 +218,40 @@ pub fn write_picture<W: Write>(
             put_lower(out, ring, from, columns, values)
         }
         Err(fault) => Err(fault),
+    }
+}
+
+/// Writes the picture of a ring from behind its first `from` events on, for `count` events: a column for each place from
+/// that one on up to `from + count`. Behind the last event of the history the ring stays as it is.
+///
+/// # Errors
+///
+/// `OutOfMemory` where there is no room for the ring's values, and nothing is written then. `Write` at the first error of
+/// the writer, an interruption too, or write of 0 bytes: the writer then holds a beginning of the picture, but not all of
+/// it, behind what it held.
+pub fn write_picture<W: Write>(
+    alloc: Global,
+    out: &mut W,
+    ring: &SavedRing,
+    from: usize,
+    count: u32,
+) -> Result<(), PictureFault>
+    requires some { 0 < ring.now.k }
+    requires few { ring.now.n ≤ machine_limit }
+    requires columns { count + 1 < 2 ^ 32 }
+    requires room { from + count + 1 < 2 ^ 63 }
+    ensures drawn { OnOk result (Appends (W.contents out.old) (W.contents out.new) (picture (block_of ring.now) from count)) }
+    ensures front { IsErrOf result PictureFault.Write → (left : List ℕ) × (0 < length left) × Wrote (W.contents out.old) (W.contents out.new) (picture (block_of ring.now) from count) left }
+    ensures nothing { IsErrOf result PictureFault.OutOfMemory → out.new ≡ out.old }
+{
+    let Ok(base) = values_at(alloc, ring, from) else {
+        return Err(PictureFault::OutOfMemory);
+    };
+    let Ok(mut values) = Vec::from_slice(alloc, &base) else {
+        return Err(PictureFault::OutOfMemory);
+    };
+    match put_picture(out, ring, from, count + 1, &base, &mut values) {
+        Ok(()) => Ok(()),
+        Err(_) => Err(PictureFault::Write),
     }
 }
