@@ -22,3 +22,4 @@ pub use laws::{answers_are_apart, legal_law, lines_law, outcome_law, upgrade_law
 pub use limits::{
     FIRST_VERSION_MACHINE_LIMIT, FIRST_VERSION_VALUE_LIMIT, first_version_limits_as_defined,
 };
+pub use sums::{Tally, count_events};
