@@ -65,7 +65,7 @@ try_program() {
         (cd "$out" && refused "$number" "$program" "$@" >got.txt 2>got-fault.txt) || status=$?
         if [ "$status" = 0 ]; then
             cmp -s "$out/got.txt" "$out/wanted.txt" || { echo "$*, request $number: another answer"; failed=1; }
-        elif [ "$status" != 1 ] || [ -s "$out/got.txt" ] || ! grep -qxE 'out of memory|a thread could not be started|cannot (read|write)( .*)?' "$out/got-fault.txt"; then
+        elif [ "$status" != 1 ] || [ -s "$out/got.txt" ] || ! grep -qxE 'out of memory|a thread could not be started|no reader place|cannot (read|write)( .*)?' "$out/got-fault.txt"; then
             echo "$*, request $number: status $status"
             cat "$out/got-fault.txt"
             failed=1
