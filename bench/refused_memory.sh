@@ -93,7 +93,7 @@ try_program() {
                 differ=$((differ + 1))
                 failed=1
             }
-        elif [ "$status" != 1 ] || [ -s "$out/got.txt" ] || ! grep -qxE 'out of memory|a thread could not be started|cannot (read|write)( .*)?' "$out/got-fault.txt"; then
+        elif [ "$status" != 1 ] || [ -s "$out/got.txt" ] || ! grep -qxE 'out of memory|a thread could not be started|no reader place|cannot (read|write)( .*)?' "$out/got-fault.txt"; then
             echo "$*, request $number: status $status"
             cat "$out/got-fault.txt"
             differ=$((differ + 1))
