@@ -14,7 +14,7 @@ use std::thread::Threads;
 /// A ring with a grant at machine 0, a pass there that finds no privilege and a grant at machine 2,
 /// and a survey at its end.
 pub const PASSES: &str =
-    "ringfarm 1\nring 0 3 3\nstart 0 2 0\np 0 0 5 g 1 5\np 0 0 1 n\np 0 2 4 g 2 9\nend 3\ns 0 3 1 1 2 0\ndone 1\n";
+    "ringfarm 2\nring 0 3 3\nstart 0 2 0\np 0 0 5 g 1 5\np 0 0 1 n\np 0 2 4 g 2 9\nend 3\ns 0 3 1 1 2 0\ndone 1\n";
 
 /// Two rings; the first one has two corruptions of machine 1, and a survey.
 const CORRUPTED: &str =
@@ -103,7 +103,7 @@ fn what_is_no_saved_text_is_told(rt: HostRuntime) -> Result<(), Fail> {
         ("done 1\n", "done 1\n\n", "line 10: syntax\n"),
         ("done 1\n", "done 1", "text is truncated\n"),
         ("done 1\n", "", "text is truncated\n"),
-        ("ringfarm 1\n", "ringfarm 2\n", "line 1: syntax\n"),
+        ("ringfarm 2\n", "ringfarm 3\n", "line 1: syntax\n"),
         (PASSES, "", "text is truncated\n"),
         (PASSES, "ringfarm 1\ndone 0\n", "line 2: syntax\n"),
     ];

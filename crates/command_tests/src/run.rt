@@ -80,7 +80,7 @@ pub const THREE: &str =
 
 /// What is saved of them.
 pub const THREE_SAVED: &str =
-    "ringfarm 1\nring 0 2 2\nstart 0 0\np 0 0 9 g 1 9\nend 1\nring 1 2 3\nstart 1 1\np 0 0 8 g 1 8\nend 1\nring 2 2 2\nstart 1 1\np 0 0 7 g 1 7\nend 1\ndone 3\n";
+    "ringfarm 2\nring 0 2 2\nstart 0 0\np 0 0 9 g 1 9\nend 1\nring 1 2 3\nstart 1 1\np 0 0 8 g 1 8\nend 1\nring 2 2 2\nstart 1 1\np 0 0 7 g 1 7\nend 1\ndone 3\n";
 
 /// Their report.
 pub const THREE_REPORT: &str =

@@ -3,3 +3,4 @@ pub mod FirstFaults
 pub mod ListTexts
 pub mod SavedLines
 pub mod StepLemmas
+pub mod Upgrades

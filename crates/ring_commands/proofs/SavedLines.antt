@@ -1,6 +1,7 @@
 -- A saved text has a byte at least for each of its lines.
 use Rattle.std.proofs.Common.{ℕ, ◌+◌, ◌≤◌, List, [], ◌∷◌, ◌++◌, length, length-append, arith}
 use Rattle.std.specs.List.{flat_map}
+use Rattle.text_lines.specs.Spelling.{ended}
 use Rattle.ring_text.specs.declared.saved.SavedEvent.{SavedEvent}
 use Rattle.ring_text.specs.declared.saved.SavedEvent.TheVariants.{Granted, Refused, Corrupted}
 use Rattle.ring_text.specs.Content.{Block, Content}
@@ -50,4 +51,5 @@ lines_some s =
     let done : 1 ≤ length (done_line s.rings_said) = omega arith in
     let long = lines_long s in
     let whole = length-append (flat_map block_text s.rings) (done_line s.rings_said) in
+    let first = length-append (ended s.version) (flat_map block_text s.rings ++ done_line s.rings_said) in
     omega arith

@@ -32,7 +32,7 @@ pub record IsBadSavedText (bytes : List ℕ) (line : ℕ) (kind : Kind) : Type 0
   pub content : Content
   pub fits : Fits content
   pub spelled : bytes ≡ text content
-  pub bad : IsFirstBad (lines content) line kind
+  pub bad : IsFirstBad content.version (lines content) line kind
 
 -- what is refused of bytes that are no legal saved text
 abbrev pub IsSavedTextRefusal : List ℕ → ToolError → Type 0

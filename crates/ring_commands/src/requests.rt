@@ -7,6 +7,7 @@ use crate::check::{self, CheckWords};
 use crate::faults::ToolError;
 use crate::run::{self, RunWords};
 use crate::step::{self, StepWords};
+use crate::upgrade::{self, UpgradeWords};
 use std::io::{Read, Write};
 use std::rt::Files;
 use std::sync::Wait;
@@ -18,6 +19,7 @@ pub enum Request<'a> {
     Step(StepWords<'a>),
     Run(RunWords<'a>),
     Check(CheckWords<'a>),
+    Upgrade(UpgradeWords<'a>),
 }
 
 /// Does what was asked for. A word `-` for what is read names `input`; where there is none it stays as it was.
@@ -39,5 +41,6 @@ pub fn answer<'a, R: AllocGlobal + Files + Threads + Wait + Sync, I: Read, O: Wr
         Request::Step(words) => step::run(rt.alloc(), words, out),
         Request::Run(words) => run::run(rt, words, input, out),
         Request::Check(words) => check::run(rt, words, input, out),
+        Request::Upgrade(words) => upgrade::run(rt, words, out),
     }
 }
