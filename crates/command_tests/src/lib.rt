@@ -19,4 +19,6 @@ mod step;
 #[cfg(test)]
 mod streams;
 #[cfg(test)]
+mod upgrade;
+#[cfg(test)]
 mod words;

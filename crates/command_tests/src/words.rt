@@ -13,6 +13,8 @@ const RUN_USAGE: &str = "Usage: ring_tool run";
 
 const CHECK_USAGE: &str = "Usage: ring_tool check <FILE>";
 
+const UPGRADE_USAGE: &str = "Usage: ring_tool upgrade <FILE> <NEW>";
+
 #[test]
 fn words_that_cannot_be_read_are_told_with_status_2(rt: HostRuntime) -> Result<(), Fail> {
     for (line, parts) in [
@@ -94,7 +96,7 @@ fn words_of_run_that_cannot_be_read_are_told(rt: HostRuntime) -> Result<(), Fail
 }
 
 #[test]
-fn words_of_check_that_cannot_be_read_are_told(rt: HostRuntime) -> Result<(), Fail> {
+fn words_of_check_and_upgrade_that_cannot_be_read_are_told(rt: HostRuntime) -> Result<(), Fail> {
     for (line, parts) in [
         (["check"].as_slice(), ["<FILE>", CHECK_USAGE]),
         (
@@ -105,6 +107,8 @@ fn words_of_check_that_cannot_be_read_are_told(rt: HostRuntime) -> Result<(), Fa
             ["check", "--history", "a.txt"].as_slice(),
             ["unexpected argument '--history'", CHECK_USAGE],
         ),
+        (["upgrade"].as_slice(), ["<FILE>", UPGRADE_USAGE]),
+        (["upgrade", "a.txt"].as_slice(), ["<NEW>", UPGRADE_USAGE]),
     ] {
         expect_clap(&rt, line, 2, &parts)?;
     }
@@ -118,14 +122,21 @@ fn help_goes_to_standard_output(rt: HostRuntime) -> Result<(), Fail> {
             &rt,
             &[word],
             0,
-            &["Usage: ring_tool <COMMAND>", "step", "run", "check", "help"],
+            &[
+                "Usage: ring_tool <COMMAND>",
+                "step",
+                "run",
+                "check",
+                "upgrade",
+                "help",
+            ],
         )?;
     }
     Ok(())
 }
 
 #[test]
-fn help_of_step_and_check_has_an_example(rt: HostRuntime) -> Result<(), Fail> {
+fn help_has_an_example(rt: HostRuntime) -> Result<(), Fail> {
     for (command, parts) in [
         (
             "step",
@@ -138,6 +149,14 @@ fn help_of_step_and_check_has_an_example(rt: HostRuntime) -> Result<(), Fail> {
         (
             "check",
             [CHECK_USAGE, "$ ring_tool check saved.txt", PASSES_SUMS],
+        ),
+        (
+            "upgrade",
+            [
+                UPGRADE_USAGE,
+                "$ ring_tool upgrade old.txt new.txt",
+                PASSES_SUMS,
+            ],
         ),
     ] {
         expect_clap(&rt, &[command, "--help"], 0, &parts)?;
@@ -189,7 +208,7 @@ fn help_names_every_exit_status(rt: HostRuntime) -> Result<(), Fail> {
         0,
         &["Exit status:", "\n  0  ", "\n  1  ", "\n  2  "],
     )?;
-    for command in ["step", "run", "check"] {
+    for command in ["step", "run", "check", "upgrade"] {
         expect_clap(
             &rt,
             &[command, "--help"],

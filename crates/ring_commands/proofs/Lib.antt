@@ -3,3 +3,4 @@ pub mod Entries
 pub mod FirstFaults
 pub mod ListTexts
 pub mod StepLemmas
+pub mod Upgrades

@@ -6,6 +6,7 @@ use Rattle.ring_commands.specs.Ran.{IsRunRefusal}
 use Rattle.ring_commands.specs.Checked.{IsCheckAnswer, IsCheckRunRefusal}
 use Rattle.ring_commands.specs.Pictured.{IsPictureAnswer, IsPictureRefusal}
 use Rattle.ring_commands.specs.Reading.{is_dash}
+use Rattle.ring_commands.specs.Upgraded.{IsUpgradeRunAnswer, IsUpgradeRunRefusal}
 use Rattle.ring_commands.specs.declared.faults.ToolError.{ToolError}
 use Rattle.ring_commands.specs.declared.requests.Request.{Request}
 use Rattle.ring_commands.specs.declared.requests.Request.TheVariants as request
@@ -16,6 +17,7 @@ IsAnswer (request.Step words) was is old new = IsStepAnswer words old new
 IsAnswer (request.Run words) was is old new = IsRunAnswer words was is old new
 IsAnswer (request.Check words) was is old new = IsCheckAnswer words was is old new
 IsAnswer (request.Picture words) was is old new = IsPictureAnswer words old new
+IsAnswer (request.Upgrade words) was is old new = IsUpgradeRunAnswer old new
 
 -- a refusal of it
 abbrev pub IsRefusal : Request → Option (List ℕ) → Option (List ℕ) → Option (List ℕ) → Option (List ℕ) → ToolError → Type 0
@@ -23,6 +25,7 @@ IsRefusal (request.Step words) was is old new e = IsStepWordsRefusal words old n
 IsRefusal (request.Run words) was is old new e = IsRunRefusal words was is old new e
 IsRefusal (request.Check words) was is old new e = IsCheckRunRefusal words was is old new e
 IsRefusal (request.Picture words) was is old new e = IsPictureRefusal words old new e
+IsRefusal (request.Upgrade words) was is old new e = IsUpgradeRunRefusal words old new e
 
 -- it names a file, or nothing that is read, so standard input stays as it is
 abbrev pub IsOfFile : Request → Type 0
@@ -30,3 +33,4 @@ IsOfFile (request.Step words) = Unit {0}
 IsOfFile (request.Run words) = is_dash words.settings.now ≡ false
 IsOfFile (request.Check words) = is_dash words.file.now ≡ false
 IsOfFile (request.Picture words) = Unit {0}
+IsOfFile (request.Upgrade words) = Unit {0}

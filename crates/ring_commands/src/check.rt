@@ -4,6 +4,8 @@ ghost use Rattle.std.specs.Prelude.{false, ◌≡◌, ◌≢◌, OnOk, IfOk, IfE
 ghost use Rattle.std.specs.Io.KnownBytes.{Appends};
 ghost use Rattle.text_lines.specs.Writing.{Writes};
 ghost use Rattle.ring_check.specs.declared.answers.Summary.{Summary};
+ghost use Rattle.ring_check.specs.Legal.{IsLegalText};
+ghost use Rattle.ring_text.specs.Content.{content};
 ghost use Rattle.ring_commands.specs.CheckText.{legal_line};
 ghost use Rattle.ring_commands.specs.Checked.{IsLegalSavedText, IsSavedTextRefusal, IsCheckFileAnswer, IsCheckAnswer, IsCheckRefusal, IsCheckFileRefusal, IsCheckRunRefusal};
 ghost use Rattle.ring_commands.specs.Reading.{is_dash};
@@ -12,7 +14,7 @@ use crate::faults::ToolError;
 use crate::reading::{names_stream, read_whole};
 use itoa::Buffer;
 use ring_check::{Summary, check_saved};
-use ring_text::read_saved;
+use ring_text::{Saved, read_saved};
 use std::alloc::Global;
 use std::fs;
 use std::io::{Read, Write};
@@ -27,7 +29,7 @@ pub struct CheckWords<'a> {
 }
 
 /// The line of a legal text: its sums.
-pub(crate) fn write_sums<W: Write>(out: &mut W, sums: &Summary) -> Result<(), WriteFault>
+pub fn write_sums<W: Write>(out: &mut W, sums: &Summary) -> Result<(), WriteFault>
     ensures { Writes (W.contents out.old) (W.contents out.new) result (legal_line sums.now) }
 {
     let mut buffers = (
@@ -60,19 +62,19 @@ pub(crate) fn write_sums<W: Write>(out: &mut W, sums: &Summary) -> Result<(), Wr
     )
 }
 
-/// The sums of the saved text that the bytes are, where it is legal.
+/// The value of the saved text that the bytes are, and its sums, where it is legal.
 ///
 /// # Errors
 ///
 /// `Syntax` or `Truncated` where the bytes are no saved text, `Bad` where they are one that is not
 /// legal, and `OutOfMemory`.
-fn sums_of(alloc: Global, bytes: &[u8]) -> Result<Summary, ToolError<'static>>
-    ensures ok { IfOk result (λ sums. IsLegalSavedText bytes.now sums) }
+pub fn legal_saved(alloc: Global, bytes: &[u8]) -> Result<(Saved, Summary), ToolError<'static>>
+    ensures ok { IfOk result (λ x. (legal : IsLegalSavedText bytes.now x.1) × (legal.content ≡ content x.0) × IsLegalText (content x.0)) }
     ensures err { IfErr result (λ e. IsSavedTextRefusal bytes.now e) }
 {
     let saved = read_saved(alloc, bytes)?;
     let sums = check_saved(alloc, &saved)?;
-    Ok(sums)
+    Ok((saved, sums))
 }
 
 /// Checks the bytes of a saved text, and writes the sums of a legal one.
@@ -92,7 +94,7 @@ pub fn check_bytes<W: Write>(
     ensures err { IfErr result (λ e. IsCheckRefusal bytes.now (W.contents out.old) (W.contents out.new) e) }
     ensures nothing { IfErr result (λ e. e ≢ ToolError.Write → out.new ≡ out.old) }
 {
-    let sums = sums_of(alloc, bytes)?;
+    let (_saved, sums) = legal_saved(alloc, bytes)?;
     write_sums(out, &sums)?;
     Ok(())
 }

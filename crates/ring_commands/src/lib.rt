@@ -13,3 +13,4 @@ pub mod reading;
 pub mod requests;
 pub mod run;
 pub mod step;
+pub mod upgrade;

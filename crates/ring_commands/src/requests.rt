@@ -8,6 +8,7 @@ use crate::faults::ToolError;
 use crate::picture::{self, PictureWords};
 use crate::run::{self, RunWords};
 use crate::step::{self, StepWords};
+use crate::upgrade::{self, UpgradeWords};
 use std::io::{Read, Write};
 use std::rt::Files;
 use std::sync::Wait;
@@ -20,6 +21,7 @@ pub enum Request<'a> {
     Run(RunWords<'a>),
     Check(CheckWords<'a>),
     Picture(PictureWords<'a>),
+    Upgrade(UpgradeWords<'a>),
 }
 
 /// Does what was asked for. A word `-` for what is read names `input`; where there is none it stays as it was.
@@ -42,5 +44,6 @@ pub fn answer<'a, R: AllocGlobal + Files + Threads + Wait + Sync, I: Read, O: Wr
         Request::Run(words) => run::run(rt, words, input, out),
         Request::Check(words) => check::run(rt, words, input, out),
         Request::Picture(words) => picture::run(rt, words, out),
+        Request::Upgrade(words) => upgrade::run(rt, words, out),
     }
 }

@@ -8,6 +8,7 @@ use ring_commands::check::CheckWords;
 use ring_commands::requests::Request;
 use ring_commands::run::RunWords;
 use ring_commands::step::StepWords;
+use ring_commands::upgrade::UpgradeWords;
 use std::alloc::Global;
 
 const ABOUT: &str =
@@ -70,6 +71,19 @@ Example:
 
 Exit status: 0 where it is legal, 1 where it is not or cannot be read, 2 where the words cannot be read. A file whose
 name is `-` is `./-`; one whose name begins with a dash stands behind `--`.";
+
+const UPGRADE_ABOUT: &str = "Carries a saved history over into the latest version of its text";
+
+const UPGRADE_HELP: &str = "\
+It reads and checks FILE as `check` does, and only where that is legal makes NEW, writes the same history there in the
+latest version, and prints what `check` prints of it. Where NEW is there, it is replaced. A FILE that is refused makes
+no NEW.
+
+Example, where old.txt begins with `ringfarm 1`:
+  $ ring_tool upgrade old.txt new.txt
+  legal rings 1 events 3 granted 2 corrupted 0 surveys 1
+
+Exit status: 0 where NEW was written, 1 where FILE is not legal or a file fails, 2 where the words cannot be read.";
 
 /// A number that has to be there.
 fn needed_number<'a>(alloc: Global, name: &'a str, help: &'a str) -> Arg<'a> {
@@ -166,6 +180,19 @@ fn check_command<'a>(alloc: Global) -> Result<Command<'a>, Error> {
     )
 }
 
+/// The words of `upgrade`.
+fn upgrade_command<'a>(alloc: Global) -> Result<Command<'a>, Error> {
+    let file = needed_text(alloc, "FILE", "The saved history, as for `check`");
+    let new = needed_text(alloc, "NEW", "The file that is made for the new text");
+    Ok(
+        Command::new(alloc, "upgrade")
+            .about(UPGRADE_ABOUT)
+            .after_help(UPGRADE_HELP)
+            .arg(file)?
+            .arg(new)?,
+    )
+}
+
 /// All that the program understands.
 fn command_line<'a>(alloc: Global) -> Result<Command<'a>, Error> {
     Ok(
@@ -179,7 +206,8 @@ fn command_line<'a>(alloc: Global) -> Result<Command<'a>, Error> {
             .subcommand(step_command(alloc)?)?
             .subcommand(run_command(alloc)?)?
             .subcommand(check_command(alloc)?)?
-            .subcommand(picture_command(alloc)?)?,
+            .subcommand(picture_command(alloc)?)?
+            .subcommand(upgrade_command(alloc)?)?,
     )
 }
 
@@ -209,6 +237,14 @@ fn check_words<'a>(words: &ArgMatches<'a>) -> Option<Request<'a>> {
     }))
 }
 
+/// `upgrade`, where both its words are there.
+fn upgrade_words<'a>(words: &ArgMatches<'a>) -> Option<Request<'a>> {
+    Some(Request::Upgrade(UpgradeWords {
+        file: words.get_str("FILE")?,
+        new: words.get_str("NEW")?,
+    }))
+}
+
 /// The command that the words ask for. The program's name is not among them.
 ///
 /// # Errors
@@ -223,6 +259,7 @@ pub fn read_words<'a>(alloc: Global, words: &'a [String]) -> Result<Request<'a>,
         Some(("run", words)) => run_words(words),
         Some(("check", words)) => check_words(words),
         Some(("picture", words)) => picture_words(words),
+        Some(("upgrade", words)) => upgrade_words(words),
         _ => None,
     };
     if let Some(request) = request {
