@@ -1,6 +1,7 @@
 #!/usr/bin/env python3
-"""Draws the pictures of the tests anew, from the ring's rules alone, and compares them with the bytes that the tests expect;
-each has to be well-formed XML. At the top of the repository: python3 bench/picture.py [FOLDER]; with a folder, it writes them there.
+"""Draws the pictures of the tests and `docs/picture.svg` anew, from the ring's rules alone, and compares them with the bytes
+that the tests expect and that stand there; each has to be well-formed XML. At the top of the repository:
+python3 bench/picture.py [FOLDER]; with a folder, it writes them there.
 `python3 bench/picture.py FILE PICTURE RING FROM EVENTS` draws one of a saved history, and compares it with the file PICTURE."""
 import re, sys, xml.dom.minidom
 
@@ -139,9 +140,10 @@ def compare_drawn(path, picture, place, frm, most):
     print(f"{picture}: as drawn anew, well-formed, {len(text)} bytes, {len(text) // max(count, 1)} an event")
 
 
-def expected(name):
-    text = open("crates/picture_tests/src/pictures.rt").read()
-    literal = re.search(r"const %s: &\[u8\] =\s*b(\"(?:[^\"\\]|\\.)*\");" % name, text).group(1)
+def expected(path, name):
+    """The bytes that a test expects."""
+    text = open(path).read()
+    literal = re.search(r"const %s: &(?:str|\[u8\]) =\s*b?(\"(?:[^\"\\]|\\.)*\");" % name, text).group(1)
     return eval(literal)
 
 
@@ -149,10 +151,14 @@ def passes(*machines):
     return [("p", machine) for machine in machines]
 
 
+LIBRARY = "crates/picture_tests/src/pictures.rt"
+COMMAND = "crates/command_tests/src/picture.rt"
 PICTURES = {
-    "FIRST": draw(0, 3, [0, 2, 0], passes(0, 0, 2), 0, 3),
-    "REPAIR": draw(1, 4, [0, 2, 1, 0], passes(3, 2, 3, 1, 2, 3, 0, 1, 2, 3, 0, 1), 0, 12),
-    "CORRUPTED": draw(2, 3, [0, 0, 0], passes(0) + [("c", 2, 2)] + passes(0, 2, 1), 1, 3),
+    (LIBRARY, "FIRST"): draw(0, 3, [0, 2, 0], passes(0, 0, 2), 0, 3),
+    (LIBRARY, "REPAIR"): draw(1, 4, [0, 2, 1, 0], passes(3, 2, 3, 1, 2, 3, 0, 1, 2, 3, 0, 1), 0, 12),
+    (LIBRARY, "CORRUPTED"): draw(2, 3, [0, 0, 0], passes(0) + [("c", 2, 2)] + passes(0, 2, 1), 1, 3),
+    (COMMAND, "DRAWN"): draw(0, 3, [0, 2, 0], passes(0, 0, 2), 0, 3, 1),
+    (COMMAND, "PART"): draw(1, 2, [0, 0], passes(0) + [("c", 1, 1)] + passes(0), 1, 1),
 }
 
 
@@ -160,13 +166,14 @@ def main():
     if len(sys.argv) == 6:
         compare_drawn(sys.argv[1], sys.argv[2], *map(int, sys.argv[3:]))
         return
-    for name, text in PICTURES.items():
+    for (path, name), text in PICTURES.items():
         xml.dom.minidom.parseString(text)
         if len(sys.argv) > 1:
             open(f"{sys.argv[1]}/{name.lower()}.svg", "w").write(text)
-        if text != expected(name):
+        if text != expected(path, name):
             sys.exit(f"{name}: the test expects another picture")
         print(f"{name}: as drawn anew, well-formed")
+    compare_drawn("examples/repair.txt", "docs/picture.svg", 0, 0, 2000)
 
 
 if __name__ == "__main__":

@@ -1,5 +1,5 @@
 -- What is known of a ring that is drawn of a legal saved text.
-use Rattle.std.proofs.Common.{◌≡◌, ℕ, zero, suc, ◌+◌, ◌<◌, ◌≤◌, List, [], ◌∷◌, Option, None, Some, ap, subst, arith}
+use Rattle.std.proofs.Common.{◌≡◌, ℕ, zero, suc, ◌+◌, ◌<◌, ◌≤◌, List, [], ◌∷◌, Option, Some, ap, subst, arith}
 use Rattle.std.specs.Prelude.{slice_get}
 use Rattle.std.specs.Option.{unwrap_or}
 use Rattle.ring_model.specs.Limits.{machine_limit}
@@ -9,7 +9,7 @@ use Rattle.ring_check.specs.Meaning.{IsRightBlock, AreRightBlocks}
 use Rattle.ring_check.proofs.Blocks.{machine_limit_most}
 use Rattle.ring_commands.specs.declared.picture.PictureWords.{PictureWords}
 use Rattle.ring_commands.specs.declared.picture.Drawing.{Drawing}
-use Rattle.ring_commands.specs.Pictured.{most_drawn, IsDrawing}
+use Rattle.ring_commands.specs.Pictured.{IsDrawing}
 
 -- the first block is one of a legal text, and so is each behind it
 block_at : (version place i : ℕ) (bs : List Block) (b : Block) → AreRightBlocks version place bs → slice_get bs i ≡ Some b → (at : ℕ) × IsRightBlock version at b

@@ -119,6 +119,30 @@ pub fn drawing_of_file<'a, I: Read>(
     drawing_of(alloc, words, bytes.as_slice())
 }
 
+/// Writes the picture of a drawing.
+fn put_picture<'a, W: Write>(
+    alloc: Global,
+    out: &mut W,
+    drawing: &Drawing,
+    words: &PictureWords<'a>,
+) -> Result<(), ToolError<'a>>
+    requires drawn { (bytes : List ℕ) × IsDrawing words.now bytes drawing.now }
+    ensures written { OnOk result (Appends (W.contents out.old) (W.contents out.new) (picture_of words.now drawing.now)) }
+    ensures err { IfErr result (λ e. IsSaveRefusal words.now.picture.now e) }
+{
+    match write_picture(
+        alloc,
+        out,
+        &drawing.ring,
+        words.from as usize,
+        drawing.count,
+    ) {
+        Ok(()) => Ok(()),
+        Err(PictureFault::Write) => Err(ToolError::Save(words.picture)),
+        Err(PictureFault::OutOfMemory) => Err(ToolError::OutOfMemory),
+    }
+}
+
 /// Writes the picture of a drawing through a buffer, of which all leaves, and hands the writer back.
 fn save_picture<'a, H: Write + Drop>(
     alloc: Global,
@@ -128,22 +152,12 @@ fn save_picture<'a, H: Write + Drop>(
 ) -> Result<H, ToolError<'a>>
     requires drawn { (bytes : List ℕ) × IsDrawing words.now bytes drawing.now }
     ensures written { IfOk result (λ after. Appends (H.contents made) (H.contents after) (picture_of words.now drawing.now)) }
-    ensures err { IfErr result (λ e. IsSaveRefusal words.picture.now e) }
+    ensures err { IfErr result (λ e. IsSaveRefusal words.now.picture.now e) }
 {
     let Ok(mut buffer) = BufWriter::new(alloc, made) else {
         return Err(ToolError::OutOfMemory);
     };
-    match write_picture(
-        alloc,
-        &mut buffer,
-        &drawing.ring,
-        words.from as usize,
-        drawing.count,
-    ) {
-        Ok(()) => {}
-        Err(PictureFault::Write) => return Err(ToolError::Save(words.picture)),
-        Err(PictureFault::OutOfMemory) => return Err(ToolError::OutOfMemory),
-    }
+    put_picture(alloc, &mut buffer, drawing, words)?;
     let Ok(mut after) = buffer.into_inner() else {
         return Err(ToolError::Save(words.picture));
     };
@@ -170,7 +184,7 @@ pub fn draw_and_tell<'a, H: Write + Drop, W: Write>(
     requires drawn { (bytes : List ℕ) × IsDrawing words.now bytes drawing.now }
     ensures written { IfOk result (λ after. Appends (H.contents made) (H.contents after) (picture_of words.now drawing.now)) }
     ensures told { OnOk result (Appends (W.contents out.old) (W.contents out.new) (legal_line drawing.now.sums)) }
-    ensures err { IfErr result (λ e. IsHandingRefusal words.picture.now drawing.now.sums (W.contents out.old) (W.contents out.new) e) }
+    ensures err { IfErr result (λ e. IsHandingRefusal words.now.picture.now drawing.now.sums (W.contents out.old) (W.contents out.new) e) }
     ensures nothing { IfErr result (λ e. e ≢ ToolError.Write → out.new ≡ out.old) }
 {
     let after = save_picture(alloc, drawing, words, made)?;
