@@ -97,13 +97,7 @@ fn look<N: Name>(
 }
 
 /// Starts a thread of a scope that makes the pass.
-fn start<
-    's,
-    'w: 's,
-    E: 's,
-    N: Name + Send + Sync + 's,
-    W: Threads + Wait + Abort + Sync + 's,
->(
+fn start<'s, 'w: 's, E: 's, N: Name + Send + Sync + 's, W: Threads + Wait + Abort + Sync + 's>(
     scope: &Scope<'s, E>,
     rt: &'s W,
     ring: &'s Ring<N, Watched<'w>>,
