@@ -174,7 +174,10 @@ fn readers_see_past_a_block(rt: HostRuntime) -> Result<(), Fail> {
         let state = RingState::from_values(rt.alloc(), &size, &values)?;
         let mut mask = [7; 16];
         state.mask(&mut mask);
-        assert_eq!(rt; mask, [0x1_8000_0001, 0, 0, 0, 0, 0, 0, 0, 0, 0, 0, 0, 0, 0, 0, 0]);
+        assert_eq!(rt;
+            mask,
+            [0x1_8000_0001, 0, 0, 0, 0, 0, 0, 0, 0, 0, 0, 0, 0, 0, 0, 0]
+        );
         assert_eq!(rt;
             (state.privileged(), state.first(), state.weight()),
             (3, 0, 3)
@@ -197,7 +200,9 @@ fn two_bytes_hold_the_larger_values(rt: HostRuntime) -> Result<(), Fail> {
     );
     let mut state = RingState::from_values(alloc, &size, &[65_535, 256, 65_535])?;
     assert_eq!(rt; (state.params().n(), state.params().k()), (3, 65_536));
-    assert!(rt; state.holds_past_first(256) && !state.holds_past_first(0) && !state.holds_past_first(255));
+    assert!(rt;
+        state.holds_past_first(256) && !state.holds_past_first(0) && !state.holds_past_first(255)
+    );
     assert!(rt; state.is_privileged(0) && state.is_privileged(1));
     state.move_machine(0);
     assert_eq!(rt; three(&rt, &state), (0, 256, 65_535));

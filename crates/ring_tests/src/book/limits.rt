@@ -1,17 +1,19 @@
 use super::{
-    Answer, Ask, asks_corrupt, asks_pass, book_of, corrupted, granted, make_call, not_privileged,
+    Answer, Ask, asks_corrupt, asks_pass, book_of, corrupted, granted, not_privileged,
     play, survey,
 };
 use ring_book::{BookError, Idle};
 
+/// Room for all events of a history but one, so that no later call asks for memory.
+const ROOM: [(Ask, Answer); 1] = [(Ask::Reserve(3_999_999), Answer::Reserved)];
+
 #[test]
 fn a_full_history_refuses_calls_and_still_answers(rt: HostRuntime) {
     let mut book = book_of(&rt, rt.alloc(), (2, 2), &[0, 0], Idle);
-    for position in 0..3_999_999 {
-        assert_eq!(rt;
-            make_call(&rt, &mut book, asks_pass(1, 0)),
-            not_privileged(position)
-        );
+    play(&rt, &mut book, &ROOM);
+    for _ in 0..3_999_999u32 {
+        assert!(rt; book.state().params().n() == 2);
+        assert!(rt; book.pass(0, 1, 0).is_ok());
     }
     let full = Answer::Refused(BookError::HistoryFull);
     play(
@@ -38,11 +40,11 @@ fn a_full_history_refuses_calls_and_still_answers(rt: HostRuntime) {
 #[test]
 fn settle_stops_at_a_full_history(rt: HostRuntime) {
     let mut book = book_of(&rt, rt.alloc(), (4, 4), &[0, 2, 1, 0], Idle);
-    for position in 0..3_999_999 {
-        assert_eq!(rt;
-            make_call(&rt, &mut book, asks_corrupt(0, 0)),
-            corrupted(position, 0)
-        );
+    play(&rt, &mut book, &ROOM);
+    for _ in 0..3_999_999u32 {
+        let size = book.state().params();
+        assert!(rt; size.n() == 4 && size.k() == 4);
+        assert!(rt; book.corrupt(9, 0, 0).is_ok());
     }
     let full = Answer::Refused(BookError::HistoryFull);
     play(

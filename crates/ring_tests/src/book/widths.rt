@@ -19,9 +19,17 @@ fn one_byte_and_two_answer_alike(rt: HostRuntime) {
             asks_pass(drawn % 33, call as u64)
         };
         let answer = make_call(&rt, &mut narrow, ask);
-        assert_eq!(rt; make_call(&rt, &mut wide, ask), answer, "call {call}, {ask:?}");
+        assert_eq!(rt;
+            make_call(&rt, &mut wide, ask),
+            answer,
+            "call {call}, {ask:?}"
+        );
         let survey = make_call(&rt, &mut narrow, Ask::Survey);
-        assert_eq!(rt; make_call(&rt, &mut wide, Ask::Survey), survey, "behind call {call}");
+        assert_eq!(rt;
+            make_call(&rt, &mut wide, Ask::Survey),
+            survey,
+            "behind call {call}"
+        );
     }
     let end = [(Ask::Events, Answer::Number(2_000))];
     play(&rt, &mut narrow, &end);

@@ -1,8 +1,10 @@
-use Rattle.std.proofs.Common.{◌≡◌, ◌∙◌, [], length, length-append, drop, ap, arith, refl, Ok, Err}
+use Rattle.std.proofs.Common.{◌≡◌, ◌∙◌, [], length, length-append, drop, ap, arith, refl, sym, Ok, Err}
 use Rattle.std.proofs.lemmas.List.{drop_all}
 use Rattle.std.proofs.lemmas.Result.{err_from_is_err_and}
 use Rattle.ring_model.specs.Ring.{ring_with, Ring}
+use Rattle.ring_model.specs.History.{State}
 use Rattle.ring_state.specs.Sizes.{Size}
+use Rattle.ring_book.specs.declared.resources.Idle.{Idle}
 use Rattle.ring_commands.specs.StepText.{step_text, step_opening, lines_from, end_lines}
 use Rattle.ring_commands.proofs.FirstFaults.{choices_allowed}
 use Rattle.ring_commands.proofs.StepLemmas.{wrote_none, wrote_piece, wrote_cut, wrote_last, lines-step, lines-some}
@@ -12,6 +14,16 @@ pub returns-in_err-book-clause-front : goal.returns-in_err-book-clause-front
 returns-in_err-book-clause-front g c =
     let p = err_from_is_err_and c.from_residual.result c.from_residual.ensures.1 in
     rw p.1 (step_text (ring_with c.args.k c.args.states.now) c.args.choices.now, lines-some (step_opening (ring_with c.args.k c.args.states.now)) c.args.choices.now, wrote_none _ _ _ refl)
+
+pub loop-choice-init : goal.loop-choice-init
+loop-choice-init g c =
+    let fresh = c.in_ok-book.ensures.ok.0 in
+    record {
+      written = wrote_none _ _ _ (ap (λ (s : State Idle). lines_from s c.args.choices.now) (sym fresh.1));
+      started = ap (λ (r : Ring). length r.values) fresh.0 ∙ c.in_ok-book.ensures.ok.1;
+      size = ap (λ (s : State Idle). length s.ring.values) fresh.1 ∙ c.in_ok-book.ensures.ok.1;
+      recorded = ap length fresh.2;
+    }
 
 pub pass-requires-clause-machine : goal.pass-requires-clause-machine
 pass-requires-clause-machine g c =
