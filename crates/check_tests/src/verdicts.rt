@@ -40,10 +40,7 @@ fn first_text_is_legal(rt: HostRuntime) -> Result<(), Fail> {
     };
     let block = first_block(&events, &surveys);
     for version in [1, 2] {
-        assert_eq!(rt;
-            check_in(&rt, rt.alloc(), version, &[block], 1)?,
-            Ok(sums)
-        );
+        assert_eq!(rt; check_in(&rt, rt.alloc(), version, &[block], 1)?, Ok(sums));
     }
     Ok(())
 }

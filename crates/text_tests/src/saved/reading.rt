@@ -1,8 +1,11 @@
 //! Reading texts, texts that are cut, and texts with a byte of another value.
 
 use super::judge::judge;
-use super::texts::{LATER_PASSES, PASSES, TEXTS, TWO_CLIENTS, TWO_RINGS, write};
+use super::texts::{
+    LATER_PASSES, LATER_TWO_RINGS, PASSES, TEXTS, TWO_CLIENTS, TWO_RINGS, write,
+};
 use ring_text::{ReadError, Saved, SavedEvent, SavedRing, SavedSurvey, read_saved};
+use std::alloc::Global;
 use std::process::Abort;
 use std::test::Fail;
 
@@ -193,28 +196,46 @@ fn each_cut_text_is_truncated(rt: HostRuntime) -> Result<(), Fail> {
     Ok(())
 }
 
-#[test]
-fn each_other_byte_is_judged_alike(rt: HostRuntime) -> Result<(), Fail> {
-    for text in TEXTS {
-        for place in 0..text.len() {
-            for byte in 0..=255u8 {
-                let mut bytes = Vec::from_slice(rt.alloc(), &text[..place])?;
-                bytes.push(byte)?;
-                bytes.extend_from_slice(&text[place + 1..])?;
-                let want = judge(rt.alloc(), &bytes)?;
-                match read_saved(rt.alloc(), &bytes) {
-                    Ok(saved) => {
-                        assert_eq!(rt; want, Ok(()), "{byte} at {place}");
-                        let mut again = Vec::new(rt.alloc());
-                        assert!(rt; write(&rt, &mut again, &saved).is_ok());
-                        assert_eq!(rt; again, bytes, "{byte} at {place}");
-                    }
-                    Err(refusal) => assert_eq!(rt; Err(refusal), want, "{byte} at {place}"),
+/// Each byte of the text is replaced by each other value.
+fn other_bytes_are_judged_alike(rt: &impl Abort, alloc: Global, text: &[u8]) -> Result<(), Fail> {
+    for place in 0..text.len() {
+        for byte in 0..=255u8 {
+            let mut bytes = Vec::from_slice(alloc, &text[..place])?;
+            bytes.push(byte)?;
+            bytes.extend_from_slice(&text[place + 1..])?;
+            let want = judge(alloc, &bytes)?;
+            match read_saved(alloc, &bytes) {
+                Ok(saved) => {
+                    assert_eq!(rt; want, Ok(()), "{byte} at {place}");
+                    let mut again = Vec::new(alloc);
+                    assert!(rt; write(rt, &mut again, &saved).is_ok());
+                    assert_eq!(rt; again, bytes, "{byte} at {place}");
                 }
+                Err(refusal) => assert_eq!(rt; Err(refusal), want, "{byte} at {place}"),
             }
         }
     }
     Ok(())
+}
+
+#[test]
+fn each_other_byte_of_the_passes_is_judged_alike(rt: HostRuntime) -> Result<(), Fail> {
+    other_bytes_are_judged_alike(&rt, rt.alloc(), PASSES)
+}
+
+#[test]
+fn each_other_byte_of_the_later_passes_is_judged_alike(rt: HostRuntime) -> Result<(), Fail> {
+    other_bytes_are_judged_alike(&rt, rt.alloc(), LATER_PASSES)
+}
+
+#[test]
+fn each_other_byte_of_two_rings_is_judged_alike(rt: HostRuntime) -> Result<(), Fail> {
+    other_bytes_are_judged_alike(&rt, rt.alloc(), TWO_RINGS)
+}
+
+#[test]
+fn each_other_byte_of_two_later_rings_is_judged_alike(rt: HostRuntime) -> Result<(), Fail> {
+    other_bytes_are_judged_alike(&rt, rt.alloc(), LATER_TWO_RINGS)
 }
 
 #[test]
