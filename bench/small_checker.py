@@ -5,6 +5,9 @@ import sys
 
 BELOW_32, BELOW_64 = 2**32, 2**64
 
+# the first line of each version, and how many machines and values its rings have at most
+FIRST_LINES = {"ringfarm 1": (256, 256), "ringfarm 2": (1024, 65536)}
+
 # each kind of line: its words and, for a number, its limit; the numbers of a start line depend on the ring line before it
 LINES = {
     "ring": ["ring", BELOW_32, BELOW_32, BELOW_32],
@@ -64,7 +67,7 @@ def lines_of(text):
     state, machines, found = None, 0, []
     for number, line in enumerate(whole, 1):
         if state is None:
-            kinds = ["first"] if line == "ringfarm 1" else []
+            kinds = ["first"] if line in FIRST_LINES else []
         else:
             kinds = [it for it in FOLLOWS[state] if is_line(it, line.split(" "), machines)]
         if not kinds:
@@ -74,7 +77,7 @@ def lines_of(text):
         machines = numbers[1] if state == "ring" else machines
         found.append((state, numbers))
     if state is None:
-        goes_on = "ringfarm 1".startswith(rest)
+        goes_on = any(it.startswith(rest) for it in FIRST_LINES)
     else:
         goes_on = any(can_become(it, rest.split(" "), machines) for it in FOLLOWS[state])
     if state == "done" and rest == "":
@@ -160,19 +163,19 @@ class Block:
         return None
 
 
-def fault_of_ring(numbers, blocks):
+def fault_of_ring(numbers, blocks, most):
     place, n, k = numbers
-    if not (2 <= n <= 256 and n <= k <= 256):
+    if not (2 <= n <= most[0] and n <= k <= most[1]):
         return "parameter"
     return None if place == len(blocks) else "count"
 
 
-def fault_of(kind, numbers, blocks):
+def fault_of(kind, numbers, blocks, most):
     """What is wrong with a line behind those before it, which are right; a right line is taken in."""
     if kind == "first":
         return None
     if kind == "ring":
-        fault = fault_of_ring(numbers, blocks)
+        fault = fault_of_ring(numbers, blocks, most)
         blocks.append(Block(numbers[1], numbers[2]))
         return fault
     if kind == "done":
@@ -183,9 +186,11 @@ def fault_of(kind, numbers, blocks):
 def answer(data):
     """What is to be printed of these bytes, and whether they are legal."""
     try:
-        lines, blocks = lines_of(data.decode("latin-1")), []
+        text, blocks = data.decode("latin-1"), []
+        lines = lines_of(text)
+        most = FIRST_LINES[text.split("\n", 1)[0]]
         for number, (kind, numbers) in enumerate(lines, 1):
-            fault = fault_of(kind, numbers, blocks)
+            fault = fault_of(kind, numbers, blocks, most)
             if fault:
                 raise NotLegal(f"line {number}: {fault}")
     except NotLegal as refusal:

@@ -38,10 +38,11 @@ impl Block<'_> {
     }
 }
 
-/// A text of these blocks, made and checked.
+/// A text of this version with these blocks, made and checked.
 fn check_once(
     rt: &impl Abort,
     alloc: Global,
+    version: u32,
     blocks: &[Block],
     rings_said: u32,
 ) -> Result<Answer, AllocError> {
@@ -51,22 +52,39 @@ fn check_once(
         let ring = block.build(rt, alloc)?;
         rings.push(ring)?;
     }
-    let saved = Saved { rings, rings_said };
+    let saved = Saved {
+        version,
+        rings,
+        rings_said,
+    };
     Ok(check_saved(alloc, &saved))
 }
 
-/// The checker's answer on a text of these blocks. Where a request for memory is refused, by `rt try --test --fail-alloc N`,
+/// The checker's answer on a text of this version with these blocks. Where a request for memory is refused, by `rt try --test --fail-alloc N`,
 /// nothing but want of memory may be told, and the text is made and checked a second time.
+pub fn check_in(
+    rt: &impl Abort,
+    alloc: Global,
+    version: u32,
+    blocks: &[Block],
+    rings_said: u32,
+) -> Result<Answer, AllocError> {
+    match check_once(rt, alloc, version, blocks, rings_said) {
+        Err(_) | Ok(Err(CheckError::OutOfMemory)) => {
+            check_once(rt, alloc, version, blocks, rings_said)
+        }
+        answer => answer,
+    }
+}
+
+/// The same in the first version.
 pub fn check(
     rt: &impl Abort,
     alloc: Global,
     blocks: &[Block],
     rings_said: u32,
 ) -> Result<Answer, AllocError> {
-    match check_once(rt, alloc, blocks, rings_said) {
-        Err(_) | Ok(Err(CheckError::OutOfMemory)) => check_once(rt, alloc, blocks, rings_said),
-        answer => answer,
-    }
+    check_in(rt, alloc, 1, blocks, rings_said)
 }
 
 pub fn granted(seat: u32, machine: u32, order: u64, number: u64, amount: u64) -> SavedEvent {

@@ -1,6 +1,6 @@
 //! Texts with answers that were worked out by hand.
 
-use crate::texts::{Block, bad, check, corrupted, granted, refused, survey};
+use crate::texts::{Block, bad, check, check_in, corrupted, granted, refused, survey};
 use ring_check::{CheckError, Kind, Summary};
 use ring_text::{SavedEvent, SavedSurvey};
 use std::alloc::{AllocError, Global};
@@ -39,7 +39,87 @@ fn first_text_is_legal(rt: HostRuntime) -> Result<(), Fail> {
         surveys: 1,
     };
     let block = first_block(&events, &surveys);
-    assert_eq!(rt; check(&rt, rt.alloc(), &[block], 1)?, Ok(sums));
+    for version in [1, 2] {
+        assert_eq!(rt; check_in(&rt, rt.alloc(), version, &[block], 1)?, Ok(sums));
+    }
+    Ok(())
+}
+
+/// A block of two machines with no events, of which machine 1 has the largest value.
+fn idle_block<'a>(k: u32, start: &'a [u32]) -> Block<'a> {
+    Block {
+        index: 0,
+        k,
+        start,
+        events: &[],
+        events_said: 0,
+        surveys: &[],
+    }
+}
+
+/// The sums of such a block.
+const IDLE: Summary = Summary {
+    rings: 1,
+    events: 0,
+    granted: 0,
+    corrupted: 0,
+    surveys: 0,
+};
+
+#[test]
+fn sizes_are_those_of_the_version(rt: HostRuntime) -> Result<(), Fail> {
+    let no = bad(2, Kind::Parameter);
+    let cases = [
+        (1, 256, [0, 255], Ok(IDLE)),
+        (1, 257, [0, 256], no),
+        (1, 300, [0, 299], no),
+        (1, 65_536, [0, 65_535], no),
+        (2, 256, [0, 255], Ok(IDLE)),
+        (2, 257, [0, 256], Ok(IDLE)),
+        (2, 300, [0, 299], Ok(IDLE)),
+        (2, 65_536, [0, 65_535], Ok(IDLE)),
+        (2, 65_537, [0, 65_535], no),
+    ];
+    for (version, k, start, want) in cases {
+        assert_eq!(rt;
+            check_in(&rt, rt.alloc(), version, &[idle_block(k, &start)], 1)?,
+            want,
+            "{k} in {version}"
+        );
+    }
+    Ok(())
+}
+
+/// As many machines, each at 0.
+fn machines(alloc: Global, many: u32) -> Result<Vec<u32>, AllocError> {
+    let mut start = Vec::new(alloc);
+    for _ in 0..many {
+        start.push(0)?;
+    }
+    Ok(start)
+}
+
+#[test]
+fn numbers_of_machines_are_those_of_the_version(rt: HostRuntime) -> Result<(), Fail> {
+    let no = bad(2, Kind::Parameter);
+    let cases = [
+        (1, 256, 256, Ok(IDLE)),
+        (1, 257, 257, no),
+        (2, 257, 257, Ok(IDLE)),
+        (2, 1024, 1024, Ok(IDLE)),
+        (2, 1025, 1025, no),
+    ];
+    for (version, n, k, want) in cases {
+        let start = match machines(rt.alloc(), n) {
+            Ok(start) => start,
+            Err(_) => machines(rt.alloc(), n)?,
+        };
+        assert_eq!(rt;
+            check_in(&rt, rt.alloc(), version, &[idle_block(k, &start)], 1)?,
+            want,
+            "{n} in {version}"
+        );
+    }
     Ok(())
 }
 

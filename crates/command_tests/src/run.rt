@@ -1,6 +1,6 @@
 //! `run`: the report, the saved text, each refusal, and files that cannot be read or written.
 
-use crate::check::{PASSES, PASSES_SUMS};
+use crate::check::{LATER_PASSES, PASSES_SUMS};
 use crate::paper::{Paper, expect, expect_cut, expect_status};
 use crate::places::path_of;
 use std::fs;
@@ -52,7 +52,7 @@ fn expect_saved<R: Abort + AllocGlobal + Files + Threads + Wait + Sync>(
 ) -> Result<(), Fail> {
     expect(rt, line, 0, REPORT, "")?;
     let text = fs::read_to_string(rt, history)?;
-    assert_eq!(rt; text.as_str(), PASSES);
+    assert_eq!(rt; text.as_str(), LATER_PASSES);
     expect(rt, &["check", history], 0, PASSES_SUMS, "")?;
     Ok(())
 }
@@ -251,7 +251,7 @@ fn a_full_history_is_told(rt: HostRuntime) -> Result<(), Fail> {
     let settings =
         r#"{"rings":[{"n":2,"k":2,"start":[0,0]}],"workers":[{"seed":1,"actions":1000000},{"seed":2,"actions":1000000}]}"#;
     fs::write(&rt, path, settings)?;
-    fs::write(&rt, history, PASSES)?;
+    fs::write(&rt, history, LATER_PASSES)?;
     expect(
         &rt,
         &["run", path, "--history", history],
@@ -261,7 +261,7 @@ fn a_full_history_is_told(rt: HostRuntime) -> Result<(), Fail> {
     )?;
     // A farm that is refused writes nothing.
     let text = fs::read_to_string(&rt, history)?;
-    assert_eq!(rt; text.as_str(), PASSES);
+    assert_eq!(rt; text.as_str(), LATER_PASSES);
     remove_both(&rt, path, history)
 }
 

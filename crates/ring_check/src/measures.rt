@@ -1,6 +1,6 @@
 //! What is told of a ring's values, by plain loops over them.
 
-ghost use Rattle.std.specs.Prelude.{◌≡◌, ℕ, ◌<◌, ◌≤◌, length, not, IfOk, vec_len, slice_index_or, false};
+ghost use Rattle.std.specs.Prelude.{◌≡◌, ℕ, ◌+◌, ◌%◌, ◌<◌, ◌≤◌, length, not, IfOk, vec_len, slice_index, slice_index_or, slice_set, true, false};
 ghost use Rattle.ring_model.specs.Ring.{ring_with, IsRing, is_privileged, privileged_count, first_privileged, is_settled, weight, is_absent, first_value_is_prefix, lead, rest};
 
 use std::alloc::{AllocError, Global};
@@ -74,15 +74,43 @@ fn first_value_is_prefix(values: &[u32]) -> bool
     true
 }
 
-/// A flag for each value below K: whether some machine but machine 0 has it.
-fn held_past_first(alloc: Global, values: &[u32], k: u32) -> Result<Vec<bool>, AllocError>
-    requires { IsRing (ring_with k values.now) }
-    ensures len { IfOk result (λ held. vec_len held ≡ k) }
-    ensures flags { IfOk result (λ held. (v : ℕ) → v < k → is_absent values.now v ≡ not (slice_index_or held.items v false)) }
+/// How far the value `to` lies ahead of `from`, in steps round K.
+fn distance(from: u32, to: u32, k: u32) -> u32
+    requires small { k ≤ 65536 }
+    requires from { from < k }
+    requires to { to < k }
+    ensures below { result < k }
+    ensures leads { (from + result) % k ≡ to }
 {
-    let mut held = Vec::from_elem(alloc, false, k as usize)?;
+    if from <= to {
+        to - from
+    } else {
+        to + (k - from)
+    }
+}
+
+/// Sets the flag at a place, where there is one.
+fn mark(flags: &mut Vec<bool>, place: usize)
+    ensures flags { flags.new.items ≡ slice_set flags.old.items place true }
+    ensures len { vec_len flags.new ≡ vec_len flags.old }
+{
+    if place < flags.len() {
+        flags[place] = true;
+    }
+}
+
+/// A flag for each distance below n: whether some machine but machine 0 has the value so far ahead of machine 0's.
+/// The lead is such a distance, so K flags are not needed.
+fn held_ahead(alloc: Global, values: &[u32], k: u32) -> Result<Vec<bool>, AllocError>
+    requires ring { IsRing (ring_with k values.now) }
+    requires small { k ≤ 65536 }
+    ensures len { IfOk result (λ held. vec_len held ≡ length values.now) }
+    ensures flags { IfOk result (λ held. (d : ℕ) → d < length values.now → is_absent values.now ((slice_index values.now 0 + d) % k) ≡ not (slice_index_or held.items d false)) }
+{
+    let mut held = Vec::from_elem(alloc, false, values.len())?;
     for i in 1..values.len() {
-        held[values[i] as usize] = true;
+        let ahead = distance(values[0], values[i], k);
+        mark(&mut held, ahead as usize);
     }
     Ok(held)
 }
@@ -96,10 +124,10 @@ fn lead(alloc: Global, values: &[u32], k: u32) -> Result<u32, AllocError>
     if first_value_is_prefix(values) {
         return Ok(0);
     }
-    let held = held_past_first(alloc, values, k)?;
-    for step in 1..k {
-        if !held[((values[0] + step) % k) as usize] {
-            return Ok(step);
+    let held = held_ahead(alloc, values, k)?;
+    for step in 1..values.len() {
+        if !held[step] {
+            return Ok(step as u32);
         }
     }
     Ok(k)

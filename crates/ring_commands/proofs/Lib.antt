@@ -1,6 +1,5 @@
 pub mod Entries
 pub mod FirstFaults
 pub mod ListTexts
-pub mod SavedLines
 pub mod StepLemmas
 pub mod Upgrades

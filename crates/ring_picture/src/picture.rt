@@ -34,7 +34,7 @@ fn put_rests<W: Write>(
 ) -> Result<(), WriteFault>
     requires some { 0 < ring.now.k }
     requires one { 1 ≤ vec_len values.old }
-    requires few { vec_len values.old ≤ 256 }
+    requires few { vec_len values.old ≤ 65536 }
     requires ring { ring_with ring.now.k values.old.items ≡ ring_at (block_of ring.now) from }
     requires room { from + columns < 2 ^ 63 }
     ensures { Writes (W.contents out.old) (W.contents out.new) result (rest_points (block_of ring.now) from columns) }
@@ -57,7 +57,7 @@ fn put_opening<W: Write>(
     from: usize,
     columns: u32,
 ) -> Result<(), WriteFault>
-    requires { ring.now.n ≤ 256 }
+    requires { ring.now.n ≤ 65536 }
     ensures { Writes (W.contents out.old) (W.contents out.new) result (opening_text ring.now.index ring.now.n ring.now.k from (length ring.now.events.items) columns) }
 {
     let mut sizes = (Buffer::new(), Buffer::new(), Buffer::new());
@@ -125,7 +125,7 @@ fn put_upper<W: Write>(
     values: &mut Vec<u32>,
 ) -> Result<(), WriteFault>
     requires some { 0 < ring.now.k }
-    requires few { ring.now.n ≤ 256 }
+    requires few { ring.now.n ≤ 65536 }
     requires same { length base.now ≡ ring.now.n }
     requires len { vec_len values.old ≡ ring.now.n }
     requires ring { ring_with ring.now.k base.now ≡ ring_at (block_of ring.now) from }
@@ -150,7 +150,7 @@ fn put_curve<W: Write>(
 ) -> Result<(), WriteFault>
     requires some { 0 < ring.now.k }
     requires one { 1 ≤ vec_len values.old }
-    requires few { vec_len values.old ≤ 256 }
+    requires few { vec_len values.old ≤ 65536 }
     requires ring { ring_with ring.now.k values.old.items ≡ ring_at (block_of ring.now) from }
     requires room { from + columns < 2 ^ 63 }
     ensures { Writes (W.contents out.old) (W.contents out.new) result (curve_text (block_of ring.now) from columns) }
@@ -171,7 +171,7 @@ fn put_lower<W: Write>(
     values: &mut Vec<u32>,
 ) -> Result<(), WriteFault>
     requires some { 0 < ring.now.k }
-    requires few { ring.now.n ≤ 256 }
+    requires few { ring.now.n ≤ 65536 }
     requires len { vec_len values.old ≡ ring.now.n }
     requires ring { ring_with ring.now.k values.old.items ≡ ring_at (block_of ring.now) from }
     requires room { from + columns < 2 ^ 63 }
@@ -200,7 +200,7 @@ pub fn write_picture<W: Write>(
     values: &mut Vec<u32>,
 ) -> Result<(), WriteFault>
     requires some { 0 < ring.now.k }
-    requires few { ring.now.n ≤ 256 }
+    requires few { ring.now.n ≤ 65536 }
     requires same { length base.now ≡ ring.now.n }
     requires len { vec_len values.old ≡ ring.now.n }
     requires ring { ring_with ring.now.k base.now ≡ ring_at (block_of ring.now) from }

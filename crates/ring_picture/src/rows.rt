@@ -23,7 +23,7 @@ fn put_rectangle<W: Write>(
     end: u32,
 ) -> Result<(), WriteFault>
     requires order { begin ≤ end }
-    requires few { machine ≤ 256 }
+    requires few { machine ≤ 65536 }
     ensures { Writes (W.contents out.old) (W.contents out.new) result (rectangle machine (record { begin = begin; end = end })) }
 {
     let mut buffers = (Buffer::new(), Buffer::new(), Buffer::new());
@@ -47,7 +47,7 @@ fn put_rectangle<W: Write>(
 /// The rectangle of the run that ends before a column, where it has any.
 fn put_run<W: Write>(out: &mut W, machine: u32, begin: u32, end: u32) -> Result<(), WriteFault>
     requires order { begin ≤ end }
-    requires few { machine ≤ 256 }
+    requires few { machine ≤ 65536 }
     ensures { Writes (W.contents out.old) (W.contents out.new) result (flat_map (rectangle machine) (run_from begin end)) }
 {
     if begin < end {
@@ -66,7 +66,7 @@ fn put_ended<W: Write>(
     privileged: bool,
 ) -> Result<(), WriteFault>
     requires order { begin ≤ column }
-    requires few { machine ≤ 256 }
+    requires few { machine ≤ 65536 }
     ensures { Writes (W.contents out.old) (W.contents out.new) result (flat_map (rectangle machine) (ended_from begin column privileged)) }
 {
     if privileged {
@@ -94,7 +94,7 @@ fn put_row<W: Write>(
     values: &mut Vec<u32>,
 ) -> Result<(), WriteFault>
     requires some { 0 < ring.now.k }
-    requires few { machine < 256 }
+    requires few { machine < 65536 }
     requires within { machine < vec_len values.old }
     requires ring { ring_with ring.now.k values.old.items ≡ ring_at (block_of ring.now) from }
     requires room { from + columns < 2 ^ 63 }
@@ -124,7 +124,7 @@ pub(crate) fn put_rows<W: Write>(
     values: &mut Vec<u32>,
 ) -> Result<(), WriteFault>
     requires some { 0 < ring.now.k }
-    requires few { ring.now.n ≤ 256 }
+    requires few { ring.now.n ≤ 65536 }
     requires same { length base.now ≡ ring.now.n }
     requires len { vec_len values.old ≡ ring.now.n }
     requires ring { ring_with ring.now.k base.now ≡ ring_at (block_of ring.now) from }

@@ -18,10 +18,6 @@ mod versions;
 mod write;
 
 pub use outcomes::write_outcome;
-pub use put_lines::{
-    put_done_line, put_end_line, put_event_line, put_first_line, put_ring_line, put_start_line,
-    put_survey_line,
-};
 pub use read::{answers_are_apart, read_saved, texts_are_apart, texts_read_back};
 pub use report::{write_report, write_total};
 pub use saved::{Saved, SavedEvent, SavedRing, SavedSurvey};

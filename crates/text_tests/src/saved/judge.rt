@@ -80,7 +80,9 @@ impl judging::Next for Next {
     fn after_line(self, body: &[u8]) -> Option<Next> {
         let is_done = has_words(body, &[Word::Fixed(b"done"), Word::Number(SMALL)]);
         match self {
-            Next::First if body == b"ringfarm 1".as_slice() => Some(Next::Ring),
+            Next::First if body == b"ringfarm 1".as_slice() || body == b"ringfarm 2".as_slice() => {
+                Some(Next::Ring)
+            }
             Next::Ring => after_ring(body),
             Next::Start(n) if is_row(body, b"start ", n) => Some(Next::Event),
             Next::Event if is_event(body) => Some(Next::Event),

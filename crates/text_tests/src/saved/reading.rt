@@ -1,8 +1,11 @@
 //! Reading texts, texts that are cut, and texts with a byte of another value.
 
 use super::judge::judge;
-use super::texts::{PASSES, TWO_CLIENTS, TWO_RINGS, write};
+use super::texts::{
+    LATER_PASSES, LATER_TWO_RINGS, PASSES, TEXTS, TWO_CLIENTS, TWO_RINGS, write,
+};
 use ring_text::{ReadError, Saved, SavedEvent, SavedRing, SavedSurvey, read_saved};
+use std::alloc::Global;
 use std::process::Abort;
 use std::test::Fail;
 
@@ -94,8 +97,12 @@ fn holds_the_passes(rt: &impl Abort, saved: &Saved) {
 
 #[test]
 fn the_passes_are_read(rt: HostRuntime) -> Result<(), Fail> {
-    assert_eq!(rt; PASSES.len(), 99);
-    holds_the_passes(&rt, &read_saved(rt.alloc(), PASSES)?);
+    for (text, version) in [(PASSES, 1), (LATER_PASSES, 2)] {
+        assert_eq!(rt; text.len(), 99);
+        let saved = read_saved(rt.alloc(), text)?;
+        assert_eq!(rt; saved.version, version);
+        holds_the_passes(&rt, &saved);
+    }
     Ok(())
 }
 
@@ -179,7 +186,7 @@ fn lines_are_read_in_their_order(rt: HostRuntime) -> Result<(), Fail> {
 
 #[test]
 fn each_cut_text_is_truncated(rt: HostRuntime) -> Result<(), Fail> {
-    for text in [PASSES, TWO_RINGS] {
+    for text in TEXTS {
         for k in 0..text.len() {
             let cut = answer(read_saved(rt.alloc(), &text[..k]));
             assert_eq!(rt; cut, Err(ReadError::Truncated), "after {k} bytes");
@@ -189,28 +196,46 @@ fn each_cut_text_is_truncated(rt: HostRuntime) -> Result<(), Fail> {
     Ok(())
 }
 
-#[test]
-fn each_other_byte_is_judged_alike(rt: HostRuntime) -> Result<(), Fail> {
-    for text in [PASSES, TWO_RINGS] {
-        for place in 0..text.len() {
-            for byte in 0..=255u8 {
-                let mut bytes = Vec::from_slice(rt.alloc(), &text[..place])?;
-                bytes.push(byte)?;
-                bytes.extend_from_slice(&text[place + 1..])?;
-                let want = judge(rt.alloc(), &bytes)?;
-                match read_saved(rt.alloc(), &bytes) {
-                    Ok(saved) => {
-                        assert_eq!(rt; want, Ok(()), "{byte} at {place}");
-                        let mut again = Vec::new(rt.alloc());
-                        assert!(rt; write(&mut again, &saved).is_ok());
-                        assert_eq!(rt; again, bytes, "{byte} at {place}");
-                    }
-                    Err(refusal) => assert_eq!(rt; Err(refusal), want, "{byte} at {place}"),
+/// Each byte of the text is replaced by each other value.
+fn other_bytes_are_judged_alike(rt: &impl Abort, alloc: Global, text: &[u8]) -> Result<(), Fail> {
+    for place in 0..text.len() {
+        for byte in 0..=255u8 {
+            let mut bytes = Vec::from_slice(alloc, &text[..place])?;
+            bytes.push(byte)?;
+            bytes.extend_from_slice(&text[place + 1..])?;
+            let want = judge(alloc, &bytes)?;
+            match read_saved(alloc, &bytes) {
+                Ok(saved) => {
+                    assert_eq!(rt; want, Ok(()), "{byte} at {place}");
+                    let mut again = Vec::new(alloc);
+                    assert!(rt; write(rt, &mut again, &saved).is_ok());
+                    assert_eq!(rt; again, bytes, "{byte} at {place}");
                 }
+                Err(refusal) => assert_eq!(rt; Err(refusal), want, "{byte} at {place}"),
             }
         }
     }
     Ok(())
+}
+
+#[test]
+fn each_other_byte_of_the_passes_is_judged_alike(rt: HostRuntime) -> Result<(), Fail> {
+    other_bytes_are_judged_alike(&rt, rt.alloc(), PASSES)
+}
+
+#[test]
+fn each_other_byte_of_the_later_passes_is_judged_alike(rt: HostRuntime) -> Result<(), Fail> {
+    other_bytes_are_judged_alike(&rt, rt.alloc(), LATER_PASSES)
+}
+
+#[test]
+fn each_other_byte_of_two_rings_is_judged_alike(rt: HostRuntime) -> Result<(), Fail> {
+    other_bytes_are_judged_alike(&rt, rt.alloc(), TWO_RINGS)
+}
+
+#[test]
+fn each_other_byte_of_two_later_rings_is_judged_alike(rt: HostRuntime) -> Result<(), Fail> {
+    other_bytes_are_judged_alike(&rt, rt.alloc(), LATER_TWO_RINGS)
 }
 
 #[test]
@@ -233,7 +258,7 @@ fn the_last_bytes(rt: HostRuntime) -> Result<(), Fail> {
 
 #[test]
 fn refusals(rt: HostRuntime) -> Result<(), Fail> {
-    let cases: [(&[u8], Result<(), ReadError>); 22] = [
+    let cases: [(&[u8], Result<(), ReadError>); 28] = [
         (b"", Err(ReadError::Truncated)),
         (b"ringfarm 1\nring 0 03 3\n", Err(ReadError::Syntax(2))),
         (b"ringfarm 1\nring 0  3 3\n", Err(ReadError::Syntax(2))),
@@ -248,7 +273,16 @@ fn refusals(rt: HostRuntime) -> Result<(), Fail> {
         ),
         (b"ringfarm 1\ndone 0\n", Err(ReadError::Syntax(2))),
         (b"ringfarm 1\r\nring 0 3 3\n", Err(ReadError::Syntax(1))),
-        (b"ringfarm 2\nring 0 3 3\n", Err(ReadError::Syntax(1))),
+        (b"ringfarm 2\r\nring 0 3 3\n", Err(ReadError::Syntax(1))),
+        (b"ringfarm 2\nring 0 3 3\n", Err(ReadError::Truncated)),
+        (b"ringfarm 3\nring 0 3 3\n", Err(ReadError::Syntax(1))),
+        (b"ringfarm 0\nring 0 3 3\n", Err(ReadError::Syntax(1))),
+        (b"ringfarm 12\nring 0 3 3\n", Err(ReadError::Syntax(1))),
+        (b"ringfarm 2\nring 0 1 1\nstart 0\nend 0\ndone 1\n", Ok(())),
+        (
+            b"ringfarm 2\nring 0 3 3\nstart 0 2 0\nm 0 0 5 1 1 5\n",
+            Err(ReadError::Syntax(4)),
+        ),
         (b"ringfarm 1\nring 0 0 3\n", Err(ReadError::Syntax(2))),
         (
             b"ringfarm 1\nring 0 4294967296 3\n",

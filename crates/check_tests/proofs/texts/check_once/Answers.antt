@@ -28,5 +28,5 @@ loop-block-preserved g c =
 
 pub check_saved-requires : goal.check_saved-requires
 check_saved-requires g c =
-    let long = lines_long (record { rings = map block_of c.loop-block.rings.items; rings_said = c.args.rings_said }) in
+    let long = lines_long (record { version = c.args.version; rings = map block_of c.loop-block.rings.items; rings_said = c.args.rings_said }) in
     omega arith

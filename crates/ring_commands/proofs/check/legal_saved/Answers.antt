@@ -1,7 +1,7 @@
 use Rattle.std.proofs.Common.{◌≡◌, length, refl, ap, arith}
 use Rattle.ring_text.specs.Content.{content}
 use Rattle.ring_text.specs.Spelling.{text}
-use Rattle.ring_commands.proofs.SavedLines.{lines_some}
+use Rattle.ring_check.proofs.SavedLines.{lines_some}
 use Rattle.ring_commands.proofs.check.legal_saved.Goals as goal
 
 pub check_saved-requires : goal.check_saved-requires
