@@ -40,7 +40,11 @@ fn standard_input_is_read_for_a_dash(rt: HostRuntime) -> Result<(), Fail> {
 #[test]
 fn a_history_goes_to_standard_output_for_a_dash(rt: HostRuntime) -> Result<(), Fail> {
     for (line, text, out) in [
-        (["run", "-", "--history", "-"].as_slice(), SETTINGS, LATER_PASSES),
+        (
+            ["run", "-", "--history", "-"].as_slice(),
+            SETTINGS,
+            LATER_PASSES,
+        ),
         (["run", "--history=-", "-"].as_slice(), THREE, THREE_SAVED),
         (
             ["run", "--quiet", "--history", "-", "-"].as_slice(),
@@ -124,7 +128,10 @@ fn a_printed_history_and_a_total_that_cannot_be_written_keep_a_beginning(
     let path = path_of(&rt, "unprinted.json")?;
     fs::write(&rt, path.as_str(), SETTINGS)?;
     for (line, whole) in [
-        (["run", path.as_str(), "--history", "-"].as_slice(), LATER_PASSES),
+        (
+            ["run", path.as_str(), "--history", "-"].as_slice(),
+            LATER_PASSES,
+        ),
         (["run", path.as_str(), "--quiet"].as_slice(), TOTAL),
     ] {
         for room in [0, 1, 10, 11, 12, whole.len() - 1] {
