@@ -134,7 +134,7 @@ fn a_printed_history_and_a_total_that_cannot_be_written_keep_a_beginning(
         ),
         (["run", path.as_str(), "--quiet"].as_slice(), TOTAL),
     ] {
-        for room in [0, 1, 10, 11, 12, whole.len() - 1] {
+        for room in [0, 1, 10, 11, 12, whole.len().saturating_sub(1)] {
             for mute in [false, true] {
                 expect_cut(&rt, line, whole, room, mute)?;
             }
