@@ -192,7 +192,7 @@ fn writing_takes_no_memory(rt: HostRuntime) -> Result<(), Fail> {
     let alloc = rt.alloc();
     let outcome = two_clients(&rt, alloc)?;
     assert!(rt; !outcome.rings.is_empty() && outcome.rings.len() <= 16);
-    let mut out = Vec::with_capacity(alloc, TWO_CLIENTS.len())?;
+    let mut out: Vec<u8> = Vec::with_capacity(alloc, TWO_CLIENTS.len())?;
     memory_ends(alloc);
     let done = write_outcome(&outcome, &mut out);
     memory_is_back(alloc);
