@@ -133,6 +133,7 @@ for crate in $crates; do
         try_program run - --history -
         "$program" run "$out/first.json" --history "$out/first.txt" >/dev/null
         try_program check first.txt
+        try_program upgrade first.txt upgraded.txt
         cp "$out/first.txt" "$out/input"
         try_program check -
         ;;

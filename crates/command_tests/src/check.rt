@@ -14,6 +14,10 @@ use std::thread::Threads;
 /// A ring with a grant at machine 0, a pass there that finds no privilege and a grant at machine 2,
 /// and a survey at its end.
 pub const PASSES: &str =
+    "ringfarm 1\nring 0 3 3\nstart 0 2 0\np 0 0 5 g 1 5\np 0 0 1 n\np 0 2 4 g 2 9\nend 3\ns 0 3 1 1 2 0\ndone 1\n";
+
+/// The same in the second version, in which a farm's histories are written.
+pub const LATER_PASSES: &str =
     "ringfarm 2\nring 0 3 3\nstart 0 2 0\np 0 0 5 g 1 5\np 0 0 1 n\np 0 2 4 g 2 9\nend 3\ns 0 3 1 1 2 0\ndone 1\n";
 
 /// Two rings; the first one has two corruptions of machine 1, and a survey.
@@ -46,7 +50,7 @@ fn a_legal_text_gives_its_sums(rt: HostRuntime) -> Result<(), Fail> {
     let path = path_of(&rt, "legal.txt")?;
     for (text, sums) in [
         (PASSES, PASSES_SUMS),
-        (crate::upgrade::FIRST_PASSES, PASSES_SUMS),
+        (LATER_PASSES, PASSES_SUMS),
         (CORRUPTED, CORRUPTED_SUMS),
     ] {
         expect_check(&rt, path.as_str(), text, 0, sums, "")?;
@@ -107,7 +111,7 @@ fn what_is_no_saved_text_is_told(rt: HostRuntime) -> Result<(), Fail> {
         ("done 1\n", "done 1\n\n", "line 10: syntax\n"),
         ("done 1\n", "done 1", "text is truncated\n"),
         ("done 1\n", "", "text is truncated\n"),
-        ("ringfarm 2\n", "ringfarm 3\n", "line 1: syntax\n"),
+        ("ringfarm 1\n", "ringfarm 3\n", "line 1: syntax\n"),
         (PASSES, "", "text is truncated\n"),
         (PASSES, "ringfarm 1\ndone 0\n", "line 2: syntax\n"),
     ];

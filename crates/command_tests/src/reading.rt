@@ -136,3 +136,17 @@ fn the_first_error_of_a_read_ends_it(rt: HostRuntime) -> Result<(), Fail> {
     }
     Ok(())
 }
+
+#[test]
+fn a_limit_of_four_bytes(rt: HostRuntime) {
+    expect_bytes(&rt, b"ring", usize::MAX, 4);
+    let mut reader = Giver::new(b"rings");
+    expect_refusal(&rt, &mut reader, 4, ReadFault::TooLarge, 5);
+    for kind in [ErrorKind::BrokenPipe, ErrorKind::Interrupted] {
+        let mut reader = Giver {
+            error: Some(kind),
+            ..Giver::new(b"ri")
+        };
+        expect_refusal(&rt, &mut reader, 4, ReadFault::Failed, 2);
+    }
+}

@@ -1,6 +1,6 @@
 //! `upgrade`: the text of the latest version, each refusal, and when the new file is made.
 
-use crate::check::{PASSES, PASSES_SUMS};
+use crate::check::{LATER_PASSES, PASSES, PASSES_SUMS};
 use crate::paper::{expect, expect_cut};
 use crate::places::path_of;
 use std::fs;
@@ -9,10 +9,6 @@ use std::rt::Files;
 use std::sync::Wait;
 use std::test::Fail;
 use std::thread::Threads;
-
-/// The same history in the first version.
-pub const FIRST_PASSES: &str =
-    "ringfarm 1\nring 0 3 3\nstart 0 2 0\np 0 0 5 g 1 5\np 0 0 1 n\np 0 2 4 g 2 9\nend 3\ns 0 3 1 1 2 0\ndone 1\n";
 
 /// Runs `upgrade` on a file with this text, where the new file holds `before`, and compares what that holds then.
 fn expect_upgrade<R: Abort + AllocGlobal + Files + Threads + Wait + Sync>(
@@ -36,23 +32,30 @@ fn a_text_of_either_version_is_upgraded(rt: HostRuntime) -> Result<(), Fail> {
     let file = path_of(&rt, "old.txt")?;
     let new = path_of(&rt, "new.txt")?;
     let (file, new) = (file.as_str(), new.as_str());
-    assert_eq!(rt; (FIRST_PASSES.len(), PASSES.len()), (99, 99));
+    assert_eq!(rt; (PASSES.len(), LATER_PASSES.len()), (99, 99));
     let long = "x".repeat(rt.alloc(), 1000)?;
     for before in ["", long.as_str()] {
-        for text in [FIRST_PASSES, PASSES] {
-            expect_upgrade(&rt, file, new, text, before, PASSES)?;
+        for text in [PASSES, LATER_PASSES] {
+            expect_upgrade(&rt, file, new, text, before, LATER_PASSES)?;
         }
     }
-    fs::remove_file(&rt, new)?;
-    // A new file that is not there is made, and a file may be its own upgrade.
-    expect(&rt, &["upgrade", file, new], 0, PASSES_SUMS, "")?;
-    expect(&rt, &["check", new], 0, PASSES_SUMS, "")?;
-    fs::write(&rt, file, FIRST_PASSES)?;
-    expect(&rt, &["upgrade", file, file], 0, PASSES_SUMS, "")?;
-    let made = fs::read_to_string(&rt, file)?;
-    assert_eq!(rt; made.as_str(), PASSES);
     fs::remove_file(&rt, file)?;
     fs::remove_file(&rt, new)?;
+    Ok(())
+}
+
+#[test]
+fn a_new_file_is_made_and_a_file_may_be_its_own_upgrade(rt: HostRuntime) -> Result<(), Fail> {
+    let file = path_of(&rt, "itself.txt")?;
+    let new = path_of(&rt, "made.txt")?;
+    let (file, new) = (file.as_str(), new.as_str());
+    fs::write(&rt, file, PASSES)?;
+    for made in [new, file] {
+        expect(&rt, &["upgrade", file, made], 0, PASSES_SUMS, "")?;
+        let text = fs::read_to_string(&rt, made)?;
+        assert_eq!(rt; text.as_str(), LATER_PASSES);
+        fs::remove_file(&rt, made)?;
+    }
     Ok(())
 }
 
@@ -102,7 +105,7 @@ fn a_text_that_is_refused_makes_no_file(rt: HostRuntime) -> Result<(), Fail> {
 fn files_that_fail_are_told_by_their_words(rt: HostRuntime) -> Result<(), Fail> {
     let file = path_of(&rt, "kept.txt")?;
     let file = file.as_str();
-    fs::write(&rt, file, FIRST_PASSES)?;
+    fs::write(&rt, file, PASSES)?;
     for (old, new, fault) in [
         (
             "missing.txt",
@@ -131,7 +134,7 @@ fn files_that_fail_are_told_by_their_words(rt: HostRuntime) -> Result<(), Fail> 
 fn a_line_that_cannot_be_written_keeps_a_beginning(rt: HostRuntime) -> Result<(), Fail> {
     let file = path_of(&rt, "unprinted-old.txt")?;
     let new = path_of(&rt, "unprinted-new.txt")?;
-    fs::write(&rt, file.as_str(), FIRST_PASSES)?;
+    fs::write(&rt, file.as_str(), PASSES)?;
     let line = ["upgrade", file.as_str(), new.as_str()];
     for room in [0, 1, PASSES_SUMS.len() - 1] {
         for mute in [false, true] {

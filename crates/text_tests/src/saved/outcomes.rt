@@ -1,7 +1,7 @@
 //! Writing what a farm handed out, or books and logs made by hand.
 
 use super::scenes::{Act, Scene, book_of, outcome_of};
-use super::texts::{LATER_PASSES, PASSES, TWO_CLIENTS, write};
+use super::texts::{LATER_PASSES, TWO_CLIENTS, write};
 use crate::scripted::{REFUSALS, Refusal, memory_ends, memory_is_back, writer_with};
 use ring_farm::{Open, Outcome, RingOutcome, run_farm};
 use ring_settings::read_settings;
@@ -192,7 +192,7 @@ fn writing_takes_no_memory(rt: HostRuntime) -> Result<(), Fail> {
     let alloc = rt.alloc();
     let outcome = two_clients(&rt, alloc)?;
     assert!(rt; !outcome.rings.is_empty() && outcome.rings.len() <= 16);
-    let mut out = Vec::with_capacity(alloc, TWO_CLIENTS.len())?;
+    let mut out: Vec<u8> = Vec::with_capacity(alloc, TWO_CLIENTS.len())?;
     memory_ends(alloc);
     let done = write_outcome(&outcome, &mut out);
     memory_is_back(alloc);

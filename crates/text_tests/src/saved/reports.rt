@@ -204,7 +204,7 @@ fn short_writes_of_a_report_go_on(rt: HostRuntime) -> Result<(), Fail> {
 fn reporting_takes_no_memory(rt: HostRuntime) -> Result<(), Fail> {
     let alloc = rt.alloc();
     let outcome = corrupted(&rt, alloc)?;
-    let mut out = Vec::with_capacity(alloc, CORRUPTED_REPORT.len())?;
+    let mut out: Vec<u8> = Vec::with_capacity(alloc, CORRUPTED_REPORT.len())?;
     memory_ends(alloc);
     let done = put_report(&rt, &outcome, &mut out);
     memory_is_back(alloc);

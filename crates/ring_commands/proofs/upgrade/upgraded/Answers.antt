@@ -1,5 +1,5 @@
 use Rattle.std.proofs.Common.{◌≡◌, ◌∙◌, ℕ, List, ap, sym, subst}
-use Rattle.ring_text.specs.Content.{Content, content, upgraded}
+use Rattle.ring_text.specs.Content.{content, upgraded}
 use Rattle.ring_text.specs.Spelling.{Fits}
 use Rattle.ring_check.specs.Legal.{IsLegalText, summary_of}
 use Rattle.ring_commands.specs.Reading.{most_bytes, IsAllOf}
