@@ -58,10 +58,8 @@ fn a_part_of_another_ring_is_drawn(rt: HostRuntime) -> Result<(), Fail> {
     let picture = path_of(&rt, "part.svg")?;
     let (file, picture) = (file.as_str(), picture.as_str());
     fs::write(&rt, file, TWO)?;
-    let words = ["--ring", "1", "--from", "1", "--events", "1"];
-    let [ring, one, from, place, events, most] = words;
     let line = [
-        "picture", file, picture, ring, one, from, place, events, most,
+        "picture", file, picture, "--ring", "1", "--from", "1", "--events", "1",
     ];
     expect_drawn(&rt, &line, picture, TWO_SUMS, PART)?;
     fs::remove_file(&rt, file)?;
@@ -79,8 +77,7 @@ fn expect_none<R: Abort + AllocGlobal + Files + Threads + Wait + Sync>(
     words: [&str; 2],
     told: &str,
 ) -> Result<(), Fail> {
-    let [name, value] = words;
-    let line = ["picture", file, picture, name, value];
+    let line = ["picture", file, picture, words[0], words[1]];
     fs::write(rt, file, text)?;
     expect(rt, &line, 1, "", told)?;
     assert!(rt;
@@ -99,7 +96,9 @@ fn what_is_refused_leaves_the_picture_as_it_was(rt: HostRuntime) -> Result<(), F
     let file = path_of(&rt, "refused.txt")?;
     let picture = path_of(&rt, "refused.svg")?;
     let (file, picture) = (file.as_str(), picture.as_str());
-    let cut = PASSES.get(..PASSES.len() - 1).unwrap_or("no text");
+    let cut = PASSES
+        .get(..PASSES.len().saturating_sub(1))
+        .unwrap_or("no text");
     let table = [
         (PASSES, ["--ring", "1"], "there is no ring 1\n"),
         (
@@ -181,7 +180,7 @@ fn a_line_that_cannot_be_written_keeps_a_beginning(rt: HostRuntime) -> Result<()
     let picture = path_of(&rt, "cut.svg")?;
     let (file, picture) = (file.as_str(), picture.as_str());
     fs::write(&rt, file, PASSES)?;
-    for room in [0, 1, PASSES_SUMS.len() - 1] {
+    for room in [0, 1, PASSES_SUMS.len().saturating_sub(1)] {
         for mute in [false, true] {
             let line = ["picture", file, picture];
             expect_cut(&rt, &line, PASSES_SUMS, room, mute)?;
