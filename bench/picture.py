@@ -1,65 +1,180 @@
 #!/usr/bin/env python3
-"""Draws the two pictures of the tests anew, from the ring's rules alone, and compares them with the bytes that the tests expect;
-each has to be well-formed XML. At the top of the repository: python3 bench/picture.py [FOLDER]; with a folder, it writes them there."""
+"""Draws the pictures of the tests and `docs/picture.svg` anew, from the ring's rules alone, and compares them with the bytes
+that the tests expect and that stand there; each has to be well-formed XML. At the top of the repository:
+python3 bench/picture.py [FOLDER]; with a folder, it writes them there.
+`python3 bench/picture.py FILE PICTURE RING FROM EVENTS` draws one of a saved history, and compares it with the file PICTURE."""
 import re, sys, xml.dom.minidom
 
-
-def priv(v,i): return v[-1]==v[0] if i==0 else v[i-1]!=v[i]
-
-
-def rest(v,k):
-    n=len(v)
-    if sum(priv(v,i) for i in range(n))==1: return 0
-    w=sum(n-i for i in range(1,n) if priv(v,i))
-    held=[i for i in range(n) if v[i]==v[0]]
-    lead=0 if held==list(range(len(held))) else next(j for j in range(1,k+1) if (v[0]+j)%k not in v[1:])
-    return w+n*lead
+BLUE, RED, BRIGHT, GREEN, GREY = "#15489f", "#b3261e", "#d00", "#0a7d4f", "#888"
 
 
-def draw(index,k,start,events,frm,cols):
-    n=len(start); states=[list(start)]
-    for m in events:
-        v=list(states[-1])
-        if priv(v,m): v[m]=(v[0]+1)%k if m==0 else v[m-1]
-        states.append(v)
-    at=lambda c: states[min(frm+c,len(events))]
-    s=f'''<svg xmlns="http://www.w3.org/2000/svg" viewBox="0 0 1000 600" font-family="sans-serif" font-size="16">
-<rect width="1000" height="600" fill="#fff"/>
-<text x="50" y="36" font-size="20">ring {index}: n {n}, K {k}, events from {frm} on, of {len(events)}</text>
-<text x="50" y="62">privileged machines, 0 at the top</text>
-<svg x="50" y="72" width="900" height="300" viewBox="0 0 {cols} {4*n}" preserveAspectRatio="none" fill="#15489f">
+def priv(v, i):
+    return v[-1] == v[0] if i == 0 else v[i - 1] != v[i]
+
+
+def rest(v, k):
+    n = len(v)
+    if sum(priv(v, i) for i in range(n)) == 1:
+        return 0
+    w = sum(n - i for i in range(1, n) if priv(v, i))
+    held = [i for i in range(n) if v[i] == v[0]]
+    lead = 0 if held == list(range(len(held))) else next(j for j in range(1, k + 1) if (v[0] + j) % k not in v[1:])
+    return w + n * lead
+
+
+def replay(k, start, events):
+    """Each place's values and calm. An event is ("p", machine), privileged or not, or ("c", machine, value)."""
+    values, calm = list(start), 0
+    places = [(values, calm)]
+    for event in events:
+        i, values = event[1], list(values)
+        if event[0] == "c":
+            values[i], calm = event[2], 0
+        elif priv(values, i):
+            values[i] = (values[0] + 1) % k if i == 0 else values[i - 1]
+            calm += 1
+        places.append((values, calm))
+    return places
+
+
+def stretches(columns):
+    """The runs of the columns, each up to the one behind it."""
+    runs = []
+    for c in columns:
+        if runs and runs[-1][1] == c:
+            runs[-1][1] = c + 1
+        else:
+            runs.append([c, c + 1])
+    return runs
+
+
+def draw(index, k, start, events, frm, count, surveys=0):
+    n, columns, bound = len(start), count + 1, 3 * len(start) * (len(start) - 1) // 2
+    places = replay(k, start, events)
+    at = lambda c: places[min(frm + c, len(events))]
+    passed = [priv(places[p][0], e[1]) for p, e in enumerate(events)]
+    granted = sum(e[0] == "p" and good for e, good in zip(events, passed))
+    corrupted = sum(e[0] == "c" for e in events)
+    s = f'''<svg xmlns="http://www.w3.org/2000/svg" viewBox="0 0 1000 640" font-family="sans-serif" font-size="15">
+<style>rect,path,polyline{{vector-effect:non-scaling-stroke}}</style>
+<rect width="1000" height="640" rx="8" fill="#fff"/>
+<text x="70" y="36" font-size="22">ring {index}: n {n}, K {k}</text>
+<text x="70" y="62">events {len(events)}, granted {granted}, corrupted {corrupted}, surveys {surveys}</text>
+<text x="62" y="94" text-anchor="end">0</text>
+<text x="62" y="380" text-anchor="end">{n - 1}</text>
+<text x="70" y="402">{frm}</text>
+<text x="520" y="402" text-anchor="middle">events so far</text>
+<text x="970" y="402" text-anchor="end">{frm + count}</text>
+<text x="62" y="436" text-anchor="end">{bound}</text>
+<text x="62" y="590" text-anchor="end">0</text>
+<rect x="70" y="80" width="900" height="300" fill="#f3f3f3"/>
+<svg x="70" y="80" width="900" height="300" viewBox="0 0 {columns} {4 * n}" preserveAspectRatio="none" fill="{BLUE}" stroke="{BLUE}">
 '''
     for i in range(n):
-        on=[c for c in range(cols) if priv(at(c),i)]
-        groups=[]
-        for c in on:
-            if groups and groups[-1][1]==c: groups[-1][1]=c+1
-            else: groups.append([c,c+1])
-        for b,e in groups: s+=f'<rect x="{b}" y="{4*i}" width="{e-b}" height="3"/>\n'
-    bound=3*n*(n-1)//2
-    s+=f'''</svg>
-<text x="50" y="410">rest, of at most {bound}</text>
-<rect x="50" y="420" width="900" height="150" fill="#eef"/>
-<svg x="50" y="420" width="900" height="150" viewBox="0 0 {cols} {bound}" preserveAspectRatio="none">
-<polyline transform="translate(0 {bound}) scale(1 -1)" fill="none" stroke="#b3261e" stroke-width="2" vector-effect="non-scaling-stroke" points="'''
-    s+=''.join(f'{c},{rest(at(c),k)} ' for c in range(cols))+'"/>\n</svg>\n</svg>\n'
-    return s
+        for begin, end in stretches([c for c in range(columns) if priv(at(c)[0], i)]):
+            s += f'<rect x="{begin}" y="{4 * i}" width="{end - begin}" height="3"/>\n'
+    drawn = [(c + 1, frm + c) for c in range(count) if frm + c < len(events)]
+    s += f'<path stroke="{GREY}" stroke-width="1.5" stroke-linecap="square" d="'
+    s += "".join(f"M{x} {4 * events[p][1] + 1}v1" for x, p in drawn if events[p][0] == "p" and not passed[p])
+    s += f'"/>\n<path stroke="{BRIGHT}" stroke-width="3" stroke-linecap="round" d="'
+    s += "".join(f"M{x} {4 * events[p][1]}v3" for x, p in drawn if events[p][0] == "c")
+    s += f'''"/>
+</svg>
+<rect x="70" y="430" width="900" height="160" fill="#f3f3f3"/>
+<svg x="70" y="430" width="900" height="160" viewBox="0 0 {columns} {bound}" preserveAspectRatio="none" fill="none">
+<g transform="translate(.5 {bound}) scale(1 -1)">
+<polyline stroke="{RED}" stroke-width="2.5" points="'''
+    s += "".join(f"{c},{rest(at(c)[0], k)} " for c in range(columns))
+    s += f'"/>\n<polyline stroke="{GREEN}" stroke-width="1.5" stroke-dasharray="5 3" points="'
+    s += "".join(f"{c},{at(c)[1]} " for c in range(columns))
+    return s + f'''"/>
+</g>
+</svg>
+<path d="M70 430h900" stroke="#555" stroke-width="1.5" stroke-dasharray="2 3"/>
+<g font-size="14">
+<rect x="70" y="608" width="16" height="10" fill="{BLUE}"/>
+<text x="92" y="618">privileged</text>
+<path d="M200 606v14" stroke="{BRIGHT}" stroke-width="3" stroke-linecap="round"/>
+<text x="212" y="618">corruption</text>
+<path d="M322 610v6" stroke="{GREY}" stroke-width="1.5" stroke-linecap="square"/>
+<text x="332" y="618">refused pass</text>
+<path d="M456 613h24" stroke="{RED}" stroke-width="2.5"/>
+<text x="488" y="618">rest</text>
+<path d="M556 613h24" stroke="{GREEN}" stroke-width="1.5" stroke-dasharray="5 3"/>
+<text x="588" y="618">calm, up to the bound</text>
+<path d="M776 613h24" stroke="#555" stroke-width="1.5" stroke-dasharray="2 3"/>
+<text x="808" y="618">bound</text>
+</g>
+</svg>
+'''
 
 
-def expected(name):
-    text = open("crates/picture_tests/src/pictures.rt").read()
-    literal = re.search(r"const %s: &\[u8\] =\s*b(\"(?:[^\"\\]|\\.)*\");" % name, text).group(1)
+def saved_ring(path, place):
+    """The ring at this place of a saved history: its place, K, start, events, and how many surveys."""
+    found, events, surveys = None, [], 0
+    for line in open(path):
+        words = line.split()
+        if words[0] == "ring":
+            if found:
+                break
+            if int(words[1]) == place:
+                found = [place, int(words[3])]
+        elif found and words[0] == "start":
+            found.append([int(w) for w in words[1:]])
+        elif found and words[0] == "p":
+            events.append(("p", int(words[2])))
+        elif found and words[0] == "c":
+            events.append(("c", int(words[2]), int(words[3])))
+        elif found and words[0] == "s":
+            surveys += 1
+    return (*found, events, surveys)
+
+
+def compare_drawn(path, picture, place, frm, most):
+    index, k, start, events, surveys = saved_ring(path, place)
+    text = open(picture).read()
+    xml.dom.minidom.parseString(text)
+    count = min(len(events) - frm, most)
+    if text != draw(index, k, start, events, frm, count, surveys):
+        sys.exit(f"{picture}: drawn otherwise")
+    print(f"{picture}: as drawn anew, well-formed, {len(text)} bytes, {len(text) // max(count, 1)} an event")
+
+
+def expected(path, name):
+    """The bytes that a test expects."""
+    text = open(path).read()
+    literal = re.search(r"const %s: &(?:str|\[u8\]) =\s*b?(\"(?:[^\"\\]|\\.)*\");" % name, text).group(1)
     return eval(literal)
 
 
-pictures = {
-    "FIRST": draw(0, 3, [0, 2, 0], [0, 0, 2], 0, 4),
-    "REPAIR": draw(1, 4, [0, 2, 1, 0], [3, 2, 3, 1, 2, 3, 0, 1, 2, 3, 0, 1], 0, 13),
+def passes(*machines):
+    return [("p", machine) for machine in machines]
+
+
+LIBRARY = "crates/picture_tests/src/pictures.rt"
+COMMAND = "crates/command_tests/src/picture.rt"
+PICTURES = {
+    (LIBRARY, "FIRST"): draw(0, 3, [0, 2, 0], passes(0, 0, 2), 0, 3),
+    (LIBRARY, "REPAIR"): draw(1, 4, [0, 2, 1, 0], passes(3, 2, 3, 1, 2, 3, 0, 1, 2, 3, 0, 1), 0, 12),
+    (LIBRARY, "CORRUPTED"): draw(2, 3, [0, 0, 0], passes(0) + [("c", 2, 2)] + passes(0, 2, 1), 1, 3),
+    (COMMAND, "DRAWN"): draw(0, 3, [0, 2, 0], passes(0, 0, 2), 0, 3, 1),
+    (COMMAND, "PART"): draw(1, 2, [0, 0], passes(0) + [("c", 1, 1)] + passes(0), 1, 1),
 }
-for name, text in pictures.items():
-    xml.dom.minidom.parseString(text)
-    if text != expected(name):
-        sys.exit(f"{name}: the test expects another picture")
-    if len(sys.argv) > 1:
-        open(f"{sys.argv[1]}/{name.lower()}.svg", "w").write(text)
-    print(f"{name}: as drawn anew, well-formed")
+
+
+def main():
+    if len(sys.argv) == 6:
+        compare_drawn(sys.argv[1], sys.argv[2], *map(int, sys.argv[3:]))
+        return
+    for (path, name), text in PICTURES.items():
+        xml.dom.minidom.parseString(text)
+        if len(sys.argv) > 1:
+            open(f"{sys.argv[1]}/{name.lower()}.svg", "w").write(text)
+        if text != expected(path, name):
+            sys.exit(f"{name}: the test expects another picture")
+        print(f"{name}: as drawn anew, well-formed")
+    compare_drawn("examples/repair.txt", "docs/picture.svg", 0, 0, 2000)
+
+
+if __name__ == "__main__":
+    main()

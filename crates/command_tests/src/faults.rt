@@ -58,6 +58,17 @@ fn each_fault_has_its_line(rt: HostRuntime) {
         (ToolError::Save("out.txt"), 1, "cannot write out.txt\n"),
         (ToolError::Write, 1, "cannot write\n"),
         (ToolError::OutOfMemory, 1, "out of memory\n"),
+        (ToolError::NoRing(16), 1, "there is no ring 16\n"),
+        (
+            ToolError::NoPlace(7),
+            1,
+            "the ring has fewer than 7 events\n",
+        ),
+        (
+            ToolError::ManyDrawn,
+            1,
+            "a picture has at most 20000 events\n",
+        ),
     ];
     for (fault, status, text) in table {
         let mut err = Paper::new(rt.alloc());

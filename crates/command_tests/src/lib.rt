@@ -9,6 +9,8 @@ mod faults;
 #[cfg(test)]
 mod paper;
 #[cfg(test)]
+mod picture;
+#[cfg(test)]
 mod places;
 #[cfg(test)]
 mod reading;

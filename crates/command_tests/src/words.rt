@@ -13,6 +13,8 @@ const RUN_USAGE: &str = "Usage: ring_tool run";
 
 const CHECK_USAGE: &str = "Usage: ring_tool check <FILE>";
 
+const PICTURE_USAGE: &str = "Usage: ring_tool picture";
+
 #[test]
 fn words_that_cannot_be_read_are_told_with_status_2(rt: HostRuntime) -> Result<(), Fail> {
     for (line, parts) in [
@@ -107,6 +109,55 @@ fn words_of_check_that_cannot_be_read_are_told(rt: HostRuntime) -> Result<(), Fa
         ),
     ] {
         expect_clap(&rt, line, 2, &parts)?;
+    }
+    Ok(())
+}
+
+#[test]
+fn words_of_picture_that_cannot_be_read_are_told(rt: HostRuntime) -> Result<(), Fail> {
+    for (line, parts) in [
+        (
+            ["picture"].as_slice(),
+            ["<FILE>", "<PICTURE>", PICTURE_USAGE].as_slice(),
+        ),
+        (
+            ["picture", "a.txt"].as_slice(),
+            ["<PICTURE>", PICTURE_USAGE].as_slice(),
+        ),
+        (
+            ["picture", "a.txt", "a.svg", "--ring", "x"].as_slice(),
+            ["invalid value 'x' for '--ring <R>'"].as_slice(),
+        ),
+        (
+            ["picture", "a.txt", "a.svg", "--from", "4294967296"].as_slice(),
+            ["invalid value '4294967296' for '--from <P>'"].as_slice(),
+        ),
+        (
+            ["picture", "a.txt", "a.svg", "--events"].as_slice(),
+            ["a value is required for '--events <M>'"].as_slice(),
+        ),
+    ] {
+        expect_clap(&rt, line, 2, parts)?;
+    }
+    Ok(())
+}
+
+#[test]
+fn help_of_picture_has_an_example(rt: HostRuntime) -> Result<(), Fail> {
+    for line in [["picture", "--help"], ["help", "picture"]] {
+        expect_clap(
+            &rt,
+            &line,
+            0,
+            &[
+                "Usage: ring_tool picture [OPTIONS] <FILE> <PICTURE>",
+                "--ring <R>",
+                "--from <P>",
+                "--events <M>",
+                "$ ring_tool picture saved.txt ring.svg",
+                PASSES_SUMS,
+            ],
+        )?;
     }
     Ok(())
 }

@@ -18,3 +18,4 @@ mod surveys;
 pub use answers::{CheckError, Kind, Summary};
 pub use check::check_saved;
 pub use laws::{answers_are_apart, legal_law, lines_law, outcome_law, written_law};
+pub use sums::{Tally, count_events};

@@ -12,13 +12,14 @@ use crate::answers::Summary;
 use ring_text::{SavedEvent, SavedRing};
 
 /// How many events of a block are granted passes, and how many are corruptions.
-#[derive(Clone, Copy)]
-struct Tally {
-    granted: u64,
-    corrupted: u64,
+#[derive(Clone, Copy, Debug, PartialEq, Eq)]
+pub struct Tally {
+    pub granted: u64,
+    pub corrupted: u64,
 }
 
-fn count_events(events: &[SavedEvent]) -> Tally
+/// Counts the events of a block, as the sums of [`check_saved`](crate::check_saved) do.
+pub fn count_events(events: &[SavedEvent]) -> Tally
     ensures granted { result.granted ≡ granted_count (map event_of events.now) }
     ensures corrupted { result.corrupted ≡ corrupted_count (map event_of events.now) }
 {

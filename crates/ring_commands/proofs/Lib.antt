@@ -1,3 +1,4 @@
+pub mod Drawings
 pub mod Entries
 pub mod FirstFaults
 pub mod ListTexts

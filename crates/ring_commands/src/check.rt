@@ -26,7 +26,7 @@ pub struct CheckWords<'a> {
 }
 
 /// The line of a legal text: its sums.
-fn write_sums<W: Write>(out: &mut W, sums: &Summary) -> Result<(), WriteFault>
+pub(crate) fn write_sums<W: Write>(out: &mut W, sums: &Summary) -> Result<(), WriteFault>
     ensures { Writes (W.contents out.old) (W.contents out.new) result (legal_line sums.now) }
 {
     let mut buffers = (

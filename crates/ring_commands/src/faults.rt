@@ -78,6 +78,15 @@ pub enum ToolError<'a> {
     Write,
     #[error("out of memory")]
     OutOfMemory,
+    /// A saved text has no ring at this place.
+    #[error("there is no ring {0}")]
+    NoRing(u32),
+    /// The ring that is to be drawn has fewer events.
+    #[error("the ring has fewer than {0} events")]
+    NoPlace(u32),
+    /// More events are to be drawn than a picture may have.
+    #[error("a picture has at most 20000 events")]
+    ManyDrawn,
 }
 
 impl ToolError<'_> {

@@ -8,6 +8,7 @@ pub mod check;
 pub mod endings;
 pub mod faults;
 pub mod lists;
+pub mod picture;
 pub mod reading;
 pub mod requests;
 pub mod run;

@@ -5,6 +5,7 @@ ghost use Rattle.ring_commands.specs.Answered.{IsAnswer, IsRefusal};
 
 use crate::check::{self, CheckWords};
 use crate::faults::ToolError;
+use crate::picture::{self, PictureWords};
 use crate::run::{self, RunWords};
 use crate::step::{self, StepWords};
 use std::io::Write;
@@ -18,6 +19,7 @@ pub enum Request<'a> {
     Step(StepWords<'a>),
     Run(RunWords<'a>),
     Check(CheckWords<'a>),
+    Picture(PictureWords<'a>),
 }
 
 /// Does what was asked for.
@@ -37,5 +39,6 @@ pub fn answer<'a, R: AllocGlobal + Files + Threads + Wait + Sync, O: Write>(
         Request::Step(words) => step::run(rt.alloc(), words, out),
         Request::Run(words) => run::run(rt, words, out),
         Request::Check(words) => check::run(rt, words, out),
+        Request::Picture(words) => picture::run(rt, words, out),
     }
 }

@@ -65,3 +65,7 @@ pieces_end f i m a b e h = subst (λ (j : ℕ). Appends a b (pieces f j)) e h
 pub begin_within : (begin c next : ℕ) (v : Bool) → begin ≤ c → next ≡ begin_after begin c v → next ≤ c + 1
 begin_within begin c next true l h = omega (arith, h, l)
 begin_within begin c next false l h = omega (arith, h)
+
+-- a fault in a piece behind another one, and before more
+pub writes_second : (a b c : Option (List ℕ)) (e : WriteFault) (x y z : List ℕ) → Appends a b x → Writes b c (Err e) y → Writes a c (Err e) (x ++ (y ++ z))
+writes_second a b c e x y z h k = writes_then a b c (Err e) x (y ++ z) h (writes_err b c e y z k)

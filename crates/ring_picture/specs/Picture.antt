@@ -1,12 +1,16 @@
 -- The picture of a ring's history, as a plain function of a block (this project's own).
-use Rattle.std.specs.Prelude.{ℕ, ◌+◌, ◌-◌, ◌*◌, Bool, cond, List, ◌++◌, map, take, length, codes, decimal}
+use Rattle.std.specs.Prelude.{ℕ, ◌+◌, ◌-◌, ◌*◌, Bool, true, false, cond, List, [], ◌++◌, Option, Some, None, map, take, length, slice_get, codes, decimal}
 use Rattle.std.specs.List.{flat_map}
 use Rattle.ring_model.specs.Ring.{Ring, ring_with, is_privileged, moved, written, rest, bound}
 use Rattle.ring_model.specs.declared.events.Op.{Op}
 use Rattle.ring_model.specs.declared.events.Op.TheVariants.{Pass, Corrupt}
 use Rattle.ring_model.specs.History.{after}
 use Rattle.ring_model.specs.Resources.{till}
+use Rattle.ring_model.specs.Surveys.{calm, granted_count, corrupted_count}
+use Rattle.ring_text.specs.declared.saved.SavedEvent.{SavedEvent}
+use Rattle.ring_text.specs.declared.saved.SavedEvent.TheVariants as saved
 use Rattle.ring_text.specs.Content.{Block}
+use Rattle.ring_check.specs.Legal.{history}
 use Rattle.ring_check.specs.Table.{event_of, first_state}
 use Rattle.ring_picture.specs.Stretches.{Stretch, stretches, pieces}
 
@@ -23,13 +27,20 @@ next_ring r (Corrupt i v) = written r i v
 abbrev pub ring_at : Block → ℕ → Ring
 ring_at b place = (after till (first_state (ring_with b.k b.start)) (map event_of (take place b.events))).ring
 
+-- the calm there
+abbrev pub calm_at : Block → ℕ → ℕ
+calm_at b place = calm (map event_of (take place b.events))
+
 -- whether a machine is privileged in a column: behind the events before the first one drawn and so many more
 abbrev pub privileged_in : Block → ℕ → ℕ → ℕ → Bool
 privileged_in b from machine column = is_privileged (ring_at b (from + column)).values machine
 
--- the rest in a column
+-- the rest and the calm in a column
 abbrev pub rest_in : Block → ℕ → ℕ → ℕ
 rest_in b from column = rest (ring_at b (from + column))
+
+abbrev pub calm_in : Block → ℕ → ℕ → ℕ
+calm_in b from column = calm_at b (from + column)
 
 -- ---- the machines: each has a row of 4 units
 
@@ -47,7 +58,37 @@ row_text b from columns machine = flat_map (rectangle machine) (stretches (privi
 abbrev pub rows_text : Block → ℕ → ℕ → List ℕ
 rows_text b from columns = pieces (row_text b from columns) b.n
 
--- ---- the curve of the rest: one point for each column
+-- ---- the marks: of corruptions, and of passes that were refused
+
+-- the machine at which an event has a mark: a corruption's where corruptions are marked, else that of a refused pass
+abbrev pub marked : Bool → SavedEvent → Option ℕ
+marked corruptions (saved.Granted seat machine order number answer) = None
+marked corruptions (saved.Refused seat machine order) = cond corruptions None (Some machine)
+marked corruptions (saved.Corrupted seat machine value old) = cond corruptions (Some machine) None
+
+-- a mark between two columns, in the row of a machine: as high as the row for a corruption, and shorter for a refused pass
+abbrev pub mark : Bool → ℕ → ℕ → List ℕ
+mark true x machine = codes "M" ++ (decimal x ++ (codes " " ++ (decimal (4 * machine) ++ codes "v3")))
+mark false x machine = codes "M" ++ (decimal x ++ (codes " " ++ (decimal (4 * machine + 1) ++ codes "v1")))
+
+abbrev pub mark_at : Bool → ℕ → Option ℕ → List ℕ
+mark_at corruptions x None = []
+mark_at corruptions x (Some machine) = mark corruptions x machine
+
+-- the mark of an event, where it has one
+abbrev pub mark_of : Bool → ℕ → Option SavedEvent → List ℕ
+mark_of corruptions x None = []
+mark_of corruptions x (Some event) = mark_at corruptions x (marked corruptions event)
+
+-- the mark of the event that leads from a column to the next, between the two
+abbrev pub mark_in : Block → Bool → ℕ → ℕ → List ℕ
+mark_in b corruptions from column = mark_of corruptions (column + 1) (slice_get b.events (from + column))
+
+-- the marks of so many events
+abbrev pub marks_text : Block → Bool → ℕ → ℕ → List ℕ
+marks_text b corruptions from count = pieces (mark_in b corruptions from) count
+
+-- ---- the curves: one point for each column
 
 abbrev pub point : ℕ → ℕ → List ℕ
 point x y = decimal x ++ (codes "," ++ (decimal y ++ codes " "))
@@ -55,36 +96,64 @@ point x y = decimal x ++ (codes "," ++ (decimal y ++ codes " "))
 abbrev pub rest_points : Block → ℕ → ℕ → List ℕ
 rest_points b from columns = pieces (λ c. point c (rest_in b from c)) columns
 
+abbrev pub calm_points : Block → ℕ → ℕ → List ℕ
+calm_points b from columns = pieces (λ c. point c (calm_in b from c)) columns
+
 -- ---- what stands around them
 
--- the head, a white page, the title, and the beginning of the rows, of which the columns and the units are stretched over the page
-abbrev pub opening_text : ℕ → ℕ → ℕ → ℕ → ℕ → ℕ → List ℕ
-opening_text index n k from events columns =
-    codes "<svg xmlns=\"http://www.w3.org/2000/svg\" viewBox=\"0 0 1000 600\" font-family=\"sans-serif\" font-size=\"16\">\n<rect width=\"1000\" height=\"600\" fill=\"#fff\"/>\n<text x=\"50\" y=\"36\" font-size=\"20\">ring "
-    ++ (decimal index ++ (codes ": n " ++ (decimal n ++ (codes ", K " ++ (decimal k ++ (codes ", events from " ++ (decimal from ++ (codes " on, of "
-    ++ (decimal events ++ (codes "</text>\n<text x=\"50\" y=\"62\">privileged machines, 0 at the top</text>\n<svg x=\"50\" y=\"72\" width=\"900\" height=\"300\" viewBox=\"0 0 "
-    ++ (decimal columns ++ (codes " " ++ (decimal (4 * n) ++ codes "\" preserveAspectRatio=\"none\" fill=\"#15489f\">\n")))))))))))))
+-- the head, a white page, and the title: the ring's place, n and K, and the sums of its block
+abbrev pub title_text : Block → List ℕ
+title_text b =
+    codes "<svg xmlns=\"http://www.w3.org/2000/svg\" viewBox=\"0 0 1000 640\" font-family=\"sans-serif\" font-size=\"15\">\n<style>rect,path,polyline{vector-effect:non-scaling-stroke}</style>\n<rect width=\"1000\" height=\"640\" rx=\"8\" fill=\"#fff\"/>\n<text x=\"70\" y=\"36\" font-size=\"22\">ring "
+    ++ (decimal b.index ++ (codes ": n " ++ (decimal b.n ++ (codes ", K " ++ (decimal b.k ++ (codes "</text>\n<text x=\"70\" y=\"62\">events "
+    ++ (decimal (length b.events) ++ (codes ", granted " ++ (decimal (granted_count (history b)) ++ (codes ", corrupted " ++ (decimal (corrupted_count (history b))
+    ++ (codes ", surveys " ++ (decimal (length b.surveys) ++ codes "</text>\n")))))))))))))
 
--- the end of the rows, the bound, and the beginning of the curve, whose points are the columns and the rests themselves
-abbrev pub between_text : ℕ → ℕ → List ℕ
-between_text columns limit =
-    codes "</svg>\n<text x=\"50\" y=\"410\">rest, of at most "
-    ++ (decimal limit ++ (codes "</text>\n<rect x=\"50\" y=\"420\" width=\"900\" height=\"150\" fill=\"#eef\"/>\n<svg x=\"50\" y=\"420\" width=\"900\" height=\"150\" viewBox=\"0 0 "
-    ++ (decimal columns ++ (codes " " ++ (decimal limit
-    ++ (codes "\" preserveAspectRatio=\"none\">\n<polyline transform=\"translate(0 " ++ (decimal limit ++ codes ") scale(1 -1)\" fill=\"none\" stroke=\"#b3261e\" stroke-width=\"2\" vector-effect=\"non-scaling-stroke\" points=\"")))))))
+-- the numbers at the axes: the first and the last machine, the first and the last place, and the bound and 0
+abbrev pub axes_text : ℕ → ℕ → ℕ → ℕ → List ℕ
+axes_text n from count limit =
+    codes "<text x=\"62\" y=\"94\" text-anchor=\"end\">0</text>\n<text x=\"62\" y=\"380\" text-anchor=\"end\">"
+    ++ (decimal (n - 1) ++ (codes "</text>\n<text x=\"70\" y=\"402\">" ++ (decimal from ++ (codes "</text>\n<text x=\"520\" y=\"402\" text-anchor=\"middle\">events so far</text>\n<text x=\"970\" y=\"402\" text-anchor=\"end\">"
+    ++ (decimal (from + count) ++ (codes "</text>\n<text x=\"62\" y=\"436\" text-anchor=\"end\">" ++ (decimal limit ++ codes "</text>\n<text x=\"62\" y=\"590\" text-anchor=\"end\">0</text>\n")))))))
 
+-- the beginning of the rows, of which the columns and the units are stretched over their part of the page
+abbrev pub rows_opening : ℕ → ℕ → List ℕ
+rows_opening n columns =
+    codes "<rect x=\"70\" y=\"80\" width=\"900\" height=\"300\" fill=\"#f3f3f3\"/>\n<svg x=\"70\" y=\"80\" width=\"900\" height=\"300\" viewBox=\"0 0 "
+    ++ (decimal columns ++ (codes " " ++ (decimal (4 * n) ++ codes "\" preserveAspectRatio=\"none\" fill=\"#15489f\" stroke=\"#15489f\">\n")))
+
+-- what stands between the rows and the marks of refused passes, between these and those of corruptions, and behind them
+abbrev pub refusals_opening : List ℕ
+refusals_opening = codes "<path stroke=\"#888\" stroke-width=\"1.5\" stroke-linecap=\"square\" d=\""
+
+abbrev pub corruptions_opening : List ℕ
+corruptions_opening = codes "\"/>\n<path stroke=\"#d00\" stroke-width=\"3\" stroke-linecap=\"round\" d=\""
+
+-- the end of the rows, and the beginning of the curves, whose points are the columns and the rests and the calms themselves
+abbrev pub curves_opening : ℕ → ℕ → List ℕ
+curves_opening columns limit =
+    codes "\"/>\n</svg>\n<rect x=\"70\" y=\"430\" width=\"900\" height=\"160\" fill=\"#f3f3f3\"/>\n<svg x=\"70\" y=\"430\" width=\"900\" height=\"160\" viewBox=\"0 0 "
+    ++ (decimal columns ++ (codes " " ++ (decimal limit ++ (codes "\" preserveAspectRatio=\"none\" fill=\"none\">\n<g transform=\"translate(.5 " ++ (decimal limit ++ codes ") scale(1 -1)\">\n<polyline stroke=\"#b3261e\" stroke-width=\"2.5\" points=\"")))))
+
+abbrev pub calm_opening : List ℕ
+calm_opening = codes "\"/>\n<polyline stroke=\"#0a7d4f\" stroke-width=\"1.5\" stroke-dasharray=\"5 3\" points=\""
+
+-- the end of the curves, the line of the bound, and what the colours mean
 abbrev pub ending_text : List ℕ
-ending_text = codes "\"/>\n</svg>\n</svg>\n"
+ending_text =
+    codes "\"/>\n</g>\n</svg>\n<path d=\"M70 430h900\" stroke=\"#555\" stroke-width=\"1.5\" stroke-dasharray=\"2 3\"/>\n<g font-size=\"14\">\n<rect x=\"70\" y=\"608\" width=\"16\" height=\"10\" fill=\"#15489f\"/>\n<text x=\"92\" y=\"618\">privileged</text>\n<path d=\"M200 606v14\" stroke=\"#d00\" stroke-width=\"3\" stroke-linecap=\"round\"/>\n<text x=\"212\" y=\"618\">corruption</text>\n<path d=\"M322 610v6\" stroke=\"#888\" stroke-width=\"1.5\" stroke-linecap=\"square\"/>\n<text x=\"332\" y=\"618\">refused pass</text>\n<path d=\"M456 613h24\" stroke=\"#b3261e\" stroke-width=\"2.5\"/>\n<text x=\"488\" y=\"618\">rest</text>\n<path d=\"M556 613h24\" stroke=\"#0a7d4f\" stroke-width=\"1.5\" stroke-dasharray=\"5 3\"/>\n<text x=\"588\" y=\"618\">calm, up to the bound</text>\n<path d=\"M776 613h24\" stroke=\"#555\" stroke-width=\"1.5\" stroke-dasharray=\"2 3\"/>\n<text x=\"808\" y=\"618\">bound</text>\n</g>\n</svg>\n"
 
--- the upper part, the lower part, and the picture
-abbrev pub upper_text : Block → ℕ → ℕ → List ℕ
-upper_text b from columns = opening_text b.index b.n b.k from (length b.events) columns ++ rows_text b from columns
+-- ---- the picture: the upper part, the marks over its rows, and the lower part
 
-abbrev pub curve_text : Block → ℕ → ℕ → List ℕ
-curve_text b from columns = rest_points b from columns ++ ending_text
+abbrev pub upper_part : Block → ℕ → ℕ → List ℕ
+upper_part b from count = title_text b ++ (axes_text b.n from count (bound b.n) ++ (rows_opening b.n (count + 1) ++ rows_text b from (count + 1)))
 
-abbrev pub lower_text : Block → ℕ → ℕ → List ℕ
-lower_text b from columns = between_text columns (bound b.n) ++ curve_text b from columns
+abbrev pub marks_part : Block → ℕ → ℕ → List ℕ
+marks_part b from count = refusals_opening ++ (marks_text b false from count ++ (corruptions_opening ++ marks_text b true from count))
 
+abbrev pub lower_part : Block → ℕ → ℕ → List ℕ
+lower_part b from columns = curves_opening columns (bound b.n) ++ (rest_points b from columns ++ (calm_opening ++ (calm_points b from columns ++ ending_text)))
+
+-- for so many events: a column before the first of them and one behind each
 abbrev pub picture : Block → ℕ → ℕ → List ℕ
-picture b from columns = upper_text b from columns ++ lower_text b from columns
+picture b from count = upper_part b from count ++ (marks_part b from count ++ lower_part b from (count + 1))

@@ -1,10 +1,11 @@
 //! The ring of a block, from place to place.
 
-ghost use Rattle.std.specs.Prelude.{◌≡◌, ◌+◌, ◌<◌, length, vec_len, slice_set, IfOk};
+ghost use Rattle.std.specs.Prelude.{◌≡◌, ◌+◌, ◌<◌, ◌≤◌, ◌^◌, length, vec_len, slice_set, IfOk};
 ghost use Rattle.ring_model.specs.Ring.{ring_with};
 ghost use Rattle.ring_text.specs.Content.{block_of};
 ghost use Rattle.ring_check.specs.Table.{event_of};
-ghost use Rattle.ring_picture.specs.Picture.{passed, next_ring, ring_at};
+ghost use Rattle.ring_model.proofs.Histories.{calm_next};
+ghost use Rattle.ring_picture.specs.Picture.{passed, next_ring, ring_at, calm_at};
 
 use ring_model::plain::is_privileged;
 use ring_text::{SavedEvent, SavedRing};
@@ -76,7 +77,11 @@ fn go_to(ring: &SavedRing, place: usize, values: &mut Vec<u32>)
 }
 
 /// The values of a ring's machines behind its first so many events.
-pub fn values_at(alloc: Global, ring: &SavedRing, place: usize) -> Result<Vec<u32>, AllocError>
+pub(crate) fn values_at(
+    alloc: Global,
+    ring: &SavedRing,
+    place: usize,
+) -> Result<Vec<u32>, AllocError>
     requires { 0 < ring.now.k }
     ensures ring { IfOk result (λ values. ring_with ring.now.k values.items ≡ ring_at (block_of ring.now) place) }
     ensures len { IfOk result (λ values. vec_len values ≡ ring.now.n) }
@@ -84,6 +89,47 @@ pub fn values_at(alloc: Global, ring: &SavedRing, place: usize) -> Result<Vec<u3
     let mut values = Vec::from_slice(alloc, &ring.start)?;
     go_to(ring, place, &mut values);
     Ok(values)
+}
+
+/// The calm after one more event.
+fn calm_after(calm: u64, event: SavedEvent) -> u64
+    requires { calm + 1 < 2 ^ 64 }
+    ensures calm { result ≡ calm_next calm (event_of event).reply }
+    ensures few { result ≤ calm + 1 }
+{
+    match event {
+        SavedEvent::Granted { .. } => calm + 1,
+        SavedEvent::Refused { .. } => calm,
+        SavedEvent::Corrupted { .. } => 0,
+    }
+}
+
+/// The calm one place further; behind the last event it stays as it is.
+pub(crate) fn calm_on(ring: &SavedRing, place: usize, calm: u64) -> u64
+    requires calm { calm ≡ calm_at (block_of ring.now) place }
+    requires few { calm ≤ place }
+    requires room { place + 1 < 2 ^ 63 }
+    ensures calm { result ≡ calm_at (block_of ring.now) (place + 1) }
+    ensures few { result ≤ place + 1 }
+{
+    if place < ring.events.len() {
+        calm_after(calm, ring.events[place])
+    } else {
+        calm
+    }
+}
+
+/// The calm at a place.
+pub(crate) fn calm_to(ring: &SavedRing, place: usize) -> u64
+    requires { place < 2 ^ 63 }
+    ensures calm { result ≡ calm_at (block_of ring.now) place }
+    ensures few { result ≤ place }
+{
+    let mut calm = 0;
+    for i in 0..place {
+        calm = calm_on(ring, i, calm);
+    }
+    calm
 }
 
 /// Brings the values back to others.

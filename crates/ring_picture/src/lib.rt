@@ -1,15 +1,17 @@
 //! The picture of a ring's history: an SVG that is a plain function of a saved block.
 //!
 //! `specs/Picture.antt` spells it. Time goes to the right, a column for each place of the history that is drawn; each
-//! machine has a row with a rectangle for each stretch of columns in which it is privileged by the definition. Below
-//! stands the curve of the rest, one point for each column.
+//! machine has a row with a rectangle for each stretch of columns in which it is privileged by the definition, and a mark
+//! for each corruption and each refused pass. Below stand the curves of the rest and of the calm, one point for each column.
 #![tactic(auto)]
 
 mod columns;
+mod curves;
+mod frame;
 mod laws;
+mod marks;
 mod picture;
 mod rows;
 
-pub use columns::values_at;
 pub use laws::stretches_cover;
-pub use picture::write_picture;
+pub use picture::{PictureFault, write_picture};

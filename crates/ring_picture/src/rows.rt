@@ -3,6 +3,7 @@
 ghost use Rattle.std.specs.Prelude.{◌≡◌, ◌+◌, ◌<◌, ◌≤◌, ◌^◌, length, vec_len};
 ghost use Rattle.std.specs.List.{flat_map};
 ghost use Rattle.text_lines.specs.Writing.{Writes};
+ghost use Rattle.ring_model.specs.Limits.{machine_limit};
 ghost use Rattle.ring_model.specs.Ring.{ring_with};
 ghost use Rattle.ring_text.specs.Content.{block_of};
 ghost use Rattle.ring_picture.specs.Stretches.{run_from, ended_from, begin_after};
@@ -23,7 +24,7 @@ fn put_rectangle<W: Write>(
     end: u32,
 ) -> Result<(), WriteFault>
     requires order { begin ≤ end }
-    requires few { machine ≤ 256 }
+    requires few { machine ≤ machine_limit }
     ensures { Writes (W.contents out.old) (W.contents out.new) result (rectangle machine (record { begin = begin; end = end })) }
 {
     let mut buffers = (Buffer::new(), Buffer::new(), Buffer::new());
@@ -47,7 +48,7 @@ fn put_rectangle<W: Write>(
 /// The rectangle of the run that ends before a column, where it has any.
 fn put_run<W: Write>(out: &mut W, machine: u32, begin: u32, end: u32) -> Result<(), WriteFault>
     requires order { begin ≤ end }
-    requires few { machine ≤ 256 }
+    requires few { machine ≤ machine_limit }
     ensures { Writes (W.contents out.old) (W.contents out.new) result (flat_map (rectangle machine) (run_from begin end)) }
 {
     if begin < end {
@@ -66,7 +67,7 @@ fn put_ended<W: Write>(
     privileged: bool,
 ) -> Result<(), WriteFault>
     requires order { begin ≤ column }
-    requires few { machine ≤ 256 }
+    requires few { machine ≤ machine_limit }
     ensures { Writes (W.contents out.old) (W.contents out.new) result (flat_map (rectangle machine) (ended_from begin column privileged)) }
 {
     if privileged {
@@ -94,7 +95,7 @@ fn put_row<W: Write>(
     values: &mut Vec<u32>,
 ) -> Result<(), WriteFault>
     requires some { 0 < ring.now.k }
-    requires few { machine < 256 }
+    requires few { machine < machine_limit }
     requires within { machine < vec_len values.old }
     requires ring { ring_with ring.now.k values.old.items ≡ ring_at (block_of ring.now) from }
     requires room { from + columns < 2 ^ 63 }
@@ -124,7 +125,7 @@ pub(crate) fn put_rows<W: Write>(
     values: &mut Vec<u32>,
 ) -> Result<(), WriteFault>
     requires some { 0 < ring.now.k }
-    requires few { ring.now.n ≤ 256 }
+    requires few { ring.now.n ≤ machine_limit }
     requires same { length base.now ≡ ring.now.n }
     requires len { vec_len values.old ≡ ring.now.n }
     requires ring { ring_with ring.now.k base.now ≡ ring_at (block_of ring.now) from }

@@ -1,5 +1,6 @@
 //! The program's command line, as `clap` reads it.
 
+use crate::picture::{picture_command, picture_words};
 use clap::error::ErrorKind;
 use clap::{Arg, ArgMatches, Command, Error, value_parser};
 use ring_commands::check::CheckWords;
@@ -62,7 +63,7 @@ fn needed_number<'a>(alloc: Global, name: &'a str, help: &'a str) -> Arg<'a> {
 }
 
 /// A word that has to be there.
-fn needed_text<'a>(alloc: Global, name: &'a str, help: &'a str) -> Arg<'a> {
+pub(crate) fn needed_text<'a>(alloc: Global, name: &'a str, help: &'a str) -> Arg<'a> {
     Arg::new(alloc, name).required(true).help(help)
 }
 
@@ -149,7 +150,8 @@ fn command_line<'a>(alloc: Global) -> Result<Command<'a>, Error> {
             .subcommand_required(true)
             .subcommand(step_command(alloc)?)?
             .subcommand(run_command(alloc)?)?
-            .subcommand(check_command(alloc)?)?,
+            .subcommand(check_command(alloc)?)?
+            .subcommand(picture_command(alloc)?)?,
     )
 }
 
@@ -191,6 +193,7 @@ pub fn read_words<'a>(alloc: Global, words: &'a [String]) -> Result<Request<'a>,
         Some(("step", words)) => step_words(words),
         Some(("run", words)) => run_words(words),
         Some(("check", words)) => check_words(words),
+        Some(("picture", words)) => picture_words(words),
         _ => None,
     };
     if let Some(request) = request {

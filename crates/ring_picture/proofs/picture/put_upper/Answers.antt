@@ -1,10 +1,52 @@
-use Rattle.std.proofs.Common.{length}
-use Rattle.text_lines.proofs.Writing.{writes_err}
+use Rattle.std.proofs.Common.{◌+◌, ◌++◌, Ok, Err, ap}
+use Rattle.std.proofs.lemmas.Result.{err_from_is_err_and}
+use Rattle.text_lines.proofs.Writing.{writes_then, writes_err, writes_same}
+use Rattle.ring_model.specs.Ring.{bound}
 use Rattle.ring_text.specs.Content.{block_of}
-use Rattle.ring_picture.specs.Picture.{opening_text, rows_text}
+use Rattle.ring_picture.specs.Picture.{title_text, axes_text, rows_opening, rows_text}
+use Rattle.ring_picture.proofs.Texts.{writes_second}
 use Rattle.ring_picture.proofs.picture.put_upper.Goals as goal
 
-pub returns-in-Err-clause-text : goal.returns-in-Err-clause-text
-returns-in-Err-clause-text g c =
-    let ring = c.args.ring.now in
-    writes_err _ _ c.in-Err.fault (opening_text ring.index ring.n ring.k c.args.from (length ring.events.items) c.args.columns) (rows_text (block_of ring) c.args.from c.args.columns) c.in-Err.ensures
+pub returns-in_err-put_title-clause-text : goal.returns-in_err-put_title-clause-text
+returns-in_err-put_title-clause-text g c =
+    let b = block_of c.args.ring.now in
+    let axes = axes_text b.n c.args.from c.args.count (bound b.n) in
+    let opening = rows_opening b.n (c.args.count + 1) in
+    let rows = rows_text b c.args.from (c.args.count + 1) in
+    rw (err_from_is_err_and c.from_residual.result c.from_residual.ensures.1).1
+    (writes_err _ _ c.in_err-put_title.field-0.0 (title_text b) (axes ++ (opening ++ rows)) c.in_err-put_title.ensures)
+
+pub returns-in_err-put_axes-clause-text : goal.returns-in_err-put_axes-clause-text
+returns-in_err-put_axes-clause-text g c =
+    let b = block_of c.args.ring.now in
+    let axes = axes_text b.n c.args.from c.args.count (bound b.n) in
+    let opening = rows_opening b.n (c.args.count + 1) in
+    let rows = rows_text b c.args.from (c.args.count + 1) in
+    let fault = c.in_err-put_axes.field-0.0 in
+    let here = writes_same _ _ (Err fault) (axes_text b.n c.args.from c.args.count c.bound.result) axes (ap (axes_text b.n c.args.from c.args.count) c.bound.ensures) c.in_err-put_axes.ensures in
+    rw (err_from_is_err_and c.from_residual-in_err-put_axes.result c.from_residual-in_err-put_axes.ensures.1).1
+    (writes_second _ _ _ fault (title_text b) axes (opening ++ rows) c.in_ok-put_title.ensures here)
+
+pub returns-in_err-put_rows_opening-clause-text : goal.returns-in_err-put_rows_opening-clause-text
+returns-in_err-put_rows_opening-clause-text g c =
+    let b = block_of c.args.ring.now in
+    let axes = axes_text b.n c.args.from c.args.count (bound b.n) in
+    let opening = rows_opening b.n (c.args.count + 1) in
+    let rows = rows_text b c.args.from (c.args.count + 1) in
+    let fault = c.in_err-put_rows_opening.field-0.0 in
+    let here = writes_same _ _ (Ok c.in_ok-put_axes.field-0) (axes_text b.n c.args.from c.args.count c.bound.result) axes (ap (axes_text b.n c.args.from c.args.count) c.bound.ensures) c.in_ok-put_axes.ensures in
+    rw (err_from_is_err_and c.from_residual-in_err-put_rows_opening.result c.from_residual-in_err-put_rows_opening.ensures.1).1
+    (writes_then _ _ _ (Err fault) (title_text b) (axes ++ (opening ++ rows)) c.in_ok-put_title.ensures
+    (writes_second _ _ _ fault axes opening rows here c.in_err-put_rows_opening.ensures))
+
+pub returns-clause-text : goal.returns-clause-text
+returns-clause-text g c =
+    let b = block_of c.args.ring.now in
+    let axes = axes_text b.n c.args.from c.args.count (bound b.n) in
+    let opening = rows_opening b.n (c.args.count + 1) in
+    let rows = rows_text b c.args.from (c.args.count + 1) in
+    let here = writes_same _ _ (Ok c.in_ok-put_axes.field-0) (axes_text b.n c.args.from c.args.count c.bound.result) axes (ap (axes_text b.n c.args.from c.args.count) c.bound.ensures) c.in_ok-put_axes.ensures in
+    let r = c.put_rows.result in
+    writes_then _ _ _ r (title_text b) (axes ++ (opening ++ rows)) c.in_ok-put_title.ensures
+    (writes_then _ _ _ r axes (opening ++ rows) here
+    (writes_then _ _ _ r opening rows c.in_ok-put_rows_opening.ensures c.put_rows.ensures.text))

@@ -4,7 +4,7 @@ use Rattle.ring_model.specs.Ring.{Ring, ring_with, rest}
 use Rattle.ring_text.specs.Content.{block_of}
 use Rattle.ring_picture.specs.Picture.{ring_at, rest_in, point}
 use Rattle.ring_picture.proofs.Texts.{piece_more, piece_fault}
-use Rattle.ring_picture.proofs.picture.put_rests.Goals as goal
+use Rattle.ring_picture.proofs.curves.put_rests.Goals as goal
 
 pub returns-in-Err : goal.returns-in-Err
 returns-in-Err g c =

@@ -5,7 +5,7 @@ use Rattle.ring_model.specs.Ring.{ring_with}
 use Rattle.ring_text.specs.Content.{block_of}
 use Rattle.ring_picture.specs.Stretches.{pieces}
 use Rattle.ring_picture.specs.Picture.{ring_at, point, rest_in}
-use Rattle.ring_picture.proofs.picture.put_rests.Given as goal
+use Rattle.ring_picture.proofs.curves.put_rests.Given as goal
 
 abbrev pub invariant-loop-column : goal.invariant-loop-column
 invariant-loop-column g l = record {

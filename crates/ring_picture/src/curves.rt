@@ -1,0 +1,72 @@
+//! The curves of the rest and of the calm.
+
+ghost use Rattle.std.specs.Prelude.{◌≡◌, ◌+◌, ◌<◌, ◌≤◌, ◌^◌, vec_len};
+ghost use Rattle.text_lines.specs.Writing.{Writes};
+ghost use Rattle.ring_model.specs.Limits.{machine_limit};
+ghost use Rattle.ring_model.specs.Ring.{ring_with};
+ghost use Rattle.ring_text.specs.Content.{block_of};
+ghost use Rattle.ring_picture.specs.Picture.{ring_at, point, rest_points, calm_points};
+
+use crate::columns::{calm_on, calm_to, go_on};
+use itoa::Buffer;
+use ring_model::plain::rest;
+use ring_text::SavedRing;
+use std::io::Write;
+use text_lines::{WriteFault, put_all};
+
+/// One point of a curve.
+fn put_point<W: Write>(out: &mut W, x: u32, y: u64) -> Result<(), WriteFault>
+    ensures { Writes (W.contents out.old) (W.contents out.new) result (point x y) }
+{
+    let mut buffers = (Buffer::new(), Buffer::new());
+    let x = buffers.0.format(x).as_bytes();
+    let y = buffers.1.format(y).as_bytes();
+    put_all(out, &[x, b",", y, b" "])
+}
+
+/// The rest in each column.
+pub(crate) fn put_rests<W: Write>(
+    out: &mut W,
+    ring: &SavedRing,
+    from: usize,
+    columns: u32,
+    values: &mut Vec<u32>,
+) -> Result<(), WriteFault>
+    requires some { 0 < ring.now.k }
+    requires one { 1 ≤ vec_len values.old }
+    requires few { vec_len values.old ≤ machine_limit }
+    requires ring { ring_with ring.now.k values.old.items ≡ ring_at (block_of ring.now) from }
+    requires room { from + columns < 2 ^ 63 }
+    ensures { Writes (W.contents out.old) (W.contents out.new) result (rest_points (block_of ring.now) from columns) }
+{
+    for column in 0..columns {
+        let rest = rest(ring.k, values);
+        match put_point(out, column, rest) {
+            Ok(()) => {}
+            Err(fault) => return Err(fault),
+        }
+        go_on(ring, from + column as usize, values);
+    }
+    Ok(())
+}
+
+/// The calm in each column.
+pub(crate) fn put_calms<W: Write>(
+    out: &mut W,
+    ring: &SavedRing,
+    from: usize,
+    columns: u32,
+) -> Result<(), WriteFault>
+    requires room { from + columns < 2 ^ 63 }
+    ensures { Writes (W.contents out.old) (W.contents out.new) result (calm_points (block_of ring.now) from columns) }
+{
+    let mut calm = calm_to(ring, from);
+    for column in 0..columns {
+        match put_point(out, column, calm) {
+            Ok(()) => {}
+            Err(fault) => return Err(fault),
+        }
+        calm = calm_on(ring, from + column as usize, calm);
+    }
+    Ok(())
+}
