@@ -1,6 +1,5 @@
 use super::{
-    Answer, Ask, asks_corrupt, asks_pass, book_of, corrupted, granted, not_privileged,
-    play, survey,
+    Answer, Ask, asks_corrupt, asks_pass, book_of, corrupted, granted, not_privileged, play, survey,
 };
 use ring_book::{BookError, Idle};
 
