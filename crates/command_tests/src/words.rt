@@ -14,6 +14,7 @@ const RUN_USAGE: &str = "Usage: ring_tool run";
 const CHECK_USAGE: &str = "Usage: ring_tool check <FILE>";
 
 const UPGRADE_USAGE: &str = "Usage: ring_tool upgrade <FILE> <NEW>";
+
 const PICTURE_USAGE: &str = "Usage: ring_tool picture";
 
 #[test]
