@@ -1,3 +1,4 @@
+pub mod Buffers
 pub mod Drawings
 pub mod Entries
 pub mod FirstFaults

@@ -157,7 +157,10 @@ fn save_picture<'a, H: Write + Drop>(
     let Ok(mut buffer) = BufWriter::new(alloc, made) else {
         return Err(ToolError::OutOfMemory);
     };
-    put_picture(alloc, &mut buffer, drawing, words)?;
+    match put_picture(alloc, &mut buffer, drawing, words) {
+        Ok(()) => {}
+        Err(fault) => return Err(fault),
+    }
     let Ok(mut after) = buffer.into_inner() else {
         return Err(ToolError::Save(words.picture));
     };
