@@ -117,7 +117,7 @@ fn what_is_refused_leaves_the_picture_as_it_was(rt: HostRuntime) -> Result<(), F
             "a picture has at most 20000 events\n",
         ),
         (cut, ["--ring", "0"], "text is truncated\n"),
-        ("ringfarm 2\n", ["--ring", "7"], "line 1: syntax\n"),
+        ("ringfarm 3\n", ["--ring", "7"], "line 1: syntax\n"),
         (
             "ringfarm 1\nring 0 2 2\nstart 0 0\np 0 1 0 g 1 0\nend 1\ndone 1\n",
             ["--from", "7"],

@@ -192,16 +192,16 @@ fn settings_that_are_refused_are_told(rt: HostRuntime) -> Result<(), Fail> {
             "ring 0: n is less than 2\n",
         ),
         (
-            r#"{"rings":[{"n":257,"k":2,"start":[0]}]}"#,
-            "ring 0: n is more than 256\n",
+            r#"{"rings":[{"n":1025,"k":2,"start":[0]}]}"#,
+            "ring 0: n is more than 1024\n",
         ),
         (
             r#"{"rings":[{"n":4,"k":3,"start":[]}],"workers":[]}"#,
             "ring 0: k is less than n\n",
         ),
         (
-            r#"{"rings":[{"n":4,"k":257,"start":[]}]}"#,
-            "ring 0: k is more than 256\n",
+            r#"{"rings":[{"n":4,"k":65537,"start":[]}]}"#,
+            "ring 0: k is more than 65536\n",
         ),
         (
             r#"{"rings":[{"n":2,"k":2,"start":[0,0]},{"n":2,"k":2,"start":[0]}]}"#,
@@ -249,7 +249,7 @@ fn a_full_history_is_told(rt: HostRuntime) -> Result<(), Fail> {
     let history = path_of(&rt, "full.txt")?;
     let (path, history) = (path.as_str(), history.as_str());
     let settings =
-        r#"{"rings":[{"n":2,"k":2,"start":[0,0]}],"workers":[{"seed":1,"actions":1000000},{"seed":2,"actions":1000000}]}"#;
+        r#"{"rings":[{"n":2,"k":2,"start":[0,0]}],"workers":[{"seed":1,"actions":1000000},{"seed":2,"actions":1000000},{"seed":3,"actions":1000000},{"seed":4,"actions":1000000},{"seed":5,"actions":1000000}]}"#;
     fs::write(&rt, path, settings)?;
     fs::write(&rt, history, LATER_PASSES)?;
     expect(
