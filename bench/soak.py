@@ -13,6 +13,9 @@ from small_checker import answer
 EXTREMES = [0, 1, 2, 2**32 - 1, 2**32, 2**63, 2**64 - 2, 2**64 - 1]
 DAMAGES_A_ROUND = 12
 
+# the most machines of a ring, and the most values
+MACHINES, VALUES = 1024, 65536
+
 
 class Difference(Exception):
     pass
@@ -24,8 +27,8 @@ def drawn_number(rng, limit):
 
 
 def drawn_ring(rng):
-    n = rng.choice([2, 2, 3, 4, rng.randrange(2, 17), rng.randrange(2, 257)])
-    k = rng.choice([n, min(n + 1, 256), rng.randrange(n, 257), 256])
+    n = rng.choice([2, 2, 3, 4, rng.randrange(2, 17), rng.randrange(2, 257), rng.randrange(2, MACHINES + 1)])
+    k = rng.choice([n, n + 1, rng.randrange(n, max(n, 256) + 1), max(n, 256), max(n, 257), rng.randrange(n, VALUES + 1), VALUES])
     return {"n": n, "k": k, "start": [rng.randrange(k) if rng.random() < 0.7 else 0 for _ in range(n)]}
 
 
@@ -58,7 +61,7 @@ def drawn_settings(rng):
 def damaged(rng, text):
     """A text with one byte or one number changed, or a line that is doubled, left out, moved or cut short."""
     lines = text.split(b"\n")
-    at, how = rng.randrange(len(lines)), rng.randrange(7)
+    at, how = rng.choice([0, rng.randrange(len(lines))]) if rng.random() < 0.1 else rng.randrange(len(lines)), rng.randrange(7)
     if how == 0:
         place = rng.randrange(len(text))
         return text[:place] + bytes([rng.randrange(256)]) + text[place + 1 :]
