@@ -39,13 +39,28 @@ fn a_ring_is_drawn(rt: HostRuntime) -> Result<(), Fail> {
     let picture = path_of(&rt, "drawn.svg")?;
     let (file, picture) = (file.as_str(), picture.as_str());
     fs::write(&rt, file, PASSES)?;
-    for line in [
-        ["picture", file, picture].as_slice(),
-        ["picture", "--ring", "0", "--from", "0", file, picture].as_slice(),
-        ["picture", file, picture, "--events", "3"].as_slice(),
-        ["picture", file, picture, "--events", "20000"].as_slice(),
-    ] {
-        expect_drawn(&rt, line, picture, PASSES_SUMS, DRAWN)?;
+    expect_drawn(
+        &rt,
+        &["picture", file, picture],
+        picture,
+        PASSES_SUMS,
+        DRAWN,
+    )?;
+    expect_drawn(
+        &rt,
+        &["picture", "--ring", "0", "--from", "0", file, picture],
+        picture,
+        PASSES_SUMS,
+        DRAWN,
+    )?;
+    for most in ["3", "20000"] {
+        expect_drawn(
+            &rt,
+            &["picture", file, picture, "--events", most],
+            picture,
+            PASSES_SUMS,
+            DRAWN,
+        )?;
     }
     fs::remove_file(&rt, file)?;
     fs::remove_file(&rt, picture)?;
@@ -58,10 +73,15 @@ fn a_part_of_another_ring_is_drawn(rt: HostRuntime) -> Result<(), Fail> {
     let picture = path_of(&rt, "part.svg")?;
     let (file, picture) = (file.as_str(), picture.as_str());
     fs::write(&rt, file, TWO)?;
-    let line = [
-        "picture", file, picture, "--ring", "1", "--from", "1", "--events", "1",
-    ];
-    expect_drawn(&rt, &line, picture, TWO_SUMS, PART)?;
+    expect_drawn(
+        &rt,
+        &[
+            "picture", file, picture, "--ring", "1", "--from", "1", "--events", "1",
+        ],
+        picture,
+        TWO_SUMS,
+        PART,
+    )?;
     fs::remove_file(&rt, file)?;
     fs::remove_file(&rt, picture)?;
     Ok(())
@@ -137,8 +157,13 @@ fn the_last_place_can_be_drawn(rt: HostRuntime) -> Result<(), Fail> {
     let picture = path_of(&rt, "last.svg")?;
     let (file, picture) = (file.as_str(), picture.as_str());
     fs::write(&rt, file, PASSES)?;
-    let line = ["picture", file, picture, "--from", "3"];
-    expect(&rt, &line, 0, PASSES_SUMS, "")?;
+    expect(
+        &rt,
+        &["picture", file, picture, "--from", "3"],
+        0,
+        PASSES_SUMS,
+        "",
+    )?;
     let drawn = fs::read_to_string(&rt, picture)?;
     let curves =
         "points=\"0,0 \"/>\n<polyline stroke=\"#0a7d4f\" stroke-width=\"1.5\" stroke-dasharray=\"5 3\" points=\"0,2 \"/>";

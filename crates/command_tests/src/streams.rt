@@ -6,9 +6,14 @@ use crate::places::path_of;
 use crate::reading::Giver;
 use crate::run::{REPORT, SETTINGS, THREE, THREE_REPORT, THREE_SAVED};
 use ring_words::run_tool;
+use std::alloc::AllocError;
 use std::fs;
 use std::io::ErrorKind;
+use std::process::Abort;
+use std::rt::Files;
+use std::sync::Wait;
 use std::test::Fail;
+use std::thread::Threads;
 
 /// The last lines of the two reports.
 const TOTAL: &str = "total rings 1 events 3 granted 2 surveys 1\n";
@@ -58,26 +63,30 @@ fn a_history_goes_to_standard_output_for_a_dash(rt: HostRuntime) -> Result<(), F
     Ok(())
 }
 
+/// Runs a line that prints so, and reads nothing of standard input.
+fn unread<R: Abort + AllocGlobal + Files + Threads + Wait + Sync>(
+    rt: &R,
+    line: &[&str],
+    out: &str,
+) -> Result<(), AllocError> {
+    expect_from(rt, line, &mut Giver::new(b"not read"), 0, 0, out, "")
+}
+
 #[test]
 fn a_file_leaves_standard_input_as_it_is(rt: HostRuntime) -> Result<(), Fail> {
     let settings = path_of(&rt, "unread.json")?;
     let history = path_of(&rt, "unread-saved.txt")?;
     let (settings, history) = (settings.as_str(), history.as_str());
     fs::write(&rt, settings, SETTINGS)?;
-    for (line, out) in [
-        (["run", settings, "--history", "-"].as_slice(), LATER_PASSES),
-        (
-            ["run", settings, "--quiet", "--history", history].as_slice(),
-            TOTAL,
-        ),
-        (["check", history].as_slice(), PASSES_SUMS),
-        (
-            ["step", "2", "2", "0,0"].as_slice(),
-            "states 0,0\nprivileged 1 first 0\n",
-        ),
-    ] {
-        expect_from(&rt, line, &mut Giver::new(b"not read"), 0, 0, out, "")?;
-    }
+    let states = "states 0,0\nprivileged 1 first 0\n";
+    unread(&rt, &["run", settings, "--history", "-"], LATER_PASSES)?;
+    unread(
+        &rt,
+        &["run", settings, "--quiet", "--history", history],
+        TOTAL,
+    )?;
+    unread(&rt, &["check", history], PASSES_SUMS)?;
+    unread(&rt, &["step", "2", "2", "0,0"], states)?;
     let text = fs::read_to_string(&rt, history)?;
     assert_eq!(rt; text.as_str(), LATER_PASSES);
     fs::remove_file(&rt, settings)?;
