@@ -3,6 +3,7 @@
 use crate::check::{PASSES, PASSES_SUMS};
 use crate::paper::{expect, expect_cut};
 use crate::places::path_of;
+use crate::run::remove_both;
 use std::fs;
 use std::process::Abort;
 use std::rt::Files;
@@ -62,9 +63,7 @@ fn a_ring_is_drawn(rt: HostRuntime) -> Result<(), Fail> {
             DRAWN,
         )?;
     }
-    fs::remove_file(&rt, file)?;
-    fs::remove_file(&rt, picture)?;
-    Ok(())
+    remove_both(&rt, file, picture)
 }
 
 #[test]
@@ -82,9 +81,7 @@ fn a_part_of_another_ring_is_drawn(rt: HostRuntime) -> Result<(), Fail> {
         TWO_SUMS,
         PART,
     )?;
-    fs::remove_file(&rt, file)?;
-    fs::remove_file(&rt, picture)?;
-    Ok(())
+    remove_both(&rt, file, picture)
 }
 
 /// Runs `picture` on a file with this text and with two words more, which is refused so: a picture's file that is there
@@ -168,9 +165,7 @@ fn the_last_place_can_be_drawn(rt: HostRuntime) -> Result<(), Fail> {
     let curves =
         "points=\"0,0 \"/>\n<polyline stroke=\"#0a7d4f\" stroke-width=\"1.5\" stroke-dasharray=\"5 3\" points=\"0,2 \"/>";
     assert!(rt; drawn.contains(curves), "{drawn}");
-    fs::remove_file(&rt, file)?;
-    fs::remove_file(&rt, picture)?;
-    Ok(())
+    remove_both(&rt, file, picture)
 }
 
 #[test]
@@ -212,9 +207,7 @@ fn a_line_that_cannot_be_written_keeps_a_beginning(rt: HostRuntime) -> Result<()
             assert_eq!(rt; fs::read_to_string(&rt, picture)?.as_str(), DRAWN);
         }
     }
-    fs::remove_file(&rt, file)?;
-    fs::remove_file(&rt, picture)?;
-    Ok(())
+    remove_both(&rt, file, picture)
 }
 
 const DRAWN: &str =

@@ -115,7 +115,7 @@ fn ten_seats_are_run(rt: HostRuntime) -> Result<(), Fail> {
 }
 
 /// Lets go of the two files of a run.
-fn remove_both<R: Files>(rt: &R, settings: &str, history: &str) -> Result<(), Fail> {
+pub fn remove_both<R: Files>(rt: &R, settings: &str, history: &str) -> Result<(), Fail> {
     fs::remove_file(rt, settings)?;
     fs::remove_file(rt, history)?;
     Ok(())

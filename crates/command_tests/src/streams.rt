@@ -4,7 +4,7 @@ use crate::check::{LATER_PASSES, PASSES_SUMS};
 use crate::paper::{Paper, expect, expect_cut, expect_from};
 use crate::places::path_of;
 use crate::reading::Giver;
-use crate::run::{REPORT, SETTINGS, THREE, THREE_REPORT, THREE_SAVED};
+use crate::run::{REPORT, SETTINGS, THREE, THREE_REPORT, THREE_SAVED, remove_both};
 use ring_words::run_tool;
 use std::alloc::AllocError;
 use std::fs;
@@ -89,9 +89,7 @@ fn a_file_leaves_standard_input_as_it_is(rt: HostRuntime) -> Result<(), Fail> {
     unread(&rt, &["step", "2", "2", "0,0"], states)?;
     let text = fs::read_to_string(&rt, history)?;
     assert_eq!(rt; text.as_str(), LATER_PASSES);
-    fs::remove_file(&rt, settings)?;
-    fs::remove_file(&rt, history)?;
-    Ok(())
+    remove_both(&rt, settings, history)
 }
 
 #[test]
