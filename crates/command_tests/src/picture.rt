@@ -54,15 +54,20 @@ fn a_ring_is_drawn(rt: HostRuntime) -> Result<(), Fail> {
         PASSES_SUMS,
         DRAWN,
     )?;
-    for most in ["3", "20000"] {
-        expect_drawn(
-            &rt,
-            &["picture", file, picture, "--events", most],
-            picture,
-            PASSES_SUMS,
-            DRAWN,
-        )?;
-    }
+    expect_drawn(
+        &rt,
+        &["picture", file, picture, "--events", "3"],
+        picture,
+        PASSES_SUMS,
+        DRAWN,
+    )?;
+    expect_drawn(
+        &rt,
+        &["picture", file, picture, "--events", "20000"],
+        picture,
+        PASSES_SUMS,
+        DRAWN,
+    )?;
     remove_both(&rt, file, picture)
 }
 
