@@ -9,6 +9,9 @@ import time
 
 RUNS = 5
 HISTORY = "HISTORY"
+# The programs that time texts and calls, by their names now and before, each with its first words.
+TEXTS = (("text_bench",), ("farm_bench", "text"))
+CALLS = (("close_bench",), ("ring_bench",))
 
 
 def cost(program, words):
@@ -41,9 +44,19 @@ def compare(before, now, what, words):
     print(f"| {what} | {old[0]:.3f} | {new[0]:.3f} | {ratios[0]} | {ratios[1]} | {sizes} | {ratios[2]} |", flush=True)
 
 
-def speeds(program, settings):
+def program(tree, names):
+    """The first of these programs that a tree has built, with the words that come with its name; or none."""
+    built = (([f"{tree}/{name}/out/{name}", *words], name) for name, *words in names)
+    return next((command for command, name in built if os.path.exists(command[0])), None)
+
+
+def told_by(command):
+    return subprocess.run(command, capture_output=True, text=True, check=True).stdout
+
+
+def speeds(command):
     """The best MB a second of writing and of reading that the benchmark tells."""
-    told = "".join(subprocess.run([program, settings], capture_output=True, text=True, check=True).stdout for _ in range(RUNS))
+    told = "".join(told_by(command) for _ in range(RUNS))
     return [max(int(it) for it in re.findall(rf"{what} in \d+ ms, (\d+) MB", told)) for what in ("written", "read")]
 
 
@@ -57,12 +70,14 @@ def main(before, now):
         compare(*tools, f"the same with a history, n = {n}", ["run", one, "--history", HISTORY])
         compare(*tools, f"check of that history, n = {n}", ["check", HISTORY])
         compare(*tools, f"run, sixteen rings, nine of 320,000, n = {n}", ["run", many])
+    trees = ((before, "before"), (now, "now"))
     for n in (16, 256):
-        for tree, name in ((before, "before"), (now, "now")):
-            written, read = speeds(f"{tree}/text_bench/out/text_bench", f"one-ring-{n}.json")
+        for tree, name in trees:
+            written, read = speeds([*program(tree, TEXTS), f"one-ring-{n}.json"])
             print(f"text of one ring, n = {n}, {name}: written {written}, read {read} MB a second")
-    close = f"{now}/close_bench/out/close_bench"
-    print(subprocess.run([close], capture_output=True, text=True, check=True).stdout, end="")
+    for tree, name in trees:
+        if calls := program(tree, CALLS):
+            print(f"calls of a ring, {name}:\n{told_by(calls)}", end="", flush=True)
 
 
 if __name__ == "__main__":

@@ -9,16 +9,18 @@ commit=$(git -C "$top" rev-parse "$1^{commit}")
 base=${TMPDIR:-/tmp}/wozgirt-$(git -C "$top" rev-parse --short "$commit")
 [ -d "$base" ] || git clone -q "$top" "$base"
 git -C "$base" checkout -q "$commit"
-# both PROGRAM [WORD]: builds the program now, and at the commit where it has it
+# both PROGRAM [WORD]: builds the program now and at the commit, where they have it
 both() {
-    build "$@"
+    [ ! -d "$top/crates/$1" ] || build "$@"
     [ -d "$base/crates/$1" ] || return 0
     echo "proving and building $1 at the commit"
     (cd "$base/crates/$1" && rt run -- ${2:+"$2"} >"$out/$1-base.log" 2>&1) || { cat "$out/$1-base.log"; exit 1; }
 }
 both ring_tool --help
 both text_bench
+both farm_bench
 both close_bench --help
+both ring_bench --help
 for n in 16 256; do
     drawn "one-ring-$n.json" 1 "$n" "$n" 9 100000
     drawn "sixteen-long-$n.json" 16 "$n" "$n" 9 320000

@@ -15,5 +15,5 @@ drawn nothing.json 1 16 16 9 0
 build farm_bench
 
 for file in nothing one-ring-16 one-ring-256 sixteen-rings-16 sixteen-rings-256 sixteen-long-16 sixteen-long-256 one-worker; do
-    (cd "$out" && /usr/bin/time -f "  %e s in all, %M KiB at most" "$top/crates/farm_bench/out/farm_bench" "$file.json")
+    (cd "$out" && /usr/bin/time -f "  %e s in all, %M KiB at most" "$top/crates/farm_bench/out/farm_bench" run "$file.json")
 done

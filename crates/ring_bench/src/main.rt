@@ -135,7 +135,7 @@ fn best<W: Wait + Clock>(rt: &W, alloc: Global, seats: u32) -> io::Result<Times>
 
 fn main(rt: HostRuntime) -> io::Result<()> {
     if env::args(&rt)?.skip(1).next().is_some() {
-        return println!(rt; "close_bench: times passes and the end of a ring; it takes no words");
+        return println!(rt; "ring_bench: times passes and the end of a ring; it takes no words");
     }
     let one = best(&rt, rt.alloc(), 1)?;
     let ten = best(&rt, rt.alloc(), 10)?;
