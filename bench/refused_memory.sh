@@ -134,6 +134,7 @@ for crate in $crates; do
         "$program" run "$out/first.json" --history "$out/first.txt" >/dev/null
         try_program check first.txt
         try_program upgrade first.txt upgraded.txt
+        try_program picture first.txt first.svg
         cp "$out/first.txt" "$out/input"
         try_program check -
         ;;
