@@ -86,6 +86,26 @@ fn show<N: Name, W: Wait>(rt: &W, writer: &mut RingWriter<N>, operation: Operati
     replace_with(writer, rt, |writer, rt| publish(rt, writer));
 }
 
+/// Shows readers the event that ends the book's history, the rest of which is shown.
+fn show_last<N: Name, R: Resource + Drop, W: Wait>(
+    rt: &W,
+    book: &Book<R>,
+    front: &Front<N>,
+    writer: &mut RingWriter<N>,
+    event: Event,
+)
+    requires held { IsHeld R.works R.first N.start N.seats N.legal book.now }
+    requires call { IsCallOf N.start event.op }
+    requires one { book.now.history ≡ writer.old.desk.shown.value ++ event ∷ [] }
+    requires none { fold stepped writer.old.desk.shown.value (drop writer.old.behind writer.old.log.items) ≡ writer.old.desk.shown.value }
+    requires front { front.now ≡ book.now.history }
+    ensures shown { writer.new.desk.shown.value ≡ book.now.history }
+    ensures pending { drop writer.new.behind writer.new.log.items ≡ [] }
+{
+    let operation = Operation::last(book, writer.published(), event, front.again());
+    show(rt, writer, operation);
+}
+
 impl<N: Name, R: Resource + Drop> Locked<N, R> {
     /// The book of a ring that is opened.
     pub(crate) fn new(
@@ -121,9 +141,7 @@ impl<N: Name, R: Resource + Drop> Locked<N, R> {
         let receipt = record_call(&mut self.book, seat.number(), op)?;
         seat.log.push_reserved(Entry::Receipt(receipt));
         self.front.surely_add(rt, &self.head, receipt.event);
-        let shown = self.writer.published();
-        let operation = Operation::last(&self.book, shown, receipt.event, self.front.again());
-        show(rt, &mut self.writer, operation);
+        show_last(rt, &self.book, &self.front, &mut self.writer, receipt.event);
         seat.catch_up(rt, self.writer.published());
         Ok(receipt)
     }

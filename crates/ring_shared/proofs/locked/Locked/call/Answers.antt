@@ -11,11 +11,11 @@ invariant_of-self-2 g c =
     let held = held_more g.R.Resource.works g.R.Resource.first g.N.Name.start g.N.Name.seats g.N.Name.legal c.self.inside.book c.record_call.new.book c.number.result c.args.op c.in_ok-receipt.receipt
     c.self.invariant.0 c.in_ok-receipt.ensures.book ok c.number.ensures.given in
     let front = c.surely_add.ensures ∙ (ap (λ h. h ++ e ∷ []) c.self.invariant.1 ∙ sym ok.grown) in
-    let shown = c.show.ensures.shown ∙ (c.last-operation.ensures ∙ (c.again.ensures ∙ front)) in (
+    let shown = c.show_last.ensures.shown in (
       held,
       front,
       shown,
-      rw (c.show.ensures.pending) shown,
+      rw (c.show_last.ensures.pending) shown,
     )
 
 pub surely_add-requires-clause-of_seats : goal.surely_add-requires-clause-of_seats
@@ -25,10 +25,23 @@ surely_add-requires-clause-of_seats g c =
     c.self.invariant.0 c.in_ok-receipt.ensures.book c.in_ok-receipt.ensures.ok c.number.ensures.given in
     subst (AreOfSeats g.N.Name.seats) (c.in_ok-receipt.ensures.ok.grown ∙ ap (λ (h : List Event). h ++ e ∷ []) (sym c.self.invariant.1)) held.of_seats
 
-pub last-operation-requires-clause-held : goal.last-operation-requires-clause-held
-last-operation-requires-clause-held g c =
+pub show_last-requires-clause-held : goal.show_last-requires-clause-held
+show_last-requires-clause-held g c =
     held_more g.R.Resource.works g.R.Resource.first g.N.Name.start g.N.Name.seats g.N.Name.legal c.self.inside.book c.record_call.new.book c.number.result c.args.op c.in_ok-receipt.receipt
     c.self.invariant.0 c.in_ok-receipt.ensures.book c.in_ok-receipt.ensures.ok c.number.ensures.given
+
+pub show_last-requires-clause-one : goal.show_last-requires-clause-one
+show_last-requires-clause-one g c =
+    let e = c.in_ok-receipt.receipt.event in
+    c.in_ok-receipt.ensures.ok.grown ∙ ap (λ (h : List Event). h ++ e ∷ []) (sym c.self.invariant.2)
+
+pub show_last-requires-clause-none : goal.show_last-requires-clause-none
+show_last-requires-clause-none g c = c.self.invariant.3 ∙ sym c.self.invariant.2
+
+pub show_last-requires-clause-front : goal.show_last-requires-clause-front
+show_last-requires-clause-front g c =
+    let e = c.in_ok-receipt.receipt.event in
+    c.surely_add.ensures ∙ (ap (λ (h : List Event). h ++ e ∷ []) c.self.invariant.1 ∙ sym c.in_ok-receipt.ensures.ok.grown)
 
 pub returns-clause-ok : goal.returns-clause-ok
 returns-clause-ok g c =
