@@ -1,5 +1,5 @@
 //! The end of a ring: its history and the logs of its seats, where they fit each other.
-ghost use Rattle.std.specs.Prelude.{◌≡◌, ◌<◌, ◌≤◌, ◌↔◌, [], All, map, eqb, length, vec_len, vec_capacity, IsTrue, IfOk, IfErr, MatchResult};
+ghost use Rattle.std.specs.Prelude.{◌≡◌, ◌<◌, ◌≤◌, ◌↔◌, List, [], All, map, eqb, length, vec_len, vec_capacity, IsTrue, IfOk, IfErr, MatchResult};
 ghost use Rattle.std.specs.List.{IsDistinct};
 ghost use mathlib.Core.List.{IsPrefix};
 ghost use Rattle.std.specs.List.Sorted.{IsPermutation, IsNonDecreasingBy};
@@ -7,6 +7,7 @@ ghost use Rattle.ring_model.specs.History.{IsLegal, opening};
 ghost use Rattle.ring_model.specs.HistoryLaws.{Settlement};
 ghost use Rattle.ring_model.specs.Logs.{Fits, calls_of, receipts_of};
 ghost use Rattle.ring_book.specs.BookView.{IsBook};
+ghost use Rattle.ring_shared.specs.Client.{Client};
 ghost use Rattle.ring_shared.specs.Closing.{HasLog, AreNumbered, AreLogsOf};
 ghost use Rattle.ring_shared.specs.Holding.{AreOfSeats};
 
@@ -73,7 +74,7 @@ impl<N: Name, R: Resource + Drop> Ring<N, R> {
         self,
         rt: &W,
         alloc: Global,
-        mut seats: Vec<Seat<N>>,
+        seats: Vec<Seat<N>>,
     ) -> Result<Closed<R>, CloseFault<N, R>>
         requires { IsDistinct eqb (map (λ s. s.number) seats.items) }
 
@@ -105,11 +106,9 @@ impl<N: Name, R: Resource + Drop> Ring<N, R> {
             Err(reason) => return Err(refused(reason, book, seats)),
         };
         all_begin(rt, seats.as_slice(), &front);
-        all_given(seats.as_slice());
-        sort(&mut seats);
         Ok(Closed {
             book,
-            logs: into_logs(seats, logs),
+            logs: logs_by_number(seats, logs),
         })
     }
 }
@@ -199,4 +198,18 @@ fn into_logs<N: Name>(seats: Vec<Seat<N>>, mut logs: Vec<Log>) -> Vec<Log>
         logs.push_reserved(seat.into_log());
     }
     logs
+}
+
+/// The logs of all the seats of a ring, by number.
+fn logs_by_number<N: Name>(mut seats: Vec<Seat<N>>, logs: Vec<Log>) -> Vec<Log>
+    requires distinct { IsDistinct eqb (map (λ s. s.number) seats.items) }
+    requires all { N.seats ≤ length seats.items }
+    requires room { vec_len seats ≤ vec_capacity logs }
+    requires empty { logs.items ≡ [] }
+    ensures numbered { (vec_len result ≡ N.seats) × AreNumbered result.items × All (HasLog result.items) seats.items }
+    ensures sorted { (ss : List Client) × IsPermutation seats.items ss × AreLogsOf ss result.items }
+{
+    all_given(seats.as_slice());
+    sort(&mut seats);
+    into_logs(seats, logs)
 }

@@ -86,6 +86,26 @@ fn show<N: Name, W: Wait>(rt: &W, writer: &mut RingWriter<N>, operation: Operati
     replace_with(writer, rt, |writer, rt| publish(rt, writer));
 }
 
+/// Shows readers the event that ends the book's history, the rest of which is shown.
+fn show_last<N: Name, R: Resource + Drop, W: Wait>(
+    rt: &W,
+    book: &Book<R>,
+    front: &Front<N>,
+    writer: &mut RingWriter<N>,
+    event: Event,
+)
+    requires held { IsHeld R.works R.first N.start N.seats N.legal book.now }
+    requires call { IsCallOf N.start event.op }
+    requires one { book.now.history ≡ writer.old.desk.shown.value ++ event ∷ [] }
+    requires none { fold stepped writer.old.desk.shown.value (drop writer.old.behind writer.old.log.items) ≡ writer.old.desk.shown.value }
+    requires front { front.now ≡ book.now.history }
+    ensures shown { writer.new.desk.shown.value ≡ book.now.history }
+    ensures pending { drop writer.new.behind writer.new.log.items ≡ [] }
+{
+    let operation = Operation::last(book, writer.published(), event, front.again());
+    show(rt, writer, operation);
+}
+
 impl<N: Name, R: Resource + Drop> Locked<N, R> {
     /// The book of a ring that is opened.
     pub(crate) fn new(
@@ -115,15 +135,9 @@ impl<N: Name, R: Resource + Drop> Locked<N, R> {
         ensures ok { IfOk result (λ r. IsCallUnderLock R.works R.first N.start N.seats N.legal self.old self.new seat.old seat.new op r) }
         ensures refused { IsRefusedUnderLock self.old self.new seat.old seat.new result }
     {
-        if seat.log.reserve(1).is_err() {
-            return Err(BookError::OutOfMemory);
-        }
-        let receipt = record_call(&mut self.book, seat.number(), op)?;
-        seat.log.push_reserved(Entry::Receipt(receipt));
+        let receipt = log_call(&mut self.book, seat, op)?;
         self.front.surely_add(rt, &self.head, receipt.event);
-        let shown = self.writer.published();
-        let operation = Operation::last(&self.book, shown, receipt.event, self.front.again());
-        show(rt, &mut self.writer, operation);
+        show_last(rt, &self.book, &self.front, &mut self.writer, receipt.event);
         seat.catch_up(rt, self.writer.published());
         Ok(receipt)
     }
@@ -220,4 +234,27 @@ fn record_call<R: Resource + Drop>(
 {
     book.reserve(1)?;
     make_call(book, seat, op)
+}
+
+/// Grows a seat's log and a book's history, behind which nothing is refused; makes the seat's call of the book, and
+/// logs its receipt.
+fn log_call<N: Name, R: Resource + Drop>(
+    book: &mut Book<R>,
+    seat: &mut Seat<N>,
+    op: Op,
+) -> Result<Receipt, BookError>
+    requires { IsCallOf book.old.now.ring op }
+    ensures ok { IfOk result (λ r. IsRecorded R.works book.old book.new seat.old.number op r) }
+    ensures book { IfOk result (λ _. IsBook R.works R.first book.new) }
+    ensures within { seat.old.number < N.seats }
+    ensures logged { IfOk result (λ r. seat.new ≡ record { number = seat.old.number; log = seat.old.log ++ Entry.Receipt r ∷ []; seen = seat.old.seen }) }
+    ensures refused { IsRefusedUnderLock book.old book.new seat.old seat.new result }
+{
+    let number = seat.number();
+    if seat.log.reserve(1).is_err() {
+        return Err(BookError::OutOfMemory);
+    }
+    let receipt = record_call(book, number, op)?;
+    seat.log.push_reserved(Entry::Receipt(receipt));
+    Ok(receipt)
 }

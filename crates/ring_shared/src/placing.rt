@@ -59,7 +59,7 @@ fn is_receipt(entry: Entry) -> bool
 }
 
 /// How far a log was followed: up to an entry of it, the front there, and how many entries before it are receipts.
-#[derive(Clone, Copy, Debug)]
+#[derive(Clone, Copy)]
 struct Reached {
     entry: usize,
     front: u64,

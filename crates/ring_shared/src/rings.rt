@@ -214,6 +214,36 @@ fn writer_of<N: Name>(
     Writer::new(alloc, first, second, count as usize)
 }
 
+/// A writer that shows the start, with room for operations, and this many seats. Where a seat is refused there may
+/// be a writer, which has to be ended.
+fn seated<N: Name>(
+    alloc: Global,
+    front: &Front<N>,
+    start: &RingState,
+    count: u32,
+) -> Result<(RingWriter<N>, Vec<Seat<N>>), (OpenReason, Option<RingWriter<N>>)>
+    requires count { count ≡ N.seats }
+    requires some { (0 < count) × (count ≤ seat_limit) }
+    requires machine { 0 < length N.start.values }
+    requires value { 0 < N.start.k }
+    requires start { start.now ≡ N.start }
+    requires front { front.now ≡ [] }
+    ensures shown { IfOk result (λ t. t.0.desk.shown.value ≡ []) }
+    ensures pending { IfOk result (λ t. fold stepped [] (drop t.0.behind t.0.log.items) ≡ []) }
+    ensures fresh { IfOk result (λ t. AreFresh N.seats t.1.items) }
+{
+    let Ok(mut writer) = writer_of(alloc, start, front, count) else {
+        return Err((OpenReason::OutOfMemory, None));
+    };
+    if !warm(&mut writer, front) {
+        return Err((OpenReason::OutOfMemory, Some(writer)));
+    }
+    match seats_of(alloc, &writer, front, start, count) {
+        Ok(seats) => Ok((writer, seats)),
+        Err(reason) => Err((reason, Some(writer))),
+    }
+}
+
 impl<N: Name, R: Resource + Drop> Ring<N, R> {
     /// A ring over the draft's book, and its seats with the numbers 0, 1 and so on, which have called
     /// nothing and seen nothing.
@@ -243,32 +273,18 @@ impl<N: Name, R: Resource + Drop> Ring<N, R> {
         } = draft;
         book.history();
         let (head, front) = opened.named::<N>();
-        let Ok(mut writer) = writer_of(alloc, book.start(), &front, count) else {
-            return Err(OpenFault {
-                reason: OpenReason::OutOfMemory,
-                book,
-                writer: None,
-            });
-        };
-        if !warm(&mut writer, &front) {
-            return Err(OpenFault {
-                reason: OpenReason::OutOfMemory,
-                book,
-                writer: Some(writer),
-            });
-        }
-        match seats_of(alloc, &writer, &front, book.start(), count) {
-            Ok(seats) => {
+        match seated(alloc, &front, book.start(), count) {
+            Ok((writer, seats)) => {
                 let ring = Ring {
                     shared: Mutex::new(Locked::new(book, head, front, writer)),
                     seats: count,
                 };
                 Ok((ring, seats))
             }
-            Err(reason) => Err(OpenFault {
+            Err((reason, writer)) => Err(OpenFault {
                 reason,
                 book,
-                writer: Some(writer),
+                writer,
             }),
         }
     }

@@ -1,5 +1,4 @@
-use Rattle.std.proofs.Common.{◌<◌, ap, length, sym, subst, All, List, arith}
-use Rattle.std.proofs.lemmas.List.Sorted.{length_permutation}
+use Rattle.std.proofs.Common.{ap, length, sym, subst, All, List, arith}
 use Rattle.ring_model.specs.Ring.{Ring}
 use Rattle.ring_model.specs.History.{opening}
 use Rattle.ring_model.specs.HistoryLaws.{Settlement}
@@ -8,12 +7,14 @@ use Rattle.ring_model.proofs.HistoryLaws.{settlement}
 use mathlib.Core.List.{IsPrefix}
 use Rattle.ring_model.specs.declared.events.Event.{Event}
 use Rattle.ring_shared.specs.Client.{Client}
-use Rattle.ring_shared.proofs.Orders.{has_logs, are_numbered, fits_of, calls_of_fits, logs_length}
-use Rattle.ring_shared.proofs.Numbers.{in_order}
+use Rattle.ring_shared.proofs.Orders.{fits_of, calls_of_fits}
 use Rattle.ring_shared.proofs.rings.Ring.close.Goals as goal
 
-pub into_logs-requires-clause-room : goal.into_logs-requires-clause-room
-into_logs-requires-clause-room g c = let n = length_permutation _ _ c.sort.ensures.permutation in let m = c.in-Ok.ensures.room.0 in let k = ap length c.as_slice.ensures.value in omega arith
+pub logs_by_number-requires-clause-room : goal.logs_by_number-requires-clause-room
+logs_by_number-requires-clause-room g c = let m = c.in-Ok.ensures.room.0 in let k = ap length c.as_slice.ensures.value in omega arith
+
+pub logs_by_number-requires-clause-all : goal.logs_by_number-requires-clause-all
+logs_by_number-requires-clause-all g c = let m = c.in-Ok.ensures.all in let k = ap length c.as_slice.ensures.value in omega arith
 
 pub returns-clause-settlement : goal.returns-clause-settlement
 returns-clause-settlement g c =
@@ -25,21 +26,18 @@ pub returns-clause-fits : goal.returns-clause-fits
 returns-clause-fits g c =
     let all = λ (ss : List Client). All (λ (s : Client). Fits g.R.Resource.works (opening c.into_parts-book.result.0.start g.R.Resource.first) c.into_parts-book.result.0.history s.number s.log) ss in
     let fit = subst all c.as_slice.ensures.value c.in-Ok.ensures.fits in
-    rw (sym c.into_parts-book.ensures.held.begins) (fits_of _ _ _ _ _ _ c.sort.ensures.permutation c.into_logs.ensures fit)
+    let t = c.logs_by_number.ensures.sorted in
+    rw (sym c.into_parts-book.ensures.held.begins) (fits_of _ _ _ _ _ _ t.1 t.2 fit)
 
 pub returns-clause-calls : goal.returns-clause-calls
 returns-clause-calls g c =
     let all = λ (ss : List Client). All (λ (s : Client). Fits g.R.Resource.works (opening c.into_parts-book.result.0.start g.R.Resource.first) c.into_parts-book.result.0.history s.number s.log) ss in
     let fit = subst all c.as_slice.ensures.value c.in-Ok.ensures.fits in
-    calls_of_fits g.R.Resource.works (opening c.into_parts-book.result.0.start g.R.Resource.first) c.into_parts-book.result.0.history _ (fits_of _ _ _ _ _ _ c.sort.ensures.permutation c.into_logs.ensures fit)
+    let t = c.logs_by_number.ensures.sorted in
+    calls_of_fits g.R.Resource.works (opening c.into_parts-book.result.0.start g.R.Resource.first) c.into_parts-book.result.0.history _ (fits_of _ _ _ _ _ _ t.1 t.2 fit)
 
 pub returns-clause-logs : goal.returns-clause-logs
-returns-clause-logs g c =
-    let t = in_order g.N.Name.seats _ _ c.sort.ensures.permutation c.sort.ensures.sorted c.requires (subst (λ (ss : List Client). All (λ (s : Client). s.number < g.N.Name.seats) ss) c.as_slice-3.ensures.value c.all_given.ensures) (let m = c.in-Ok.ensures.all in let k = ap length c.as_slice.ensures.value in omega arith) in (
-      (let a = logs_length _ _ c.into_logs.ensures in let b = t.0 in omega arith),
-      are_numbered _ _ t.1 c.into_logs.ensures,
-      has_logs _ _ _ c.sort.ensures.permutation t.1 c.into_logs.ensures,
-    )
+returns-clause-logs g c = c.logs_by_number.ensures.numbered
 
 pub returns-clause-seen : goal.returns-clause-seen
 returns-clause-seen g c =
