@@ -202,17 +202,15 @@ fn upgrade_command<'a>(alloc: Global) -> Result<Command<'a>, Error> {
     with_texts(alloc, command)
 }
 
+/// The program with what it says of itself.
+fn described<'a>(program: Command<'a>) -> Command<'a> {
+    program.about(ABOUT).version(VERSION).after_help(STATUSES)
+}
+
 /// The program, with no command yet.
 fn program_line<'a>(alloc: Global) -> Result<Command<'a>, Error> {
-    Ok(
-        Command::new(alloc, "ring_tool")
-            .bin_name("ring_tool")?
-            .no_binary_name(true)
-            .about(ABOUT)
-            .version(VERSION)
-            .after_help(STATUSES)
-            .subcommand_required(true),
-    )
+    let program = Command::new(alloc, "ring_tool").bin_name("ring_tool")?;
+    Ok(described(program.no_binary_name(true).subcommand_required(true)))
 }
 
 /// The program with a command more, where that could be made.
