@@ -72,7 +72,6 @@ fn count_of(ring: &SavedRing, from: u32, most: u32) -> Result<u32, ToolError<'st
 }
 
 /// What is drawn of the saved text that the bytes are, where it is legal.
-#[tactic(auto, using(crate::proofs::Drawings::legal_text))]
 fn drawing_of(
     alloc: Global,
     words: &PictureWords<'_>,
