@@ -3,13 +3,21 @@ use Rattle.std.proofs.Common.{◌≡◌, ℕ, zero, suc, ◌+◌, ◌<◌, ◌�
 use Rattle.std.specs.Prelude.{slice_get}
 use Rattle.std.specs.Option.{unwrap_or}
 use Rattle.ring_model.specs.Limits.{machine_limit}
-use Rattle.ring_text.specs.Content.{Block, block_of}
+use Rattle.ring_text.specs.Content.{Block, Content, block_of}
+use Rattle.ring_check.specs.declared.answers.Summary.{Summary}
+use Rattle.ring_check.specs.Legal.{summary_of}
 use Rattle.ring_check.specs.Limits.{machine_limit_of}
 use Rattle.ring_check.specs.Meaning.{IsRightBlock, AreRightBlocks}
 use Rattle.ring_check.proofs.Blocks.{machine_limit_most}
 use Rattle.ring_commands.specs.declared.picture.PictureWords.{PictureWords}
 use Rattle.ring_commands.specs.declared.picture.Drawing.{Drawing}
-use Rattle.ring_commands.specs.Pictured.{IsDrawing}
+use Rattle.ring_commands.specs.Checked.{IsLegalSavedText}
+use Rattle.ring_commands.specs.Pictured.{IsLegalTextOf, IsDrawing}
+
+-- a legal saved text, of this value, is its text, with its sums
+pub legal_text : (bytes : List ℕ) (c : Content) (sums : Summary) (legal : IsLegalSavedText bytes sums) → legal.content ≡ c → IsLegalTextOf bytes c × (sums ≡ summary_of c)
+legal_text bytes c sums legal is =
+    subst (λ (x : Content). IsLegalTextOf bytes x × (sums ≡ summary_of x)) is (record { fits = legal.fits; spelled = legal.spelled; right = legal.right }, legal.sums_right)
 
 -- the first block is one of a legal text, and so is each behind it
 block_at : (version place i : ℕ) (bs : List Block) (b : Block) → AreRightBlocks version place bs → slice_get bs i ≡ Some b → (at : ℕ) × IsRightBlock version at b

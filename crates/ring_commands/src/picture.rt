@@ -3,19 +3,17 @@
 ghost use Rattle.std.specs.Prelude.{◌≡◌, ◌≢◌, ℕ, ◌<◌, ◌≤◌, List, length, slice_get, Some, OnOk, IfOk, IfErr};
 ghost use Rattle.std.specs.Io.KnownBytes.{Appends};
 ghost use Rattle.ring_text.specs.Content.{content, block_of};
-ghost use Rattle.ring_check.specs.Legal.{summary_of};
 ghost use Rattle.ring_commands.specs.CheckText.{legal_line};
-ghost use Rattle.ring_commands.specs.Checked.{IsSavedTextRefusal};
-ghost use Rattle.ring_commands.specs.Pictured.{most_drawn, drawn_count, picture_of, IsLegalTextOf, IsDrawing, IsDrawingRefusal, IsDrawingFileRefusal, IsHandingRefusal, IsPictureAnswer, IsPictureRefusal};
+ghost use Rattle.ring_commands.specs.Pictured.{most_drawn, drawn_count, picture_of, IsDrawing, IsDrawingRefusal, IsDrawingFileRefusal, IsHandingRefusal, IsPictureAnswer, IsPictureRefusal};
 ghost use Rattle.ring_commands.specs.Ran.{IsSaveRefusal};
 ghost use Rattle.ring_commands.specs.Reading.{most_bytes, IsAllOf};
 
-use crate::check::write_sums;
+use crate::check::{legal_saved, write_sums};
 use crate::faults::ToolError;
 use crate::reading::read_whole;
-use ring_check::{Summary, check_saved};
+use ring_check::Summary;
 use ring_picture::{PictureFault, write_picture};
-use ring_text::{Saved, SavedRing, read_saved};
+use ring_text::{Saved, SavedRing};
 use std::alloc::Global;
 use std::fs;
 use std::io::{BufWriter, Read, Write};
@@ -46,16 +44,6 @@ pub struct Drawing {
     pub count: u32,
     /// The sums over all rings of the text.
     pub sums: Summary,
-}
-
-/// The value that the bytes are the saved text of, and its sums, where it is legal.
-fn legal_of(alloc: Global, bytes: &[u8]) -> Result<(Saved, Summary), ToolError<'static>>
-    ensures ok { IfOk result (λ legal. IsLegalTextOf bytes.now (content legal.0) × (legal.1 ≡ summary_of (content legal.0))) }
-    ensures err { IfErr result (λ e. IsSavedTextRefusal bytes.now e) }
-{
-    let saved = read_saved(alloc, bytes)?;
-    let sums = check_saved(alloc, &saved)?;
-    Ok((saved, sums))
 }
 
 /// The ring at this place.
@@ -93,7 +81,7 @@ fn drawing_of(
     ensures ok { IfOk result (λ d. IsDrawing words.now bytes.now d) }
     ensures err { IfErr result (λ e. IsDrawingRefusal words.now bytes.now e) }
 {
-    let (saved, sums) = legal_of(alloc, bytes)?;
+    let (saved, sums) = legal_saved(alloc, bytes)?;
     let ring = ring_of(saved, words.ring)?;
     let count = count_of(&ring, words.from, words.events)?;
     Ok(Drawing { ring, count, sums })

@@ -148,67 +148,97 @@ fn quiet_word<'a>(alloc: Global) -> Arg<'a> {
         .help("Prints the report's last line alone, which adds up over the rings")
 }
 
-/// The words of `run`.
-fn run_command<'a>(alloc: Global) -> Result<Command<'a>, Error> {
-    let settings = needed_text(
+/// The settings' file.
+fn settings_word<'a>(alloc: Global) -> Arg<'a> {
+    needed_text(
         alloc,
         "SETTINGS",
         "The settings, a JSON file of at most 1,073,741,824 bytes; `-` is standard input",
-    );
-    Ok(
-        Command::new(alloc, "run")
-            .about(RUN_ABOUT)
-            .after_help(RUN_HELP)
-            .arg(settings)?
-            .arg(history_word(alloc))?
-            .arg(quiet_word(alloc))?,
+    )
+}
+
+/// `run` with what it hands out.
+fn with_outputs<'a>(alloc: Global, command: Command<'a>) -> Result<Command<'a>, Error> {
+    Ok(command.arg(history_word(alloc))?.arg(quiet_word(alloc))?)
+}
+
+/// The words of `run`.
+fn run_command<'a>(alloc: Global) -> Result<Command<'a>, Error> {
+    let command = Command::new(alloc, "run")
+        .about(RUN_ABOUT)
+        .after_help(RUN_HELP);
+    with_outputs(alloc, command.arg(settings_word(alloc))?)
+}
+
+/// The file that `check` reads.
+fn checked_word<'a>(alloc: Global) -> Arg<'a> {
+    needed_text(
+        alloc,
+        "FILE",
+        "The saved history, as `run --history` writes it, of at most 1,073,741,824 bytes; `-` is standard input",
     )
 }
 
 /// The words of `check`.
 fn check_command<'a>(alloc: Global) -> Result<Command<'a>, Error> {
-    let file = needed_text(
-        alloc,
-        "FILE",
-        "The saved history, as `run --history` writes it, of at most 1,073,741,824 bytes; `-` is standard input",
-    );
-    Ok(
-        Command::new(alloc, "check")
-            .about(CHECK_ABOUT)
-            .after_help(CHECK_HELP)
-            .arg(file)?,
-    )
+    let command = Command::new(alloc, "check")
+        .about(CHECK_ABOUT)
+        .after_help(CHECK_HELP);
+    Ok(command.arg(checked_word(alloc))?)
+}
+
+/// `upgrade` with its two files.
+fn with_texts<'a>(alloc: Global, command: Command<'a>) -> Result<Command<'a>, Error> {
+    let file = needed_text(alloc, "FILE", "The saved history, as for `check`");
+    let new = needed_text(alloc, "NEW", "The file that is made for the new text");
+    Ok(command.arg(file)?.arg(new)?)
 }
 
 /// The words of `upgrade`.
 fn upgrade_command<'a>(alloc: Global) -> Result<Command<'a>, Error> {
-    let file = needed_text(alloc, "FILE", "The saved history, as for `check`");
-    let new = needed_text(alloc, "NEW", "The file that is made for the new text");
-    Ok(
-        Command::new(alloc, "upgrade")
-            .about(UPGRADE_ABOUT)
-            .after_help(UPGRADE_HELP)
-            .arg(file)?
-            .arg(new)?,
+    let command = Command::new(alloc, "upgrade")
+        .about(UPGRADE_ABOUT)
+        .after_help(UPGRADE_HELP);
+    with_texts(alloc, command)
+}
+
+/// The program with what it says of itself.
+fn described<'a>(program: Command<'a>) -> Command<'a> {
+    program.about(ABOUT).version(VERSION).after_help(STATUSES)
+}
+
+/// The program, with no command yet.
+fn program_line<'a>(alloc: Global) -> Result<Command<'a>, Error> {
+    let program = Command::new(alloc, "ring_tool").bin_name("ring_tool")?;
+    Ok(described(program.no_binary_name(true).subcommand_required(true)))
+}
+
+/// The program with a command more, where that could be made.
+fn with_command<'a>(
+    program: Command<'a>,
+    command: Result<Command<'a>, Error>,
+) -> Result<Command<'a>, Error> {
+    Ok(program.subcommand(command?)?)
+}
+
+/// The program with the commands that run rings.
+fn with_runs<'a>(alloc: Global, program: Command<'a>) -> Result<Command<'a>, Error> {
+    with_command(
+        with_command(program, step_command(alloc))?,
+        run_command(alloc),
     )
+}
+
+/// The program with the commands that read a saved history.
+fn with_readers<'a>(alloc: Global, program: Command<'a>) -> Result<Command<'a>, Error> {
+    let program = with_command(program, check_command(alloc))?;
+    let program = with_command(program, picture_command(alloc))?;
+    with_command(program, upgrade_command(alloc))
 }
 
 /// All that the program understands.
 fn command_line<'a>(alloc: Global) -> Result<Command<'a>, Error> {
-    Ok(
-        Command::new(alloc, "ring_tool")
-            .bin_name("ring_tool")?
-            .no_binary_name(true)
-            .about(ABOUT)
-            .version(VERSION)
-            .after_help(STATUSES)
-            .subcommand_required(true)
-            .subcommand(step_command(alloc)?)?
-            .subcommand(run_command(alloc)?)?
-            .subcommand(check_command(alloc)?)?
-            .subcommand(picture_command(alloc)?)?
-            .subcommand(upgrade_command(alloc)?)?,
-    )
+    with_readers(alloc, with_runs(alloc, program_line(alloc)?)?)
 }
 
 /// `step`, where all its words are there.
@@ -245,6 +275,19 @@ fn upgrade_words<'a>(words: &ArgMatches<'a>) -> Option<Request<'a>> {
     }))
 }
 
+/// The request of the command that was found, where its words are there.
+fn request_of<'a>(matches: &ArgMatches<'a>) -> Option<Request<'a>> {
+    let (name, words) = matches.subcommand()?;
+    match name {
+        "step" => step_words(words),
+        "run" => run_words(words),
+        "check" => check_words(words),
+        "picture" => picture_words(words),
+        "upgrade" => upgrade_words(words),
+        _ => None,
+    }
+}
+
 /// The command that the words ask for. The program's name is not among them.
 ///
 /// # Errors
@@ -254,15 +297,7 @@ fn upgrade_words<'a>(words: &ArgMatches<'a>) -> Option<Request<'a>> {
 pub fn read_words<'a>(alloc: Global, words: &'a [String]) -> Result<Request<'a>, Error> {
     let mut command = command_line(alloc)?;
     let matches = command.try_get_matches_from_mut(words)?;
-    let request = match matches.subcommand() {
-        Some(("step", words)) => step_words(words),
-        Some(("run", words)) => run_words(words),
-        Some(("check", words)) => check_words(words),
-        Some(("picture", words)) => picture_words(words),
-        Some(("upgrade", words)) => upgrade_words(words),
-        _ => None,
-    };
-    if let Some(request) = request {
+    if let Some(request) = request_of(&matches) {
         return Ok(request);
     }
     // No words lead here, since `clap` asks for a command and for its words.
