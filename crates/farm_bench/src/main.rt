@@ -11,11 +11,7 @@ use std::time::{Clock, Instant};
 use std::{env, fs, io};
 
 /// Times how settings are read and plans are made.
-fn time_plans<R: Clock + Print + AllocGlobal>(
-    rt: &R,
-    path: &str,
-    bytes: &[u8],
-) -> io::Result<()> {
+fn time_plans<R: Clock + Print + AllocGlobal>(rt: &R, path: &str, bytes: &[u8]) -> io::Result<()> {
     let start = Instant::now(rt)?;
     let Ok(settings) = read_settings(rt.alloc(), bytes) else {
         return println!(rt; "{path}: the settings were refused");
