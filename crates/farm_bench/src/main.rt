@@ -4,11 +4,14 @@
 use ring_farm::{Open, Outcome, run_farm};
 use ring_settings::{Settings, plans, read_settings};
 use ring_text::{read_saved, write_outcome};
-use std::time::Instant;
+use std::rt::Files;
+use std::sync::Wait;
+use std::thread::Threads;
+use std::time::{Clock, Instant};
 use std::{env, fs, io};
 
 /// Times how settings are read and plans are made.
-fn time_plans(rt: &HostRuntime, path: &str, bytes: &[u8]) -> io::Result<()> {
+fn time_plans<R: Clock + Print + AllocGlobal>(rt: &R, path: &str, bytes: &[u8]) -> io::Result<()> {
     let start = Instant::now(rt)?;
     let Ok(settings) = read_settings(rt.alloc(), bytes) else {
         return println!(rt; "{path}: the settings were refused");
@@ -33,7 +36,11 @@ fn events_of(outcome: &Outcome) -> u64 {
 }
 
 /// Times how the rings are run.
-fn time_run(rt: &HostRuntime, path: &str, settings: &Settings) -> io::Result<()> {
+fn time_run<R: Threads + Wait + Clock + Sync + Print + AllocGlobal>(
+    rt: &R,
+    path: &str,
+    settings: &Settings,
+) -> io::Result<()> {
     let start = Instant::now(rt)?;
     let Ok(outcome) = run_farm(rt, rt.alloc(), settings, &Open) else {
         return println!(rt; "{path}: the run was refused");
@@ -43,13 +50,13 @@ fn time_run(rt: &HostRuntime, path: &str, settings: &Settings) -> io::Result<()>
 }
 
 /// Tells what was done to so many bytes in so many microseconds.
-fn tell(rt: &HostRuntime, what: &str, bytes: usize, micros: u128) -> io::Result<()> {
+fn tell(rt: &impl Print, what: &str, bytes: usize, micros: u128) -> io::Result<()> {
     let speed = bytes as u128 / micros.max(1);
     println!(rt; "  {what} in {} ms, {speed} MB a second", micros / 1000)
 }
 
 /// Times how a text is read back.
-fn time_reading(rt: &HostRuntime, text: &[u8]) -> io::Result<()> {
+fn time_reading<R: Clock + Print + AllocGlobal>(rt: &R, text: &[u8]) -> io::Result<()> {
     let start = Instant::now(rt)?;
     let saved = read_saved(rt.alloc(), text);
     let micros = start.elapsed(rt)?.as_micros();
@@ -60,7 +67,11 @@ fn time_reading(rt: &HostRuntime, text: &[u8]) -> io::Result<()> {
 }
 
 /// Runs the rings, and times how their histories are written into memory and read back.
-fn time_text(rt: &HostRuntime, path: &str, settings: &Settings) -> io::Result<()> {
+fn time_text<R: Threads + Wait + Clock + Sync + Print + AllocGlobal>(
+    rt: &R,
+    path: &str,
+    settings: &Settings,
+) -> io::Result<()> {
     let Ok(outcome) = run_farm(rt, rt.alloc(), settings, &Open) else {
         return println!(rt; "{path}: the run was refused");
     };
@@ -76,7 +87,11 @@ fn time_text(rt: &HostRuntime, path: &str, settings: &Settings) -> io::Result<()
 }
 
 /// Times what the word says.
-fn time_file(rt: &HostRuntime, what: &str, path: &str) -> io::Result<()> {
+fn time_file<R: Threads + Wait + Clock + Sync + Files + Print + AllocGlobal>(
+    rt: &R,
+    what: &str,
+    path: &str,
+) -> io::Result<()> {
     let bytes = fs::read(rt, path)?;
     if what == "plans" {
         return time_plans(rt, path, bytes.as_slice());

@@ -1,144 +1,20 @@
-//! Times a pass that nobody else waits for, and the end of a ring with one seat and with ten, over one history.
+//! Times passes and the end of a ring of 16 machines, and what it costs to look at one of 256.
 #![tactic(auto)]
 
-ghost use Rattle.std.specs.Prelude.{◌≡◌, ◌≤◌, ◌<◌, [], length, map, IfSome};
-ghost use Rattle.ring_model.specs.Limits.{seat_limit};
-ghost use Rattle.ring_model.specs.Resources.{till};
-ghost use Rattle.ring_shared.specs.Holding.{MeansLegal};
+mod looks;
+mod passes;
 
-use ring_book::{Book, Till};
-use ring_shared::{Draft, Name, Ring, Seat};
-use ring_state::{Params, RingState};
-use std::alloc::Global;
-use std::marker::Brand;
+use looks::{LOOKS, Look, SETTLED, UNSETTLED};
+use passes::EVENTS;
 use std::sync::Wait;
-use std::time::{Clock, Instant};
+use std::thread::Threads;
+use std::time::Clock;
 use std::{env, io};
 
-const MACHINES: u32 = 16;
-
-const EVENTS: u32 = 1_000_000;
-/// Each seat surveys after as many of its passes.
-const PASSES: u32 = 8;
-
-/// What a run took, in nanoseconds.
-#[derive(Clone, Copy, Debug)]
-struct Times {
-    calls: u128,
-    close: u128,
-}
-
-/// A book over a ring of 16 machines.
-fn book(alloc: Global) -> Option<Book<Till>>
-    ensures { IfSome result (λ b. (16 ≤ length b.start.values) × (b.history ≡ [])) }
-{
-    let params = Params::new(MACHINES, MACHINES).ok()?;
-    let state = RingState::from_values(alloc, &params, &[0; MACHINES as usize]).ok()?;
-    Book::new(alloc, state, Till::new()).ok()
-}
-
-/// Makes as many passes and one survey.
-fn call<N: Name, W: Wait>(rt: &W, ring: &Ring<N, Till>, seat: &mut Seat<N>, first: u32) -> bool
-    requires { 16 ≤ length N.start.values }
-    ensures { seat.new.number ≡ seat.old.number }
-{
-    for pass in 0..PASSES {
-        let machine = (first % MACHINES + pass) % MACHINES;
-        if ring.pass(rt, seat, machine, 1).is_err() {
-            return false;
-        }
-    }
-    ring.survey(seat).is_ok()
-}
-
-/// Makes all calls, seat by seat in turn.
-fn play<N: Name, W: Wait>(rt: &W, ring: &Ring<N, Till>, seats: &mut Vec<Seat<N>>) -> bool
-    requires { 16 ≤ length N.start.values }
-    ensures { map (λ s. s.number) seats.new.items ≡ map (λ s. s.number) seats.old.items }
-{
-    for turn in 0..EVENTS / PASSES {
-        if seats.is_empty() {
-            return false;
-        }
-        let at = turn as usize % seats.len();
-        if !call(rt, ring, &mut seats[at], (turn % 2) * PASSES) {
-            return false;
-        }
-    }
-    true
-}
-
-fn time_named<N: Name, W: Wait + Clock>(
-    rt: &W,
-    alloc: Global,
-    draft: Draft<Till>,
-) -> io::Result<Option<Times>>
-    requires start { draft.book.start ≡ N.start }
-    requires seats { draft.seats ≡ N.seats }
-    requires log { draft.log ≡ N.log }
-    requires legal { MeansLegal till 0 N.start N.legal }
-    requires machines { 16 ≤ length N.start.values }
-{
-    let (ring, mut seats) = match Ring::<N, Till>::open(alloc, draft) {
-        Ok(opened) => opened,
-        Err(fault) => {
-            fault.into_book(rt);
-            return Ok(None);
-        }
-    };
-    // A clock that fails is told only once the ring is closed.
-    let started = Instant::now(rt);
-    let played = play(rt, &ring, &mut seats);
-    let ended = Instant::now(rt);
-    let is_closed = ring.close(rt, alloc, seats).is_ok();
-    let closed = Instant::now(rt);
-    let (started, ended, closed) = (started?, ended?, closed?);
-    let calls = ended.duration_since(started).as_nanos();
-    let close = closed.duration_since(ended).as_nanos();
-    if !played || !is_closed {
-        return Ok(None);
-    }
-    Ok(Some(Times { calls, close }))
-}
-
-/// Plays and closes a ring of so many seats.
-fn time<W: Wait + Clock>(rt: &W, alloc: Global, seats: u32) -> io::Result<Option<Times>>
-    requires some { 1 ≤ seats }
-    requires most { seats ≤ seat_limit }
-{
-    let Some(book) = book(alloc) else {
-        return Ok(None);
-    };
-    match Draft::new(book, seats) {
-        Ok(draft) => time_named::<Brand, W>(rt, alloc, draft),
-        Err(_) => Ok(None),
-    }
-}
-
-/// The least times of five runs.
-fn best<W: Wait + Clock>(rt: &W, alloc: Global, seats: u32) -> io::Result<Times>
-    requires some { 1 ≤ seats }
-    requires most { seats ≤ seat_limit }
-{
-    let mut best = Times {
-        calls: u128::MAX,
-        close: u128::MAX,
-    };
-    for _ in 0..5 {
-        if let Some(times) = time(rt, alloc, seats)? {
-            best.calls = best.calls.min(times.calls);
-            best.close = best.close.min(times.close);
-        }
-    }
-    Ok(best)
-}
-
-fn main(rt: HostRuntime) -> io::Result<()> {
-    if env::args(&rt)?.skip(1).next().is_some() {
-        return println!(rt; "ring_bench: times passes and the end of a ring; it takes no words");
-    }
-    let one = best(&rt, rt.alloc(), 1)?;
-    let ten = best(&rt, rt.alloc(), 10)?;
+/// Tells what a pass and the end of a ring cost.
+fn tell_passes<R: Wait + Clock + Print + AllocGlobal>(rt: &R) -> io::Result<()> {
+    let one = passes::best(rt, rt.alloc(), 1)?;
+    let ten = passes::best(rt, rt.alloc(), 10)?;
     println!(rt; "a pass, one seat: {} ns", one.calls / u128::from(EVENTS))?;
     println!(rt;
         "a pass, ten seats in turn: {} ns",
@@ -154,4 +30,48 @@ fn main(rt: HostRuntime) -> io::Result<()> {
     )?;
     let hundredths = ten.close.saturating_mul(100) / one.close.max(1);
     println!(rt; "close, ten seats to one: {hundredths} hundredths")
+}
+
+/// Tells the mean of so many looks at a ring of 256 machines.
+fn tell_mean(rt: &impl Print, what: &str, values: &str, nanos: u64) -> io::Result<()> {
+    let tenths = nanos / u64::from(LOOKS / 10);
+    println!(rt;
+        "{what}, 256 machines, {values}: {}.{} ns",
+        tenths / 10,
+        tenths % 10
+    )
+}
+
+/// Tells what looks at a ring over such a state cost.
+fn tell_state<R: Threads + Wait + Clock + Sync + Print + AllocGlobal>(
+    rt: &R,
+    values: &str,
+    step: u32,
+) -> io::Result<()> {
+    let kernels = looks::kernels(rt, rt.alloc(), step)?;
+    tell_mean(rt, "the kernels of a survey", values, kernels)?;
+    let (glances, _) = looks::glances(rt, rt.alloc(), step, 1, Look::InARow)?;
+    tell_mean(rt, "a glance", values, glances)
+}
+
+/// Tells what 99 of 100 glances at a settled ring take at most, and what of that is the clock.
+fn tell_slowest<R: Threads + Wait + Clock + Sync + Print + AllocGlobal>(rt: &R) -> io::Result<()> {
+    let clock = looks::readings(rt, rt.alloc())?;
+    println!(rt; "99 of 100 readings of the clock: at most {clock} ns")?;
+    let (nanos, _) = looks::glances(rt, rt.alloc(), SETTLED, 1, Look::OneByOne)?;
+    println!(rt; "99 of 100 glances at rest: at most {nanos} ns")?;
+    let (nanos, passes) = looks::glances(rt, rt.alloc(), SETTLED, 10, Look::OneByOne)?;
+    println!(rt; "99 of 100 glances while nine seats make {passes} passes: at most {nanos} ns")
+}
+
+fn main(rt: HostRuntime) -> io::Result<()> {
+    if env::args(&rt)?.skip(1).next().is_some() {
+        return println!(rt;
+            "ring_bench: times passes, looks and the end of a ring; it takes no words"
+        );
+    }
+    tell_passes(&rt)?;
+    tell_state(&rt, "settled", SETTLED)?;
+    tell_state(&rt, "unsettled", UNSETTLED)?;
+    tell_slowest(&rt)
 }

@@ -1,7 +1,7 @@
 use Rattle.std.proofs.Common.{ap, ◌∙◌}
 use Rattle.std.proofs.Math.Seq.{map-set_same}
 use Rattle.ring_shared.specs.Client.{Client}
-use Rattle.ring_bench.proofs.play.Goals as goal
+use Rattle.ring_bench.proofs.passes.play.Goals as goal
 
 pub returns-then-not-call : goal.returns-then-not-call
 returns-then-not-call g c =

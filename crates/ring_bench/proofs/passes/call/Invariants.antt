@@ -1,5 +1,5 @@
 use Rattle.std.proofs.Common.{◌≡◌}
-use Rattle.ring_bench.proofs.call.Given as goal
+use Rattle.ring_bench.proofs.passes.call.Given as goal
 
 abbrev pub invariant-loop-pass : goal.invariant-loop-pass
 invariant-loop-pass g l = l.seat.number ≡ l.initial.seat.number
