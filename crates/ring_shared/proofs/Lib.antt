@@ -8,3 +8,4 @@ pub mod Adding
 pub mod Stepped
 pub mod Folding
 pub mod Held
+pub mod Keeping
