@@ -23,6 +23,15 @@ pub(crate) fn refused(seat: u32, machine: u32, order: u64) -> Event {
     }
 }
 
+/// A corruption of a machine that held this old value.
+pub(crate) fn corrupted(seat: u32, machine: u32, value: u32, old: u32) -> Event {
+    Event {
+        seat,
+        op: Op::Corrupt { machine, value },
+        reply: Reply::Corrupted { old },
+    }
+}
+
 /// The receipt of an event at this position, as a log has it.
 pub(crate) fn told(position: u64, event: Event) -> Entry {
     Entry::Receipt(Receipt { position, event })

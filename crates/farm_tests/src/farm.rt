@@ -5,6 +5,8 @@ mod gates;
 mod outcomes;
 mod refusals;
 
+ghost use Rattle.std.specs.Prelude.{◌≡◌, vec_len};
+
 use crate::settings::settings_of;
 use ring_farm::{FarmError, Gate, Outcome, run_farm};
 use std::alloc::Global;
@@ -31,7 +33,9 @@ fn ran<G: Gate + Sync, W: Threads + Wait + Abort + Sync>(
 }
 
 /// The outcome, of this many rings.
-fn outcome(rt: &impl Abort, ran: Result<Outcome, FarmError>, rings: usize) -> Outcome {
+fn outcome(rt: &impl Abort, ran: Result<Outcome, FarmError>, rings: usize) -> Outcome
+    ensures { vec_len result.rings ≡ rings }
+{
     match ran {
         Ok(outcome) => {
             assert_eq!(rt; outcome.rings.len(), rings);

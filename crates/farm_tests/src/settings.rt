@@ -5,7 +5,7 @@ mod examples;
 mod readers;
 mod refusals;
 
-use ring_settings::{Settings, SettingsError, read_settings};
+use ring_settings::{Action, Plan, Settings, SettingsError, read_settings};
 use std::alloc::{AllocError, Global};
 use std::process::Abort;
 
@@ -21,6 +21,25 @@ pub(crate) fn settings_of(rt: &impl Abort, alloc: Global, text: &str) -> Setting
     }
 }
 
+/// How many rings and seats there are, the size of the first ring, and its start.
+fn has_first_ring(
+    rt: &impl Abort,
+    settings: &Settings,
+    (rings, seats): (usize, usize),
+    (n, k): (u32, u32),
+    start: &[u32],
+) {
+    let size = settings.params(0);
+    let counts = (settings.ring_count(), settings.seat_count());
+    assert_eq!(rt; (counts, size.n(), size.k()), ((rings, seats), n, k));
+    assert_eq!(rt; settings.start(0), start);
+}
+
+/// A plan has these actions.
+fn is_plan(rt: &impl Abort, plan: &Plan, actions: &[Action]) {
+    assert_eq!(rt; plan.actions.as_slice(), actions);
+}
+
 /// Why a text is refused.
 fn refusal(rt: &impl Abort, alloc: Global, text: &str) -> SettingsError {
     match read_settings(alloc, text.as_bytes()) {
@@ -30,7 +49,7 @@ fn refusal(rt: &impl Abort, alloc: Global, text: &str) -> SettingsError {
 }
 
 /// An array of this many equal entries.
-fn array_of(alloc: Global, entry: &str, count: usize) -> Result<String, AllocError> {
+pub(crate) fn array_of(alloc: Global, entry: &str, count: usize) -> Result<String, AllocError> {
     let mut text = String::new(alloc);
     text.push_str("[")?;
     for i in 0..count {

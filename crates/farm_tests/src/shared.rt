@@ -5,17 +5,18 @@ mod readers;
 mod threads;
 mod watched;
 
-ghost use Rattle.std.specs.Prelude.{◌≡◌, ◌≢◌, ◌<◌, ◌≤◌, ◌∷◌, [], eqb, length, map, vec_capacity, IfSome};
+ghost use Rattle.std.specs.Prelude.{◌≡◌, ◌≢◌, ◌<◌, ◌≤◌, ◌∷◌, [], eqb, length, map, vec_capacity, IfSome, IfOk, IfErr};
 ghost use Rattle.std.specs.List.{IsDistinct};
 ghost use Rattle.ring_model.specs.Resources.{till};
 ghost use Rattle.ring_shared.specs.Holding.{MeansLegal};
 
-use crate::events::{granted, refused, told};
+use crate::events::{corrupted, granted, refused, told};
 use calls::{
-    Act, closed_well, glanced, handed_back, is_told, pass_often, play, seen, told_by, with_room,
+    Act, Call, End, ends, glanced, is_told, looked, made, pass_often, play, seen, surveyed,
+    told_by, with_room,
 };
 use ring_book::{Book, BookError, Till};
-use ring_model::{Event, Op, Reply, Survey};
+use ring_model::{Event, Survey};
 use ring_shared::{CloseReason, Draft, Entry, Name, OpenReason, Ring, Seat};
 use ring_state::{Params, RingState};
 use std::alloc::Global;
@@ -28,19 +29,27 @@ use threads::pass_at_once;
 /// What is done with a ring over a till that has two seats. Its machines have as many values as there are machines.
 #[derive(Clone, Copy)]
 enum Script {
-    /// Memory may be refused once where it is scarce.
-    CallInTurn { scarce: bool },
-    CallUnsettled,
-    SurveyAtOnePlace,
+    Calls { scene: Scene, scarce: bool },
     CallInTwoThreads,
     CloseOneSeatShort,
     CallUntilFull,
 }
 
+/// Calls one after another. Memory may be refused once where it is scarce.
+#[derive(Clone, Copy)]
+enum Scene {
+    InTurn,
+    Unsettled,
+    AtOnePlace,
+}
+
 /// The values that the ring's machines start with.
 fn start_of(script: Script) -> &'static [u32] {
     match script {
-        Script::CallUnsettled => &[0, 2, 0],
+        Script::Calls {
+            scene: Scene::Unsettled,
+            ..
+        } => &[0, 2, 0],
         _ => &[0, 0],
     }
 }
@@ -98,6 +107,36 @@ fn run_over<W: Threads + Wait + Abort + Sync>(
     run_named::<Brand, W>(rt, alloc, draft, script)
 }
 
+/// A ring of two seats that did nothing yet, and the two; or the book, where there was no memory.
+fn opened<N: Name, W: Wait + Abort>(
+    rt: &W,
+    alloc: Global,
+    draft: Draft<Till>,
+) -> Result<(Ring<N, Till>, (Seat<N>, Seat<N>)), Book<Till>>
+    requires start { draft.book.start ≡ N.start }
+    requires seats { draft.seats ≡ N.seats }
+    requires log { draft.log ≡ N.log }
+    requires legal { MeansLegal till 0 N.start N.legal }
+    ensures first { IfOk result (λ t. t.1.0.number ≡ 0) }
+    ensures second { IfOk result (λ t. t.1.1.number ≡ 1) }
+    ensures back { IfErr result (λ b. b ≡ draft.book) }
+{
+    let (ring, mut seats) = match Ring::<N, Till>::open(alloc, draft) {
+        Ok(opened) => opened,
+        Err(fault) => {
+            assert_eq!(rt; fault.reason, OpenReason::OutOfMemory);
+            return Err(fault.into_book(rt));
+        }
+    };
+    let (Some(second), Some(first)) = (seats.pop(), seats.pop()) else {
+        panic!(rt; "there are two seats");
+    };
+    assert_eq!(rt; first.number(), 0);
+    assert_eq!(rt; second.number(), 1);
+    assert_eq!(rt; (first.log().len(), second.log().len()), (0, 0));
+    Ok((ring, (first, second)))
+}
+
 fn run_named<N: Name + Send + Sync, W: Threads + Wait + Abort + Sync>(
     rt: &W,
     alloc: Global,
@@ -110,30 +149,17 @@ fn run_named<N: Name + Send + Sync, W: Threads + Wait + Abort + Sync>(
     requires legal { MeansLegal till 0 N.start N.legal }
     requires machines { 2 ≤ length N.start.values }
     requires values { 2 ≤ N.start.k }
-    requires two { N.seats ≡ 2 }
     ensures { IfSome result (λ b. b ≡ draft.book) }
 {
-    let (ring, mut seats) = match Ring::<N, Till>::open(alloc, draft) {
+    let (ring, seats) = match opened::<N, W>(rt, alloc, draft) {
         Ok(opened) => opened,
-        Err(fault) => {
-            assert_eq!(rt; fault.reason, OpenReason::OutOfMemory);
-            return Some(fault.into_book(rt));
-        }
+        Err(book) => return Some(book),
     };
-    let (Some(second), Some(first)) = (seats.pop(), seats.pop()) else {
-        panic!(rt; "there are two seats");
-    };
-    assert_eq!(rt; first.number(), 0);
-    assert_eq!(rt; second.number(), 1);
-    assert_eq!(rt; first.log().len(), 0);
-    assert_eq!(rt; second.log().len(), 0);
     match script {
-        Script::CallInTurn { scarce } => call_in_turn(rt, alloc, ring, first, second, scarce),
-        Script::CallUnsettled => call_unsettled(rt, alloc, ring, first, second),
-        Script::SurveyAtOnePlace => survey_at_one_place(rt, alloc, ring, first, second),
-        Script::CallInTwoThreads => call_in_two_threads(rt, alloc, ring, first, second),
-        Script::CloseOneSeatShort => close_one_seat_short(rt, alloc, ring, first, second),
-        Script::CallUntilFull => call_until_full(rt, alloc, ring, first, second),
+        Script::Calls { scene, scarce } => call(rt, alloc, ring, seats, scene, scarce),
+        Script::CallInTwoThreads => call_in_two_threads(rt, alloc, ring, seats),
+        Script::CloseOneSeatShort => close_one_seat_short(rt, alloc, ring, seats),
+        Script::CallUntilFull => call_until_full(rt, alloc, ring, seats),
     }
     None
 }
@@ -170,152 +196,154 @@ fn alone<N: Name>(rt: &impl Abort, alloc: Global, one: Seat<N>) -> Vec<Seat<N>>
     seats
 }
 
-fn call_in_turn<N: Name, W: Wait + Abort>(
+fn call<N: Name, W: Wait + Abort>(
     rt: &W,
     alloc: Global,
     ring: Ring<N, Till>,
-    first: Seat<N>,
-    second: Seat<N>,
+    seats: (Seat<N>, Seat<N>),
+    scene: Scene,
     scarce: bool,
 )
     requires machines { 2 ≤ length N.start.values }
     requires values { 2 ≤ N.start.k }
-    requires first { first.number ≡ 0 }
-    requires second { second.number ≡ 1 }
+    requires first { seats.0.number ≡ 0 }
+    requires second { seats.1.number ≡ 1 }
 {
-    let pass = granted(0, 0, 3, 1, 3);
-    let corruption = Event {
-        seat: 1,
-        op: Op::Corrupt {
-            machine: 0,
-            value: 0,
-        },
-        reply: Reply::Corrupted { old: 1 },
-    };
-    let survey = seen(1, 1, 1, 1, 0);
-    let survey_behind_both = seen(2, 1, 0, 0, 0);
-    let passing = Act::Pass {
-        machine: 0,
-        order: 3,
-    };
-    let corrupting = Act::Corrupt {
-        machine: 0,
-        value: 0,
-    };
-    let first_calls = [(passing, told(0, pass)), (Act::Survey, survey)];
-    let second_calls = [(Act::Survey, survey), (corrupting, told(1, corruption))];
-    let first = play(rt, &ring, first, &first_calls, scarce);
-    let first = with_room(rt, first, scarce);
-    let second = play(rt, &ring, second, &second_calls[..1], scarce);
-    let second = glanced(rt, &ring, second, survey);
-    let second = play(rt, &ring, second, &second_calls[1..], scarce);
-    let first = glanced(rt, &ring, first, survey_behind_both);
-    let second = glanced(rt, &ring, second, survey_behind_both);
-    let seats = both(rt, alloc, second, first);
-    let events = [pass, corruption];
-    match ring.close(rt, alloc, seats) {
-        Ok(closed) => closed_well(rt, &closed, &events, &first_calls, &second_calls),
-        Err(fault) => {
-            assert!(rt; scarce);
-            handed_back(rt, &fault, &events, &first_calls, &second_calls);
-        }
+    match scene {
+        Scene::InTurn => call_in_turn(rt, alloc, ring, seats, scarce),
+        Scene::Unsettled => call_unsettled(rt, alloc, ring, seats, scarce),
+        Scene::AtOnePlace => survey_at_one_place(rt, alloc, ring, seats, scarce),
     }
 }
 
-// The machines hold 0, 2, 0, then 1, 2, 0, then 1, 1, 0.
+/// The machines hold 0, 0, then 1, 0, then 0, 0.
+fn in_turn(events: [Event; 2]) -> [Call; 7] {
+    let survey = seen(1, 1, 1, 1, 0);
+    let survey_behind_both = seen(2, 1, 0, 0, 0);
+    [
+        made(0, events[0]),
+        surveyed(0, survey),
+        surveyed(1, survey),
+        looked(1, survey),
+        made(1, events[1]),
+        looked(0, survey_behind_both),
+        looked(1, survey_behind_both),
+    ]
+}
+
+fn call_in_turn<N: Name, W: Wait + Abort>(
+    rt: &W,
+    alloc: Global,
+    ring: Ring<N, Till>,
+    seats: (Seat<N>, Seat<N>),
+    scarce: bool,
+)
+    requires machines { 2 ≤ length N.start.values }
+    requires values { 2 ≤ N.start.k }
+    requires first { seats.0.number ≡ 0 }
+    requires second { seats.1.number ≡ 1 }
+{
+    let events = [granted(0, 0, 3, 1, 3), corrupted(1, 0, 0, 1)];
+    let calls = in_turn(events);
+    let (first, second) = play(rt, alloc, &ring, seats, &calls[..2], scarce);
+    let first = with_room(rt, first, scarce);
+    let seats = play(rt, alloc, &ring, (first, second), &calls[2..], scarce);
+    let end = End {
+        calls: &calls,
+        events: &events,
+        survey: seen(2, 1, 0, 0, 0),
+    };
+    ends(rt, alloc, ring, seats, end, scarce)
+}
+
+/// The machines hold 0, 2, 0, then 1, 2, 0, then 1, 1, 0.
+fn unsettled(events: [Event; 2]) -> [Call; 6] {
+    let survey_between = seen(1, 2, 1, 1, 3);
+    [
+        surveyed(0, seen(0, 3, 0, 0, 6)),
+        made(0, events[0]),
+        surveyed(0, survey_between),
+        surveyed(1, survey_between),
+        made(1, events[1]),
+        surveyed(1, seen(2, 1, 2, 2, 0)),
+    ]
+}
+
 fn call_unsettled<N: Name, W: Wait + Abort>(
     rt: &W,
     alloc: Global,
     ring: Ring<N, Till>,
-    first: Seat<N>,
-    second: Seat<N>,
+    seats: (Seat<N>, Seat<N>),
+    scarce: bool,
 )
     requires machines { 2 ≤ length N.start.values }
     requires values { 2 ≤ N.start.k }
-    requires first { first.number ≡ 0 }
-    requires second { second.number ≡ 1 }
+    requires first { seats.0.number ≡ 0 }
+    requires second { seats.1.number ≡ 1 }
 {
     let events = [granted(0, 0, 1, 1, 1), granted(1, 1, 1, 2, 2)];
-    let pass_first = Act::Pass {
-        machine: 0,
-        order: 1,
+    let calls = unsettled(events);
+    let seats = play(rt, alloc, &ring, seats, &calls, scarce);
+    let end = End {
+        calls: &calls,
+        events: &events,
+        survey: seen(2, 1, 2, 2, 0),
     };
-    let pass_second = Act::Pass {
-        machine: 1,
-        order: 1,
-    };
-    let first_calls = [
-        (Act::Survey, seen(0, 3, 0, 0, 6)),
-        (pass_first, told(0, events[0])),
-        (Act::Survey, seen(1, 2, 1, 1, 3)),
-    ];
-    let second_calls = [
-        (Act::Survey, seen(1, 2, 1, 1, 3)),
-        (pass_second, told(1, events[1])),
-        (Act::Survey, seen(2, 1, 2, 2, 0)),
-    ];
-    let first = play(rt, &ring, first, &first_calls, false);
-    let second = play(rt, &ring, second, &second_calls, false);
-    let seats = both(rt, alloc, second, first);
-    match ring.close(rt, alloc, seats) {
-        Ok(closed) => closed_well(rt, &closed, &events, &first_calls, &second_calls),
-        Err(fault) => panic!(rt; "{:?}", fault.reason),
-    }
+    ends(rt, alloc, ring, seats, end, scarce)
 }
 
-// Both seats survey the start and the end of the history, one of them twice.
+/// Both seats survey the start and the end of the history, one of them twice.
+fn at_one_place(pass: Event) -> [Call; 7] {
+    let start = seen(0, 1, 0, 0, 0);
+    let end = seen(1, 1, 1, 1, 0);
+    [
+        surveyed(0, start),
+        surveyed(0, start),
+        surveyed(1, start),
+        made(0, pass),
+        surveyed(0, end),
+        surveyed(1, end),
+        surveyed(1, end),
+    ]
+}
+
 fn survey_at_one_place<N: Name, W: Wait + Abort>(
     rt: &W,
     alloc: Global,
     ring: Ring<N, Till>,
-    first: Seat<N>,
-    second: Seat<N>,
+    seats: (Seat<N>, Seat<N>),
+    scarce: bool,
 )
     requires machines { 2 ≤ length N.start.values }
     requires values { 2 ≤ N.start.k }
-    requires first { first.number ≡ 0 }
-    requires second { second.number ≡ 1 }
+    requires first { seats.0.number ≡ 0 }
+    requires second { seats.1.number ≡ 1 }
 {
     let pass = granted(0, 0, 3, 1, 3);
-    let passing = Act::Pass {
-        machine: 0,
-        order: 3,
+    let calls = at_one_place(pass);
+    let seats = play(rt, alloc, &ring, seats, &calls, scarce);
+    let end = End {
+        calls: &calls,
+        events: &[pass],
+        survey: seen(1, 1, 1, 1, 0),
     };
-    let passed = (passing, told(0, pass));
-    let start = (Act::Survey, seen(0, 1, 0, 0, 0));
-    let end = (Act::Survey, seen(1, 1, 1, 1, 0));
-    let first = play(rt, &ring, first, &[start, start], false);
-    let second = play(rt, &ring, second, &[start], false);
-    let first = play(rt, &ring, first, &[passed, end], false);
-    let second = play(rt, &ring, second, &[end, end], false);
-    let seats = both(rt, alloc, second, first);
-    match ring.close(rt, alloc, seats) {
-        Ok(closed) => closed_well(
-            rt,
-            &closed,
-            &[pass],
-            &[start, start, passed, end],
-            &[start, end, end],
-        ),
-        Err(fault) => panic!(rt; "{:?}", fault.reason),
-    }
+    ends(rt, alloc, ring, seats, end, scarce)
 }
 
 fn call_in_two_threads<N: Name + Send + Sync, W: Threads + Wait + Abort + Sync>(
     rt: &W,
     alloc: Global,
     ring: Ring<N, Till>,
-    first: Seat<N>,
-    second: Seat<N>,
+    seats: (Seat<N>, Seat<N>),
 )
     requires machines { 2 ≤ length N.start.values }
     requires values { 2 ≤ N.start.k }
-    requires first { first.number ≡ 0 }
-    requires second { second.number ≡ 1 }
+    requires first { seats.0.number ≡ 0 }
+    requires second { seats.1.number ≡ 1 }
 {
-    let (mut first, mut second) = pass_at_once(rt, &ring, first, second);
-    let one = told_by(rt, &ring, &mut first, Act::Survey);
-    let other = told_by(rt, &ring, &mut second, Act::Survey);
+    let (mut first, mut second) = pass_at_once(rt, &ring, seats.0, seats.1);
+    let one = told_by(rt, alloc, &ring, &mut first, Act::Survey);
+    let other = told_by(rt, alloc, &ring, &mut second, Act::Survey);
     assert_eq!(rt; one, other);
     assert!(rt;
         matches!(
@@ -347,19 +375,14 @@ fn close_one_seat_short<N: Name, W: Wait + Abort>(
     rt: &W,
     alloc: Global,
     ring: Ring<N, Till>,
-    first: Seat<N>,
-    _second: Seat<N>,
+    seats: (Seat<N>, Seat<N>),
 )
     requires machines { 2 ≤ length N.start.values }
     requires values { 2 ≤ N.start.k }
 {
     let idle = refused(0, 1, 5);
-    let passing = Act::Pass {
-        machine: 1,
-        order: 5,
-    };
-    let calls = [(passing, told(0, idle))];
-    let first = play(rt, &ring, first, &calls, false);
+    let calls = [made(0, idle)];
+    let (first, _second) = play(rt, alloc, &ring, seats, &calls, false);
     let seats = alone(rt, alloc, first);
     match ring.close(rt, alloc, seats) {
         Ok(_) => panic!(rt; "a seat is missing"),
@@ -368,36 +391,46 @@ fn close_one_seat_short<N: Name, W: Wait + Abort>(
             assert_eq!(rt; fault.book.history(), [idle].as_slice());
             assert_eq!(rt; fault.seats.len(), 1);
             assert_eq!(rt; fault.seats[0].number(), 0);
-            is_told(rt, fault.seats[0].log(), &calls);
+            is_told(rt, fault.seats[0].log(), 0, &calls);
         }
     }
 }
 
-/// No further call is taken, and each is told why.
-fn is_full<N: Name, W: Wait + Abort>(rt: &W, ring: &Ring<N, Till>, seat: &mut Seat<N>)
+/// No further call is taken, and each is told why; what the seat was told and sees stays.
+fn stays_full<N: Name, W: Wait + Abort>(rt: &W, ring: &Ring<N, Till>, seat: Seat<N>) -> Seat<N>
     requires machines { 2 ≤ length N.start.values }
     requires values { 2 ≤ N.start.k }
-    ensures { seat.new.number ≡ seat.old.number }
+    ensures { result.number ≡ seat.number }
 {
-    assert_eq!(rt; ring.pass(rt, seat, 0, 1), Err(BookError::HistoryFull));
-    assert_eq!(rt; ring.corrupt(rt, seat, 0, 1), Err(BookError::HistoryFull));
+    let survey = seen(4_000_000, 1, 1, 1, 0);
+    let last = told(3_999_999, refused(0, 0, 1));
+    let mut seat = glanced(rt, ring, seat, survey);
+    assert_eq!(rt; ring.pass(rt, &mut seat, 0, 1), Err(BookError::HistoryFull));
+    assert_eq!(rt;
+        ring.corrupt(rt, &mut seat, 0, 1),
+        Err(BookError::HistoryFull)
+    );
+    assert_eq!(rt;
+        (seat.log().len(), seat.log().last().copied()),
+        (4_000_000, Some(last))
+    );
+    glanced(rt, ring, seat, survey)
 }
 
 fn call_until_full<N: Name, W: Wait + Abort>(
     rt: &W,
     alloc: Global,
     ring: Ring<N, Till>,
-    first: Seat<N>,
-    second: Seat<N>,
+    seats: (Seat<N>, Seat<N>),
 )
     requires machines { 2 ≤ length N.start.values }
     requires values { 2 ≤ N.start.k }
-    requires first { first.number ≡ 0 }
-    requires second { second.number ≡ 1 }
+    requires first { seats.0.number ≡ 0 }
+    requires second { seats.1.number ≡ 1 }
 {
-    let mut first = pass_often(rt, &ring, first, 0, 4_000_000);
-    is_full(rt, &ring, &mut first);
-    assert_eq!(rt; first.log().len(), 4_000_000);
+    let (first, second) = seats;
+    let first = pass_often(rt, &ring, first, 0, 4_000_000);
+    let first = stays_full(rt, &ring, first);
     let seats = both(rt, alloc, first, second);
     match ring.close(rt, alloc, seats) {
         Ok(closed) => {
@@ -412,25 +445,31 @@ fn call_until_full<N: Name, W: Wait + Abort>(
     }
 }
 
-#[test]
-fn two_seats_call_in_turn(rt: HostRuntime) {
-    run(&rt, rt.alloc(), Script::CallInTurn { scarce: false });
+/// Plays this scene.
+fn run_calls<W: Threads + Wait + Abort + Sync>(rt: &W, alloc: Global, scene: Scene, scarce: bool) {
+    run(rt, alloc, Script::Calls { scene, scarce });
 }
 
-// Passes too where any one request for memory is refused, as `bench/refused_memory.sh` has it.
+#[test]
+fn two_seats_call_in_turn(rt: HostRuntime) {
+    run_calls(&rt, rt.alloc(), Scene::InTurn, false);
+}
+
+// Passes too where any one request for memory is refused, and where each is between the marks round a glance and a
+// book's survey, as `bench/refused_memory.sh` has both.
 #[test]
 fn want_of_memory_changes_nothing(rt: HostRuntime) {
-    run(&rt, rt.alloc(), Script::CallInTurn { scarce: true });
+    run_calls(&rt, rt.alloc(), Scene::InTurn, true);
 }
 
 #[test]
 fn two_seats_survey_an_unsettled_ring(rt: HostRuntime) {
-    run(&rt, rt.alloc(), Script::CallUnsettled);
+    run_calls(&rt, rt.alloc(), Scene::Unsettled, false);
 }
 
 #[test]
 fn two_seats_survey_at_one_place(rt: HostRuntime) {
-    run(&rt, rt.alloc(), Script::SurveyAtOnePlace);
+    run_calls(&rt, rt.alloc(), Scene::AtOnePlace, false);
 }
 
 #[test]

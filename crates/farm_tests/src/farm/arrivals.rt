@@ -1,6 +1,6 @@
 //! How the workers of a farm come to its gate, each on a thread of its own.
 
-use super::gates::{Arrival, BothRings, Crossed, Together, new_tally};
+use super::gates::{Arrival, BothRings, Crossed, Tally, Together, new_tally};
 use super::{CROSSING, IDLE, outcome, ran, refusal};
 use crate::settings::SCRIPTED;
 use ring_farm::FarmError;
@@ -12,6 +12,15 @@ const INTERLEAVED: &str =
 
 /// One call by each of ten workers, as a tally has it.
 const ONE_EACH: u64 = 18_300_341_342_965_825;
+
+/// What a tally counted: the calls on each of two rings, and those with a wrong number.
+fn counts(gate: &Tally) -> (u64, u64, u64) {
+    (
+        gate.first.load(Ordering::SeqCst),
+        gate.second.load(Ordering::SeqCst),
+        gate.wrong.load(Ordering::SeqCst),
+    )
+}
 
 /// The arrival that a gate is shut at.
 fn at(ring: u32, worker: u32, call: u32) -> Option<Arrival> {
@@ -38,10 +47,11 @@ fn each_call_has_its_ring_its_worker_and_its_number(rt: HostRuntime) {
     ] {
         let gate = new_tally(shut_at);
         let ran = ran(&rt, alloc, text, &gate);
-        assert_eq!(rt; refusal(ran), want, "under {text}");
-        assert_eq!(rt; gate.wrong.load(Ordering::SeqCst), 0, "under {text}");
-        assert_eq!(rt; gate.first.load(Ordering::SeqCst), first, "under {text}");
-        assert_eq!(rt; gate.second.load(Ordering::SeqCst), second, "under {text}");
+        assert_eq!(rt;
+            (refusal(ran), counts(&gate)),
+            (want, (first, second, 0)),
+            "under {text}"
+        );
     }
 }
 
@@ -54,7 +64,6 @@ fn ten_workers_are_there_at_once(rt: HostRuntime) {
     };
     let outcome = outcome(&rt, ran(&rt, alloc, IDLE, &gate), 1);
     assert_eq!(rt; gate.arrived.load(Ordering::SeqCst), 10);
-    assert_eq!(rt; outcome.rings.len(), 1);
     assert_eq!(rt; outcome.rings[0].book.history().len(), 0);
     assert_eq!(rt; outcome.rings[0].logs.len(), 10);
 }

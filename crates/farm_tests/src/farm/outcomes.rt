@@ -3,16 +3,24 @@
 use super::gates::{Crossed, waiting};
 use super::{CROSSING, outcome, ran};
 use crate::events::{granted, refused, told};
-use crate::settings::{SCRIPTED, settings_of};
+use crate::settings::{SCRIPTED, array_of, settings_of};
+use ring_book::{Book, Till};
 use ring_farm::{FarmError, Open, Outcome, run_farm};
 use ring_model::Survey;
 use ring_settings::{Action, Plan, SettingsError, plans, read_settings};
 use ring_shared::Entry;
+use std::alloc::Global;
 use std::process::Abort;
+use std::sync::Wait;
+use std::thread::Threads;
 
 /// Two rings, four drawn workers and an injector.
 const DRAWN: &str =
     r#"{"rings":[{"n":3,"k":3,"start":[0,0,0]},{"n":8,"k":16,"start":[0,0,0,0,0,0,0,0]}],"workers":[{"seed":1,"actions":500},{"seed":2,"actions":500},{"seed":3,"actions":500},{"seed":4,"actions":500}],"injector":{"seed":5,"actions":50}}"#;
+
+/// A worker with nothing to do, and an injector that corrupts a million times.
+const CORRUPTED_ALONE: &str =
+    r#"{"rings":[{"n":2,"k":2,"start":[0,0]}],"workers":[{"script":[]}],"injector":{"seed":5,"actions":1000000}}"#;
 
 /// A worker with one pass, and an injector that corrupts a million times.
 const CORRUPTED: &str =
@@ -77,16 +85,55 @@ fn arrivals_wait_for_each_other(rt: HostRuntime) {
     let alloc = rt.alloc();
     let gate: Crossed = waiting();
     let outcome = outcome(&rt, ran(&rt, alloc, CROSSING, &gate), 1);
-    assert_eq!(rt; outcome.rings.len(), 1);
     let events = [refused(1, 1, 7), granted(0, 0, 7, 1, 7)];
     assert_eq!(rt; outcome.rings[0].book.history(), events.as_slice());
 }
 
+/// A farm of one ring makes so many events.
+fn makes<W: Threads + Wait + Abort + Sync>(rt: &W, alloc: Global, text: &str, events: usize) {
+    let outcome = outcome(rt, ran(rt, alloc, text, &Open), 1);
+    assert_eq!(rt; outcome.rings[0].book.history().len(), events);
+}
+
+#[test]
+fn a_history_has_a_million_events(rt: HostRuntime) {
+    makes(&rt, rt.alloc(), CORRUPTED_ALONE, 1_000_000);
+}
+
 #[test]
 fn a_history_goes_past_a_million_events(rt: HostRuntime) {
-    let outcome = outcome(&rt, ran(&rt, rt.alloc(), CORRUPTED, &Open), 1);
-    assert_eq!(rt; outcome.rings.len(), 1);
-    assert_eq!(rt; outcome.rings[0].book.history().len(), 1_000_001);
+    makes(&rt, rt.alloc(), CORRUPTED, 1_000_001);
+}
+
+/// One of sixteen rings.
+const EIGHT: &str = r#"{"n":8,"k":16,"start":[0,0,0,0,0,0,0,0]}"#;
+
+/// Nine drawn workers and an injector.
+const SEATS: &str =
+    r#""workers":[{"seed":1,"actions":2000},{"seed":2,"actions":2000},{"seed":3,"actions":2000},{"seed":4,"actions":2000},{"seed":5,"actions":2000},{"seed":6,"actions":2000},{"seed":7,"actions":2000},{"seed":8,"actions":2000},{"seed":9,"actions":2000}],"injector":{"seed":10,"actions":2000}"#;
+
+/// Settles a book that was handed out, by at most as many passes as its survey says.
+fn settles(rt: &impl Abort, book: Book<Till>) {
+    let mut book = book;
+    let rest = book.survey().rest;
+    match book.settle(0) {
+        Ok(passes) => assert!(rt; passes <= rest),
+        Err(fault) => panic!(rt; "{fault}"),
+    }
+    let survey = book.survey();
+    assert_eq!(rt; (survey.privileged, survey.rest), (1, 0));
+}
+
+#[test]
+fn books_that_are_handed_out_settle(rt: HostRuntime) -> Result<(), std::test::Fail> {
+    let alloc = rt.alloc();
+    let rings = array_of(alloc, EIGHT, 16)?;
+    let text = format!(in alloc; "{{\"rings\":{rings},{SEATS}}}")?;
+    let Outcome { rings } = outcome(&rt, ran(&rt, alloc, text.as_str(), &Open), 16);
+    for ring in rings {
+        settles(&rt, ring.book);
+    }
+    Ok(())
 }
 
 /// The calls of a log, and its surveys.

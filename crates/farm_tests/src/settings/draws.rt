@@ -3,7 +3,7 @@
 ghost use Rattle.std.specs.Prelude.{◌%◌, ◌/◌, ◌^◌, ℕ};
 ghost use Rattle.rand_core.specs.Steps.{stream_of, steps_u32};
 
-use super::settings_of;
+use super::{is_plan, settings_of};
 use rand_core::Rng;
 use rand_core::utils::{self, NextWord};
 use rand_pcg::Lcg64Xsh32;
@@ -90,7 +90,7 @@ fn four_words_give_one_action(rt: HostRuntime) -> Result<(), Fail> {
     ] {
         let mut g = generator_of(words);
         let plan = draw_plan(alloc, &mut g, role, &rings, 1)?;
-        assert_eq!(rt; plan.actions.as_slice(), [want].as_slice());
+        is_plan(&rt, &plan, &[want]);
         assert_eq!(rt; g.0, 0);
     }
     let mut g = generator_of([1, 2, 3, 4]);
@@ -106,7 +106,7 @@ fn four_words_give_one_action(rt: HostRuntime) -> Result<(), Fail> {
 
 /// The first six words of PCG32 with state 42 and stream 54, as its author's demonstration prints them.
 #[test]
-fn words_are_those_of_pcg32(rt: HostRuntime) -> Result<(), Fail> {
+fn words_are_those_of_pcg32(rt: HostRuntime) {
     let mut g = Lcg64Xsh32::new(42, 54);
     for want in [
         0xa15c_02b7,
@@ -118,17 +118,19 @@ fn words_are_those_of_pcg32(rt: HostRuntime) -> Result<(), Fail> {
     ] {
         assert_eq!(rt; g.next_u32(), want);
     }
+}
+
+/// An action takes the first four of them.
+#[test]
+fn an_action_is_drawn_of_pcg32(rt: HostRuntime) -> Result<(), Fail> {
     let mut g = Lcg64Xsh32::new(42, 54);
     let plan = draw_plan(rt.alloc(), &mut g, Role::Worker, &[Params::new(3, 3)?], 1)?;
-    assert_eq!(rt;
-        plan.actions.as_slice(),
-        [Action::Pass {
-            ring: 0,
-            machine: 2,
-            order: 0x83d2_f293
-        }]
-        .as_slice()
-    );
+    let pass = Action::Pass {
+        ring: 0,
+        machine: 2,
+        order: 0x83d2_f293,
+    };
+    is_plan(&rt, &plan, &[pass]);
     assert_eq!(rt; g.next_u32(), 0xbfa4_784b);
     Ok(())
 }

@@ -1,6 +1,6 @@
 //! The settings files of the repository's `examples`, byte for byte, and what they hold.
 
-use super::settings_of;
+use super::{is_plan, settings_of};
 use ring_settings::{Action, plans};
 use std::test::Fail;
 
@@ -102,17 +102,11 @@ fn a_script_is_its_seats_plan(rt: HostRuntime) -> Result<(), Fail> {
     let all = plans(alloc, &settings_of(&rt, alloc, SCRIPT))?;
     assert_eq!(rt; all.len(), 2);
     assert_eq!(rt; all[0].actions.len(), 4);
-    assert_eq!(rt;
-        all[1].actions.as_slice(),
-        [
-            Action::Corrupt {
-                ring: 0,
-                machine: 1,
-                value: 2
-            },
-            Action::Survey { ring: 0 }
-        ]
-        .as_slice()
-    );
+    let corruption = Action::Corrupt {
+        ring: 0,
+        machine: 1,
+        value: 2,
+    };
+    is_plan(&rt, &all[1], &[corruption, Action::Survey { ring: 0 }]);
     Ok(())
 }

@@ -3,6 +3,7 @@
 use super::{SCRIPTED, array_of, refusal, settings_of};
 use ring_settings::{Field, RingCause, SeatSetting, SettingsError, plans, read_settings};
 use std::alloc::{AllocError, Global};
+use std::process::Abort;
 use std::test::Fail;
 
 /// A document with this as its one ring, and one worker.
@@ -15,16 +16,22 @@ fn seats_text(alloc: Global, members: &str) -> Result<String, AllocError> {
     format!(in alloc; "{{\"rings\":[{{\"n\":3,\"k\":3,\"start\":[0,2,0]}}]{members}}}")
 }
 
+/// An array in an array, and so on, 200 of them.
+fn nested(alloc: Global) -> Result<String, AllocError> {
+    let open = "[".repeat(alloc, 200)?;
+    let close = "]".repeat(alloc, 200)?;
+    format!(in alloc; "{open}{close}")
+}
+
+/// The text is refused for this.
+fn is_refused(rt: &impl Abort, alloc: Global, text: &str, want: SettingsError) {
+    assert_eq!(rt; refusal(rt, alloc, text), want, "at {text}");
+}
+
 #[test]
 fn what_is_no_object_is_refused_first(rt: HostRuntime) -> Result<(), Fail> {
     let alloc = rt.alloc();
-    let mut deep = String::new(alloc);
-    for _ in 0..200 {
-        deep.push_str("[")?;
-    }
-    for _ in 0..200 {
-        deep.push_str("]")?;
-    }
+    let deep = nested(alloc)?;
     for (text, want) in [
         ("", SettingsError::Json),
         ("{", SettingsError::Json),
@@ -36,7 +43,7 @@ fn what_is_no_object_is_refused_first(rt: HostRuntime) -> Result<(), Fail> {
         (r#"{"rings":[]}"#, SettingsError::Limit(Field::Rings)),
         (r#"{"rings":[7]}"#, SettingsError::Shape(Field::Rings)),
     ] {
-        assert_eq!(rt; refusal(&rt, alloc, text), want, "at {text}");
+        is_refused(&rt, alloc, text, want);
     }
     match read_settings(alloc, &[255]) {
         Ok(_) => panic!(rt; "not text"),
@@ -109,19 +116,28 @@ fn a_ring_is_refused_by_its_first_fault(rt: HostRuntime) -> Result<(), Fail> {
         ),
     ] {
         let text = ring_text(alloc, ring)?;
-        assert_eq!(rt; refusal(&rt, alloc, text.as_str()), want, "at {ring}");
+        is_refused(&rt, alloc, text.as_str(), want);
     }
+    Ok(())
+}
+
+#[test]
+fn the_first_bad_ring_is_told(rt: HostRuntime) {
+    let alloc = rt.alloc();
     let second = r#"{"rings":[{"n":3,"k":3,"start":[0,2,0]},{"n":1,"k":1,"start":[0]},{"k":1}]}"#;
-    assert_eq!(rt;
-        refusal(&rt, alloc, second),
-        SettingsError::Ring(1, RingCause::TooFew)
+    is_refused(
+        &rt,
+        alloc,
+        second,
+        SettingsError::Ring(1, RingCause::TooFew),
     );
     let bare = r#"{"rings":[{"n":4,"k":3,"start":[]}],"workers":[]}"#;
-    assert_eq!(rt;
-        refusal(&rt, alloc, bare),
-        SettingsError::Ring(0, RingCause::FewValues)
+    is_refused(
+        &rt,
+        alloc,
+        bare,
+        SettingsError::Ring(0, RingCause::FewValues),
     );
-    Ok(())
 }
 
 #[test]
@@ -171,7 +187,7 @@ fn a_seat_is_refused_by_its_first_fault(rt: HostRuntime) -> Result<(), Fail> {
         ),
     ] {
         let text = seats_text(alloc, members)?;
-        assert_eq!(rt; refusal(&rt, alloc, text.as_str()), want, "at {members}");
+        is_refused(&rt, alloc, text.as_str(), want);
     }
     Ok(())
 }
@@ -200,11 +216,7 @@ fn what_is_no_action_is_refused_by_its_place(rt: HostRuntime) -> Result<(), Fail
     ] {
         let text = format!(in alloc; ",\"workers\":[{{\"script\":[[\"survey\",0],{entry},7]}}]")?;
         let document = seats_text(alloc, text.as_str())?;
-        assert_eq!(rt;
-            refusal(&rt, alloc, document.as_str()),
-            SettingsError::Script(0, 1),
-            "at {entry}"
-        );
+        is_refused(&rt, alloc, document.as_str(), SettingsError::Script(0, 1));
     }
     Ok(())
 }
@@ -240,26 +252,30 @@ fn limits_of_rings_and_workers_are_exact(rt: HostRuntime) -> Result<(), Fail> {
     Ok(())
 }
 
+/// A document whose worker has a script of so many equal entries.
+fn script_text(alloc: Global, entry: &str, count: usize) -> Result<String, AllocError> {
+    let script = array_of(alloc, entry, count)?;
+    format!(in alloc;
+        "{{\"rings\":[{{\"n\":2,\"k\":2,\"start\":[0,1]}}],\"workers\":[{{\"script\":{script}}}]}}"
+    )
+}
+
 #[test]
 fn a_script_has_at_most_a_million_actions(rt: HostRuntime) -> Result<(), Fail> {
     let alloc = rt.alloc();
-    let most = array_of(alloc, r#"["survey",0]"#, 1_000_000)?;
-    let text = format!(in alloc;
-        "{{\"rings\":[{{\"n\":2,\"k\":2,\"start\":[0,1]}}],\"workers\":[{{\"script\":{most}}}]}}"
-    )?;
-    let settings = settings_of(&rt, alloc, text.as_str());
+    let most = script_text(alloc, r#"["survey",0]"#, 1_000_000)?;
+    let settings = settings_of(&rt, alloc, most.as_str());
     assert_eq!(rt; settings.seat_count(), 1);
     match settings.seat(0) {
         SeatSetting::Script(actions) => assert_eq!(rt; actions.len(), 1_000_000),
         SeatSetting::Drawn { .. } => panic!(rt; "a script"),
     }
-    let more = array_of(alloc, "7", 1_000_001)?;
-    let text = format!(in alloc;
-        "{{\"rings\":[{{\"n\":2,\"k\":2,\"start\":[0,1]}}],\"workers\":[{{\"script\":{more}}}]}}"
-    )?;
-    assert_eq!(rt;
-        refusal(&rt, alloc, text.as_str()),
-        SettingsError::Limit(Field::Script)
+    let more = script_text(alloc, "7", 1_000_001)?;
+    is_refused(
+        &rt,
+        alloc,
+        more.as_str(),
+        SettingsError::Limit(Field::Script),
     );
     Ok(())
 }

@@ -1,24 +1,104 @@
-//! Calls of a seat, one after another, and what comes of them.
+//! Calls of two seats, one after another, and what comes of them.
 
-ghost use Rattle.std.specs.Prelude.{◌≡◌, ◌<◌, ◌≤◌, length};
+ghost use Rattle.std.specs.Prelude.{◌≡◌, ◌≢◌, ◌<◌, ◌≤◌, length};
 
-use ring_book::{Resource, Till};
-use ring_model::{Event, Survey};
+use super::both;
+use crate::events::told;
+use ring_book::{Book, Resource, Till};
+use ring_model::{Event, Op, Survey};
 use ring_shared::{CloseFault, CloseReason, Closed, Entry, Name, Ring, Seat};
+use std::alloc::Global;
 use std::process::Abort;
 use std::sync::Wait;
 
-/// One call of a seat.
+/// What a seat asks.
 #[derive(Clone, Copy)]
 pub(super) enum Act {
-    Pass { machine: u32, order: u64 },
-    Corrupt { machine: u32, value: u32 },
+    Call(Op),
     Survey,
+    /// Takes no memory, so none is to be had meanwhile; it is not logged.
+    Glance,
 }
 
-/// Makes the call, by one of the first two machines; what the seat is told, or nothing where memory was refused.
+/// One call: the seat's number, what it asks, and what it is told.
+#[derive(Clone, Copy)]
+pub(super) struct Call {
+    seat: u32,
+    act: Act,
+    told: Entry,
+}
+
+/// The call that was recorded as this event, at this position.
+pub(super) fn made(position: u64, event: Event) -> Call {
+    Call {
+        seat: event.seat,
+        act: Act::Call(event.op),
+        told: told(position, event),
+    }
+}
+
+/// A survey by this seat.
+pub(super) fn surveyed(seat: u32, told: Entry) -> Call {
+    Call {
+        seat,
+        act: Act::Survey,
+        told,
+    }
+}
+
+/// A glance by this seat.
+pub(super) fn looked(seat: u32, told: Entry) -> Call {
+    Call {
+        seat,
+        act: Act::Glance,
+        told,
+    }
+}
+
+/// A request for so many bytes, and one for a byte more, stand round what takes no memory: `bench/refused_memory.sh`
+/// refuses each request from the one to the other.
+const MARK: usize = 1_234_567;
+
+fn memory_ends(alloc: Global) {
+    let _ = "x".repeat(alloc, MARK);
+}
+
+fn memory_is_back(alloc: Global) {
+    let _ = "x".repeat(alloc, MARK + 1);
+}
+
+/// Passes or corrupts by one of the first two machines; what the seat is told, or nothing where memory was refused.
+fn recorded<N: Name, W: Wait + Abort>(
+    rt: &W,
+    ring: &Ring<N, Till>,
+    seat: &mut Seat<N>,
+    op: Op,
+) -> Option<Entry>
+    requires machines { 2 ≤ length N.start.values }
+    requires values { 2 ≤ N.start.k }
+    ensures { seat.new.number ≡ seat.old.number }
+{
+    let result = match op {
+        Op::Pass { machine, order } => {
+            assert!(rt; machine < 2);
+            ring.pass(rt, seat, machine, order)
+        }
+        Op::Corrupt { machine, value } => {
+            assert!(rt; machine < 2);
+            assert!(rt; value < 2);
+            ring.corrupt(rt, seat, machine, value)
+        }
+    };
+    match result {
+        Ok(receipt) => Some(Entry::Receipt(receipt)),
+        Err(_) => None,
+    }
+}
+
+/// Does what the seat asks; what it is told, or nothing where memory was refused.
 pub(super) fn told_by<N: Name, W: Wait + Abort>(
     rt: &W,
+    alloc: Global,
     ring: &Ring<N, Till>,
     seat: &mut Seat<N>,
     act: Act,
@@ -28,31 +108,24 @@ pub(super) fn told_by<N: Name, W: Wait + Abort>(
     ensures { seat.new.number ≡ seat.old.number }
 {
     match act {
-        Act::Pass { machine, order } => {
-            assert!(rt; machine < 2);
-            match ring.pass(rt, seat, machine, order) {
-                Ok(receipt) => Some(Entry::Receipt(receipt)),
-                Err(_) => None,
-            }
-        }
-        Act::Corrupt { machine, value } => {
-            assert!(rt; machine < 2);
-            assert!(rt; value < 2);
-            match ring.corrupt(rt, seat, machine, value) {
-                Ok(receipt) => Some(Entry::Receipt(receipt)),
-                Err(_) => None,
-            }
-        }
+        Act::Call(op) => recorded(rt, ring, seat, op),
         Act::Survey => match ring.survey(seat) {
             Ok(survey) => Some(Entry::Survey(survey)),
             Err(_) => None,
         },
+        Act::Glance => {
+            memory_ends(alloc);
+            let glance = ring.glance(seat);
+            memory_is_back(alloc);
+            Some(Entry::Survey(glance))
+        }
     }
 }
 
 /// The call; where memory is scarce and was refused, nothing has changed, and it is made again.
-pub(super) fn called<N: Name, W: Wait + Abort>(
+fn called<N: Name, W: Wait + Abort>(
     rt: &W,
+    alloc: Global,
     ring: &Ring<N, Till>,
     seat: &mut Seat<N>,
     act: Act,
@@ -63,34 +136,58 @@ pub(super) fn called<N: Name, W: Wait + Abort>(
     ensures { seat.new.number ≡ seat.old.number }
 {
     let before = seat.log().len();
-    if let Some(entry) = told_by(rt, ring, seat, act) {
+    if let Some(entry) = told_by(rt, alloc, ring, seat, act) {
         return entry;
     }
     assert!(rt; scarce);
     assert_eq!(rt; seat.log().len(), before);
-    match told_by(rt, ring, seat, act) {
+    match told_by(rt, alloc, ring, seat, act) {
         Some(entry) => entry,
         None => panic!(rt; "memory is refused twice"),
     }
 }
 
-/// Makes these calls, and compares what the seat is told.
-pub(super) fn play<N: Name, W: Wait + Abort>(
+/// The call, by the seat that it names.
+fn called_by<N: Name, W: Wait + Abort>(
     rt: &W,
+    alloc: Global,
     ring: &Ring<N, Till>,
-    seat: Seat<N>,
-    calls: &[(Act, Entry)],
+    first: &mut Seat<N>,
+    second: &mut Seat<N>,
+    call: &Call,
     scarce: bool,
-) -> Seat<N>
+) -> Entry
     requires machines { 2 ≤ length N.start.values }
     requires values { 2 ≤ N.start.k }
-    ensures { result.number ≡ seat.number }
+    ensures first { first.new.number ≡ first.old.number }
+    ensures second { second.new.number ≡ second.old.number }
 {
-    let mut seat = seat;
-    for (act, want) in calls {
-        assert_eq!(rt; called(rt, ring, &mut seat, *act, scarce), *want);
+    match call.seat {
+        0 => called(rt, alloc, ring, first, call.act, scarce),
+        _ => called(rt, alloc, ring, second, call.act, scarce),
     }
-    seat
+}
+
+/// Makes these calls by the two seats, and compares what they are told.
+pub(super) fn play<N: Name, W: Wait + Abort>(
+    rt: &W,
+    alloc: Global,
+    ring: &Ring<N, Till>,
+    seats: (Seat<N>, Seat<N>),
+    calls: &[Call],
+    scarce: bool,
+) -> (Seat<N>, Seat<N>)
+    requires machines { 2 ≤ length N.start.values }
+    requires values { 2 ≤ N.start.k }
+    ensures first { result.0.number ≡ seats.0.number }
+    ensures second { result.1.number ≡ seats.1.number }
+{
+    let (mut first, mut second) = seats;
+    for call in calls {
+        let told = called_by(rt, alloc, ring, &mut first, &mut second, call, scarce);
+        assert_eq!(rt; told, call.told);
+    }
+    (first, second)
 }
 
 /// Takes room for three entries more in the seat's log, and then for one, which is there: what the log has stays.
@@ -128,44 +225,83 @@ pub(super) fn glanced<N: Name, R: Resource + Drop>(
     seat
 }
 
-/// A log holds what its seat was told at these calls, and no more.
-pub(super) fn is_told(rt: &impl Abort, log: &[Entry], calls: &[(Act, Entry)]) {
-    assert_eq!(rt; log.len(), calls.len());
-    for (entry, (_, want)) in log.iter().zip(calls) {
-        assert_eq!(rt; *entry, *want);
+/// Whether a seat's log holds what it was told at this call.
+fn is_logged(call: &Call, seat: u32) -> bool {
+    call.seat == seat && !matches!(call.act, Act::Glance)
+}
+
+/// A log holds what this seat was told at its calls, and no more.
+pub(super) fn is_told(rt: &impl Abort, log: &[Entry], seat: u32, calls: &[Call]) {
+    let mut at = 0usize;
+    for call in calls {
+        if is_logged(call, seat) {
+            assert!(rt; at < log.len());
+            assert_eq!(rt; log[at], call.told);
+            at += 1;
+        }
     }
+    assert_eq!(rt; log.len(), at);
+}
+
+/// The book has these events, and its survey, which takes no memory, is this.
+fn is_booked(rt: &impl Abort, alloc: Global, book: &Book<Till>, events: &[Event], want: Entry) {
+    assert_eq!(rt; book.history(), events);
+    memory_ends(alloc);
+    let survey = book.survey();
+    memory_is_back(alloc);
+    assert_eq!(rt; Entry::Survey(survey), want);
 }
 
 /// What a ring of two seats hands out at its end.
-pub(super) fn closed_well(
-    rt: &impl Abort,
-    closed: &Closed<Till>,
-    events: &[Event],
-    first: &[(Act, Entry)],
-    second: &[(Act, Entry)],
-) {
-    assert_eq!(rt; closed.book.history(), events);
+fn closed_well(rt: &impl Abort, closed: &Closed<Till>, calls: &[Call]) {
     assert_eq!(rt; closed.logs.len(), 2);
     assert_eq!(rt; closed.logs[0].seat, 0);
     assert_eq!(rt; closed.logs[1].seat, 1);
-    is_told(rt, closed.logs[0].entries.as_slice(), first);
-    is_told(rt, closed.logs[1].entries.as_slice(), second);
+    is_told(rt, closed.logs[0].entries.as_slice(), 0, calls);
+    is_told(rt, closed.logs[1].entries.as_slice(), 1, calls);
 }
 
 /// What comes back where there was no memory to close a ring whose second seat was given first.
-pub(super) fn handed_back<N: Name>(
-    rt: &impl Abort,
-    fault: &CloseFault<N, Till>,
-    events: &[Event],
-    first: &[(Act, Entry)],
-    second: &[(Act, Entry)],
-) {
+fn handed_back<N: Name>(rt: &impl Abort, fault: &CloseFault<N, Till>, calls: &[Call]) {
     assert_eq!(rt; fault.reason, CloseReason::OutOfMemory);
-    assert_eq!(rt; fault.book.history(), events);
     assert_eq!(rt; fault.seats.len(), 2);
     assert_eq!(rt; fault.seats[0].number(), 1);
-    is_told(rt, fault.seats[0].log(), second);
-    is_told(rt, fault.seats[1].log(), first);
+    is_told(rt, fault.seats[0].log(), 1, calls);
+    is_told(rt, fault.seats[1].log(), 0, calls);
+}
+
+/// What is left behind all calls.
+#[derive(Clone, Copy)]
+pub(super) struct End<'a> {
+    pub(super) calls: &'a [Call],
+    pub(super) events: &'a [Event],
+    pub(super) survey: Entry,
+}
+
+/// Ends the ring, which leaves this; where memory is scarce it may be handed back with the same.
+pub(super) fn ends<N: Name, W: Wait + Abort>(
+    rt: &W,
+    alloc: Global,
+    ring: Ring<N, Till>,
+    seats: (Seat<N>, Seat<N>),
+    end: End,
+    scarce: bool,
+)
+    requires { seats.0.number ≢ seats.1.number }
+{
+    let (first, second) = seats;
+    let seats = both(rt, alloc, second, first);
+    match ring.close(rt, alloc, seats) {
+        Ok(closed) => {
+            is_booked(rt, alloc, &closed.book, end.events, end.survey);
+            closed_well(rt, &closed, end.calls);
+        }
+        Err(fault) => {
+            assert!(rt; scarce);
+            is_booked(rt, alloc, &fault.book, end.events, end.survey);
+            handed_back(rt, &fault, end.calls);
+        }
+    }
 }
 
 /// A survey, as a log has it.

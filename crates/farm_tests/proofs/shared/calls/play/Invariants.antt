@@ -1,5 +1,5 @@
-use Rattle.std.proofs.Common.{◌≡◌}
+use Rattle.std.proofs.Common.{◌≡◌, ◌×◌}
 use Rattle.farm_tests.proofs.shared.calls.play.Given as goal
 
-abbrev pub invariant-loop-act : goal.invariant-loop-act
-invariant-loop-act g l = l.seat.number ≡ l.initial.seat.number
+abbrev pub invariant-loop-call : goal.invariant-loop-call
+invariant-loop-call g l = (l.first.number ≡ l.initial.first.number) × (l.second.number ≡ l.initial.second.number)

@@ -1,4 +1,4 @@
-use Rattle.farm_tests.proofs.Distinct.{numbers_kept, through}
+use Rattle.ring_shared.proofs.Keeping.{numbers_kept, through}
 use Rattle.farm_tests.proofs.shared.readers.serve_all.Goals as goal
 
 pub returns : goal.returns
