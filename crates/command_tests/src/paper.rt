@@ -56,6 +56,15 @@ impl Write for Paper {
     }
 }
 
+/// The words of a line, each a text of its own.
+fn words_of<R: AllocGlobal>(rt: &R, line: &[&str]) -> Result<Vec<String>, AllocError> {
+    let mut words = Vec::new(rt.alloc());
+    for word in line {
+        words.push(String::from_str(rt.alloc(), word)?)?;
+    }
+    Ok(words)
+}
+
 /// The program's status on a line of words, with this standard input.
 fn status_from<R: AllocGlobal + Files + Threads + Wait + Sync>(
     rt: &R,
@@ -64,10 +73,7 @@ fn status_from<R: AllocGlobal + Files + Threads + Wait + Sync>(
     out: &mut Paper,
     err: &mut Paper,
 ) -> Result<u8, AllocError> {
-    let mut words = Vec::new(rt.alloc());
-    for word in line {
-        words.push(String::from_str(rt.alloc(), word)?)?;
-    }
+    let words = words_of(rt, line)?;
     Ok(run_tool_on(rt, words.as_slice(), input, out, err))
 }
 
@@ -79,6 +85,11 @@ pub fn status_on<R: AllocGlobal + Files + Threads + Wait + Sync>(
     err: &mut Paper,
 ) -> Result<u8, AllocError> {
     status_from(rt, line, &mut Giver::new(b""), out, err)
+}
+
+/// Stops the test where this does not hold, and tells the line of words and its status.
+fn hold<R: Abort + AllocGlobal>(rt: &R, right: bool, line: &[&str], got: u8) {
+    assert!(rt; right, "at {line:?}: status {got}");
 }
 
 /// Runs the program with this standard input, and compares its status, all that it prints, and how much it read.
@@ -95,7 +106,7 @@ pub fn expect_from<R: Abort + AllocGlobal + Files + Threads + Wait + Sync>(
     let mut told = Paper::new(rt.alloc());
     let got = status_from(rt, line, input, &mut printed, &mut told)?;
     let right = printed.holds(out) && told.holds(err) && got == status && input.given == given;
-    assert!(rt; right, "at {line:?}: status {got}");
+    hold(rt, right, line, got);
     Ok(())
 }
 
@@ -111,7 +122,7 @@ pub fn expect<R: Abort + AllocGlobal + Files + Threads + Wait + Sync>(
     let mut told = Paper::new(rt.alloc());
     let got = status_on(rt, line, &mut printed, &mut told)?;
     let right = printed.holds(out) && told.holds(err) && got == status;
-    assert!(rt; right, "at {line:?}: status {got}");
+    hold(rt, right, line, got);
     Ok(())
 }
 

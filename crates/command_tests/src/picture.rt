@@ -34,6 +34,27 @@ fn expect_drawn<R: Abort + AllocGlobal + Files + Threads + Wait + Sync>(
     Ok(())
 }
 
+/// Draws the whole ring of the passes, whose place and first event are named.
+fn expect_placed<R: Abort + AllocGlobal + Files + Threads + Wait + Sync>(
+    rt: &R,
+    file: &str,
+    picture: &str,
+) -> Result<(), Fail> {
+    let line = ["picture", "--ring", "0", "--from", "0", file, picture];
+    expect_drawn(rt, &line, picture, PASSES_SUMS, DRAWN)
+}
+
+/// Draws at most so many events of the passes, which are all that there are.
+fn expect_counted<R: Abort + AllocGlobal + Files + Threads + Wait + Sync>(
+    rt: &R,
+    file: &str,
+    picture: &str,
+    events: &str,
+) -> Result<(), Fail> {
+    let line = ["picture", file, picture, "--events", events];
+    expect_drawn(rt, &line, picture, PASSES_SUMS, DRAWN)
+}
+
 #[test]
 fn a_ring_is_drawn(rt: HostRuntime) -> Result<(), Fail> {
     let file = path_of(&rt, "drawn.txt")?;
@@ -47,27 +68,10 @@ fn a_ring_is_drawn(rt: HostRuntime) -> Result<(), Fail> {
         PASSES_SUMS,
         DRAWN,
     )?;
-    expect_drawn(
-        &rt,
-        &["picture", "--ring", "0", "--from", "0", file, picture],
-        picture,
-        PASSES_SUMS,
-        DRAWN,
-    )?;
-    expect_drawn(
-        &rt,
-        &["picture", file, picture, "--events", "3"],
-        picture,
-        PASSES_SUMS,
-        DRAWN,
-    )?;
-    expect_drawn(
-        &rt,
-        &["picture", file, picture, "--events", "20000"],
-        picture,
-        PASSES_SUMS,
-        DRAWN,
-    )?;
+    expect_placed(&rt, file, picture)?;
+    for events in ["3", "20000"] {
+        expect_counted(&rt, file, picture, events)?;
+    }
     remove_both(&rt, file, picture)
 }
 

@@ -23,6 +23,14 @@ pub const REPORT: &str =
 const DRAWN: &str =
     r#"{"rings":[{"n":3,"k":3,"start":[0,0,0]},{"n":8,"k":16,"start":[0,0,0,0,0,0,0,0]}],"workers":[{"seed":1,"actions":500},{"seed":2,"actions":500},{"seed":3,"actions":500},{"seed":4,"actions":500}],"injector":{"seed":5,"actions":50}}"#;
 
+/// Sixteen rings, nine drawn clients, and an injector.
+const SIXTEEN: &str =
+    r#"{"rings":[{"n":8,"k":16,"start":[0,0,0,0,0,0,0,0]},{"n":8,"k":16,"start":[0,0,0,0,0,0,0,0]},{"n":8,"k":16,"start":[0,0,0,0,0,0,0,0]},{"n":8,"k":16,"start":[0,0,0,0,0,0,0,0]},{"n":8,"k":16,"start":[0,0,0,0,0,0,0,0]},{"n":8,"k":16,"start":[0,0,0,0,0,0,0,0]},{"n":8,"k":16,"start":[0,0,0,0,0,0,0,0]},{"n":8,"k":16,"start":[0,0,0,0,0,0,0,0]},{"n":8,"k":16,"start":[0,0,0,0,0,0,0,0]},{"n":8,"k":16,"start":[0,0,0,0,0,0,0,0]},{"n":8,"k":16,"start":[0,0,0,0,0,0,0,0]},{"n":8,"k":16,"start":[0,0,0,0,0,0,0,0]},{"n":8,"k":16,"start":[0,0,0,0,0,0,0,0]},{"n":8,"k":16,"start":[0,0,0,0,0,0,0,0]},{"n":8,"k":16,"start":[0,0,0,0,0,0,0,0]},{"n":8,"k":16,"start":[0,0,0,0,0,0,0,0]}],"workers":[{"seed":1,"actions":2000},{"seed":2,"actions":2000},{"seed":3,"actions":2000},{"seed":4,"actions":2000},{"seed":5,"actions":2000},{"seed":6,"actions":2000},{"seed":7,"actions":2000},{"seed":8,"actions":2000},{"seed":9,"actions":2000}],"injector":{"seed":10,"actions":2000}}"#;
+
+/// One ring, a client that does nothing, and an injector with as many actions as settings can say.
+const MILLION: &str =
+    r#"{"rings":[{"n":2,"k":2,"start":[0,0]}],"workers":[{"script":[]}],"injector":{"seed":1,"actions":1000000}}"#;
+
 /// Runs `run` on the file of this path, with these settings.
 fn expect_run<R: Abort + AllocGlobal + Files + Threads + Wait + Sync>(
     rt: &R,
@@ -121,29 +129,56 @@ pub fn remove_both<R: Files>(rt: &R, settings: &str, history: &str) -> Result<()
     Ok(())
 }
 
-/// The line of the check that belongs to a report of two rings, whose injector's 50 actions are all corruptions.
-fn legal_line_of<R: Abort + AllocGlobal>(rt: &R, report: &str) -> Result<String, Fail> {
-    assert_eq!(rt; report.lines().count(), 9);
+/// The line of the check that belongs to a report of so many rings, whose injector's actions are all corruptions.
+fn legal_line_of<R: Abort + AllocGlobal>(
+    rt: &R,
+    report: &str,
+    rings: u8,
+    corrupted: u32,
+) -> Result<String, Fail> {
+    assert_eq!(rt; report.lines().count(), 4 * usize::from(rings) + 1);
+    let total = format!(in rt.alloc(); "\ntotal rings {rings} events ")?;
     let (_, back) = report
-        .split_once("\ntotal rings 2 events ")
+        .split_once(total.as_str())
         .expect(rt, "the report has a total");
     let (counts, surveys) = back
         .split_once(" surveys ")
         .expect(rt, "the total has surveys");
-    Ok(format!(in rt.alloc(); "legal rings 2 events {counts} corrupted 50 surveys {surveys}")?)
+    Ok(format!(in rt.alloc();
+        "legal rings {rings} events {counts} corrupted {corrupted} surveys {surveys}"
+    )?)
 }
 
 /// Runs `run` on this line, and answers the line of the check that belongs to its report.
 fn legal_line_after<R: Abort + AllocGlobal + Files + Threads + Wait + Sync>(
     rt: &R,
     line: &[&str],
+    rings: u8,
+    corrupted: u32,
 ) -> Result<String, Fail> {
     let mut out = Paper::new(rt.alloc());
     let mut err = Paper::new(rt.alloc());
     expect_status(rt, line, &mut out, &mut err, 0)?;
     assert!(rt; err.text.is_empty());
     let report = std::str::from_utf8(out.text.as_slice()).expect(rt, "the report is UTF-8");
-    legal_line_of(rt, report)
+    legal_line_of(rt, report, rings, corrupted)
+}
+
+/// Runs a farm with these settings and checks its history, which is legal with the sums of the report. Answers the
+/// line of the check.
+fn expect_legal<R: Abort + AllocGlobal + Files + Threads + Wait + Sync>(
+    rt: &R,
+    settings: &str,
+    history: &str,
+    text: &str,
+    rings: u8,
+    corrupted: u32,
+) -> Result<String, Fail> {
+    fs::write(rt, settings, text)?;
+    let line = ["run", settings, "--history", history];
+    let legal = legal_line_after(rt, &line, rings, corrupted)?;
+    expect(rt, &["check", history], 0, legal.as_str(), "")?;
+    Ok(legal)
 }
 
 #[test]
@@ -151,9 +186,22 @@ fn what_threads_did_is_legal(rt: HostRuntime) -> Result<(), Fail> {
     let settings = path_of(&rt, "drawn.json")?;
     let history = path_of(&rt, "drawn.txt")?;
     let (settings, history) = (settings.as_str(), history.as_str());
-    fs::write(&rt, settings, DRAWN)?;
-    let legal = legal_line_after(&rt, &["run", settings, "--history", history])?;
-    expect(&rt, &["check", history], 0, legal.as_str(), "")?;
+    for (text, rings, corrupted) in [(DRAWN, 2, 50), (SIXTEEN, 16, 2000)] {
+        expect_legal(&rt, settings, history, text, rings, corrupted)?;
+    }
+    remove_both(&rt, settings, history)
+}
+
+#[test]
+fn a_million_events_are_saved(rt: HostRuntime) -> Result<(), Fail> {
+    let settings = path_of(&rt, "million.json")?;
+    let history = path_of(&rt, "million.txt")?;
+    let (settings, history) = (settings.as_str(), history.as_str());
+    let legal = expect_legal(&rt, settings, history, MILLION, 1, 1_000_000)?;
+    assert_eq!(rt;
+        legal.as_str(),
+        "legal rings 1 events 1000000 granted 0 corrupted 1000000 surveys 0\n"
+    );
     remove_both(&rt, settings, history)
 }
 
