@@ -16,10 +16,10 @@ use std::process::Abort;
 /// What a book is asked.
 #[derive(Clone, Copy, Debug)]
 pub enum Ask {
-    /// A pass at a machine with an order, by seat 0.
-    Pass(u32, u64),
-    /// A corruption of a machine to a value, by seat 9.
-    Corrupt(u32, u32),
+    /// A pass by seat 0.
+    Pass { machine: u32, order: u64 },
+    /// A corruption by seat 9.
+    Corrupt { machine: u32, value: u32 },
     /// Memory for so many events.
     Reserve(u32),
     /// To be settled by seat 3.
@@ -40,20 +40,16 @@ pub enum Ask {
     Events,
 }
 
-/// What it answers. The receipt of a call has the call's own seat and words, and the position that stands first here.
+/// What it answers.
 #[derive(Clone, Copy, Debug, PartialEq)]
 pub enum Answer {
-    /// A granted pass: its number and its result.
-    Granted(u64, u64, u64),
-    NotPrivileged(u64),
-    /// A corruption: the value that was written over.
-    Corrupted(u64, u32),
+    /// The call's receipt has this position and this reply, and the call's own seat and words.
+    Told(u64, Reply),
     Refused(BookError),
     Reserved,
     /// So many events were added.
     Settled(u64),
-    /// A survey: position, privileged, first, calm and rest.
-    Seen(u64, u32, u32, u64, u64),
+    Seen(Survey),
     Values(u32, u32, u32),
     Grants([u64; 3], [u64; 3]),
     Calls(u64, u64, u64),
@@ -83,23 +79,12 @@ fn book_of<R: Resource + Drop>(
     }
 }
 
-fn answer_of(position: u64, reply: Reply) -> Answer {
-    match reply {
-        Reply::Granted {
-            number,
-            result: answer,
-        } => Answer::Granted(position, number, answer),
-        Reply::NotPrivileged => Answer::NotPrivileged(position),
-        Reply::Corrupted { old } => Answer::Corrupted(position, old),
-    }
-}
-
 /// What the receipt of a call by this seat tells.
 fn told(rt: &impl Abort, made: Result<Receipt, BookError>, seat: u32, op: Op) -> Answer {
     match made {
         Ok(receipt) => {
             assert_eq!(rt; (receipt.event.seat, receipt.event.op), (seat, op));
-            answer_of(receipt.position, receipt.event.reply)
+            Answer::Told(receipt.position, receipt.event.reply)
         },
         Err(error) => Answer::Refused(error),
     }
@@ -161,24 +146,16 @@ fn reserve<R: Resource + Drop>(rt: &impl Abort, book: &mut Book<R>, more: u32) -
 /// Settled by seat 3.
 fn settle<R: Resource + Drop>(rt: &impl Abort, book: &mut Book<R>) -> Answer {
     let before = book.survey().position;
-    match book.settle(3) {
+    let made = match book.settle(3) {
         Ok(passes) => {
             assert_eq!(rt; book.survey().position, before + passes);
-            Answer::Settled(passes)
+            Ok(passes)
         },
-        Err(BookError::OutOfMemory) => settle_on(rt, book, before),
-        Err(error) => Answer::Refused(error),
-    }
-}
-
-/// Settled to the end, where memory was refused after some passes behind this position.
-fn settle_on<R: Resource + Drop>(rt: &impl Abort, book: &mut Book<R>, before: u64) -> Answer {
-    match book.settle(3) {
-        Ok(_) => {
-            let position = book.survey().position;
-            assert!(rt; position >= before);
-            Answer::Settled(position - before)
-        },
+        Err(BookError::OutOfMemory) => book.settle(3),
+        Err(error) => Err(error),
+    };
+    match made {
+        Ok(_) => Answer::Settled(book.survey().position - before),
         Err(error) => Answer::Refused(error),
     }
 }
@@ -192,19 +169,8 @@ fn seen<R: Resource + Drop>(rt: &impl Abort, book: &Book<R>, ask: Ask) -> Answer
         Ask::Total => Answer::Number(book.grants().total()),
         Ask::Calls => Answer::Calls(book.calls_of(9), book.calls_of(0), book.calls_of(5)),
         Ask::Events => Answer::Number(book.history().len() as u64),
-        _ => answer_of_survey(book.survey()),
+        _ => Answer::Seen(book.survey()),
     }
-}
-
-fn answer_of_survey(seen: Survey) -> Answer {
-    let Survey {
-        position,
-        privileged,
-        first,
-        calm,
-        rest,
-    } = seen;
-    Answer::Seen(position, privileged, first, calm, rest)
 }
 
 fn values_of(rt: &impl Abort, state: &RingState) -> Answer {
@@ -228,8 +194,8 @@ fn grants_of_three<R: Resource + Drop>(rt: &impl Abort, book: &Book<R>) -> Answe
 /// One call, or one look.
 fn make_call<R: Resource + Drop>(rt: &impl Abort, book: &mut Book<R>, ask: Ask) -> Answer {
     match ask {
-        Ask::Pass(machine, order) => pass(rt, book, machine, order),
-        Ask::Corrupt(machine, value) => corrupt(rt, book, machine, value),
+        Ask::Pass { machine, order } => pass(rt, book, machine, order),
+        Ask::Corrupt { machine, value } => corrupt(rt, book, machine, value),
         Ask::Reserve(more) => reserve(rt, book, more),
         Ask::Settle => settle(rt, book),
         look => seen(rt, book, look),
@@ -243,19 +209,43 @@ fn play<R: Resource + Drop>(rt: &impl Abort, book: &mut Book<R>, scene: &[(Ask, 
     }
 }
 
-/// Plays a table of calls on a new book.
-fn play_on<R: Resource + Drop>(
-    rt: &impl Abort,
-    alloc: Global,
-    size: (u32, u32),
-    values: &[u32],
-    resource: R,
-    scene: &[(Ask, Answer)],
-)
-    requires { resource ≡ R.first }
-{
-    let mut book = book_of(rt, alloc, size, values, resource);
-    play(rt, &mut book, scene);
+/// The words of a pass, and those of a corruption.
+fn asks_pass(machine: u32, order: u64) -> Ask {
+    Ask::Pass { machine, order }
+}
+
+fn asks_corrupt(machine: u32, value: u32) -> Ask {
+    Ask::Corrupt { machine, value }
+}
+
+/// A granted pass, one that was not granted, and a corruption.
+fn granted(position: u64, number: u64, answer: u64) -> Answer {
+    Answer::Told(
+        position,
+        Reply::Granted {
+            number,
+            result: answer,
+        },
+    )
+}
+
+fn not_privileged(position: u64) -> Answer {
+    Answer::Told(position, Reply::NotPrivileged)
+}
+
+fn corrupted(position: u64, old: u32) -> Answer {
+    Answer::Told(position, Reply::Corrupted { old })
+}
+
+/// A survey.
+fn survey(position: u64, privileged: u32, first: u32, calm: u64, rest: u64) -> Answer {
+    Answer::Seen(Survey {
+        position,
+        privileged,
+        first,
+        calm,
+        rest,
+    })
 }
 
 /// The events, as passes by one seat with order 0.

@@ -54,21 +54,6 @@ fn by_plain_program(values: &[u32]) -> Answers
     }
 }
 
-// Whether all values are below a bound, and whether one past the first is it.
-fn check_bound(rt: &impl Abort, s: &[u8], bound: u8)
-    requires low { 2 ≤ length s.now }
-    requires high { length s.now ≤ 256 }
-{
-    let limit = bound as u32;
-    let below = s.iter().all(|&v| (v as u32) < limit);
-    let held = s[1..].iter().any(|&v| v == bound);
-    assert_eq!(rt;
-        (all_below(s, limit), holds_past_first(s, bound)),
-        (below, held),
-        "{bound} over {s:?}"
-    );
-}
-
 // Every kernel beside the plain program, for one ring.
 fn check_ring(rt: &impl Abort, s: &[u8])
     requires low { 2 ≤ length s.now }
@@ -81,7 +66,18 @@ fn check_ring(rt: &impl Abort, s: &[u8])
     let values = &widened[..s.len()];
     assert_eq!(rt; by_kernels(s), by_plain_program(values), "at {s:?}");
     for bound in 0..9u8 {
-        check_bound(rt, s, bound);
+        let limit = bound as u32;
+        assert_eq!(rt;
+            all_below(s, limit),
+            s.iter().all(|&v| (v as u32) < limit),
+            "{limit} over {s:?}"
+        );
+        let held = s[1..].iter().any(|&v| v == bound);
+        assert_eq!(rt;
+            holds_past_first(s, bound),
+            held,
+            "{bound} past the first of {s:?}"
+        );
     }
 }
 
@@ -113,17 +109,14 @@ fn check_lone(rt: &impl Abort, s: &[u8], d: usize)
         first_value_is_prefix(s),
     );
     assert_eq!(rt; got, lone_answers(s.len(), d), "1 at {d} of {s:?}");
-    let questions = [
+    let below = (
         all_below(s, 1),
         all_below(s, 2),
         all_below(s, 256),
         all_below(s, u32::MAX),
-        holds_past_first(s, 1),
-    ];
-    assert!(rt;
-        questions == [false, true, true, true, d >= 1],
-        "1 at {d} of {s:?}"
     );
+    assert_eq!(rt; below, (false, true, true, true), "1 at {d} of {s:?}");
+    assert_eq!(rt; holds_past_first(s, 1), d >= 1, "1 at {d} of {s:?}");
     check_ring(rt, s);
 }
 
@@ -163,15 +156,14 @@ fn all_values_apart(rt: HostRuntime) {
     for i in 0..256usize {
         values[i] = i as u8;
     }
-    let wanted = Answers {
-        mask: [u64::MAX - 1, u64::MAX, u64::MAX, u64::MAX],
-        count: 255,
-        first: 1,
-        weight: 32_640,
-        prefix: true,
-    };
-    assert_eq!(rt; by_kernels(&values), wanted);
-    assert!(rt; !all_below(&values, 255) && all_below(&values, 256));
+    let answers = by_kernels(&values);
+    assert_eq!(rt; answers.mask, [u64::MAX - 1, u64::MAX, u64::MAX, u64::MAX]);
+    assert_eq!(rt; answers.count, 255);
+    assert_eq!(rt; answers.first, 1);
+    assert_eq!(rt; answers.weight, 32_640);
+    assert!(rt; answers.prefix);
+    assert!(rt; !all_below(&values, 255));
+    assert!(rt; all_below(&values, 256));
 }
 
 // A ring of 65,536 machines, alternately 0 and 1: machines 1 to 65,535 are privileged, with the weight 65,535 * 65,536 / 2.
@@ -181,25 +173,9 @@ fn the_greatest_weight(rt: HostRuntime) {
     for i in 0..65_536usize {
         values[i] = (i % 2) as u8;
     }
-    assert_eq!(rt;
-        (
-            weight(&values),
-            privileged_count(&values),
-            first_privileged(&values)
-        ),
-        (2_147_450_880, 65_535, 1)
-    );
-}
-
-// The first six digits of a number in base 3.
-fn six_digits(number: usize) -> [u8; 6] {
-    let mut values = [0u8; 6];
-    let mut digits = number;
-    for i in 0..6usize {
-        values[i] = (digits % 3) as u8;
-        digits /= 3;
-    }
-    values
+    assert_eq!(rt; weight(&values), 2_147_450_880);
+    assert_eq!(rt; privileged_count(&values), 65_535);
+    assert_eq!(rt; first_privileged(&values), 1);
 }
 
 // Every ring of two to six machines with three values.
@@ -207,31 +183,13 @@ fn six_digits(number: usize) -> [u8; 6] {
 fn every_small_ring(rt: HostRuntime) {
     for n in 2..7usize {
         for number in 0..729usize {
-            check_ring(&rt, &six_digits(number)[..n]);
-        }
-    }
-}
-
-// Values that change in a rhythm.
-fn rhythm(step: usize, modulus: usize) -> [u8; 256]
-    requires short { step ≤ 5 }
-    requires positive { 0 < modulus }
-{
-    let mut values = [0u8; 256];
-    for i in 0..256usize {
-        values[i] = ((i * i * step + i / 3) / 2 % modulus) as u8;
-    }
-    values
-}
-
-// The rings of this length in each rhythm.
-fn check_rhythms(rt: &impl Abort, n: usize)
-    requires low { 2 ≤ n }
-    requires high { n ≤ 256 }
-{
-    for step in 1..6usize {
-        for modulus in 1..4usize {
-            check_ring(rt, &rhythm(step, modulus)[..n]);
+            let mut values = [0u8; 6];
+            let mut digits = number;
+            for i in 0..6usize {
+                values[i] = (digits % 3) as u8;
+                digits /= 3;
+            }
+            check_ring(&rt, &values[..n]);
         }
     }
 }
@@ -240,32 +198,36 @@ fn check_rhythms(rt: &impl Abort, n: usize)
 #[test]
 fn rings_of_every_length(rt: HostRuntime) {
     for n in 2..257usize {
-        check_rhythms(&rt, n);
+        for step in 1..6usize {
+            for modulus in 1..4usize {
+                let mut values = [0u8; 256];
+                for i in 0..256usize {
+                    values[i] = ((i * i * step + i / 3) / 2 % modulus) as u8;
+                }
+                check_ring(&rt, &values[..n]);
+            }
+        }
     }
 }
 
-// A ring whose first p machines hold 0 and whose other machines do not, and the same with one more 0 at the end.
-fn check_prefix(rt: &impl Abort, p: usize)
-    requires { p < 256 }
-{
-    let mut values = [0u8; 256];
-    for i in p..256usize {
-        values[i] = 1 + (i % 2) as u8;
-    }
-    check_ring(rt, &values);
-    let before = first_value_is_prefix(&values);
-    values[255] = 0;
-    check_ring(rt, &values);
-    assert_eq!(rt;
-        (before, first_value_is_prefix(&values)),
-        (true, p == 255),
-        "the first {p}, and the last"
-    );
-}
-
+// Rings whose first p machines hold 0 and whose other machines do not, and the same with one more 0 at the end.
 #[test]
 fn prefixes_of_every_length(rt: HostRuntime) {
     for p in 1..256usize {
-        check_prefix(&rt, p);
+        let mut values = [0u8; 256];
+        for i in 0..256usize {
+            if i >= p {
+                values[i] = 1 + (i % 2) as u8;
+            }
+        }
+        check_ring(&rt, &values);
+        assert!(rt; first_value_is_prefix(&values), "the first {p}");
+        values[255] = 0;
+        check_ring(&rt, &values);
+        assert_eq!(rt;
+            first_value_is_prefix(&values),
+            p == 255,
+            "the first {p}, and the last"
+        );
     }
 }

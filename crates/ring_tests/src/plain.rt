@@ -1,12 +1,9 @@
 //! Worked values, found by hand from the rule.
 
-ghost use Rattle.std.specs.Prelude.{◌≤◌, length};
-
 use ring_model::plain::{
     bound, first_privileged, first_value_is_prefix, follow, is_absent, is_ring, is_settled, lead,
     move_machine, privileged_count, rest, weight,
 };
-use std::process::Abort;
 
 #[test]
 fn steps_and_copies(rt: HostRuntime) {
@@ -27,12 +24,9 @@ fn steps_and_copies(rt: HostRuntime) {
 fn tells_who_is_privileged(rt: HostRuntime) {
     for (ring, count, first, settled) in [([0, 2, 0], 3, 0, false), ([1, 1, 0], 1, 2, true)] {
         assert!(rt; is_ring(3, &ring));
-        let got = (
-            privileged_count(&ring),
-            first_privileged(&ring),
-            is_settled(&ring),
-        );
-        assert_eq!(rt; got, (count, first, settled), "at {ring:?}");
+        assert_eq!(rt; privileged_count(&ring), count, "at {ring:?}");
+        assert_eq!(rt; first_privileged(&ring), first, "at {ring:?}");
+        assert_eq!(rt; is_settled(&ring), settled, "at {ring:?}");
     }
 }
 
@@ -56,27 +50,20 @@ fn knows_rings(rt: HostRuntime) {
     assert!(rt; !is_ring(0, &[]));
 }
 
-/// The weight, lead and rest of a ring with as many values as machines.
-fn check_potential(rt: &impl Abort, ring: &[u32], wanted: (u64, u64, u64))
-    requires low { 2 ≤ length ring.now }
-    requires high { length ring.now ≤ 4 }
-{
-    let k = ring.len() as u32;
-    let got = (weight(ring), lead(k, ring), rest(k, ring));
-    assert_eq!(rt; got, wanted, "at {ring:?}");
-}
-
+// Values, and their weight, lead and rest: three machines with three values.
 #[test]
-fn answers_the_potential_of_three(rt: HostRuntime) {
+fn answers_the_potential(rt: HostRuntime) {
     for (ring, wanted) in [
         ([0, 2, 0], (3, 1, 6)),
         ([1, 2, 0], (3, 0, 3)),
         ([1, 1, 0], (1, 0, 0)),
     ] {
-        check_potential(&rt, &ring, wanted);
+        let got = (weight(&ring), lead(3, &ring), rest(3, &ring));
+        assert_eq!(rt; got, wanted, "at {ring:?}");
     }
 }
 
+// The same, of four machines with four values.
 #[test]
 fn answers_the_potential_of_four(rt: HostRuntime) {
     for (ring, wanted) in [
@@ -86,7 +73,8 @@ fn answers_the_potential_of_four(rt: HostRuntime) {
         ([3, 3, 1, 0], (3, 0, 3)),
         ([1, 0, 1, 1], (5, 1, 9)),
     ] {
-        check_potential(&rt, &ring, wanted);
+        let got = (weight(&ring), lead(4, &ring), rest(4, &ring));
+        assert_eq!(rt; got, wanted, "at {ring:?}");
     }
 }
 
@@ -124,12 +112,9 @@ fn answers_for_the_largest_ring(rt: HostRuntime) {
     }
     assert!(rt; is_ring(1024, &ring));
     // Each machine but machine 0 differs from its left neighbour: 1,023 + 1,022 + .. + 1.
-    assert_eq!(rt;
-        (privileged_count(&ring), first_privileged(&ring)),
-        (1_023, 1)
-    );
-    assert_eq!(rt;
-        (weight(&ring), lead(1024, &ring), rest(1024, &ring)),
-        (523_776, 0, 523_776)
-    );
+    assert_eq!(rt; privileged_count(&ring), 1_023);
+    assert_eq!(rt; first_privileged(&ring), 1);
+    assert_eq!(rt; weight(&ring), 523_776);
+    assert_eq!(rt; lead(1024, &ring), 0);
+    assert_eq!(rt; rest(1024, &ring), 523_776);
 }

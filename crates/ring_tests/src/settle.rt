@@ -1,7 +1,5 @@
 use crate::rings::{memory_ends, memory_is_back, state_of, three};
 use ring_settle::{bound, follow, is_settled, lead, rest};
-use std::alloc::Global;
-use std::process::Abort;
 
 #[test]
 fn bounds(rt: HostRuntime) {
@@ -19,38 +17,33 @@ fn bounds(rt: HostRuntime) {
     }
 }
 
-/// The lead and the rest of a ring with as many values as machines.
-fn check_rest(rt: &impl Abort, alloc: Global, values: &[u32], wanted: (u32, u64)) {
-    assert!(rt; values.len() <= 4);
-    let n = values.len() as u32;
-    let state = state_of(rt, alloc, n, n, values);
-    let got = (lead(&state), rest(&state), is_settled(&state));
-    assert_eq!(rt; got, (wanted.0, wanted.1, wanted.1 == 0));
-}
-
 #[test]
 fn leads_and_rests_of_three_machines(rt: HostRuntime) {
-    for (values, wanted) in [
-        ([0, 2, 0], (1, 6)),
-        ([1, 2, 0], (0, 3)),
-        ([1, 1, 0], (0, 0)),
-        ([0, 0, 0], (0, 0)),
+    for (values, lead_now, rest_now) in [
+        ([0, 2, 0], 1, 6),
+        ([1, 2, 0], 0, 3),
+        ([1, 1, 0], 0, 0),
+        ([0, 0, 0], 0, 0),
     ] {
-        check_rest(&rt, rt.alloc(), &values, wanted);
+        let state = state_of(&rt, rt.alloc(), 3, 3, &values);
+        assert_eq!(rt; (lead(&state), rest(&state)), (lead_now, rest_now));
+        assert_eq!(rt; is_settled(&state), rest_now == 0);
     }
 }
 
 #[test]
 fn leads_and_rests_of_four_machines(rt: HostRuntime) {
-    for (values, wanted) in [
-        ([0, 2, 1, 0], (3, 18)),
-        ([1, 2, 1, 0], (2, 14)),
-        ([3, 3, 1, 0], (0, 3)),
-        ([3, 2, 1, 0], (0, 6)),
-        ([1, 0, 1, 1], (1, 9)),
-        ([1, 1, 1, 0], (0, 0)),
+    for (values, lead_now, rest_now) in [
+        ([0, 2, 1, 0], 3, 18),
+        ([1, 2, 1, 0], 2, 14),
+        ([3, 3, 1, 0], 0, 3),
+        ([3, 2, 1, 0], 0, 6),
+        ([1, 0, 1, 1], 1, 9),
+        ([1, 1, 1, 0], 0, 0),
     ] {
-        check_rest(&rt, rt.alloc(), &values, wanted);
+        let state = state_of(&rt, rt.alloc(), 4, 4, &values);
+        assert_eq!(rt; (lead(&state), rest(&state)), (lead_now, rest_now));
+        assert_eq!(rt; is_settled(&state), rest_now == 0);
     }
 }
 

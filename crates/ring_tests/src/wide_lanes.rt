@@ -54,23 +54,6 @@ fn by_plain_program(values: &[u32]) -> Answers
     }
 }
 
-// Whether all values are below a bound, and whether one past the first is it.
-fn check_value(rt: &impl Abort, s: &[u16], values: &[u32], value: u16)
-    requires low { 2 ≤ length s.now }
-    requires high { length s.now ≤ 1024 }
-    requires some { 2 ≤ length values.now }
-    requires short { length values.now ≤ 1024 }
-{
-    let limit = value as u32;
-    let below = s.iter().all(|&v| (v as u32) < limit);
-    let held = !plain::is_absent(values, limit);
-    assert_eq!(rt;
-        (wide_all_below(s, limit), wide_holds_past_first(s, value)),
-        (below, held),
-        "{value} over {s:?}"
-    );
-}
-
 // Every kernel beside the plain program, for one ring.
 fn check_ring(rt: &impl Abort, s: &[u16])
     requires low { 2 ≤ length s.now }
@@ -83,48 +66,54 @@ fn check_ring(rt: &impl Abort, s: &[u16])
     let values = &widened[..s.len()];
     assert_eq!(rt; by_kernels(s), by_plain_program(values), "at {s:?}");
     for value in [0u16, 1, 255, 256, 257, 512, 65_535] {
-        check_value(rt, s, values, value);
+        let limit = value as u32;
+        assert_eq!(rt;
+            wide_all_below(s, limit),
+            s.iter().all(|&v| (v as u32) < limit),
+            "{limit} over {s:?}"
+        );
+        assert_eq!(rt;
+            wide_holds_past_first(s, value),
+            !plain::is_absent(values, limit),
+            "{value} past the first of {s:?}"
+        );
     }
-    assert!(rt;
-        wide_all_below(s, 65_536) && wide_all_below(s, u32::MAX),
-        "the limits over {s:?}"
-    );
+    for limit in [65_536, u32::MAX] {
+        assert!(rt; wide_all_below(s, limit), "{limit} over {s:?}");
+    }
 }
 
-// The count, the first, the weight and the prefix test of n machines, all 0 but a 256 at machine d.
-fn lone_answers(n: usize, d: usize) -> (usize, usize, u64, bool)
+// All 0 but 256, whose low byte is 0, at machine d of n.
+fn check_lone(rt: &impl Abort, n: usize, d: usize)
     requires low { 2 ≤ n }
     requires high { n ≤ 1024 }
     requires place { d < n }
 {
-    if d == 0 {
-        (1, 1, (n - 1) as u64, true)
+    let mut values = [0u16; 1024];
+    values[d] = 256;
+    let s = &values[..n];
+    let (count, first, sum, prefix) = if d == 0 {
+        (1, 1, n - 1, true)
     } else if d < n - 1 {
-        (3, 0, ((n - d) + (n - d - 1)) as u64, false)
+        (3, 0, (n - d) + (n - d - 1), false)
     } else {
         (1, n - 1, 1, true)
-    }
-}
-
-// The kernels on such a ring; the low byte of 256 is 0.
-fn check_lone(rt: &impl Abort, s: &[u16], d: usize)
-    requires low { 2 ≤ length s.now }
-    requires high { length s.now ≤ 1024 }
-    requires place { d < length s.now }
-{
-    let got = (
-        wide_count(s),
-        wide_first(s),
-        wide_weight(s),
-        wide_first_value_is_prefix(s),
+    };
+    let answers = by_kernels(s);
+    assert_eq!(rt;
+        (answers.count, answers.first, answers.weight, answers.prefix),
+        (count, first, sum as u64, prefix),
+        "at {n} and {d}"
     );
-    assert_eq!(rt; got, lone_answers(s.len(), d), "256 at {d} of {s:?}");
-    let questions = [
-        wide_all_below(s, 256),
-        wide_all_below(s, 257),
-        wide_holds_past_first(s, 256),
-    ];
-    assert!(rt; questions == [false, true, d >= 1], "256 at {d} of {s:?}");
+    assert_eq!(rt;
+        (
+            wide_all_below(s, 256),
+            wide_all_below(s, 257),
+            wide_holds_past_first(s, 256)
+        ),
+        (false, true, d >= 1),
+        "the value 256 at {n} and {d}"
+    );
     check_ring(rt, s);
 }
 
@@ -133,9 +122,7 @@ fn a_lone_value(rt: HostRuntime) {
     for n in [2usize, 15, 16, 17, 31, 32, 33, 257, 1023, 1024] {
         assert!(rt; n >= 2 && n <= 1024);
         for d in 0..n {
-            let mut values = [0u16; 1024];
-            values[d] = 256;
-            check_lone(&rt, &values[..n], d);
+            check_lone(&rt, n, d);
         }
     }
 }
@@ -197,61 +184,41 @@ fn the_greatest_weight(rt: HostRuntime) {
     );
 }
 
-// Values that change in a rhythm.
-fn rhythm(step: usize, scale: usize) -> [u16; 130]
-    requires short { step ≤ 3 }
-    requires low { scale ≤ 257 }
-{
-    let mut values = [0u16; 130];
-    for i in 0..130usize {
-        values[i] = ((i * i * step + i / 3) / 2 % 3 * scale) as u16;
-    }
-    values
-}
-
-// The rings of this length in each rhythm: with small values, with values that differ in their high bytes alone, and with both bytes.
-fn check_rhythms(rt: &impl Abort, n: usize)
-    requires low { 2 ≤ n }
-    requires high { n ≤ 130 }
-{
-    for step in 1..4usize {
-        for scale in [1usize, 256, 257] {
-            assert!(rt; scale <= 257);
-            check_ring(rt, &rhythm(step, scale)[..n]);
+// Rings of every length up to 130 machines, with values that change in many rhythms: small ones,
+// ones that differ in their high bytes alone, and both bytes.
+#[test]
+fn rings_of_many_lengths(rt: HostRuntime) {
+    for n in 2..131usize {
+        for step in 1..4usize {
+            for scale in [1usize, 256, 257] {
+                let mut values = [0u16; 130];
+                for i in 0..130usize {
+                    values[i] = ((i * i * step + i / 3) / 2 % 3 * scale) as u16;
+                }
+                check_ring(&rt, &values[..n]);
+            }
         }
     }
 }
 
-// Rings of every length up to 130 machines, with values that change in many rhythms.
-#[test]
-fn rings_of_many_lengths(rt: HostRuntime) {
-    for n in 2..131usize {
-        check_rhythms(&rt, n);
-    }
-}
-
-// A ring whose first p machines hold 0 and whose other machines hold 256 or 512, and the same with one more 0 at the end.
-fn check_prefix(rt: &impl Abort, p: usize)
-    requires { p < 1024 }
-{
-    let mut values = [0u16; 1024];
-    for i in p..1024usize {
-        values[i] = (256 + i % 2 * 256) as u16;
-    }
-    check_ring(rt, &values);
-    let before = wide_first_value_is_prefix(&values);
-    values[1023] = 0;
-    check_ring(rt, &values);
-    assert_eq!(rt;
-        (before, wide_first_value_is_prefix(&values)),
-        (true, p == 1023),
-        "the first {p}, and the last"
-    );
-}
-
+// Rings whose first p machines hold 0 and whose other machines hold 256 or 512, and the same with one more 0 at the end.
 #[test]
 fn prefixes_of_every_length(rt: HostRuntime) {
     for p in 1..1024usize {
-        check_prefix(&rt, p);
+        let mut values = [0u16; 1024];
+        for i in 0..1024usize {
+            if i >= p {
+                values[i] = (256 + i % 2 * 256) as u16;
+            }
+        }
+        check_ring(&rt, &values);
+        assert!(rt; wide_first_value_is_prefix(&values), "the first {p}");
+        values[1023] = 0;
+        check_ring(&rt, &values);
+        assert_eq!(rt;
+            wide_first_value_is_prefix(&values),
+            p == 1023,
+            "the first {p}, and the last"
+        );
     }
 }

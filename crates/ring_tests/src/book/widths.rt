@@ -1,28 +1,8 @@
-ghost use Rattle.std.specs.Prelude.{◌<◌};
+use super::{Answer, Ask, asks_corrupt, asks_pass, book_of, make_call, play};
+use ring_book::Till;
 
-use super::{Answer, Ask, book_of, make_call, play};
-use ring_book::{Book, Till};
-use std::process::Abort;
-
-/// What the call of this number asks, of 33 machines, in an order that only looks like chance. No value comes near 255,
-/// so that the step of machine 0 is the same modulo 256 and 257.
-fn drawn(call: u32) -> Ask
-    requires { call < 2000 }
-{
-    let drawn = call * (call * 31 + 17) % 65_537;
-    if call % 97 == 96 {
-        Ask::Corrupt(drawn % 33, drawn / 33 % 16)
-    } else {
-        Ask::Pass(drawn % 33, call as u64)
-    }
-}
-
-/// Both books are asked, and answer alike.
-fn ask_both(rt: &impl Abort, narrow: &mut Book<Till>, wide: &mut Book<Till>, ask: Ask, call: u32) {
-    let answer = make_call(rt, narrow, ask);
-    assert_eq!(rt; make_call(rt, wide, ask), answer, "call {call}, {ask:?}");
-}
-
+// 33 machines pass and are corrupted in an order that only looks like chance. No value comes near 255, so that the step of
+// machine 0 is the same modulo 256 and 257.
 #[test]
 fn one_byte_and_two_answer_alike(rt: HostRuntime) {
     let mut values = [0u32; 33];
@@ -32,8 +12,24 @@ fn one_byte_and_two_answer_alike(rt: HostRuntime) {
     let mut narrow = book_of(&rt, rt.alloc(), (33, 256), &values, Till::new());
     let mut wide = book_of(&rt, rt.alloc(), (33, 257), &values, Till::new());
     for call in 0..2_000u32 {
-        ask_both(&rt, &mut narrow, &mut wide, drawn(call), call);
-        ask_both(&rt, &mut narrow, &mut wide, Ask::Survey, call);
+        let drawn = call * (call * 31 + 17) % 65_537;
+        let ask = if call % 97 == 96 {
+            asks_corrupt(drawn % 33, drawn / 33 % 16)
+        } else {
+            asks_pass(drawn % 33, call as u64)
+        };
+        let answer = make_call(&rt, &mut narrow, ask);
+        assert_eq!(rt;
+            make_call(&rt, &mut wide, ask),
+            answer,
+            "call {call}, {ask:?}"
+        );
+        let survey = make_call(&rt, &mut narrow, Ask::Survey);
+        assert_eq!(rt;
+            make_call(&rt, &mut wide, Ask::Survey),
+            survey,
+            "behind call {call}"
+        );
     }
     let end = [(Ask::Events, Answer::Number(2_000))];
     play(&rt, &mut narrow, &end);
