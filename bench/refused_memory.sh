@@ -114,6 +114,10 @@ for crate in $crates; do
         try_mark "$crate" book::settling::a_survey_takes_no_memory
         try_mark "$crate" settle::following_takes_no_memory
         ;;
+    farm_tests)
+        try_crate "$crate" memory
+        try_mark "$crate" shared::want_of_memory_changes_nothing
+        ;;
     text_tests)
         try_crate "$crate" want_of_memory
         try_largest "$crate" saved::reading::room_is_asked_for_as_values_are_read 4096

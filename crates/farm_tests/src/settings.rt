@@ -29,6 +29,7 @@ fn has_first_ring(
     (n, k): (u32, u32),
     start: &[u32],
 ) {
+    assert!(rt; settings.ring_count() > 0);
     let size = settings.params(0);
     let counts = (settings.ring_count(), settings.seat_count());
     assert_eq!(rt; (counts, size.n(), size.k()), ((rings, seats), n, k));
