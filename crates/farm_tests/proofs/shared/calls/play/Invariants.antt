@@ -1,4 +1,4 @@
-use Rattle.std.proofs.Common.{◌≡◌, ◌×◌}
+use Rattle.std.proofs.Common.{◌≡◌}
 use Rattle.farm_tests.proofs.shared.calls.play.Given as goal
 
 abbrev pub invariant-loop-call : goal.invariant-loop-call
