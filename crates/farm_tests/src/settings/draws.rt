@@ -135,6 +135,25 @@ fn an_action_is_drawn_of_pcg32(rt: HostRuntime) -> Result<(), Fail> {
     Ok(())
 }
 
+// Passes too where any one request for memory is refused, as `bench/refused_memory.sh` has it.
+#[test]
+fn want_of_memory_for_a_drawn_plan_is_told(rt: HostRuntime) -> Result<(), Fail> {
+    let alloc = rt.alloc();
+    let words = [5, 7, 4, 9];
+    let rings = [Params::new(3, 3)?];
+    let plan = match draw_plan(alloc, &mut generator_of(words), Role::Worker, &rings, 1) {
+        Ok(plan) => plan,
+        Err(_) => draw_plan(alloc, &mut generator_of(words), Role::Worker, &rings, 1)?,
+    };
+    let pass = Action::Pass {
+        ring: 0,
+        machine: 1,
+        order: 9,
+    };
+    is_plan(&rt, &plan, &[pass]);
+    Ok(())
+}
+
 /// How many actions each plan has, how many of them are surveys, and the first one, by a short program in another language.
 const WANTS: [(usize, usize, Action); 5] = [
     (
