@@ -4,7 +4,7 @@ ghost use Rattle.std.specs.Prelude.{◌≡◌, ◌≢◌, ◌<◌, ◌≤◌, le
 
 use super::both;
 use crate::events::told;
-use ring_book::{Book, Resource, Till};
+use ring_book::{Book, BookError, Resource, Till};
 use ring_model::{Event, Op, Survey};
 use ring_shared::{CloseFault, CloseReason, Closed, Entry, Name, Ring, Seat};
 use std::alloc::Global;
@@ -91,7 +91,10 @@ fn recorded<N: Name, W: Wait + Abort>(
     };
     match result {
         Ok(receipt) => Some(Entry::Receipt(receipt)),
-        Err(_) => None,
+        Err(refused) => {
+            assert_eq!(rt; refused, BookError::OutOfMemory);
+            None
+        }
     }
 }
 
