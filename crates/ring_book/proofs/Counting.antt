@@ -7,10 +7,11 @@ use Rattle.std.proofs.lemmas.List.{length-set, length-replicate, get_or-replicat
 use Rattle.std.proofs.lemmas.List.Sums.{length-filter}
 use Rattle.ring_model.specs.Numbers.{bit, sum_below}
 use Rattle.ring_model.specs.Ring.{IsRing, is_settled}
-use Rattle.ring_model.specs.History.{Works, State, Step, StepOf, after}
+use Rattle.ring_model.specs.History.{Works, State, IsGrant, Step, StepOf, after}
 use Rattle.ring_model.specs.Surveys.{is_corrupted}
 use Rattle.ring_model.specs.Grants.{is_grant_of, grants_of, settled_run}
 use Rattle.ring_model.specs.Logs.{calls_of}
+use Rattle.ring_model.specs.declared.events.Op.{Op}
 use Rattle.ring_model.specs.declared.events.Op.TheVariants.{Pass, Corrupt}
 use Rattle.ring_model.specs.declared.events.Reply.TheVariants.{Granted, NotPrivileged, Corrupted}
 use Rattle.ring_model.specs.declared.events.Event.{Event}
@@ -96,19 +97,22 @@ IsTallyOf-new w a settled s = record {
 }
 
 -- the counts of the grants after a granted pass
-pub grants-grant : {C : Type 0} (w : Works C) (a : State C) (h : List Event) (n : ℕ) (g : GrantsView) (settled : Bool) (seat m order number result : ℕ) →
+pub grants-grant : {C : Type 0} (w : Works C) (a : State C) (h : List Event) (n : ℕ) (g : GrantsView) (settled : Bool) (seat m number result : ℕ) (o : Op) →
+    ((i : ℕ) → is_grant_of i o (Granted number result) ≡ (m == i)) →
     IsGrantsOf w a h n g → settled ≡ is_settled (after w a h).ring.values → (settled ≡ false → settled_run w a h ≡ []) → m < n →
-    IsGrantsOf w a (h ++ record { seat = seat; op = Pass m order; reply = Granted number result } ∷ []) n (one_grant g m settled)
-grants-grant w a h n g settled seat m order number result was s none l =
-    let e : Event = record { seat = seat; op = Pass m order; reply = Granted number result } in
+    IsGrantsOf w a (h ++ record { seat = seat; op = o; reply = Granted number result } ∷ []) n (one_grant g m settled)
+grants-grant w a h n g settled seat m number result o mine was s none l =
+    let e : Event = record { seat = seat; op = o; reply = Granted number result } in
+    let pushed : (i : ℕ) (es : List Event) → grants_of i (es ++ e ∷ []) ≡ grants_of i es + bit (m == i) =
+    λ (i : ℕ) (es : List Event). grants_of-push i es e ∙ ap (λ (b : Bool). grants_of i es + bit b) (mine i) in
     let total' = was.total in
     let machines' = was.machines in
     let settled_machines' = was.settled_machines in
-    let here : grants_of m (h ++ e ∷ []) ≡ grants_of m h + 1 = grants_of-push m h e ∙ ap (λ (b : Bool). grants_of m h + bit b) (eq-eqb m m refl) in
+    let here : grants_of m (h ++ e ∷ []) ≡ grants_of m h + 1 = pushed m h ∙ ap (λ (b : Bool). grants_of m h + bit b) (eq-eqb m m refl) in
     let sums : sum_below (λ i. grants_of i (h ++ e ∷ [])) n + grants_of m h ≡ sum_below (λ i. grants_of i h) n + grants_of m (h ++ e ∷ []) =
     sum_but_one (λ i. grants_of i (h ++ e ∷ [])) (λ i. grants_of i h) m n l
     (λ k lk ne.
-    let more : grants_of k (h ++ e ∷ []) ≡ grants_of k h + bit (m == k) = grants_of-push k h e in
+    let more : grants_of k (h ++ e ∷ []) ≡ grants_of k h + bit (m == k) = pushed k h in
     let other : bit (m == k) ≡ 0 = ap bit (ne_eqb m k (λ q. ne (sym q))) in
     omega arith) in
     record {
@@ -116,7 +120,7 @@ grants-grant w a h n g settled seat m order number result was s none l =
       machines = length-set g.each m (slice_index g.each m + 1) ∙ was.machines;
       each = λ i li.
           let at : slice_index (raised g.each m) i ≡ slice_index g.each i + bit (m == i) = raised_at g.each m i (omega arith) in
-          let more : grants_of i (h ++ e ∷ []) ≡ grants_of i h + bit (m == i) = grants_of-push i h e in
+          let more : grants_of i (h ++ e ∷ []) ≡ grants_of i h + bit (m == i) = pushed i h in
           let same = was.each i li in
           omega arith;
       settled_machines = elim (cases_Bool settled) [
@@ -129,7 +133,7 @@ grants-grant w a h n g settled seat m order number result was s none l =
             ap (λ (b : Bool). slice_index (cond b (raised g.settled m) g.settled) i) y in
             let at : slice_index (raised g.settled m) i ≡ slice_index g.settled i + bit (m == i) = raised_at g.settled m i (omega arith) in
             let run : grants_of i (settled_run w a (h ++ e ∷ [])) ≡ grants_of i (settled_run w a h ++ e ∷ []) = ap (grants_of i) (run_goes_on w a h e (sym s ∙ y) refl) in
-            let more : grants_of i (settled_run w a h ++ e ∷ []) ≡ grants_of i (settled_run w a h) + bit (m == i) = grants_of-push i (settled_run w a h) e in
+            let more : grants_of i (settled_run w a h ++ e ∷ []) ≡ grants_of i (settled_run w a h) + bit (m == i) = pushed i (settled_run w a h) in
             let same : slice_index g.settled i ≡ grants_of i (settled_run w a h) = was.settled i li in
             omega arith
         | inr f ↦
@@ -188,15 +192,16 @@ settled-step : {C : Type 0} (w : Works C) (a : State C) (h : List Event) (e : Ev
 settled-step w a h e b step = ap (λ (s : State _). is_settled s.ring.values) (StepOf-next w (after w a h) e.op e.reply b step ∙ sym (after-push w a h e))
 
 -- all counts after a granted pass
-pub IsTallyOf-grant : {C : Type 0} (w : Works C) (a : State C) (h : List Event) (t : TallyView) (b : State C) (seat m order number result : ℕ) (settled : Bool) →
-    IsTallyOf w a h t → StepOf w (after w a h) (Pass m order) (Granted number result) b →
+pub IsTallyOf-grant : {C : Type 0} (w : Works C) (a : State C) (h : List Event) (t : TallyView) (b : State C) (seat m order number result : ℕ) (settled : Bool) (o : Op) →
+    ((i : ℕ) → is_grant_of i o (Granted number result) ≡ (m == i)) →
+    IsTallyOf w a h t → StepOf w (after w a h) o (Granted number result) b → IsGrant w (after w a h) m order number result b →
     IsRing (after w a h).ring → length (after w a h).ring.values ≡ length a.ring.values → seat < seat_limit →
     settled ≡ is_settled b.ring.values →
-    IsTallyOf w a (h ++ record { seat = seat; op = Pass m order; reply = Granted number result } ∷ []) (after_call (after_grant t m settled) seat)
-IsTallyOf-grant w a h t b seat m order number result settled was step ring size few s =
-    let e : Event = record { seat = seat; op = Pass m order; reply = Granted number result } in
+    IsTallyOf w a (h ++ record { seat = seat; op = o; reply = Granted number result } ∷ []) (after_call (after_grant t m settled) seat)
+IsTallyOf-grant w a h t b seat m order number result settled o mine was step grant ring size few s =
+    let e : Event = record { seat = seat; op = o; reply = Granted number result } in
     let calm' = was.calm in
-    let inside : m < length (after w a h).ring.values = step.0 in
+    let inside : m < length (after w a h).ring.values = grant.0 in
     record {
       calm = ap (λ (n : ℕ). n + 1) was.calm ∙ sym (calm-push h e);
       seats = length-set t.calls seat (slice_index t.calls seat + 1) ∙ was.seats;
@@ -204,11 +209,11 @@ IsTallyOf-grant w a h t b seat m order number result settled was step ring size 
       settled = s ∙ settled-step w a h e b step;
       no_run = λ f. elim (cases_Bool (is_settled (after w a h).ring.values)) [
         | inl y ↦
-            let stays : is_settled b.ring.values ≡ true = ap (λ (x : State _). is_settled x.ring.values) step.4 ∙ settled_stays (after w a h).ring m ring step.0 step.1 y in
+            let stays : is_settled b.ring.values ≡ true = ap (λ (x : State _). is_settled x.ring.values) grant.4 ∙ settled_stays (after w a h).ring m ring grant.0 grant.1 y in
             absurd (both_ways settled f (s ∙ stays))
         | inr n ↦ run_is_over w a h e n
       ];
-      grants = grants-grant w a h (length a.ring.values) t.grants t.settled seat m order number result was.grants was.settled was.no_run (omega arith);
+      grants = grants-grant w a h (length a.ring.values) t.grants t.settled seat m number result o mine was.grants was.settled was.no_run (omega arith);
     }
 
 -- all counts after a pass that was not granted

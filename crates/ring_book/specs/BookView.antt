@@ -2,6 +2,7 @@
 use Rattle.std.specs.Prelude.{◌≡◌, ◌++◌, ◌∷◌, ◌+◌, ◌≤◌, ℕ, List, [], length}
 use Rattle.ring_model.specs.Ring.{Ring}
 use Rattle.ring_model.specs.History.{Works, State, Step, opening, after, IsLegal}
+use Rattle.ring_model.specs.Groups.{IsWhole}
 use Rattle.ring_model.specs.declared.events.Event.{Event}
 use Rattle.ring_model.specs.declared.events.Op.{Op}
 use Rattle.ring_model.specs.declared.events.Receipt.{Receipt}
@@ -22,9 +23,9 @@ abbrev pub book_view : {C : Type 0} → Ring → Ring → C → EventsView → T
 book_view start ring content events tally =
     record { start = start; now = record { ring = ring; content = content; grants = tally.grants.total }; history = events.list; room = events.room }
 
--- What is true of a book at every moment: its history is legal from the start and leads to the state now (the one-thread ring
--- under a central daemon, Dijkstra 1974), within the limits of this project.
-pub record IsBook {C : Type 0} (w : Works C) (first : C) (b : BookView C) : Type 0 where
+-- What is true of a book also between the members of a group: its history is legal, step by step, from the start and leads to the state now
+-- (the one-thread ring under a central daemon, Dijkstra 1974), within the limits of this project.
+pub record IsOpen {C : Type 0} (w : Works C) (first : C) (b : BookView C) : Type 0 where
   pub legal : IsLegal w (opening b.start first) b.history
   pub current : after w (opening b.start first) b.history ≡ b.now
   pub bounded : length b.history + b.room ≤ event_limit
@@ -32,9 +33,24 @@ pub record IsBook {C : Type 0} (w : Works C) (first : C) (b : BookView C) : Type
   pub now_ring : IsRingState b.now.ring
   pub same_size : size_of b.now.ring ≡ size_of b.start
 
+-- What is true of a book at every moment: besides, its history is whole, a row of groups and of calls by themselves.
+pub record IsBook {C : Type 0} (w : Works C) (first : C) (b : BookView C) : Type 0 where
+  pub legal : IsLegal w (opening b.start first) b.history
+  pub current : after w (opening b.start first) b.history ≡ b.now
+  pub bounded : length b.history + b.room ≤ event_limit
+  pub start_ring : IsRingState b.start
+  pub now_ring : IsRingState b.now.ring
+  pub same_size : size_of b.now.ring ≡ size_of b.start
+  pub whole : IsWhole (length b.start.values) b.history
+
 -- besides, each running count is that of the history
 pub record IsKept {C : Type 0} (w : Works C) (first : C) (b : BookView C) (t : TallyView) : Type 0 where
   pub book : IsBook w first b
+  pub tally : IsTallyOf w (opening b.start first) b.history t
+
+-- the same, also between the members of a group
+pub record IsOpenKept {C : Type 0} (w : Works C) (first : C) (b : BookView C) (t : TallyView) : Type 0 where
+  pub book : IsOpen w first b
   pub tally : IsTallyOf w (opening b.start first) b.history t
 
 -- a book with no events

@@ -8,7 +8,7 @@ mod grants;
 mod resources;
 mod tallies;
 
-pub use books::{Book, NotMade};
+pub use books::{Book, GroupError, GroupReceipt, NotMade};
 pub use events::BookError;
 pub use grants::GrantBook;
 pub use resources::{Idle, Resource, Till};

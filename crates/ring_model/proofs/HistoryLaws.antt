@@ -10,7 +10,7 @@ use Rattle.ring_model.specs.Surveys.{is_corrupted, granted_count, corrupted_coun
 use Rattle.ring_model.specs.Grants.{is_grant_of, grants_of, asked_machines, and_granted, granted_machines, is_settled_run, settled_run, settled_grants_of}
 use Rattle.ring_model.specs.HistoryLaws.{values_at, rest_at, between, Settlement, HistoryDescent, HistorySettles, HistoryCalm, HistoryRound, HistoryFairness, HistorySurveys, HistoryKeepsRing}
 use Rattle.ring_model.specs.declared.events.Op.{Op}
-use Rattle.ring_model.specs.declared.events.Op.TheVariants.{Pass, Corrupt}
+use Rattle.ring_model.specs.declared.events.Op.TheVariants.{Pass, Member, Corrupt}
 use Rattle.ring_model.specs.declared.events.Reply.{Reply}
 use Rattle.ring_model.specs.declared.events.Reply.TheVariants.{Granted, NotPrivileged, Corrupted}
 use Rattle.ring_model.specs.declared.events.Event.{Event}
@@ -59,6 +59,9 @@ grants_of_times i (e ∷ es) =
     one_more (Pass machine order) (Granted number result) ms = refl
     one_more (Pass machine order) NotPrivileged ms = omega arith
     one_more (Pass machine order) (Corrupted old) ms = omega arith
+    one_more (Member machine order left) (Granted number result) ms = refl
+    one_more (Member machine order left) NotPrivileged ms = omega arith
+    one_more (Member machine order left) (Corrupted old) ms = omega arith
     one_more (Corrupt machine value) r ms = omega arith
 
 -- the settled run

@@ -17,5 +17,10 @@ pub mod Places
 pub mod Fairness
 pub mod HistoryLaws
 pub mod Suffixes
+pub mod Groups
+pub mod Orders
+pub mod Blocks
+pub mod Wholes
+pub mod Scanning
 mod Steps
 mod Worked

@@ -7,7 +7,7 @@ use Rattle.ring_model.specs.History.{Works, State, StepOf, next, after, IsLegal}
 use Rattle.ring_model.specs.Surveys.{calm}
 use Rattle.ring_model.specs.HistoryLaws.{between}
 use Rattle.ring_model.specs.declared.events.Op.{Op}
-use Rattle.ring_model.specs.declared.events.Op.TheVariants.{Pass, Corrupt}
+use Rattle.ring_model.specs.declared.events.Op.TheVariants.{Pass, Member, Corrupt}
 use Rattle.ring_model.specs.declared.events.Reply.{Reply}
 use Rattle.ring_model.specs.declared.events.Reply.TheVariants.{Granted, NotPrivileged, Corrupted}
 use Rattle.ring_model.specs.declared.events.Event.{Event}
@@ -69,6 +69,11 @@ kept_step w a (Pass i order) (Granted number result) h g =
     rw e (record { same = refl; size = length_move a.ring i; ring = move_ring a.ring i g h.0 })
 kept_step w a (Pass i order) NotPrivileged h g = let e : is_privileged a.ring.values i ≡ false = h.1 in rw e (record { same = refl; size = refl; ring = g })
 kept_step w a (Pass i order) (Corrupted old) h g = absurd h
+kept_step w a (Member i order left) (Granted number result) h g =
+    let e : is_privileged a.ring.values i ≡ true = h.1 in
+    rw e (record { same = refl; size = length_move a.ring i; ring = move_ring a.ring i g h.0 })
+kept_step w a (Member i order left) NotPrivileged h g = absurd h
+kept_step w a (Member i order left) (Corrupted old) h g = absurd h
 kept_step w a (Corrupt i v) (Granted number result) h g = absurd h
 kept_step w a (Corrupt i v) NotPrivileged h g = absurd h
 kept_step w a (Corrupt i v) (Corrupted old) h g = record { same = refl; size = length-set a.ring.values i v; ring = set_ring a.ring i v g h.0 h.1 }
@@ -90,6 +95,12 @@ calm_step w a (Pass i order) (Granted number result) top c h g b le =
     rw e (omega arith)
 calm_step w a (Pass i order) NotPrivileged top c h g b le = let e : is_privileged a.ring.values i ≡ false = h.1 in rw e le
 calm_step w a (Pass i order) (Corrupted old) top c h g b le = absurd h
+calm_step w a (Member i order left) (Granted number result) top c h g b le =
+    let e : is_privileged a.ring.values i ≡ true = h.1 in
+    let f : rest (moved a.ring i) ≤ rest a.ring - 1 = rest_falls a.ring i g h.0 e in
+    rw e (omega arith)
+calm_step w a (Member i order left) NotPrivileged top c h g b le = absurd h
+calm_step w a (Member i order left) (Corrupted old) top c h g b le = absurd h
 calm_step w a (Corrupt i v) (Granted number result) top c h g b le = absurd h
 calm_step w a (Corrupt i v) NotPrivileged top c h g b le = absurd h
 calm_step w a (Corrupt i v) (Corrupted old) top c h g b le =

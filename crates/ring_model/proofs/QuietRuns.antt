@@ -10,7 +10,7 @@ use Rattle.ring_model.specs.History.{Works, State, StepOf, next, after, IsLegal}
 use Rattle.ring_model.specs.Surveys.{is_granted, is_corrupted, granted_count, corrupted_count}
 use Rattle.ring_model.specs.Grants.{is_grant_of, grants_of, and_asked, asked_machines, and_granted, granted_machines}
 use Rattle.ring_model.specs.declared.events.Op.{Op}
-use Rattle.ring_model.specs.declared.events.Op.TheVariants.{Pass, Corrupt}
+use Rattle.ring_model.specs.declared.events.Op.TheVariants.{Pass, Member, Corrupt}
 use Rattle.ring_model.specs.declared.events.Reply.{Reply}
 use Rattle.ring_model.specs.declared.events.Reply.TheVariants.{Granted, NotPrivileged, Corrupted}
 use Rattle.ring_model.specs.declared.events.Event.{Event}
@@ -85,6 +85,17 @@ quiet_step w a (Pass i order) NotPrivileged h q =
       count = λ machines. omega arith;
     })
 quiet_step w a (Pass i order) (Corrupted old) h q = absurd h
+quiet_step w a (Member i order left) (Granted number result) h q =
+    let e : is_privileged a.ring.values i ≡ true = h.1 in
+    rw e (record {
+      state = λ choices. ap (λ (t : Ring). after_passes t choices) (pass_granted a.ring i e);
+      grants = λ choices. granted_on a.ring i choices e;
+      below = λ choices b. (h.0, b);
+      size = length_move a.ring i;
+      count = λ machines. omega arith;
+    })
+quiet_step w a (Member i order left) NotPrivileged h q = absurd h
+quiet_step w a (Member i order left) (Corrupted old) h q = absurd h
 quiet_step w a (Corrupt i v) (Granted number result) h q = absurd h
 quiet_step w a (Corrupt i v) NotPrivileged h q = absurd h
 quiet_step w a (Corrupt i v) (Corrupted old) h q = absurd (true≢false q)

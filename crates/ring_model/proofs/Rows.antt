@@ -1,6 +1,15 @@
 -- Worked values, found by hand from the definitions.
-use Rattle.std.proofs.Common.{◌≡◌, [], ◌∷◌, true, false, refl}
-use Rattle.ring_model.specs.Ring.{ring_with, privileged_count, first_privileged, is_settled, moved, weight, first_value_is_prefix, lead, rest, bound}
+use Rattle.std.proofs.Common.{◌≡◌, ℕ, List, [], ◌∷◌, true, false, refl}
+use Rattle.ring_model.specs.Runs.{after_passes, granted_passes}
+use Rattle.ring_model.specs.Surveys.{survey_at}
+use Rattle.ring_model.specs.Resources.{till}
+use Rattle.ring_model.specs.Replay.{till_state}
+use Rattle.ring_model.specs.Groups.{move_order}
+use Rattle.ring_model.specs.GroupLaws.{block_of}
+use Rattle.ring_model.specs.declared.events.Op.TheVariants.{Member}
+use Rattle.ring_model.specs.declared.events.Reply.TheVariants.{Granted}
+use Rattle.ring_model.specs.declared.events.Event.{Event}
+use Rattle.ring_model.specs.Ring.{ring_with, is_privileged, privileged_count, first_privileged, is_settled, moved, weight, first_value_is_prefix, lead, rest, bound}
 
 -- three machines with three values: machine 0 of (0,2,0) steps on, machine 1 of (1,2,0) copies, machine 2 of (1,1,0) alone is privileged
 step_of_zero : moved (ring_with 3 (0 ∷ 2 ∷ 0 ∷ [])) 0 ≡ ring_with 3 (1 ∷ 2 ∷ 0 ∷ [])
@@ -77,3 +86,27 @@ bound_of_256 = refl
 -- 3 * 65536 * 65535 / 2, past 32 bits
 bound_of_65536 : bound 65536 ≡ 6442352640
 bound_of_65536 = refl
+
+-- four machines with four values in the state (0,2,1,0) over a till: the group 0, 1, 3 with order 2
+order_of_013 : move_order (0 ∷ 1 ∷ 3 ∷ []) ≡ 1 ∷ 0 ∷ 3 ∷ []
+order_of_013 = refl
+
+order_of_013_in_turn : granted_passes (ring_with 4 (0 ∷ 2 ∷ 1 ∷ 0 ∷ [])) (1 ∷ 0 ∷ 3 ∷ []) ≡ 1 ∷ 0 ∷ 3 ∷ []
+order_of_013_in_turn = refl
+
+state_after_013 : after_passes (ring_with 4 (0 ∷ 2 ∷ 1 ∷ 0 ∷ [])) (1 ∷ 0 ∷ 3 ∷ []) ≡ ring_with 4 (1 ∷ 0 ∷ 1 ∷ 1 ∷ [])
+state_after_013 = refl
+
+members_of_013 : block_of till (till_state (ring_with 4 (0 ∷ 2 ∷ 1 ∷ 0 ∷ [])) 0 0) 0 2 (1 ∷ 0 ∷ 3 ∷ []) ≡
+    record { seat = 0; op = Member 1 2 2; reply = Granted 1 2 }
+    ∷ record { seat = 0; op = Member 0 2 1; reply = Granted 2 4 }
+    ∷ record { seat = 0; op = Member 3 2 0; reply = Granted 3 6 } ∷ []
+members_of_013 = refl
+
+survey_after_013 : survey_at till (till_state (ring_with 4 (0 ∷ 2 ∷ 1 ∷ 0 ∷ [])) 0 0) (block_of till (till_state (ring_with 4 (0 ∷ 2 ∷ 1 ∷ 0 ∷ [])) 0 0) 0 2 (1 ∷ 0 ∷ 3 ∷ [])) 3 ≡
+    record { position = 3; privileged = 3; first = 0; calm = 3; rest = 9 }
+survey_after_013 = refl
+
+-- machine 3 of (1,0,1,1) is not privileged
+no_group_23 : is_privileged (1 ∷ 0 ∷ 1 ∷ 1 ∷ []) 3 ≡ false
+no_group_23 = refl

@@ -7,7 +7,7 @@ use Rattle.ring_model.specs.History.{Works, State, StepOf, next, reply}
 use Rattle.ring_model.specs.Surveys.{is_corrupted, corrupted_count}
 use Rattle.ring_model.specs.Steps.{IsInRange, StepsAreCalls, CallsHaveSteps, HistoriesAreRuns, RunsAreHistories}
 use Rattle.ring_model.specs.declared.events.Op.{Op}
-use Rattle.ring_model.specs.declared.events.Op.TheVariants.{Pass, Corrupt}
+use Rattle.ring_model.specs.declared.events.Op.TheVariants.{Pass, Member, Corrupt}
 use Rattle.ring_model.specs.declared.events.Reply.{Reply}
 use Rattle.ring_model.specs.declared.events.Reply.TheVariants.{Granted, NotPrivileged, Corrupted}
 use Rattle.ring_model.specs.declared.events.Event.{Event}
@@ -19,6 +19,9 @@ in_range : {C : Type 0} (w : Works C) (a : State C) (o : Op) (r : Reply) (b : St
 in_range w a (Pass i order) (Granted number result) b h = h.0
 in_range w a (Pass i order) NotPrivileged b h = h.0
 in_range w a (Pass i order) (Corrupted old) b h = absurd h
+in_range w a (Member i order left) (Granted number result) b h = (h.0, h.1)
+in_range w a (Member i order left) NotPrivileged b h = absurd h
+in_range w a (Member i order left) (Corrupted old) b h = absurd h
 in_range w a (Corrupt i v) (Granted number result) b h = absurd h
 in_range w a (Corrupt i v) NotPrivileged b h = absurd h
 in_range w a (Corrupt i v) (Corrupted old) b h = (h.0, h.1)
@@ -32,6 +35,7 @@ call_step w a (Pass i order) h = go (is_privileged a.ring.values i) refl
     go : (p : Bool) → is_privileged a.ring.values i ≡ p → StepOf w a (Pass i order) (reply w a (Pass i order)) (next w a (Pass i order))
     go true e = rw e (h, e, refl, refl, refl)
     go false e = rw e (h, e, refl)
+call_step w a (Member i order left) h = let e : is_privileged a.ring.values i ≡ true = h.1 in rw e (h.0, e, refl, refl, refl)
 call_step w a (Corrupt i v) h = (h.0, h.1, refl, refl)
 
 pub calls_have_steps : {C : Type 0} → CallsHaveSteps C

@@ -89,23 +89,23 @@ worked_logs = record {
     calls = refl;
     entries = (
       omega arith,
-      (omega arith, refl),
+      (omega arith, refl, refl),
       (
         omega arith,
         refl,
         (
           omega arith,
-          (omega arith, refl),
+          (omega arith, refl, refl),
           (
             omega arith,
-            (omega arith, refl),
-            (omega arith, refl, (omega arith, refl, (omega arith, (omega arith, refl), tt))),
+            (omega arith, refl, refl),
+            (omega arith, refl, (omega arith, refl, (omega arith, (omega arith, refl, refl), tt))),
           ),
         ),
       ),
     );
   };
-  empty_fits = record { calls = refl; entries = (omega arith, (omega arith, refl), tt) };
+  empty_fits = record { calls = refl; entries = (omega arith, (omega arith, refl, refl), tt) };
   too_few = no_too_few;
   anothers = no_anothers;
   misplaced = no_misplaced;

@@ -5,23 +5,25 @@ use Rattle.ring_model.specs.Ring.{is_settled}
 use Rattle.ring_model.specs.History.{Works, State, next}
 use Rattle.ring_model.specs.Surveys.{is_corrupted}
 use Rattle.ring_model.specs.declared.events.Op.{Op}
-use Rattle.ring_model.specs.declared.events.Op.TheVariants.{Pass, Corrupt}
+use Rattle.ring_model.specs.declared.events.Op.TheVariants.{Pass, Member, Corrupt}
 use Rattle.ring_model.specs.declared.events.Reply.{Reply}
 use Rattle.ring_model.specs.declared.events.Reply.TheVariants.{Granted}
 use Rattle.ring_model.specs.declared.events.Event.{Event}
 
--- a granted pass of machine i
+-- a granted pass of machine i, by itself or as a member of a group
 abbrev pub is_grant_of : ℕ → Op → Reply → Bool
 is_grant_of i (Pass machine order) (Granted number result) = machine == i
+is_grant_of i (Member machine order left) (Granted number result) = machine == i
 is_grant_of i _ _ = false
 
 -- how many granted passes of a history are machine i's
 abbrev pub grants_of : ℕ → List Event → ℕ
 grants_of i h = count_by (λ (e : Event). is_grant_of i e.op e.reply) h
 
--- the machine of a call that is a pass, before what follows
+-- the machine of a call that is a pass, by itself or as a member of a group, before what follows
 abbrev pub and_asked : Op → List ℕ → List ℕ
 and_asked (Pass machine order) machines = machine ∷ machines
+and_asked (Member machine order left) machines = machine ∷ machines
 and_asked (Corrupt machine value) machines = machines
 
 -- the machines that the passes among the events ask for, in order
@@ -32,6 +34,7 @@ asked_machines (e ∷ es) = and_asked e.op (asked_machines es)
 -- the machine of a granted pass, before what follows
 abbrev pub and_granted : Op → Reply → List ℕ → List ℕ
 and_granted (Pass machine order) (Granted number result) machines = machine ∷ machines
+and_granted (Member machine order left) (Granted number result) machines = machine ∷ machines
 and_granted _ _ machines = machines
 
 -- the machines whose passes were granted, in order

@@ -13,6 +13,9 @@ pub mod Statewise
 pub mod Surveys
 pub mod Grants
 pub mod Logs
+pub mod Groups
+pub mod GroupLaws
+pub mod Scanning
 pub mod Resources
 pub mod Steps
 pub mod Worked

@@ -3,7 +3,7 @@ use Rattle.std.specs.Prelude.{ℕ}
 use Rattle.ring_model.specs.Ring.{Ring}
 use Rattle.ring_model.specs.History.{State}
 use Rattle.ring_model.specs.declared.events.Op.{Op}
-use Rattle.ring_model.specs.declared.events.Op.TheVariants.{Pass, Corrupt}
+use Rattle.ring_model.specs.declared.events.Op.TheVariants.{Pass, Member, Corrupt}
 
 -- the state with this ring, this amount in the till and so many grants
 abbrev pub till_state : Ring → ℕ → ℕ → State ℕ
@@ -12,4 +12,5 @@ till_state r amount grants = record { ring = r; content = amount; grants = grant
 -- the machine that a call names
 abbrev pub machine_of : Op → ℕ
 machine_of (Pass machine order) = machine
+machine_of (Member machine order left) = machine
 machine_of (Corrupt machine value) = machine

@@ -1,17 +1,18 @@
 -- A step told by its call: the calls in range, and the step that each of them has.
-use Rattle.std.specs.Prelude.{◌≡◌, ℕ, ◌<◌, List, length}
-use Rattle.ring_model.specs.Ring.{Ring}
+use Rattle.std.specs.Prelude.{◌≡◌, ℕ, ◌<◌, true, List, length}
+use Rattle.ring_model.specs.Ring.{Ring, is_privileged}
 use Rattle.ring_model.specs.Runs.{after_passes, granted_passes, AreBelow}
 use Rattle.ring_model.specs.History.{Works, State, Step, next, reply, after, IsLegal}
 use Rattle.ring_model.specs.Surveys.{corrupted_count}
 use Rattle.ring_model.specs.Grants.{asked_machines, granted_machines}
 use Rattle.ring_model.specs.declared.events.Op.{Op}
-use Rattle.ring_model.specs.declared.events.Op.TheVariants.{Pass, Corrupt}
+use Rattle.ring_model.specs.declared.events.Op.TheVariants.{Pass, Member, Corrupt}
 use Rattle.ring_model.specs.declared.events.Event.{Event}
 
--- a call in range: it names a machine of the ring, and a corruption a value below K
+-- a call in range: it names a machine of the ring, a member's one that is privileged, and a corruption a value below K
 abbrev pub IsInRange : Ring → Op → Type 0
 IsInRange r (Pass i order) = i < length r.values
+IsInRange r (Member i order left) = (i < length r.values) × (is_privileged r.values i ≡ true)
 IsInRange r (Corrupt i v) = (i < length r.values) × (v < r.k)
 
 -- a step is a call in range with the reply and the next state that the call determines

@@ -3,6 +3,7 @@
 #![tactic(auto)]
 
 mod events;
+pub mod group_laws;
 pub mod legal_histories;
 pub mod limits;
 pub mod meanings;

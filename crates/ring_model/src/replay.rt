@@ -26,7 +26,12 @@ pub fn step_with_till(
     ensures reply { result ≡ reply till (till_state (ring_with k values.old) amount.old grants.old) op }
 {
     match op {
-        Op::Pass { machine, order } => {
+        Op::Pass { machine, order }
+        | Op::Member {
+            machine,
+            order,
+            left: _,
+        } => {
             if !plain::is_privileged(values, machine as usize) {
                 return Reply::NotPrivileged;
             }

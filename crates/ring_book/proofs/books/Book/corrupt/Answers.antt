@@ -1,13 +1,13 @@
 use Rattle.std.proofs.Common.{rules, ◌≤◌, ◌+◌, List, length, ap, arith}
 use Rattle.ring_model.specs.declared.events.Event.{Event}
 use Rattle.ring_model.specs.Limits.{event_limit}
-use Rattle.ring_book.proofs.Growth.{IsKept-corruption, calls_fit}
+use Rattle.ring_book.proofs.Growth.{kept_open, IsKept-corruption, calls_fit}
 use Rattle.ring_book.proofs.Repairing.{book_settlement}
 use Rattle.ring_book.proofs.books.Book.corrupt.Goals as goal
 
 pub add_call-requires-clause-fits : goal.add_call-requires-clause-fits
 add_call-requires-clause-fits g c =
-    let fit = calls_fit _ _ _ _ c.args.seat c.self.invariant c.requires.seat in
+    let fit = calls_fit _ _ _ _ c.args.seat (kept_open _ _ _ _ c.self.invariant) c.requires.seat in
     rw c.add_corruption.ensures (omega arith)
 
 pub invariant_of-self-2 : goal.invariant_of-self-2
