@@ -5,8 +5,8 @@ use Rattle.std.proofs.lemmas.List.Elements.{All-append}
 use Rattle.std.proofs.Math.Seq.{drop-append_seam}
 use Rattle.ring_state.specs.Sizes.{Size}
 use Rattle.ring_model.specs.Ring.{Ring}
-use Rattle.ring_model.specs.History.{Works, opening}
-use Rattle.ring_model.specs.Groups.{move_order, AreMembers, IsBlockOf, IsHistory}
+use Rattle.ring_model.specs.History.{Works}
+use Rattle.ring_model.specs.Groups.{move_order, AreMembers, IsBlockOf}
 use Rattle.ring_model.specs.declared.events.Event.{Event}
 use Rattle.ring_model.proofs.Orders.{order_length}
 use Rattle.ring_model.proofs.Wholes.{members_length}

@@ -101,6 +101,7 @@ impl<N: Name, R: Resource + Drop> Locked<N, R> {
         requires some { 1 ≤ length machines.now }
         ensures ok { IfOk result (λ r. IsGroupUnderLock R.works R.first N.start N.seats N.legal self.old self.new seat.old seat.new order machines.now r) }
         ensures refused { IsGroupRefused self.old self.new seat.old seat.new machines.now result }
+        ensures size { length self.old.now.ring.values ≡ length N.start.values }
     {
         let Ok(mut ring) = self.book.state().try_copy(self.alloc) else {
             return Err(GroupError::OutOfMemory);

@@ -1,4 +1,4 @@
-use Rattle.std.proofs.Common.{◌≡◌, ◌++◌, ◌≤◌, ◌+◌, take}
+use Rattle.std.proofs.Common.{◌≡◌, ◌++◌, take}
 use Rattle.ring_shared.proofs.front.Front.surely_add_all.Given as goal
 
 abbrev pub invariant-loop-event : goal.invariant-loop-event
