@@ -1,8 +1,9 @@
 -- The lines are read just as they are spelled.
-use Rattle.std.proofs.Common.{◌≡◌, ◌≢◌, ℕ, zero, suc, ◌^◌, ◌<◌, List, [], ◌∷◌, ◌++◌, length, Option, Some, None, refl, sym, ◌∙◌, ap, ◌⊎◌, inl, inr, arith}
+use Rattle.std.proofs.Common.{◌≡◌, ◌≢◌, ℕ, zero, suc, ◌^◌, ◌<◌, Bool, true, false, ltb, cond, List, [], ◌∷◌, ◌++◌, length, Option, Some, None, refl, sym, ◌∙◌, ap, ◌⊎◌, inl, inr, arith}
+use Rattle.std.proofs.lemmas.Bool.{ltb-true, ltb-false}
 use Rattle.std.proofs.lemmas.Fmt.{decimal_digit}
 use Rattle.std.specs.Prelude.{codes}
-use Rattle.text_lines.specs.Reading.{Reader, Either, this, that, as_at, branch}
+use Rattle.text_lines.specs.Reading.{Reader, Either, this, that, as_at, branch, choice_at}
 use Rattle.text_lines.specs.Spelling.{spaced, ended, Below, OfEither, of_either}
 use Rattle.text_lines.specs.Grammar.{Reads, RunFits, many, Repeats, StartsWith, ReadsBranch}
 use Rattle.text_lines.proofs.Sequences.{both_reads, as_reads, after_reads, nothing_reads}
@@ -10,12 +11,12 @@ use Rattle.text_lines.proofs.Choices.{choice_reads, starts_otherwise}
 use Rattle.text_lines.proofs.Repetitions.{Always, many_reads}
 use Rattle.text_lines.proofs.Decimals.{number_reads, positive_reads}
 use Rattle.ring_text.specs.declared.saved.SavedEvent.{SavedEvent}
-use Rattle.ring_text.specs.declared.saved.SavedEvent.TheVariants.{Granted, Refused, Corrupted}
+use Rattle.ring_text.specs.declared.saved.SavedEvent.TheVariants.{Granted, Refused, Member, Corrupted}
 use Rattle.ring_text.specs.declared.saved.SavedSurvey.{SavedSurvey}
 use Rattle.ring_text.specs.declared.saved.Head.{Head}
-use Rattle.ring_text.specs.Versions.{first_version, latest_version, IsVersion}
+use Rattle.ring_text.specs.Versions.{first_version, latest_version, HasGroups, IsVersion}
 use Rattle.ring_text.specs.Spelling.{head_line, event_line, end_line, survey_line, done_line, EventFits, SurveyFits, HeadFits}
-use Rattle.ring_text.specs.Lines.{first_branch, latest_branch, version_at, small, last_small, large, last_large, grant_branch, refusal_branch, reply_at, pass_of, pass_at, pass_branch, corruption_of, corruption_at, corruption_branch, end_at, end_branch, event_or_end_at, events_at, head_from, head_at, head_branch, done_at, done_branch, survey_of, survey_at, Follow, survey_branch, survey_or_next_at, surveys_at}
+use Rattle.ring_text.specs.Lines.{first_branch, latest_branch, version_at, small, last_small, large, last_large, grant_branch, refusal_branch, reply_at, pass_of, pass_at, pass_branch, corruption_of, corruption_at, corruption_branch, member_of, member_at, member_branch, end_at, end_branch, event_or_end_at, events_at, head_from, head_at, head_branch, done_at, done_branch, survey_of, survey_at, Follow, survey_branch, survey_or_next_at, surveys_at}
 
 abbrev Small : ℕ → Type 0
 Small = Below (2 ^ 32)
@@ -127,6 +128,7 @@ reply_reads = choice_reads ReplyFits reply_text grant_branch (refusal_branch ∷
 abbrev PassFits : ℕ → SavedEvent → Type 0
 PassFits version (Granted seat machine order number answer) = EventFits version (Granted seat machine order number answer)
 PassFits version (Refused seat machine order) = EventFits version (Refused seat machine order)
+PassFits version (Member seat machine order left number answer) = ⊥
 PassFits version (Corrupted seat machine value old) = ⊥
 
 abbrev Pass : Type 0
@@ -135,6 +137,7 @@ Pass = ℕ × (ℕ × (ℕ × Option (ℕ × ℕ)))
 abbrev pass_back : SavedEvent → Pass
 pass_back (Granted seat machine order number answer) = (seat, (machine, (order, Some (number, answer))))
 pass_back (Refused seat machine order) = (seat, (machine, (order, None)))
+pass_back (Member seat machine order left number answer) = (0, (0, (0, None)))
 pass_back (Corrupted seat machine value old) = (0, (0, (0, None)))
 
 abbrev PassParts : Pass → Type 0
@@ -154,11 +157,13 @@ pass_reads version = as_reads (PassFits version) event_line pass_of pass_back (a
     fits_back : (b : SavedEvent) → PassFits version b → PassParts (pass_back b)
     fits_back (Granted s m o n r) f = (f.0, (f.1, (f.2, (f.3, f.4))))
     fits_back (Refused s m o) f = (f.0, (f.1, (f.2, tt)))
+    fits_back (Member s m o l n r) f = absurd f
     fits_back (Corrupted s m v o) f = absurd f
 
     same : (b : SavedEvent) → PassFits version b → pass_of (pass_back b) ≡ b
     same (Granted s m o n r) f = refl
     same (Refused s m o) f = refl
+    same (Member s m o l n r) f = absurd f
     same (Corrupted s m v o) f = absurd f
 
     spelled : (a : Pass) → PassParts a → event_line (pass_of a) ≡ pass_parts a
@@ -170,11 +175,13 @@ pass_reads version = as_reads (PassFits version) event_line pass_of pass_back (a
 abbrev CorruptionFits : ℕ → SavedEvent → Type 0
 CorruptionFits version (Granted seat machine order number answer) = ⊥
 CorruptionFits version (Refused seat machine order) = ⊥
+CorruptionFits version (Member seat machine order left number answer) = ⊥
 CorruptionFits version (Corrupted seat machine value old) = EventFits version (Corrupted seat machine value old)
 
 abbrev corruption_back : SavedEvent → ℕ × (ℕ × (ℕ × ℕ))
 corruption_back (Granted seat machine order number answer) = (0, (0, (0, 0)))
 corruption_back (Refused seat machine order) = (0, (0, (0, 0)))
+corruption_back (Member seat machine order left number answer) = (0, (0, (0, 0)))
 corruption_back (Corrupted seat machine value old) = (seat, (machine, (value, old)))
 
 corruption_reads : (version : ℕ) → Reads (CorruptionFits version) event_line corruption_at
@@ -185,12 +192,48 @@ corruption_reads version = as_reads (CorruptionFits version) event_line corrupti
     fits_back : (b : SavedEvent) → CorruptionFits version b → (λ (p : ℕ × (ℕ × (ℕ × ℕ))). Small p.0 × (Small p.1.0 × (Small p.1.1.0 × Small p.1.1.1))) (corruption_back b)
     fits_back (Granted s m o n r) f = absurd f
     fits_back (Refused s m o) f = absurd f
+    fits_back (Member s m o l n r) f = absurd f
     fits_back (Corrupted s m v o) f = (f.0, (f.1, (f.2, f.3)))
 
     same : (b : SavedEvent) → CorruptionFits version b → corruption_of (corruption_back b) ≡ b
     same (Granted s m o n r) f = absurd f
     same (Refused s m o) f = absurd f
+    same (Member s m o l n r) f = absurd f
     same (Corrupted s m v o) f = refl
+
+-- ---- a member of a group
+
+abbrev MemberFits : ℕ → SavedEvent → Type 0
+MemberFits version (Granted seat machine order number answer) = ⊥
+MemberFits version (Refused seat machine order) = ⊥
+MemberFits version (Member seat machine order left number answer) = EventFits version (Member seat machine order left number answer)
+MemberFits version (Corrupted seat machine value old) = ⊥
+
+abbrev MemberNumbers : Type 0
+MemberNumbers = ℕ × (ℕ × (ℕ × (ℕ × (ℕ × ℕ))))
+
+abbrev member_back : SavedEvent → MemberNumbers
+member_back (Granted seat machine order number answer) = (0, (0, (0, (0, (0, 0)))))
+member_back (Refused seat machine order) = (0, (0, (0, (0, (0, 0)))))
+member_back (Member seat machine order left number answer) = (seat, (machine, (order, (left, (number, answer)))))
+member_back (Corrupted seat machine value old) = (0, (0, (0, (0, (0, 0)))))
+
+member_reads : (version : ℕ) → HasGroups version → Reads (MemberFits version) event_line member_at
+unfolding member_at
+member_reads version groups = as_reads (MemberFits version) event_line member_of member_back (after_reads (codes "m ") (both_reads small_reads (both_reads small_reads (both_reads large_reads (both_reads small_reads (both_reads large_reads last_large_reads))))))
+    (λ a f. (groups, f.0, f.1.0, f.1.1.0, f.1.1.1.0, f.1.1.1.1.0, f.1.1.1.1.1)) fits_back same (λ a f. refl)
+  where
+    fits_back : (b : SavedEvent) → MemberFits version b → (λ (p : MemberNumbers). Small p.0 × (Small p.1.0 × (Large p.1.1.0 × (Small p.1.1.1.0 × (Large p.1.1.1.1.0 × Large p.1.1.1.1.1))))) (member_back b)
+    fits_back (Granted s m o n r) f = absurd f
+    fits_back (Refused s m o) f = absurd f
+    fits_back (Member s m o l n r) f = (f.1, (f.2, (f.3, (f.4, (f.5, f.6)))))
+    fits_back (Corrupted s m v o) f = absurd f
+
+    same : (b : SavedEvent) → MemberFits version b → member_of (member_back b) ≡ b
+    same (Granted s m o n r) f = absurd f
+    same (Refused s m o) f = absurd f
+    same (Member s m o l n r) f = refl
+    same (Corrupted s m v o) f = absurd f
 
 -- ---- an event or the end of the events
 
@@ -230,11 +273,13 @@ pass_branch_reads version = event_branch_reads version (PassFits version) pass_a
     to : (e : SavedEvent) → PassFits version e → EventFits version e × StartsWith 112 (event_line e)
     to (Granted s m o n r) f = (f, (_, refl))
     to (Refused s m o) f = (f, (_, refl))
+    to (Member s m o l n r) f = absurd f
     to (Corrupted s m v o) f = absurd f
 
     back : (e : SavedEvent) → EventFits version e × StartsWith 112 (event_line e) → PassFits version e
     back (Granted s m o n r) f = f.0
     back (Refused s m o) f = f.0
+    back (Member s m o l n r) f = absurd (starts_otherwise 109 112 _ (λ e. omega arith) f.1)
     back (Corrupted s m v o) f = absurd (starts_otherwise 99 112 _ (λ e. omega arith) f.1)
 
 corruption_branch_reads : (version : ℕ) → ReadsBranch (ItemFits version) item_line corruption_branch
@@ -243,12 +288,29 @@ corruption_branch_reads version = event_branch_reads version (CorruptionFits ver
     to : (e : SavedEvent) → CorruptionFits version e → EventFits version e × StartsWith 99 (event_line e)
     to (Granted s m o n r) f = absurd f
     to (Refused s m o) f = absurd f
+    to (Member s m o l n r) f = absurd f
     to (Corrupted s m v o) f = (f, (_, refl))
 
     back : (e : SavedEvent) → EventFits version e × StartsWith 99 (event_line e) → CorruptionFits version e
     back (Granted s m o n r) f = absurd (starts_otherwise 112 99 _ (λ e. omega arith) f.1)
     back (Refused s m o) f = absurd (starts_otherwise 112 99 _ (λ e. omega arith) f.1)
+    back (Member s m o l n r) f = absurd (starts_otherwise 109 99 _ (λ e. omega arith) f.1)
     back (Corrupted s m v o) f = f.0
+
+member_branch_reads : (version : ℕ) → HasGroups version → ReadsBranch (ItemFits version) item_line member_branch
+member_branch_reads version groups = event_branch_reads version (MemberFits version) member_at 109 (λ e. omega arith) to back (member_reads version groups)
+  where
+    to : (e : SavedEvent) → MemberFits version e → EventFits version e × StartsWith 109 (event_line e)
+    to (Granted s m o n r) f = absurd f
+    to (Refused s m o) f = absurd f
+    to (Member s m o l n r) f = (f, (_, refl))
+    to (Corrupted s m v o) f = absurd f
+
+    back : (e : SavedEvent) → EventFits version e × StartsWith 109 (event_line e) → MemberFits version e
+    back (Granted s m o n r) f = absurd (starts_otherwise 112 109 _ (λ e. omega arith) f.1)
+    back (Refused s m o) f = absurd (starts_otherwise 112 109 _ (λ e. omega arith) f.1)
+    back (Member s m o l n r) f = f.0
+    back (Corrupted s m v o) f = absurd (starts_otherwise 99 109 _ (λ e. omega arith) f.1)
 
 abbrev end_back : Item → ℕ
 end_back (this e) = 0
@@ -257,6 +319,7 @@ end_back (that n) = n
 no_event : (e : SavedEvent) → StartsWith 101 (event_line e) → ⊥
 no_event (Granted s m o n r) b = starts_otherwise 112 101 _ (λ e. omega arith) b
 no_event (Refused s m o) b = starts_otherwise 112 101 _ (λ e. omega arith) b
+no_event (Member s m o l n r) b = starts_otherwise 109 101 _ (λ e. omega arith) b
 no_event (Corrupted s m v o) b = starts_otherwise 99 101 _ (λ e. omega arith) b
 
 end_branch_reads : (version : ℕ) → ReadsBranch (ItemFits version) item_line end_branch
@@ -270,19 +333,40 @@ end_branch_reads version = as_reads (λ a. ItemFits version a × StartsWith 101 
     same (this e) f = absurd (no_event e f.1)
     same (that n) f = refl
 
-pub item_reads : (version : ℕ) → Reads (ItemFits version) item_line (event_or_end_at version)
-unfolding event_or_end_at
-item_reads version = choice_reads (ItemFits version) item_line pass_branch (corruption_branch ∷ end_branch ∷ []) (pass_branch_reads version, (corruption_branch_reads version, (end_branch_reads version, tt))) (((λ e. omega arith), ((λ e. omega arith), tt)), (((λ e. omega arith), tt), (tt, tt))) kinds
+-- the branches of all versions, and those that only some have
+abbrev items_at : Bool → Reader Item
+items_at has = choice_at (pass_branch ∷ corruption_branch ∷ end_branch ∷ cond has (member_branch ∷ []) [])
+
+items_read : (version : ℕ) (has : Bool) → ltb first_version version ≡ has → Reads (ItemFits version) item_line (items_at has)
+items_read version true e = choice_reads (ItemFits version) item_line pass_branch (corruption_branch ∷ end_branch ∷ member_branch ∷ [])
+    (pass_branch_reads version, (corruption_branch_reads version, (end_branch_reads version, (member_branch_reads version (ltb-true first_version version e), tt))))
+    (((λ e. omega arith), ((λ e. omega arith), ((λ e. omega arith), tt))), (((λ e. omega arith), ((λ e. omega arith), tt)), (((λ e. omega arith), tt), (tt, tt)))) kinds
+  where
+    kinds : (a : Item) → ItemFits version a → StartsWith 112 (item_line a) ⊎ (StartsWith 99 (item_line a) ⊎ (StartsWith 101 (item_line a) ⊎ (StartsWith 109 (item_line a) ⊎ ⊥)))
+    kinds (this (Granted s m o n r)) f = inl (_, refl)
+    kinds (this (Refused s m o)) f = inl (_, refl)
+    kinds (this (Member s m o l n r)) f = inr (inr (inr (inl (_, refl))))
+    kinds (this (Corrupted s m v o)) f = inr (inl (_, refl))
+    kinds (that n) f = inr (inr (inl (_, refl)))
+items_read version false e = choice_reads (ItemFits version) item_line pass_branch (corruption_branch ∷ end_branch ∷ [])
+    (pass_branch_reads version, (corruption_branch_reads version, (end_branch_reads version, tt)))
+    (((λ e. omega arith), ((λ e. omega arith), tt)), (((λ e. omega arith), tt), (tt, tt))) kinds
   where
     kinds : (a : Item) → ItemFits version a → StartsWith 112 (item_line a) ⊎ (StartsWith 99 (item_line a) ⊎ (StartsWith 101 (item_line a) ⊎ ⊥))
     kinds (this (Granted s m o n r)) f = inl (_, refl)
     kinds (this (Refused s m o)) f = inl (_, refl)
+    kinds (this (Member s m o l n r)) f = absurd (let low = ltb-false first_version version e in let groups = f.0 in omega (arith, low, groups))
     kinds (this (Corrupted s m v o)) f = inr (inl (_, refl))
     kinds (that n) f = inr (inr (inl (_, refl)))
+
+pub item_reads : (version : ℕ) → Reads (ItemFits version) item_line (event_or_end_at version)
+unfolding event_or_end_at
+item_reads version = items_read version (ltb first_version version) refl
 
 event_long : (version : ℕ) (st : Unit {0}) (a : SavedEvent) → EventFits version a → 0 < length (event_line a)
 event_long version st (Granted s m o n r) f = omega arith
 event_long version st (Refused s m o) f = omega arith
+event_long version st (Member s m o l n r) f = omega arith
 event_long version st (Corrupted s m v o) f = omega arith
 
 pub events_repeat : (version : ℕ) → Repeats {S = Unit {0}} Always (λ _. EventFits version) event_line (λ _. Large) end_line (λ _. event_or_end_at version) (λ _. tt)

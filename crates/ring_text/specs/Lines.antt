@@ -1,8 +1,8 @@
 -- The readers of the lines, blocks and texts as functions on lists. Those below `text_at` are given the version, which the text's first line says.
-use Rattle.std.specs.Prelude.{ℕ, ◌^◌, List, [], ◌∷◌, ◌++◌, codes, map, Option, Some, None}
+use Rattle.std.specs.Prelude.{ℕ, ◌^◌, List, [], ◌∷◌, ◌++◌, codes, map, Option, Some, None, nat_lt, if◌then◌else◌}
 use Rattle.text_lines.specs.Reading.{Reader, Either, this, that, number_at, positive_at, row_at, after_at, nothing_at, then_at, as_at, Branch, branch, choice_at, many_at}
 use Rattle.ring_text.specs.declared.saved.SavedEvent.{SavedEvent}
-use Rattle.ring_text.specs.declared.saved.SavedEvent.TheVariants.{Granted, Refused, Corrupted}
+use Rattle.ring_text.specs.declared.saved.SavedEvent.TheVariants.{Granted, Refused, Member, Corrupted}
 use Rattle.ring_text.specs.declared.saved.SavedSurvey.{SavedSurvey}
 use Rattle.ring_text.specs.declared.saved.Head.{Head}
 use Rattle.ring_text.specs.declared.lines.EventOrEnd.{EventOrEnd}
@@ -58,6 +58,12 @@ corruption_of (seat, (machine, (value, old))) = Corrupted seat machine value old
 unfoldable pub corruption_at : Reader SavedEvent
 corruption_at = as_at corruption_of (after_at (codes "c ") (small then small then small then last_small))
 
+abbrev pub member_of : ℕ × (ℕ × (ℕ × (ℕ × (ℕ × ℕ)))) → SavedEvent
+member_of (seat, (machine, (order, (left, (number, answer))))) = Member seat machine order left number answer
+
+unfoldable pub member_at : Reader SavedEvent
+member_at = as_at member_of (after_at (codes "m ") (small then small then large then small then large then last_large))
+
 unfoldable pub end_at : Reader ℕ
 end_at = after_at (codes "end ") last_large
 
@@ -67,12 +73,19 @@ pass_branch = branch 112 (as_at this pass_at)
 abbrev pub corruption_branch : Branch (Either SavedEvent ℕ)
 corruption_branch = branch 99 (as_at this corruption_at)
 
+abbrev pub member_branch : Branch (Either SavedEvent ℕ)
+member_branch = branch 109 (as_at this member_at)
+
 abbrev pub end_branch : Branch (Either SavedEvent ℕ)
 end_branch = branch 101 (as_at that end_at)
 
--- an event's line, or the line that ends them, in a text of this version: a branch for each kind of line
+-- the branches of the lines that only some versions have
+abbrev pub later_branches : ℕ → List (Branch (Either SavedEvent ℕ))
+later_branches version = if nat_lt first_version version then member_branch ∷ [] else []
+
+-- an event's line, or the line that ends them, in a text of this version: a branch for each kind of line that it has
 unfoldable pub event_or_end_at : ℕ → Reader (Either SavedEvent ℕ)
-event_or_end_at version = choice_at (pass_branch ∷ corruption_branch ∷ end_branch ∷ [])
+event_or_end_at version = choice_at (pass_branch ∷ corruption_branch ∷ end_branch ∷ later_branches version)
 
 unfoldable pub events_at : ℕ → Reader (List SavedEvent × ℕ)
 events_at version = many_at {S = Unit {0}} (λ _. event_or_end_at version) (λ _. tt) tt

@@ -5,7 +5,8 @@ use Rattle.text_lines.specs.declared.answer.ReadError.TheVariants.{Syntax, Trunc
 use Rattle.text_lines.specs.Texts.{Spells, IsRightAnswer, AnswersAreApart}
 use Rattle.ring_text.specs.declared.saved.Saved.{Saved}
 use Rattle.ring_text.specs.Content.{Content, content}
-use Rattle.ring_text.specs.Spelling.{Fits, text}
+use Rattle.ring_text.specs.Versions.{first_version}
+use Rattle.ring_text.specs.Spelling.{Fits, HasNoMember, text}
 
 -- the bytes are the text of a content that fits
 abbrev pub IsText : List ℕ → Type 0
@@ -33,3 +34,7 @@ IsReadAs c (Err (Syntax line)) = ⊥
 -- What fits reads back from its text: no other answer to the text is right.
 abbrev pub TextsReadBack : Type 0
 TextsReadBack = (c : Content) (answer : Result Saved ReadError) → Fits c → IsRightRead (text c) answer → IsReadAs c answer
+
+-- What fits in the first version has no member of a group.
+abbrev pub FirstHasNoMembers : Type 0
+FirstHasNoMembers = (c : Content) → Fits c → c.version ≡ first_version → HasNoMember c

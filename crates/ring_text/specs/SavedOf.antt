@@ -2,7 +2,7 @@
 use Rattle.std.specs.Prelude.{ℕ, ◌+◌, List, [], ◌∷◌, map, length}
 use Rattle.std.specs.List.{flat_map}
 use Rattle.ring_model.specs.declared.events.Op.{Op}
-use Rattle.ring_model.specs.declared.events.Op.TheVariants.{Pass, Corrupt}
+use Rattle.ring_model.specs.declared.events.Op.TheVariants.{Pass, Member, Corrupt}
 use Rattle.ring_model.specs.declared.events.Reply.{Reply}
 use Rattle.ring_model.specs.declared.events.Reply.TheVariants.{Granted, Corrupted}
 use Rattle.ring_model.specs.declared.events.Event.{Event}
@@ -22,6 +22,8 @@ use Rattle.ring_text.specs.Content.{Content, Block}
 abbrev pub saved_for : ℕ → Op → Reply → SavedEvent
 saved_for seat (Pass machine order) (Granted number result) = saved.Granted seat machine order number result
 saved_for seat (Pass machine order) _ = saved.Refused seat machine order
+saved_for seat (Member machine order left) (Granted number result) = saved.Member seat machine order left number result
+saved_for seat (Member machine order left) _ = saved.Refused seat machine order
 saved_for seat (Corrupt machine value) (Corrupted old) = saved.Corrupted seat machine value old
 saved_for seat (Corrupt machine value) _ = saved.Refused seat machine 0
 

@@ -3,11 +3,11 @@ use Rattle.std.specs.Prelude.{◌≡◌, ℕ, ◌<◌, ◌^◌, List, ◌++◌, 
 use Rattle.std.specs.List.{flat_map, AllByRecursion}
 use Rattle.text_lines.specs.Spelling.{spaced, ended, row}
 use Rattle.ring_text.specs.declared.saved.SavedEvent.{SavedEvent}
-use Rattle.ring_text.specs.declared.saved.SavedEvent.TheVariants.{Granted, Refused, Corrupted}
+use Rattle.ring_text.specs.declared.saved.SavedEvent.TheVariants.{Granted, Refused, Member, Corrupted}
 use Rattle.ring_text.specs.declared.saved.SavedSurvey.{SavedSurvey}
 use Rattle.ring_text.specs.declared.saved.Head.{Head}
 use Rattle.ring_text.specs.Content.{Block, Content}
-use Rattle.ring_text.specs.Versions.{IsVersion}
+use Rattle.ring_text.specs.Versions.{HasGroups, IsVersion}
 
 -- ---- the lines
 
@@ -26,10 +26,11 @@ head_line h = ring_line h.index h.n h.k
 abbrev pub start_line : List ℕ → List ℕ
 start_line values = codes "start " ++ row values
 
--- a pass that was granted, one that was refused, a corruption
+-- a pass that was granted, one that was refused, a pass as a member of a group, a corruption
 abbrev pub event_line : SavedEvent → List ℕ
 event_line (Granted seat machine order number answer) = codes "p " ++ (spaced seat ++ (spaced machine ++ (spaced order ++ (codes "g " ++ (spaced number ++ ended answer)))))
 event_line (Refused seat machine order) = codes "p " ++ (spaced seat ++ (spaced machine ++ (spaced order ++ codes "n\n")))
+event_line (Member seat machine order left number answer) = codes "m " ++ (spaced seat ++ (spaced machine ++ (spaced order ++ (spaced left ++ (spaced number ++ ended answer)))))
 event_line (Corrupted seat machine value old) = codes "c " ++ (spaced seat ++ (spaced machine ++ (spaced value ++ ended old)))
 
 -- the number of events
@@ -63,10 +64,11 @@ text s = first_line s.version ++ (flat_map block_text s.rings ++ done_line s.rin
 
 -- ---- what has a text: a version that there is, each number within its range, a start of exactly n values, and a ring at least
 
--- an event in a text of this version: so far each version has all kinds of events
+-- an event in a text of this version: a member of a group fits only where group passes have lines, the others in each version
 abbrev pub EventFits : ℕ → SavedEvent → Type 0
 EventFits version (Granted seat machine order number answer) = (seat < 2 ^ 32) × (machine < 2 ^ 32) × (order < 2 ^ 64) × (number < 2 ^ 64) × (answer < 2 ^ 64)
 EventFits version (Refused seat machine order) = (seat < 2 ^ 32) × (machine < 2 ^ 32) × (order < 2 ^ 64)
+EventFits version (Member seat machine order left number answer) = HasGroups version × (seat < 2 ^ 32) × (machine < 2 ^ 32) × (order < 2 ^ 64) × (left < 2 ^ 32) × (number < 2 ^ 64) × (answer < 2 ^ 64)
 EventFits version (Corrupted seat machine value old) = (seat < 2 ^ 32) × (machine < 2 ^ 32) × (value < 2 ^ 32) × (old < 2 ^ 32)
 
 pub record SurveyFits (v : SavedSurvey) : Type 0 where
@@ -96,3 +98,20 @@ pub record Fits (s : Content) : Type 0 where
   pub some : 0 < length s.rings
   pub rings : AllByRecursion (BlockFits s.version) s.rings
   pub rings_said : s.rings_said < 2 ^ 32
+
+-- ---- what has no group passes
+
+-- an event that is no member of a group
+abbrev pub IsNoMember : SavedEvent → Type 0
+IsNoMember (Granted seat machine order number answer) = Unit {0}
+IsNoMember (Refused seat machine order) = Unit {0}
+IsNoMember (Member seat machine order left number answer) = ⊥
+IsNoMember (Corrupted seat machine value old) = Unit {0}
+
+-- no event of a block is one
+abbrev pub BlockHasNoMember : Block → Type 0
+BlockHasNoMember b = AllByRecursion IsNoMember b.events
+
+-- nor of a whole text
+abbrev pub HasNoMember : Content → Type 0
+HasNoMember s = AllByRecursion BlockHasNoMember s.rings

@@ -22,5 +22,7 @@ pub use read::{answers_are_apart, read_saved, texts_are_apart, texts_read_back};
 pub use report::{write_report, write_total};
 pub use saved::{Saved, SavedEvent, SavedRing, SavedSurvey};
 pub use text_lines::{ReadError, WriteFault};
-pub use versions::{FIRST_VERSION, LATEST_VERSION, upgrade, versions_as_defined};
+pub use versions::{
+    FIRST_VERSION, LATEST_VERSION, first_version_has_no_members, upgrade, versions_as_defined,
+};
 pub use write::write_saved;

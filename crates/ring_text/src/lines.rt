@@ -2,7 +2,7 @@
 
 ghost use Rattle.std.specs.Prelude.{◌≡◌};
 ghost use Rattle.text_lines.specs.Reading.{Gives};
-ghost use Rattle.ring_text.specs.Lines.{version_at, reply_at, pass_at, corruption_at, end_at, event_or_end_at, head_at, done_at, survey_at, survey_or_next_at, item_of, follow_of};
+ghost use Rattle.ring_text.specs.Lines.{version_at, reply_at, pass_at, corruption_at, member_at, end_at, event_or_end_at, head_at, done_at, survey_at, survey_or_next_at, item_of, follow_of};
 
 use crate::saved::{Head, SavedEvent, SavedSurvey};
 use crate::versions::{FIRST_VERSION, LATEST_VERSION};
@@ -114,6 +114,28 @@ fn corruption(bytes: &[u8]) -> Result<(SavedEvent, &[u8]), Stop>
     Ok((event, rest))
 }
 
+#[tactic(auto, unfolding(crate::specs::Lines::member_at))]
+fn member(bytes: &[u8]) -> Result<(SavedEvent, &[u8]), Stop>
+    ensures { Gives (λ x. (x.0, x.1.now)) result (member_at bytes.now) }
+{
+    let rest = word(bytes, b"m ")?;
+    let (seat, rest) = number32(rest, b' ')?;
+    let (machine, rest) = number32(rest, b' ')?;
+    let (order, rest) = number64(rest, b' ')?;
+    let (left, rest) = number32(rest, b' ')?;
+    let (number, rest) = number64(rest, b' ')?;
+    let (answer, rest) = number64(rest, b'\n')?;
+    let event = SavedEvent::Member {
+        seat,
+        machine,
+        order,
+        left,
+        number,
+        result: answer,
+    };
+    Ok((event, rest))
+}
+
 #[tactic(auto, unfolding(crate::specs::Lines::end_at))]
 fn end(bytes: &[u8]) -> Result<(u64, &[u8]), Stop>
     ensures { Gives (λ x. (x.0, x.1.now)) result (end_at bytes.now) }
@@ -123,7 +145,6 @@ fn end(bytes: &[u8]) -> Result<(u64, &[u8]), Stop>
 }
 
 /// The line of an event of any kind that a text of this version has, or the line behind the events.
-/// So far each version has all kinds.
 #[tactic(auto, unfolding(crate::specs::Lines::event_or_end_at))]
 pub fn event_or_end(version: u32, bytes: &[u8]) -> Result<(EventOrEnd, &[u8]), Stop>
     ensures { Gives (λ x. (item_of x.0, x.1.now)) result (event_or_end_at version bytes.now) }
@@ -141,6 +162,10 @@ pub fn event_or_end(version: u32, bytes: &[u8]) -> Result<(EventOrEnd, &[u8]), S
         [b'e', ..] => {
             let (events, rest) = end(bytes)?;
             Ok((EventOrEnd::End(events), rest))
+        }
+        [b'm', ..] if version > FIRST_VERSION => {
+            let (event, rest) = member(bytes)?;
+            Ok((EventOrEnd::Event(event), rest))
         }
         [_, ..] => Err(Stop::Fault(Fault::Bad(bytes.len()))),
     }

@@ -43,6 +43,25 @@ fn saved_event(event: Event) -> SavedEvent
                 order,
             },
         },
+        Op::Member {
+            machine,
+            order,
+            left,
+        } => match reply {
+            Reply::Granted { number, result } => SavedEvent::Member {
+                seat,
+                machine,
+                order,
+                left,
+                number,
+                result,
+            },
+            _ => SavedEvent::Refused {
+                seat,
+                machine,
+                order,
+            },
+        },
         Op::Corrupt { machine, value } => match reply {
             Reply::Corrupted { old } => SavedEvent::Corrupted {
                 seat,

@@ -1,10 +1,11 @@
 //! The writers of single lines. Each writes just the line's text, and takes no memory.
 
-ghost use Rattle.std.specs.Prelude.{◌≡◌, ℕ, ◌<◌, ◌^◌, IfOk};
+ghost use Rattle.std.specs.Prelude.{◌≡◌, ℕ, ◌<◌, ◌≤◌, ◌^◌, IfOk};
 ghost use Rattle.std.specs.List.{AllByRecursion};
 ghost use Rattle.text_lines.specs.Writing.{Writes};
-ghost use Rattle.ring_text.specs.declared.saved.SavedEvent.TheVariants.{Granted, Refused, Corrupted};
-ghost use Rattle.ring_text.specs.Spelling.{first_line, ring_line, start_line, event_line, end_line, survey_line, done_line, EventFits, SurveyFits};
+ghost use Rattle.ring_text.specs.declared.saved.SavedEvent.TheVariants.{Granted, Refused, Member, Corrupted};
+ghost use Rattle.ring_text.specs.Spelling.{first_line, ring_line, start_line, event_line, end_line, survey_line, done_line, IsNoMember, EventFits, SurveyFits};
+ghost use Rattle.ring_text.specs.Versions.{first_version};
 
 use crate::saved::{SavedEvent, SavedSurvey};
 use itoa::Buffer;
@@ -90,6 +91,35 @@ fn put_refused<W: Write>(out: &mut W, seat: u32, machine: u32, order: u64) -> Re
     put(out, line.as_bytes())
 }
 
+fn put_member<W: Write>(
+    out: &mut W,
+    seat: u32,
+    machine: u32,
+    order: u64,
+    left: u32,
+    number: u64,
+    answer: u64,
+) -> Result<(), WriteFault>
+    ensures { Writes (W.contents out.old) (W.contents out.new) result (event_line (Member seat machine order left number answer)) }
+{
+    let mut line = Line::new();
+    line.byte(b'\n');
+    line.number(answer);
+    line.byte(b' ');
+    line.number(number);
+    line.byte(b' ');
+    line.number(left as u64);
+    line.byte(b' ');
+    line.number(order);
+    line.byte(b' ');
+    line.number(machine as u64);
+    line.byte(b' ');
+    line.number(seat as u64);
+    line.byte(b' ');
+    line.byte(b'm');
+    put(out, line.as_bytes())
+}
+
 fn put_corrupted<W: Write>(
     out: &mut W,
     seat: u32,
@@ -113,10 +143,11 @@ fn put_corrupted<W: Write>(
     put(out, line.as_bytes())
 }
 
-/// Writes the line of an event, each of whose numbers is within its range by its type.
+/// Writes the line of an event, each of whose numbers is within its range by its type. It fits in each version that has
+/// lines of its kind.
 pub fn put_event_line<W: Write>(out: &mut W, event: SavedEvent) -> Result<(), WriteFault>
     ensures written { Writes (W.contents out.old) (W.contents out.new) result (event_line event) }
-    ensures fits { (version : ℕ) → EventFits version event }
+    ensures fits { (version : ℕ) → (version ≤ first_version → IsNoMember event) → EventFits version event }
 {
     match event {
         SavedEvent::Granted {
@@ -131,6 +162,14 @@ pub fn put_event_line<W: Write>(out: &mut W, event: SavedEvent) -> Result<(), Wr
             machine,
             order,
         } => put_refused(out, seat, machine, order),
+        SavedEvent::Member {
+            seat,
+            machine,
+            order,
+            left,
+            number,
+            result: answer,
+        } => put_member(out, seat, machine, order, left, number, answer),
         SavedEvent::Corrupted {
             seat,
             machine,

@@ -19,6 +19,16 @@ pub enum SavedEvent {
         machine: u32,
         order: u64,
     },
+    /// A pass as a member of a group, of which `left` members come after it, told as a granted pass is.
+    /// No text of the first version has one.
+    Member {
+        seat: u32,
+        machine: u32,
+        order: u64,
+        left: u32,
+        number: u64,
+        result: u64,
+    },
     /// A corruption: the value that was written and the one that stood there.
     Corrupted {
         seat: u32,

@@ -3,6 +3,7 @@
 ghost use Rattle.std.specs.Prelude.{◌≡◌};
 ghost use Rattle.ring_text.specs.Versions.{first_version, latest_version};
 ghost use Rattle.ring_text.specs.Content.{content, upgraded};
+ghost use Rattle.ring_text.specs.Meaning.{FirstHasNoMembers};
 
 use crate::saved::Saved;
 
@@ -27,3 +28,9 @@ pub fn upgrade(saved: Saved) -> Saved
         ..saved
     }
 }
+
+/// A value of the first version that fits has no member of a group: [`write_saved`](crate::write_saved) can write
+/// each value that was read.
+pub fn first_version_has_no_members()
+    ensures { FirstHasNoMembers }
+{}

@@ -38,13 +38,13 @@ returns-clause-written g c =
     surveys_done (block_of c.args.ring.now) _ _ _ three (rw c.deref-3.ensures.value at c.in_ok-put_surveys.ensures.written)
 
 pub returns-clause-fits : goal.returns-clause-fits
-returns-clause-fits g c = λ version.
+returns-clause-fits g c = λ version none.
     let some : 0 < c.args.ring.now.n = c.args.ring.now.some in
     record {
       head = record { index = search rules; some = some; n = search rules; k = search rules };
       start = omega (arith, c.args.ring.now.has_n, c.args.ring.now.start.ok.0);
       values = rw c.deref.ensures.value at c.in_ok-put_start_line.ensures.small;
-      events = (rw c.deref-2.ensures.value at c.in_ok-put_history.ensures.fits) version;
+      events = (rw c.deref-2.ensures.value at c.in_ok-put_history.ensures.fits) version none;
       events_said = search rules;
       surveys = rw c.deref-3.ensures.value at c.in_ok-put_surveys.ensures.fits;
     }

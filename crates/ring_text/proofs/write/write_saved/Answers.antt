@@ -35,6 +35,6 @@ returns-clause-fits g c =
     record {
       version = c.requires.version;
       some = some;
-      rings = (rw c.deref.ensures.value at c.in_ok-put_blocks.ensures.fits) c.args.saved.now.version;
+      rings = (rw c.deref.ensures.value at c.in_ok-put_blocks.ensures.fits) c.args.saved.now.version (λ low. c.requires.members (omega (arith, low, c.requires.version.0)));
       rings_said = search rules;
     }
