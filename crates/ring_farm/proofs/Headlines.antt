@@ -1,15 +1,19 @@
 -- From what a run of one ring leaves to what is promised of it.
 use Rattle.std.proofs.Common.{◌≡◌, ℕ, ◌<◌, ◌≤◌, Bool, true, cond, List, [], ◌∷◌, length, map, Some, slice_get, get_or, ap, sym, ◌∙◌, refl, subst, arith, eqb, ⊎_elim}
-use Rattle.std.specs.Prelude.{filter, unwrap_or, IfOk, Option, None, Result, Ok}
+use Rattle.std.specs.Prelude.{◌==◌, All, false, filter, unwrap_or, IfOk, Option, None, Result, Ok}
+use Rattle.std.proofs.lemmas.Bool.{eq-eqb}
 use Rattle.std.proofs.lemmas.Bool.Decides.{nat_tests}
+use Rattle.std.proofs.lemmas.List.Elements.{All-nil, All-cons, All-head, All-tail}
 use Rattle.std.proofs.lemmas.Option.{slice_get_within, get_or_from_slice_get, slice_get_cases}
 use Rattle.ring_model.specs.Ring.{Ring}
-use Rattle.ring_model.specs.History.{opening, IsLegal}
+use Rattle.ring_model.specs.History.{opening}
+use Rattle.ring_model.specs.Groups.{IsAlone, IsHistory}
 use Rattle.ring_model.specs.Surveys.{calm}
 use Rattle.ring_model.specs.Logs.{Fits, calls_of, receipts_of}
 use Rattle.ring_model.specs.Resources.{till}
 use Rattle.ring_model.specs.declared.events.Op.{Op}
 use Rattle.ring_model.specs.declared.events.Op.TheVariants as op
+use Rattle.ring_model.specs.declared.events.Event.{Event}
 use Rattle.ring_model.specs.declared.events.Entry.{Entry}
 use Rattle.ring_model.specs.declared.events.Entry.TheVariants as entry
 use Rattle.ring_settings.specs.declared.actions.Action.{Action}
@@ -23,27 +27,42 @@ use Rattle.ring_farm.specs.declared.outcomes.Outcome.{Outcome}
 use Rattle.ring_farm.specs.declared.outcomes.RingOutcome.{RingOutcome}
 use Rattle.ring_farm.specs.declared.faults.FarmError.{FarmError}
 use Rattle.ring_farm.proofs.Refusals.{ok_place}
-use Rattle.ring_farm.specs.Plans.{actions_of, part, calls_read, action_of_op, is_call}
+use Rattle.ring_farm.specs.Plans.{actions_of, part, planned, planned_calls, calls_read, action_of_op, is_call}
 use Rattle.ring_farm.specs.Runs.{IsRun, ring_of_data}
-use Rattle.ring_farm.specs.Headline.{EachRing, EachDone, IsFarmRing, IsFarmOf, IsOneHistory, HoldsCalls, HasLogs, AreRight, IsRepaired, TakesTurns, HasReceipts}
+use Rattle.ring_farm.specs.Headline.{EachRing, EachDone, IsFarmRing, IsFarmOf, IsOneHistory, HoldsCalls, HasLogs, AreRight, IsRepaired, TakesTurns, HasReceipts, HasNoMembers}
 
 -- the run of a ring of the settings
 abbrev pub RunOf : List Plan → ℕ → RingData → RingOutcome → Type 0
 RunOf plans ring d r = IsRun plans ring (ring_of_data d) r.book r.logs.items
 
 one_history : (plans : List Plan) (ring : ℕ) (d : RingData) (r : RingOutcome) → RunOf plans ring d r → IsOneHistory ring d r
-one_history plans ring d r run = (run.begins, subst (λ (s : Ring). IsLegal till (opening s 0) r.book.history) run.begins run.book.legal)
+one_history plans ring d r run = (run.begins, subst (λ (s : Ring). IsHistory till (opening s 0) r.book.history) run.begins (run.book.legal, run.book.whole))
 
-op_is_call : (ring : ℕ) (o : Op) → is_call (action_of_op ring o) ≡ true
+-- what reads as a call, or as none
+abbrev is_read_call : Option Action → Bool
+is_read_call (Some a) = is_call a
+is_read_call None = true
+
+op_is_call : (ring : ℕ) (o : Op) → is_read_call (action_of_op ring o) ≡ true
 op_is_call ring (op.Pass machine order) = refl
+op_is_call ring (op.Member machine order left) = refl
 op_is_call ring (op.Corrupt machine value) = refl
 
+filter_read : (xs : List Action) → filter is_read_call (map (λ (a : Action). Some a) xs) ≡ map (λ (a : Action). Some a) (filter is_call xs)
+filter_read [] = refl
+filter_read (a ∷ xs) = go (is_call a) refl (filter_read xs)
+  where
+    go : (b : Bool) → is_call a ≡ b → filter is_read_call (map (λ (x : Action). Some x) xs) ≡ map (λ (x : Action). Some x) (filter is_call xs) →
+        filter is_read_call (map (λ (x : Action). Some x) (a ∷ xs)) ≡ map (λ (x : Action). Some x) (filter is_call (a ∷ xs))
+    go true e more = rw e (ap (λ (ys : List (Option Action)). Some a ∷ ys) more)
+    go false e more = rw e more
+
 -- the receipts of a log, read as actions, are the calls among the log's actions
-pub calls_read-receipts_of : (ring : ℕ) (log : List Entry) → calls_read ring (receipts_of log) ≡ filter is_call (actions_of ring log)
+pub calls_read-receipts_of : (ring : ℕ) (log : List Entry) → calls_read ring (receipts_of log) ≡ filter is_read_call (actions_of ring log)
 calls_read-receipts_of ring [] = refl
 calls_read-receipts_of ring (entry.Receipt r ∷ log) =
-    ap (λ (xs : List Action). action_of_op ring r.event.op ∷ xs) (calls_read-receipts_of ring log)
-    ∙ sym (ap (λ (b : Bool). cond b (action_of_op ring r.event.op ∷ filter is_call (actions_of ring log)) (filter is_call (actions_of ring log))) (op_is_call ring r.event.op))
+    ap (λ (xs : List (Option Action)). action_of_op ring r.event.op ∷ xs) (calls_read-receipts_of ring log)
+    ∙ sym (ap (λ (b : Bool). cond b (action_of_op ring r.event.op ∷ filter is_read_call (actions_of ring log)) (filter is_read_call (actions_of ring log))) (op_is_call ring r.event.op))
 calls_read-receipts_of ring (entry.Survey s ∷ log) = calls_read-receipts_of ring log
 
 -- the log at a place of a run, with what is known of it
@@ -80,13 +99,14 @@ receipts_are plans ring d r seat p l run at_p at_l =
 -- a seat's calls in the history are the calls of its plan's part
 calls_of_plan : (settings : SettingsData) (plans : List Plan) (ring : ℕ) (d : RingData) (r : RingOutcome) (seat : ℕ) (p : Plan) (l : Log) → RunOf plans ring d r → ArePlansOf settings plans →
     slice_get plans seat ≡ Some p → slice_get r.logs.items seat ≡ Some l →
-    calls_read ring (calls_of seat r.book.history) ≡ filter is_call (part ring (plan_of settings seat))
+    calls_read ring (calls_of seat r.book.history) ≡ planned_calls ring (plan_of settings seat)
 calls_of_plan settings plans ring d r seat p l run are at_p at_l =
     let logged = run.logged seat p l at_p at_l in
     ap (calls_read ring) (sym (receipts_are plans ring d r seat p l run at_p at_l))
     ∙ calls_read-receipts_of ring l.entries.items
-    ∙ ap (filter is_call) logged.1
-    ∙ ap (λ (xs : List Action). filter is_call (part ring xs)) (plan_is settings plans seat p are at_p)
+    ∙ ap (filter is_read_call) logged.1
+    ∙ filter_read (part ring p.actions.items)
+    ∙ ap (planned_calls ring) (plan_is settings plans seat p are at_p)
 
 holds_calls : (settings : SettingsData) (plans : List Plan) (ring : ℕ) (d : RingData) (r : RingOutcome) → RunOf plans ring d r → ArePlansOf settings plans → length plans ≡ length settings.seats →
     HoldsCalls settings ring d r
@@ -104,7 +124,7 @@ has_logs settings plans ring d r run are count = record {
       let within = slice_get_within r.logs.items seat l at in
       let found = log_at plans ring d r seat run (omega arith) in
       let logged = run.logged seat found.0 l found.2 at in
-      (logged.0, logged.1 ∙ ap (part ring) (plan_is settings plans seat found.0 are found.2));
+      (logged.0, logged.1 ∙ ap (planned ring) (plan_is settings plans seat found.0 are found.2));
 }
 
 are_right : (plans : List Plan) (ring : ℕ) (d : RingData) (r : RingOutcome) → RunOf plans ring d r → AreRight d r
@@ -127,6 +147,36 @@ has_receipts plans ring d r run seat l at =
     let found = log_at plans ring d r seat run (omega arith) in
     sym (ap length (receipts_are plans ring d r seat found.0 l run found.2 at))
 
+-- events that read as actions are no members'
+abbrev AreRead : ℕ → List Event → Type 0
+AreRead ring h = (xs : List Action) × (calls_read ring h ≡ map (λ (a : Action). Some a) xs)
+
+read_head : (ring : ℕ) (e : Event) (h : List Event) → AreRead ring (e ∷ h) → IsAlone e.op × AreRead ring h
+read_head ring e h ([], is) = absurd (cc is)
+read_head ring e h (a ∷ xs, is) = (go e.op (cc is), (xs, cc is))
+  where
+    go : (o : Op) → action_of_op ring o ≡ Some a → IsAlone o
+    go (op.Pass machine order) q = tt
+    go (op.Member machine order left) q = absurd (cc q)
+    go (op.Corrupt machine value) q = tt
+
+all_alone : (n ring : ℕ) (h : List Event) → AreOfSeats n h → ((seat : ℕ) → seat < n → AreRead ring (calls_of seat h)) → All (λ (e : Event). IsAlone e.op) h
+all_alone n ring [] seats read = All-nil (λ (e : Event). IsAlone e.op)
+all_alone n ring (e ∷ h) seats read =
+    let here : e.seat < n = All-head (λ (d : Event). d.seat < n) e h seats in
+    let mine : AreRead ring (e ∷ calls_of e.seat h) =
+    subst (λ (b : Bool). AreRead ring (cond b (e ∷ calls_of e.seat h) (calls_of e.seat h))) (eq-eqb e.seat e.seat refl) (read e.seat here) in
+    All-cons (λ (d : Event). IsAlone d.op) e h (read_head ring e (calls_of e.seat h) mine).0
+    (all_alone n ring h (All-tail (λ (d : Event). d.seat < n) e h seats) (λ seat within. later seat (e.seat == seat) refl (read seat within)))
+  where
+    later : (seat : ℕ) (b : Bool) → (e.seat == seat) ≡ b → AreRead ring (calls_of seat (e ∷ h)) → AreRead ring (calls_of seat h)
+    later seat true q r = (read_head ring e (calls_of seat h) (subst (λ (c : Bool). AreRead ring (cond c (e ∷ calls_of seat h) (calls_of seat h))) q r)).1
+    later seat false q r = subst (λ (c : Bool). AreRead ring (cond c (e ∷ calls_of seat h) (calls_of seat h))) q r
+
+has_no_members : (settings : SettingsData) (ring : ℕ) (d : RingData) (r : RingOutcome) → HoldsCalls settings ring d r → HasNoMembers r
+has_no_members settings ring d r holds =
+    all_alone (length settings.seats) ring r.book.history holds.0 (λ seat within. (filter is_call (part ring (plan_of settings seat)), holds.1 seat within))
+
 -- a run of a ring keeps all that is promised of it
 outcome_of : (settings : SettingsData) (plans : List Plan) (ring : ℕ) (d : RingData) (r : RingOutcome) → RunOf plans ring d r → ArePlansOf settings plans → length plans ≡ length settings.seats →
     length d.start ≡ d.size.n → IsFarmRing settings ring d r
@@ -140,6 +190,7 @@ outcome_of settings plans ring d r run are count size = record {
   size = size;
   settlement = run.settlement;
   receipts = has_receipts plans ring d r run;
+  alone = has_no_members settings ring d r (holds_calls settings plans ring d r run are count);
 }
 
 -- each ring that was not refused has its run

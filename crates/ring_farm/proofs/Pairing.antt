@@ -13,7 +13,7 @@ use Rattle.ring_shared.specs.declared.seats.Log.{Log}
 use Rattle.ring_shared.specs.Closing.{HasLog}
 use Rattle.ring_settings.specs.declared.actions.Plan.{Plan}
 use Rattle.ring_farm.specs.declared.threads.Does.{Does}
-use Rattle.ring_farm.specs.Plans.{actions_of, part, action_of, Pairs}
+use Rattle.ring_farm.specs.Plans.{actions_of, planned, action_of, Pairs}
 use Rattle.ring_farm.specs.Promises.{IsPromised, IsKept, IsDone}
 use Rattle.ring_farm.specs.Runs.{IsLogged}
 
@@ -65,7 +65,7 @@ done_of ring ps ds ss n promised kept i p s at_p at_s =
     (λ (t : (d : Does) × (i < length ds) × (slice_get ds i ≡ Some d) × (get_or ds i d ≡ d)).
     let a = promised i p t.0 at_p t.2 in
     let k = kept i t.0 s t.2 at_s in
-    (k.0 ∙ a.1, subst (λ (r : ℕ). actions_of r s.log ≡ part r p.actions.items) a.0 (subst (λ (q : Plan). actions_of t.0.ring s.log ≡ part t.0.ring q.actions.items) a.2 k.1)))
+    (k.0 ∙ a.1, subst (λ (r : ℕ). actions_of r s.log ≡ planned r p.actions.items) a.0 (subst (λ (q : Plan). actions_of t.0.ring s.log ≡ planned t.0.ring q.actions.items) a.2 k.1)))
     (λ (t : (length ds ≤ i) × (slice_get ds i ≡ None)). let u = t.0 in absurd (omega arith))
     (slice_get_cases ds i).1
 

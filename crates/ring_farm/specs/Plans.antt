@@ -1,5 +1,5 @@
 -- Which part of a plan concerns a ring, and what a seat's log says of it.
-use Rattle.std.specs.Prelude.{◌≡◌, ℕ, ◌==◌, ◌<◌, ◌≤◌, Bool, true, false, List, filter, map, length, All, Some, slice_get}
+use Rattle.std.specs.Prelude.{◌≡◌, ℕ, ◌==◌, ◌<◌, ◌≤◌, Bool, true, false, List, filter, map, length, All, Option, Some, None, slice_get}
 use Rattle.ring_model.specs.Ring.{Ring}
 use Rattle.ring_model.specs.declared.events.Op.{Op}
 use Rattle.ring_model.specs.declared.events.Op.TheVariants as op
@@ -45,19 +45,24 @@ IsPlanFor sizes p = All (IsActionFor sizes) p.actions.items
 abbrev pub part : ℕ → List Action → List Action
 part ring actions = filter (λ (a : Action). ring_of a == ring) actions
 
--- a call of a ring, read as an action
-abbrev pub action_of_op : ℕ → Op → Action
-action_of_op ring (op.Pass machine order) = action.Pass ring machine order
-action_of_op ring (op.Corrupt machine value) = action.Corrupt ring machine value
+-- a call of a ring, read as an action; a member of a group is none, since plans have no groups
+abbrev pub action_of_op : ℕ → Op → Option Action
+action_of_op ring (op.Pass machine order) = Some (action.Pass ring machine order)
+action_of_op ring (op.Member machine order left) = None
+action_of_op ring (op.Corrupt machine value) = Some (action.Corrupt ring machine value)
 
 -- an entry of a log, read as an action
-abbrev pub action_of : ℕ → Entry → Action
+abbrev pub action_of : ℕ → Entry → Option Action
 action_of ring (entry.Receipt r) = action_of_op ring r.event.op
-action_of ring (entry.Survey s) = action.Survey ring
+action_of ring (entry.Survey s) = Some (action.Survey ring)
 
 -- a log read as actions
-abbrev pub actions_of : ℕ → List Entry → List Action
+abbrev pub actions_of : ℕ → List Entry → List (Option Action)
 actions_of ring log = map (action_of ring) log
+
+-- the part of a plan that concerns a ring, as a log of it reads
+abbrev pub planned : ℕ → List Action → List (Option Action)
+planned ring actions = map (λ (a : Action). Some a) (part ring actions)
 
 -- a pass or a corruption, not a survey
 abbrev pub is_call : Action → Bool
@@ -66,8 +71,12 @@ is_call (action.Corrupt ring machine value) = true
 is_call (action.Survey ring) = false
 
 -- the calls of events, read as actions
-abbrev pub calls_read : ℕ → List Event → List Action
+abbrev pub calls_read : ℕ → List Event → List (Option Action)
 calls_read ring h = map (λ (e : Event). action_of_op ring e.op) h
+
+-- the calls of a part of a plan, as events of the ring read
+abbrev pub planned_calls : ℕ → List Action → List (Option Action)
+planned_calls ring actions = map (λ (a : Action). Some a) (filter is_call (part ring actions))
 
 -- what two lists have at one place is related
 abbrev pub Pairs : {A B : Type 0} → (ℕ → A → B → Type 0) → List A → List B → Type 0

@@ -10,7 +10,7 @@ use Rattle.ring_settings.specs.Contents.{RingData}
 use Rattle.ring_settings.specs.declared.actions.Plan.{Plan}
 use Rattle.ring_shared.specs.Holding.{AreOfSeats}
 use Rattle.ring_shared.specs.declared.seats.Log.{Log}
-use Rattle.ring_farm.specs.Plans.{Pairs, actions_of, part}
+use Rattle.ring_farm.specs.Plans.{Pairs, actions_of, planned}
 
 -- a ring of the settings, as its machines start
 abbrev pub ring_of_data : RingData → Ring
@@ -18,7 +18,7 @@ ring_of_data d = record { k = d.size.k; values = d.start }
 
 -- the log is that of the seat with this number; read as actions it is the part of the seat's plan that concerns the ring, in order
 abbrev pub IsLogged : ℕ → ℕ → Plan → Log → Type 0
-IsLogged ring i p l = (l.seat ≡ i) × (actions_of ring l.entries.items ≡ part ring p.actions.items)
+IsLogged ring i p l = (l.seat ≡ i) × (actions_of ring l.entries.items ≡ planned ring p.actions.items)
 
 -- What a run of one ring left: a book that begins with the given start and the amount 0, whose history is one legal history of the
 -- one-thread ring; each event is of one of the seats; one log for each plan, which fits the history and is that plan's part.

@@ -1,7 +1,7 @@
 //! The threads of one ring: one for each plan, all joined.
 ghost use Rattle.std.specs.Prelude.{◌≡◌, ℕ, ◌<◌, ◌≤◌, [], None, All, Some, map, slice_get, length, vec_len, vec_capacity, IfOk, IfSome, IsTrue};
 ghost use Rattle.ring_shared.specs.Opening.{AreFresh};
-ghost use Rattle.ring_farm.specs.Plans.{Pairs, actions_of, part, IsShort, IsPlanOn};
+ghost use Rattle.ring_farm.specs.Plans.{Pairs, actions_of, planned, IsShort, IsPlanOn};
 ghost use Rattle.ring_farm.specs.Promises.{IsPromised, IsKept, IsDone, AreReady};
 ghost use Rattle.ring_settings.specs.declared.actions.Plan.{Plan};
 
@@ -27,9 +27,9 @@ pub(crate) struct Does {
 
 impl<N: Name> Promise<Work<N>> for Does {
     ghost use Rattle.std.specs.Prelude.{◌≡◌, None};
-    ghost use Rattle.ring_farm.specs.Plans.{actions_of, part};
+    ghost use Rattle.ring_farm.specs.Plans.{actions_of, planned};
 
-    ghost kept_by = { λ p w. (w.seat.number ≡ p.number) × (w.fault ≡ None → actions_of p.ring w.seat.log ≡ part p.ring p.plan.value.actions.items) };
+    ghost kept_by = { λ p w. (w.seat.number ≡ p.number) × (w.fault ≡ None → actions_of p.ring w.seat.log ≡ planned p.ring p.plan.value.actions.items) };
 }
 
 /// Starts a thread for the seat, with this plan. None where it could not be started.
@@ -62,7 +62,7 @@ fn spawn_one<
     let job = move || -> Work<N>
         requires { IsShort plan.now × IsPlanOn number N.start plan.now × (seat.log ≡ []) }
         ensures number { result.seat.number ≡ seat.number }
-        ensures log { result.fault ≡ None → actions_of number result.seat.log ≡ part number plan.entry.now.actions.items }
+        ensures log { result.fault ≡ None → actions_of number result.seat.log ≡ planned number plan.entry.now.actions.items }
     { run_plan(rt, ring, gate, number, plan, seat) };
     scope.spawn_with(promise, job).ok()
 }

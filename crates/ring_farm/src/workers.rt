@@ -2,7 +2,7 @@
 ghost use Rattle.std.specs.Prelude.{◌≡◌, ◌==◌, ◌≤◌, ◌<◌, ◌++◌, ◌∷◌, ◌+◌, [], None, Some, IfSome, IsTrue, IsFalse, length, vec_len};
 ghost use Rattle.ring_settings.specs.Limits.{action_limit};
 ghost use Rattle.ring_farm.specs.Refusals.{told_as, IsCallFault, IsSeatFault};
-ghost use Rattle.ring_farm.specs.Plans.{ring_of, part, actions_of, IsActionOn, IsShort, IsPlanOn};
+ghost use Rattle.ring_farm.specs.Plans.{ring_of, planned, actions_of, IsActionOn, IsShort, IsPlanOn};
 
 use crate::faults::FarmError;
 use crate::gates::Gate;
@@ -27,7 +27,7 @@ fn act<N: Name, R: Resource + Drop, W: Wait>(
 ) -> Option<FarmError>
     requires { IsActionOn N.start action }
     ensures number { seat.new.number ≡ seat.old.number }
-    ensures log { result ≡ None → actions_of (ring_of action) seat.new.log ≡ actions_of (ring_of action) seat.old.log ++ action ∷ [] }
+    ensures log { result ≡ None → actions_of (ring_of action) seat.new.log ≡ actions_of (ring_of action) seat.old.log ++ Some action ∷ [] }
     ensures one { result ≡ None → length seat.new.log ≡ length seat.old.log + 1 }
     ensures fault { IfSome result IsCallFault }
 {
@@ -107,7 +107,7 @@ fn make<N: Name, R: Resource + Drop, G: Gate, W: Wait>(
     requires few { length seat.old.log ≤ action_limit }
     requires possible { IsActionOn N.start action }
     ensures number { seat.new.number ≡ seat.old.number }
-    ensures log { result ≡ None → actions_of (ring_of action) seat.new.log ≡ actions_of (ring_of action) seat.old.log ++ action ∷ [] }
+    ensures log { result ≡ None → actions_of (ring_of action) seat.new.log ≡ actions_of (ring_of action) seat.old.log ++ Some action ∷ [] }
     ensures one { result ≡ None → length seat.new.log ≡ length seat.old.log + 1 }
     ensures fault { IfSome result IsSeatFault }
 {
@@ -130,7 +130,7 @@ pub(crate) fn run_plan<N: Name, R: Resource + Drop, G: Gate, W: Wait>(
     requires possible { IsPlanOn number N.start plan.now }
     requires new { seat.log ≡ [] }
     ensures number { result.seat.number ≡ seat.number }
-    ensures log { result.fault ≡ None → actions_of number result.seat.log ≡ part number plan.now.actions.items }
+    ensures log { result.fault ≡ None → actions_of number result.seat.log ≡ planned number plan.now.actions.items }
     ensures fault { IfSome result.fault IsSeatFault }
 {
     let mut seat = seat;

@@ -6,7 +6,7 @@ use Rattle.ring_model.specs.Ring.{Ring, IsRing, is_privileged, moved_value, move
 use Rattle.ring_model.specs.History.{Works, State, opening, next, after, IsLegal}
 use Rattle.ring_model.specs.Surveys.{calm, survey_at}
 use Rattle.ring_model.specs.declared.events.Op.{Op}
-use Rattle.ring_model.specs.declared.events.Op.TheVariants.{Pass, Corrupt}
+use Rattle.ring_model.specs.declared.events.Op.TheVariants.{Pass, Member, Corrupt}
 use Rattle.ring_model.specs.declared.events.Event.{Event}
 use Rattle.ring_model.specs.declared.events.Survey.{Survey}
 use Rattle.ring_book.specs.BookView.{BookView, IsBook}
@@ -40,6 +40,11 @@ called_keeps r (Pass i order) =
       | true ↦ (refl, length-set r.values i (moved_value r i))
       | false ↦ (refl, refl)
     ]
+called_keeps r (Member i order left) =
+    elim (is_privileged r.values i) as (λ b. ((cond b (moved r i) r).k ≡ r.k) × (length (cond b (moved r i) r).values ≡ length r.values)) [
+      | true ↦ (refl, length-set r.values i (moved_value r i))
+      | false ↦ (refl, refl)
+    ]
 called_keeps r (Corrupt i v) = (refl, length-set r.values i v)
 
 pub ring_after_keeps : (r : Ring) (h : List Event) → ((ring_after r h).k ≡ r.k) × (length (ring_after r h).values ≡ length r.values)
@@ -51,15 +56,24 @@ ring_after_keeps r (e ∷ h) =
 -- so what is a call at the start is one behind each list
 pub call_behind : (r : Ring) (h : List Event) (o : Op) → IsCallOf r o → IsCallOf (ring_after r h) o
 call_behind r h (Pass i order) c = let k = ring_after_keeps r h in rw k.1 c
+call_behind r h (Member i order left) c = let k = ring_after_keeps r h in rw k.1 c
 call_behind r h (Corrupt i v) c = let k = ring_after_keeps r h in (rw k.1 (c.0), rw k.0 (c.1))
 
 pub machine_of_call : (r : Ring) (o : Op) → IsCallOf r o → machine_of o < length r.values
 machine_of_call r (Pass i order) c = c
+machine_of_call r (Member i order left) c = c
 machine_of_call r (Corrupt i v) c = c.0
 
 -- so a call writes one value, which may be what was there: that which its machine holds afterwards
 called_writes : (r : Ring) (o : Op) → machine_of o < length r.values → called r o ≡ written r (machine_of o) (slice_index (called r o).values (machine_of o))
 called_writes r (Pass i order) l =
+    let there : slice_index (slice_set r.values i (moved_value r i)) i ≡ moved_value r i = get_or-set_same r.values i (moved_value r i) 0 l in
+    let kept : slice_set r.values i (slice_index r.values i) ≡ r.values = set-get_or r.values i 0 in
+    elim (is_privileged r.values i) as (λ b. cond b (moved r i) r ≡ written r i (slice_index (cond b (moved r i) r).values i)) [
+      | true ↦ ap (λ (v : ℕ). written r i v) (sym there)
+      | false ↦ ap (λ (vs : List ℕ). record { k = r.k; values = vs }) (sym kept)
+    ]
+called_writes r (Member i order left) l =
     let there : slice_index (slice_set r.values i (moved_value r i)) i ≡ moved_value r i = get_or-set_same r.values i (moved_value r i) 0 l in
     let kept : slice_set r.values i (slice_index r.values i) ≡ r.values = set-get_or r.values i 0 in
     elim (is_privileged r.values i) as (λ b. cond b (moved r i) r ≡ written r i (slice_index (cond b (moved r i) r).values i)) [

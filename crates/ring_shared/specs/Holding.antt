@@ -1,7 +1,8 @@
 -- What is true of a ring's book whenever its lock is free (this project's own).
 use Rattle.std.specs.Prelude.{◌≡◌, ℕ, ◌<◌, ◌↔◌, List, All, length}
 use Rattle.ring_model.specs.Ring.{Ring}
-use Rattle.ring_model.specs.History.{Works, opening, IsLegal}
+use Rattle.ring_model.specs.History.{Works, opening}
+use Rattle.ring_model.specs.Groups.{IsHistory}
 use Rattle.ring_model.specs.Surveys.{survey_at}
 use Rattle.ring_model.specs.declared.events.Event.{Event}
 use Rattle.ring_model.specs.declared.events.Survey.{Survey}
@@ -11,9 +12,9 @@ use Rattle.ring_book.specs.BookView.{BookView, IsBook}
 abbrev pub AreOfSeats : ℕ → List Event → Type 0
 AreOfSeats seats h = All (λ (e : Event). e.seat < seats) h
 
--- legal, as a name says it, is legal from the start and the resource's first content
+-- legal, as a name says it, is a history of the one-thread ring from the start and the resource's first content
 abbrev pub MeansLegal : {C : Type 0} → Works C → C → Ring → (List Event → Type 0) → Type 0
-MeansLegal w first start legal = (h : List Event) → legal h ↔ IsLegal w (opening start first) h
+MeansLegal w first start legal = (h : List Event) → legal h ↔ IsHistory w (opening start first) h
 
 -- a book, with the start, the seats and the legal histories of a name
 pub record IsHeld {C : Type 0} (w : Works C) (first : C) (start : Ring) (seats : ℕ) (legal : List Event → Type 0) (b : BookView C) : Type 0 where
@@ -22,6 +23,6 @@ pub record IsHeld {C : Type 0} (w : Works C) (first : C) (start : Ring) (seats :
   pub of_seats : AreOfSeats seats b.history
   pub means_legal : MeansLegal w first start legal
 
--- the survey is that of the end of some legal history whose events are of the ring's seats
+-- the survey is that of the end of some history of the one-thread ring whose events are of the ring's seats
 abbrev pub IsSurveyOfSome : {C : Type 0} → Works C → C → Ring → ℕ → Survey → Type 0
-IsSurveyOfSome w first start seats s = (h : List Event) × IsLegal w (opening start first) h × AreOfSeats seats h × (s ≡ survey_at w (opening start first) h (length h))
+IsSurveyOfSome w first start seats s = (h : List Event) × IsHistory w (opening start first) h × AreOfSeats seats h × (s ≡ survey_at w (opening start first) h (length h))

@@ -3,7 +3,8 @@ ghost use Rattle.std.specs.Prelude.{◌≡◌, ◌<◌, ◌≤◌, ◌↔◌, Li
 ghost use Rattle.std.specs.List.{IsDistinct};
 ghost use mathlib.Core.List.{IsPrefix};
 ghost use Rattle.std.specs.List.Sorted.{IsPermutation, IsNonDecreasingBy};
-ghost use Rattle.ring_model.specs.History.{IsLegal, opening};
+ghost use Rattle.ring_model.specs.Groups.{IsHistory};
+ghost use Rattle.ring_model.specs.History.{opening};
 ghost use Rattle.ring_model.specs.HistoryLaws.{Settlement};
 ghost use Rattle.ring_model.specs.Logs.{Fits, calls_of, receipts_of};
 ghost use Rattle.ring_book.specs.BookView.{IsBook};
@@ -81,7 +82,7 @@ impl<N: Name, R: Resource + Drop> Ring<N, R> {
         // The history is one of the one-thread ring, which settles as the laws say.
         ensures start { IfOk result (λ c. c.book.start ≡ N.start) }
         ensures book { IfOk result (λ c. IsBook R.works R.first c.book) }
-        ensures legal { IfOk result (λ c. IsLegal R.works (opening N.start R.first) c.book.history) }
+        ensures legal { IfOk result (λ c. IsHistory R.works (opening N.start R.first) c.book.history) }
         ensures settlement { IfOk result (λ c. Settlement R.works (opening N.start R.first) c.book.history) }
 
         // It holds each client's calls, and no others; each reply and survey is right where it stands.

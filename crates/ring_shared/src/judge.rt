@@ -3,6 +3,7 @@ ghost use Rattle.std.specs.Prelude.{◌≡◌, ◌≤◌, ◌+◌, ◌<◌, ◌�
 ghost use Rattle.std.specs.List.Sorted.{IsNonDecreasingBy};
 ghost use Rattle.ring_model.specs.Limits.{event_limit};
 ghost use Rattle.ring_model.specs.History.{after, opening};
+ghost use Rattle.ring_model.specs.Groups.{left_of, left_after};
 ghost use Rattle.ring_model.specs.Logs.{IsSurvey};
 ghost use Rattle.ring_model.specs.Surveys.{calm as calm_of, survey_at};
 ghost use Rattle.ring_shared.specs.Fronts.{IsSurveyFrom};
@@ -21,10 +22,13 @@ struct Replay<'a, R: Resource + Drop> {
     place: usize,
     ring: RingState,
     calm: u64,
+    /// How many members of a group come after the last event: where some do, the place is inside a block.
+    left: u32,
     ghost within: { place ≤ length book.now.history },
     ghost ring_is: { ring ≡ (after R.works (opening book.now.start R.first) (take place book.now.history)).ring },
     ghost calm_is: { calm ≡ calm_of (take place book.now.history) },
     ghost few: { calm ≤ place },
+    ghost left_is: { left ≡ left_after (take place book.now.history) },
 }
 
 /// Plays a call.
@@ -33,7 +37,7 @@ fn play(ring: &mut RingState, op: Op)
     ensures { ring.new ≡ called ring.old op }
 {
     match op {
-        Op::Pass { machine, order: _ } => {
+        Op::Pass { machine, .. } | Op::Member { machine, .. } => {
             if ring.is_privileged(machine) {
                 ring.move_machine(machine);
             }
@@ -41,6 +45,16 @@ fn play(ring: &mut RingState, op: Op)
         Op::Corrupt { machine, value } => {
             ring.write(machine, value);
         }
+    }
+}
+
+/// How many members of its group come after a call.
+fn left_of(op: Op) -> u32
+    ensures { result ≡ left_of op }
+{
+    match op {
+        Op::Member { left, .. } => left,
+        Op::Pass { .. } | Op::Corrupt { .. } => 0,
     }
 }
 
@@ -74,6 +88,7 @@ impl<'a, R: Resource + Drop> Replay<'a, R> {
             place: 0,
             ring,
             calm: 0,
+            left: 0,
         })
     }
 
@@ -86,6 +101,7 @@ impl<'a, R: Resource + Drop> Replay<'a, R> {
         let event = self.book.history()[self.place];
         play(&mut self.ring, event.op);
         self.calm = calm_behind(self.calm, event.reply);
+        self.left = left_of(event.op);
         self.place += 1;
     }
 
@@ -117,13 +133,20 @@ impl<'a, R: Resource + Drop> Replay<'a, R> {
         }
     }
 
+    /// Whether a survey is right here, which is inside no block.
+    fn is_surveyed(&self, survey: Survey) -> bool
+        ensures { IsTrue result ↔ (survey ≡ survey_at R.works (opening self.now.book.now.start R.first) self.now.book.now.history self.now.place) × (left_after (take self.now.place self.now.book.now.history) ≡ 0) }
+    {
+        self.left == 0 && is_same_survey(survey, self.survey())
+    }
+
     /// Plays on to the place of a survey, and answers whether it stands ahead and the survey is right there.
     fn pass_survey(&mut self, survey: Survey) -> bool
         ensures book { self.new.book.now ≡ self.old.book.now }
         ensures front { IsTrue result → self.new.place ≡ survey.position }
         ensures right { IsTrue result ↔ IsSurveyFrom R.works (opening self.old.book.now.start R.first) self.old.book.now.history self.old.place survey }
     {
-        self.advance(survey.position) && is_same_survey(survey, self.survey())
+        self.advance(survey.position) && self.is_surveyed(survey)
     }
 }
 

@@ -1,6 +1,7 @@
 //! What lies under the lock of a ring, and the critical sections.
 ghost use Rattle.std.specs.Prelude.{◌≡◌, ◌<◌, ◌++◌, ◌∷◌, ◌≤◌, ◌↔◌, [], length, drop, fold, IsOk, IfOk, OnErr, IsErrOf};
 ghost use Rattle.ring_book.specs.BookView.{IsBook, IsRecorded};
+ghost use Rattle.ring_model.specs.Groups.{IsAlone};
 ghost use Rattle.ring_model.specs.Limits.{event_limit, seat_limit};
 ghost use Rattle.ring_shared.specs.Calls.{IsCallUnderLock, IsRefusedUnderLock};
 ghost use Rattle.ring_shared.specs.Holding.{IsHeld};
@@ -131,7 +132,8 @@ impl<N: Name, R: Resource + Drop> Locked<N, R> {
     /// One critical section: the seat's log and the history are grown, behind which nothing is refused; the
     /// book makes the call for the seat, its receipt is logged, what it did is shown, and the seat is told.
     fn call<W: Wait>(&mut self, rt: &W, seat: &mut Seat<N>, op: Op) -> Result<Receipt, BookError>
-        requires { IsCallOf N.start op }
+        requires call { IsCallOf N.start op }
+        requires alone { IsAlone op }
         ensures ok { IfOk result (λ r. IsCallUnderLock R.works R.first N.start N.seats N.legal self.old self.new seat.old seat.new op r) }
         ensures refused { IsRefusedUnderLock self.old self.new seat.old seat.new result }
     {
@@ -207,6 +209,7 @@ fn make_call<R: Resource + Drop>(
 ) -> Result<Receipt, BookError>
     requires seat { seat < seat_limit }
     requires call { IsCallOf book.old.now.ring op }
+    requires alone { IsAlone op }
     ensures ok { IfOk result (λ r. IsRecorded R.works book.old book.new seat op r) }
     ensures book { IsBook R.works R.first book.new }
     ensures full { IsErrOf result BookError.HistoryFull ↔ (length book.old.history ≡ event_limit) }
@@ -216,6 +219,7 @@ fn make_call<R: Resource + Drop>(
     match op {
         Op::Pass { machine, order } => book.pass(seat, machine, order),
         Op::Corrupt { machine, value } => book.corrupt(seat, machine, value),
+        Op::Member { .. } => unreachable!(),
     }
 }
 
@@ -227,6 +231,7 @@ fn record_call<R: Resource + Drop>(
 ) -> Result<Receipt, BookError>
     requires seat { seat < seat_limit }
     requires call { IsCallOf book.old.now.ring op }
+    requires alone { IsAlone op }
     ensures ok { IfOk result (λ r. IsRecorded R.works book.old book.new seat op r) }
     ensures book { IsBook R.works R.first book.new }
     ensures full { IsErrOf result BookError.HistoryFull ↔ (length book.old.history ≡ event_limit) }
@@ -243,7 +248,8 @@ fn log_call<N: Name, R: Resource + Drop>(
     seat: &mut Seat<N>,
     op: Op,
 ) -> Result<Receipt, BookError>
-    requires { IsCallOf book.old.now.ring op }
+    requires call { IsCallOf book.old.now.ring op }
+    requires alone { IsAlone op }
     ensures ok { IfOk result (λ r. IsRecorded R.works book.old book.new seat.old.number op r) }
     ensures book { IfOk result (λ _. IsBook R.works R.first book.new) }
     ensures within { seat.old.number < N.seats }

@@ -4,7 +4,8 @@ ghost use Rattle.std.specs.List.{IsDistinct};
 ghost use mathlib.Core.List.{IsPrefix};
 ghost use Rattle.ring_model.specs.Ring.{bound};
 ghost use Rattle.ring_model.specs.Limits.{seat_limit};
-ghost use Rattle.ring_model.specs.History.{IsLegal, opening};
+ghost use Rattle.ring_model.specs.Groups.{IsHistory};
+ghost use Rattle.ring_model.specs.History.{opening};
 ghost use Rattle.ring_model.specs.Surveys.{survey_at};
 ghost use Rattle.ring_state.specs.Sizes.{IsRingState};
 ghost use Rattle.ring_shared.specs.Client.{fresh_client};
@@ -307,7 +308,7 @@ impl<N: Name, R: Resource + Drop> Ring<N, R> {
         ensures number { seat.new.number ≡ seat.old.number }
         ensures logged { IfOk result (λ r. seat.new.log ≡ seat.old.log ++ Entry.Receipt r ∷ []) }
         ensures told { IfOk result (λ r. (length seat.new.seen ≡ r.position + 1) × (slice_get seat.new.seen r.position ≡ Some r.event)) }
-        ensures legal { IfOk result (λ r. IsLegal R.works (opening N.start R.first) seat.new.seen) }
+        ensures legal { IfOk result (λ r. IsHistory R.works (opening N.start R.first) seat.new.seen) }
         ensures later { IsPrefix seat.old.seen seat.new.seen }
         ensures err { OnErr result (seat.new ≡ seat.old) }
     {
@@ -336,7 +337,7 @@ impl<N: Name, R: Resource + Drop> Ring<N, R> {
         ensures number { seat.new.number ≡ seat.old.number }
         ensures logged { IfOk result (λ r. seat.new.log ≡ seat.old.log ++ Entry.Receipt r ∷ []) }
         ensures told { IfOk result (λ r. (length seat.new.seen ≡ r.position + 1) × (slice_get seat.new.seen r.position ≡ Some r.event)) }
-        ensures legal { IfOk result (λ r. IsLegal R.works (opening N.start R.first) seat.new.seen) }
+        ensures legal { IfOk result (λ r. IsHistory R.works (opening N.start R.first) seat.new.seen) }
         ensures later { IsPrefix seat.old.seen seat.new.seen }
         ensures err { OnErr result (seat.new ≡ seat.old) }
     {
@@ -357,7 +358,7 @@ impl<N: Name, R: Resource + Drop> Ring<N, R> {
         ensures number { seat.new.number ≡ seat.old.number }
         ensures logged { IfOk result (λ s. seat.new.log ≡ seat.old.log ++ Entry.Survey s ∷ []) }
         ensures told { IfOk result (λ s. s ≡ survey_at R.works (opening N.start R.first) seat.new.seen (length seat.new.seen)) }
-        ensures legal { IsLegal R.works (opening N.start R.first) seat.new.seen }
+        ensures legal { IsHistory R.works (opening N.start R.first) seat.new.seen }
         ensures of_seats { AreOfSeats N.seats seat.new.seen }
         ensures later { IsPrefix seat.old.seen seat.new.seen }
         ensures calm { IfOk result (λ s. bound (length N.start.values) ≤ s.calm → (s.privileged ≡ 1) × (s.rest ≡ 0)) }
@@ -374,7 +375,7 @@ impl<N: Name, R: Resource + Drop> Ring<N, R> {
         ensures number { seat.new.number ≡ seat.old.number }
         ensures log { seat.new.log ≡ seat.old.log }
         ensures told { result ≡ survey_at R.works (opening N.start R.first) seat.new.seen (length seat.new.seen) }
-        ensures legal { IsLegal R.works (opening N.start R.first) seat.new.seen }
+        ensures legal { IsHistory R.works (opening N.start R.first) seat.new.seen }
         ensures of_seats { AreOfSeats N.seats seat.new.seen }
         ensures later { IsPrefix seat.old.seen seat.new.seen }
         ensures calm { bound (length N.start.values) ≤ result.calm → (result.privileged ≡ 1) × (result.rest ≡ 0) }

@@ -110,8 +110,8 @@ fn machine_named(op: Op) -> u32
     ensures { result ≡ machine_of op }
 {
     match op {
-        Op::Pass { machine, order: _ } => machine,
-        Op::Corrupt { machine, value: _ } => machine,
+        Op::Pass { machine, .. } | Op::Member { machine, .. } => machine,
+        Op::Corrupt { machine, .. } => machine,
     }
 }
 

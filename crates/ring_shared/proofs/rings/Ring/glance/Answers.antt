@@ -11,4 +11,4 @@ returns-clause-legal g c = (c.self.invariant.means_legal c.glance.new.self.seen)
 pub returns-clause-calm : goal.returns-clause-calm
 returns-clause-calm g c =
     calm_tells g.R.Resource.works g.N.Name.start g.R.Resource.first c.glance.new.self.seen c.glance.result c.self.invariant.start_ring.ring
-    ((c.self.invariant.means_legal c.glance.new.self.seen).0 c.glance.ensures.legal) c.glance.ensures.survey
+    ((c.self.invariant.means_legal c.glance.new.self.seen).0 c.glance.ensures.legal).0 c.glance.ensures.survey
