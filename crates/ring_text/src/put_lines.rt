@@ -143,8 +143,8 @@ fn put_corrupted<W: Write>(
     put(out, line.as_bytes())
 }
 
-/// Writes the line of an event, each of whose numbers is within its range by its type. It fits where it is no member
-/// of a group, and where group passes have lines.
+/// Writes the line of an event, each of whose numbers is within its range by its type. It fits in each version that has
+/// lines of its kind.
 pub fn put_event_line<W: Write>(out: &mut W, event: SavedEvent) -> Result<(), WriteFault>
     ensures written { Writes (W.contents out.old) (W.contents out.new) result (event_line event) }
     ensures fits { (version : ℕ) → (version ≤ first_version → IsNoMember event) → EventFits version event }
