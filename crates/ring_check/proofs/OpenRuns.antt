@@ -1,14 +1,14 @@
 -- The open block behind a history, and which events may come behind it, as tests and as defined.
-use Rattle.std.proofs.Common.{◌≡◌, ℕ, zero, suc, ◌+◌, ◌-◌, ◌<◌, ◌≤◌, List, [], ◌∷◌, ◌++◌, length, get_or, take, drop, map, Bool, true, false, refl, sym, ◌∙◌, ap, subst, arith, eqb, length-append}
-use Rattle.std.specs.Prelude.{nat_lt, nat_le, ◌&&◌, ◌||◌}
+use Rattle.std.proofs.Common.{◌≡◌, ℕ, zero, suc, ◌+◌, ◌-◌, ◌<◌, ◌≤◌, List, [], ◌∷◌, ◌++◌, length, get_or, take, map, true, refl, sym, ◌∙◌, ap, subst, arith, eqb, length-append}
+use Rattle.std.specs.Prelude.{nat_lt, ◌&&◌, ◌||◌}
 use Rattle.std.proofs.lemmas.List.{length-map}
-use Rattle.ring_model.specs.Groups.{IsInOrder, left_of, left_after}
-use Rattle.ring_model.specs.Scanning.{and_member, members_of, opened, GoesOn, EndsWell, MayCome, AllMayCome}
+use Rattle.ring_model.specs.Groups.{left_of, left_after}
+use Rattle.ring_model.specs.Scanning.{and_member, members_of, opened, GoesOn, EndsWell, MayCome}
 use Rattle.ring_model.specs.declared.events.Op.{Op}
 use Rattle.ring_model.specs.declared.events.Op.TheVariants.{Pass, Member, Corrupt}
 use Rattle.ring_model.specs.declared.events.Event.{Event}
-use Rattle.ring_check.specs.Members.{run_behind, run_of, machine_of, machines_of, is_member_of, goes_on, is_in_order, call_may_come, may_come}
-use Rattle.ring_check.proofs.Booleans.{both, joined, or_second, same, below, eq_true, lt_true}
+use Rattle.ring_check.specs.Members.{run_behind, run_of, machine_of, machines_of, is_member_of, goes_on, is_in_order, call_may_come}
+use Rattle.ring_check.proofs.Booleans.{both, joined, same, below, eq_true, lt_true}
 use Rattle.ring_text.specs.declared.saved.SavedEvent.{SavedEvent}
 use Rattle.ring_check.specs.Table.{event_of}
 use Rattle.ring_check.proofs.GroupOrders.{order_means, order_true}

@@ -50,8 +50,9 @@ impl Replay {
         match *event {
             SavedEvent::Granted { seat, machine, .. }
             | SavedEvent::Refused { seat, machine, .. }
-            | SavedEvent::Member { seat, machine, .. } =>
-                { (seat as usize) < SEAT_LIMIT && (machine as usize) < self.values.len() }
+            | SavedEvent::Member { seat, machine, .. } => {
+                (seat as usize) < SEAT_LIMIT && (machine as usize) < self.values.len()
+            }
             SavedEvent::Corrupted {
                 seat,
                 machine,

@@ -1,7 +1,5 @@
-use Rattle.std.proofs.Common.{◌≡◌, ◌+◌, ◌≤◌, ◌∙◌, get_or, sym, refl, inl, inr, arith}
-use Rattle.ring_model.specs.Groups.{left_of}
-use Rattle.ring_check.specs.Table.{event_of}
-use Rattle.ring_check.proofs.EventLines.{BeginsAt, event_bad, event_good}
+use Rattle.std.proofs.Common.{◌∙◌, sym, refl, inl, inr, arith}
+use Rattle.ring_check.proofs.EventLines.{event_bad, event_good}
 use Rattle.ring_check.proofs.events.check_events.Goals as goal
 use Rattle.ring_check.proofs.events.check_events.Goals.{then-left_of-eq0, else-left_of-eq0}
 

@@ -1,6 +1,6 @@
-use Rattle.std.proofs.Common.{◌≡◌, ◌+◌, ◌-◌, ◌<◌, ◌∷◌, ◌++◌, [], ◌∙◌, length, map, get_or, suc, drop, sym, ap, arith, ℕ}
+use Rattle.std.proofs.Common.{◌≡◌, ◌+◌, ◌<◌, ◌∷◌, ◌++◌, [], ◌∙◌, length, map, get_or, sym, arith}
 use Rattle.ring_check.specs.Table.{event_of}
-use Rattle.ring_check.specs.Members.{machines_of, are_in_turn}
+use Rattle.ring_check.specs.Members.{machines_of}
 use Rattle.ring_check.proofs.GroupOrders.{down_on, down_off, back_on, order_false}
 use Rattle.ring_check.proofs.OpenRuns.{machines_long}
 use Rattle.ring_check.proofs.group_lines.is_in_order.Goals as goal

@@ -1,5 +1,4 @@
-use Rattle.std.proofs.Common.{◌≡◌, ◌+◌, ◌∙◌, length, sym, arith, eqb, true, false}
-use Rattle.std.proofs.lemmas.Bool.{ne_eqb, eq-eqb}
+use Rattle.std.proofs.Common.{◌≡◌, ◌+◌, ◌∙◌, length, sym, arith}
 use Rattle.ring_text.specs.Content.{block_of}
 use Rattle.ring_check.proofs.Blocks.{events_stop, end_stop, surveys_stop, finds_at, finds_as, finds_handed_on}
 use Rattle.ring_check.proofs.rings.check_ring.Goals as goal
