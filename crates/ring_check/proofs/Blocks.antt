@@ -15,7 +15,7 @@ use Rattle.ring_check.specs.declared.answers.CheckError.{CheckError}
 use Rattle.ring_check.specs.declared.answers.CheckError.TheVariants.{Bad, OutOfMemory}
 use Rattle.ring_check.specs.Limits.{first_version_machine_limit, first_version_value_limit, by_version, machine_limit_of, value_limit_of}
 use Rattle.ring_check.specs.Lines.{Line, RingLine, StartLine, EventLine, EndLine, SurveyLine, block_lines}
-use Rattle.ring_check.specs.Table.{Before, event_of, after_line, after_lines, are_parameters}
+use Rattle.ring_check.specs.Table.{Before, event_of, after_line, after_lines, are_parameters, end_fault}
 use Rattle.ring_check.specs.Scan.{or_behind, first_fault, in_block, Finds}
 use Rattle.ring_check.proofs.Booleans.{both, joined, below, at_most, eq_true, le_true}
 use Rattle.ring_check.proofs.Scans.{or_else, fault_append, after_append}
@@ -71,15 +71,10 @@ opens b index n k s = let e : b.line + 1 + 1 ≡ b.line + 2 = omega arith in ap 
 pub tail_fault : (version line rings n k : ℕ) (s : List ℕ) (es : List SavedEvent) (said : ℕ) (ss : List SavedSurvey) →
     first_fault (in_block version line rings n k s []) (tail_lines es said ss)
     ≡ or_else (first_fault (in_block version line rings n k s []) (map EventLine es))
-    (or_behind (cond (eqb said (length es)) None (Some Count)) (line + length es) (first_fault (in_block version (line + length es + 1) rings n k s (map event_of es)) (map SurveyLine ss)))
+    (or_behind (end_fault said (map event_of es)) (line + length es) (first_fault (in_block version (line + length es + 1) rings n k s (map event_of es)) (map SurveyLine ss)))
 tail_fault version line rings n k s es said ss =
-    let h : length (map event_of es) ≡ length es = length-map es event_of in
-    let one : first_fault (in_block version (line + length es) rings n k s (map event_of es)) (EndLine said ∷ map SurveyLine ss)
-    ≡ or_behind (cond (eqb said (length es)) None (Some Count)) (line + length es) (first_fault (in_block version (line + length es + 1) rings n k s (map event_of es)) (map SurveyLine ss)) =
-    ap (λ (x : ℕ). or_behind (cond (eqb said x) None (Some Count)) (line + length es) (first_fault (in_block version (line + length es + 1) rings n k s (map event_of es)) (map SurveyLine ss))) h in
     fault_append (in_block version line rings n k s []) (map EventLine es) (EndLine said ∷ map SurveyLine ss)
     ∙ ap (λ (x : Before). or_else (first_fault (in_block version line rings n k s []) (map EventLine es)) (first_fault x (EndLine said ∷ map SurveyLine ss))) (events_after version line rings n k s [] es)
-    ∙ ap (λ (x : Option (ℕ × Kind)). or_else (first_fault (in_block version line rings n k s []) (map EventLine es)) x) one
 
 -- the faults of a block
 pub head_bad : (b : Before) (r : Block) → are_parameters b.version r.n r.k ≡ false → first_fault b (block_lines r) ≡ Some (b.line + 1, Parameter)
@@ -113,7 +108,7 @@ pub block_parts : (b : Before) (r : Block) (line place : ℕ) → b.line ≡ lin
     list_all (λ v. nat_lt v r.k) r.start ≡ true → length r.start ≡ r.n →
     first_fault b (block_lines r)
     ≡ or_else (first_fault (in_block b.version (line + 2) (place + 1) (length r.start) r.k r.start []) (map EventLine r.events))
-    (or_behind (cond (eqb r.events_said (length r.events)) None (Some Count)) (line + 2 + length r.events)
+    (or_behind (end_fault r.events_said (map event_of r.events)) (line + 2 + length r.events)
     (first_fault (in_block b.version (line + 3 + length r.events) (place + 1) (length r.start) r.k r.start (map event_of r.events)) (map SurveyLine r.surveys)))
 block_parts b r line place p q e f g n =
     let i : eqb r.index b.rings ≡ true = eq_true r.index b.rings (f ∙ sym q) in
@@ -123,7 +118,7 @@ block_parts b r line place p q e f g n =
     ∙ ap (λ (x : Before). first_fault x (tail_lines r.events r.events_said r.surveys)) at
     ∙ tail_fault b.version (line + 2) (place + 1) (length r.start) r.k r.start r.events r.events_said r.surveys
     ∙ ap (λ (x : ℕ). or_else (first_fault (in_block b.version (line + 2) (place + 1) (length r.start) r.k r.start []) (map EventLine r.events))
-    (or_behind (cond (eqb r.events_said (length r.events)) None (Some Count)) (line + 2 + length r.events)
+    (or_behind (end_fault r.events_said (map event_of r.events)) (line + 2 + length r.events)
     (first_fault (in_block b.version x (place + 1) (length r.start) r.k r.start (map event_of r.events)) (map SurveyLine r.surveys)))) m
 
 module _ (b : Before) (r : Block) (line place : ℕ) (p : b.line ≡ line) (q : b.rings ≡ place) (e : are_parameters b.version r.n r.k ≡ true) (f : r.index ≡ place)
@@ -133,15 +128,15 @@ module _ (b : Before) (r : Block) (line place : ℕ) (p : b.line ≡ line) (q : 
       Finds {X = Y} (first_fault b (block_lines r)) (Err error)
   events_stop X Y error h = rw (block_parts b r line place p q e f g n) (finds_front X Y _ _ error h)
 
-  pub end_stop : (u : Unit {0}) → Finds (first_fault (in_block b.version (line + 2) (place + 1) (length r.start) r.k r.start []) (map EventLine r.events)) (Ok u) →
-      eqb r.events_said (length r.events) ≡ false → first_fault b (block_lines r) ≡ Some (line + 3 + length r.events, Count)
-  end_stop u h w =
+  pub end_stop : (kind : Kind) (u : Unit {0}) → Finds (first_fault (in_block b.version (line + 2) (place + 1) (length r.start) r.k r.start []) (map EventLine r.events)) (Ok u) →
+      end_fault r.events_said (map event_of r.events) ≡ Some kind → first_fault b (block_lines r) ≡ Some (line + 3 + length r.events, kind)
+  end_stop kind u h w =
       let m : line + 2 + length r.events + 1 ≡ line + 3 + length r.events = omega arith in
       let none = finds_none (first_fault (in_block b.version (line + 2) (place + 1) (length r.start) r.k r.start []) (map EventLine r.events)) u h in
       block_parts b r line place p q e f g n ∙ rw (none, w, m) refl
 
   pub surveys_stop : (u : Unit {0}) → Finds (first_fault (in_block b.version (line + 2) (place + 1) (length r.start) r.k r.start []) (map EventLine r.events)) (Ok u) →
-      eqb r.events_said (length r.events) ≡ true → first_fault b (block_lines r)
+      end_fault r.events_said (map event_of r.events) ≡ None → first_fault b (block_lines r)
       ≡ first_fault (in_block b.version (line + 3 + length r.events) (place + 1) (length r.start) r.k r.start (map event_of r.events)) (map SurveyLine r.surveys)
   surveys_stop u h w =
       let none = finds_none (first_fault (in_block b.version (line + 2) (place + 1) (length r.start) r.k r.start []) (map EventLine r.events)) u h in

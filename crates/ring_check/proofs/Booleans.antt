@@ -48,3 +48,9 @@ le_true a b l = grind (arith, nat_tests)
 
 pub le_false : (a b : ℕ) → b < a → nat_le a b ≡ false
 le_false a b l = grind (arith, nat_tests)
+
+pub some : (a : ℕ) → eqb a 0 ≡ false → 0 < a
+some a e = grind (arith, nat_tests)
+
+pub eq_false : (a b : ℕ) → (a ≡ b → ⊥) → eqb a b ≡ false
+eq_false a b ne = grind (arith, nat_tests)

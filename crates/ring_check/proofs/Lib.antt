@@ -1,5 +1,7 @@
 pub mod Measuring
 pub mod Booleans
+pub mod GroupOrders
+pub mod OpenRuns
 pub mod Steps
 pub mod Scans
 pub mod Walk

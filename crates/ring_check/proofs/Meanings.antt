@@ -1,29 +1,35 @@
 -- A text is legal exactly where its blocks tell of legal histories and of surveys of them.
-use Rattle.std.proofs.Common.{◌≡◌, ℕ, ◌+◌, ◌<◌, ◌≤◌, List, [], ◌∷◌, ◌++◌, length, map, Bool, true, false, cond, Option, Some, None, refl, sym, ◌∙◌, ap, subst, arith, ◌&&◌, ◌||◌, eqb, inl, inr}
+use Rattle.std.proofs.Common.{◌≡◌, ℕ, ◌+◌, ◌<◌, ◌≤◌, List, [], ◌∷◌, ◌++◌, length, take, map, Bool, true, false, cond, Option, Some, None, refl, sym, ◌∙◌, ap, subst, arith, ◌&&◌, ◌||◌, eqb, inl, inr}
 use Rattle.std.specs.Prelude.{nat_le, nat_lt, ◌⊎◌}
 use Rattle.std.specs.List.{All, list_all, flat_map}
 use Rattle.std.proofs.lemmas.List.Elements.{All-cons, All-head, All-tail}
 use Rattle.std.proofs.lemmas.Bool.{cases_lt}
+use Rattle.std.proofs.lemmas.List.{length-map}
 use Rattle.ring_model.specs.Ring.{ring_with}
 use Rattle.ring_model.specs.Limits.{seat_limit}
 use Rattle.ring_model.specs.declared.events.Event.{Event}
 use Rattle.ring_model.specs.declared.events.Survey.{Survey}
 use Rattle.ring_model.specs.History.{State, after, IsLegal}
+use Rattle.ring_model.specs.Groups.{left_after}
+use Rattle.ring_model.specs.Scanning.{AllMayCome}
 use Rattle.ring_model.specs.Resources.{till}
 use Rattle.ring_model.specs.Surveys.{survey_at}
 use Rattle.ring_model.proofs.Histories.{after-push}
+use Rattle.ring_model.proofs.Scanning.{whole_by_events}
 use Rattle.ring_text.specs.declared.saved.SavedEvent.{SavedEvent}
 use Rattle.ring_text.specs.declared.saved.SavedSurvey.{SavedSurvey}
 use Rattle.ring_text.specs.declared.saved.SavedRing.{SavedRing}
 use Rattle.ring_text.specs.Content.{Block, block_of}
 use Rattle.ring_check.specs.declared.answers.Kind.{Kind}
-use Rattle.ring_check.specs.declared.answers.Kind.TheVariants.{Range, Count, Parameter, Survey as SurveyKind}
+use Rattle.ring_check.specs.declared.answers.Kind.TheVariants.{Range, Count, Parameter, Survey as SurveyKind, Group}
 use Rattle.ring_check.specs.Lines.{EventLine, SurveyLine, block_lines, lines}
-use Rattle.ring_check.specs.Table.{Before, nothing, event_of, first_state, event_fault, is_onward, is_surveyed, same_survey, fault, after_lines, are_parameters}
+use Rattle.ring_check.specs.Table.{Before, nothing, event_of, first_state, event_fault, end_fault, is_onward, is_surveyed, same_survey, fault, after_lines, are_parameters}
 use Rattle.ring_check.specs.Scan.{or_behind, first_fault, in_block}
 use Rattle.ring_check.specs.Legal.{history}
 use Rattle.ring_check.specs.Meaning.{survey_of, AreOnward, AreInOrder, IsRightSurvey, IsRightBlock, AreRightBlocks, LegalMeans}
 use Rattle.ring_check.proofs.Booleans.{both, joined, or_second, true_of, same, below, at_most, eq_true, lt_true, le_true}
+use Rattle.ring_check.specs.Members.{run_of}
+use Rattle.ring_check.proofs.OpenRuns.{run_push, run_open, come_means, come_true}
 use Rattle.ring_check.proofs.Steps.{event_means, event_fine, IsWell, well_push}
 use Rattle.ring_check.proofs.Scans.{or_else, fault_append, good_none, none_good, version_kept}
 use Rattle.ring_check.proofs.SurveyLines.{in_surveys}
@@ -44,33 +50,52 @@ count_none : (c : Bool) → cond {A = Option Kind} c None (Some Count) ≡ None 
 count_none true e = refl
 count_none false e = absurd (cc)
 
+-- an end line without a fault says how many events there are, and stands in no block
+end_means : (said : ℕ) (h : List Event) → end_fault said h ≡ None → (said ≡ length h) × (left_after h ≡ 0)
+end_means said h e = go (eqb said (length h)) (eqb (left_after h) 0) refl refl e
+  where
+    go : (x y : Bool) → eqb said (length h) ≡ x → eqb (left_after h) 0 ≡ y → cond {A = Option Kind} x (cond y None (Some Group)) (Some Count) ≡ None → (said ≡ length h) × (left_after h ≡ 0)
+    go true true p q e = (same said (length h) p, same (left_after h) 0 q)
+    go true false p q e = absurd (cc)
+    go false y p q e = absurd (cc)
+
+end_fine : (said : ℕ) (h : List Event) → said ≡ length h → left_after h ≡ 0 → end_fault said h ≡ None
+end_fine said h p q = rw (eq_true said (length h) p, eq_true (left_after h) 0 q) refl
+
 -- The events of a block.
 
 pub events_mean : (version line rings k : ℕ) (start : List ℕ) (h : List Event) (es : List SavedEvent) → IsWell k start h →
     first_fault (in_block version line rings (length start) k start h) (map EventLine es) ≡ None →
     All (λ (e : Event). e.seat < seat_limit) (map event_of es) × IsLegal till (after till (first_state (ring_with k start)) h) (map event_of es)
-events_mean version line rings k start h [] w none = ((λ k d l. absurd (omega arith)), tt)
+    × AllMayCome (length start) (run_of h) (map event_of es)
+events_mean version line rings k start h [] w none = ((λ k d l. absurd (omega arith)), tt, tt)
 events_mean version line rings k start h (e ∷ es) w none =
     let a = after till (first_state (ring_with k start)) h in
-    let p = behind_none (event_fault (length start) a (event_of e)) line (first_fault (in_block version (line + 1) rings (length start) k start (h ++ event_of e ∷ [])) (map EventLine es)) none in
-    let m = event_means (length start) a (event_of e) w.long p.0 in
+    let p = behind_none (event_fault (length start) (run_of h) a (event_of e)) line (first_fault (in_block version (line + 1) rings (length start) k start (h ++ event_of e ∷ [])) (map EventLine es)) none in
+    let m = event_means (length start) (run_of h) a e w.long p.0 in
     let more = events_mean version (line + 1) rings k start (h ++ event_of e ∷ []) es (well_push k start h (event_of e) w m.1) p.1 in (
       All-cons (λ (e : Event). e.seat < seat_limit) (event_of e) (map event_of es) m.0 more.0,
       (m.1, subst (λ (x : State ℕ). IsLegal till x (map event_of es)) (after-push till (first_state (ring_with k start)) h (event_of e)) more.1),
+      (
+        come_means (length start) (run_of h) (event_of e).seat (event_of e).op (run_open h) m.2,
+        subst (λ (u : List Event). AllMayCome (length start) u (map event_of es)) (run_push h (event_of e)) more.2,
+      ),
     )
 
 pub events_fine : (version line rings k : ℕ) (start : List ℕ) (h : List Event) (es : List SavedEvent) → IsWell k start h →
     All (λ (e : Event). e.seat < seat_limit) (map event_of es) → IsLegal till (after till (first_state (ring_with k start)) h) (map event_of es) →
-    first_fault (in_block version line rings (length start) k start h) (map EventLine es) ≡ None
-events_fine version line rings k start h [] w seats legal = refl
-events_fine version line rings k start h (e ∷ es) w seats legal =
+    AllMayCome (length start) (run_of h) (map event_of es) → first_fault (in_block version line rings (length start) k start h) (map EventLine es) ≡ None
+events_fine version line rings k start h [] w seats legal may = refl
+events_fine version line rings k start h (e ∷ es) w seats legal may =
     let a = after till (first_state (ring_with k start)) h in
-    let fine : event_fault (length start) a (event_of e) ≡ None =
-    event_fine (length start) a (event_of e) w.long (All-head (λ (e : Event). e.seat < seat_limit) (event_of e) (map event_of es) seats) legal.0 in
+    let fine : event_fault (length start) (run_of h) a (event_of e) ≡ None =
+    event_fine (length start) (run_of h) a (event_of e) w.long (All-head (λ (e : Event). e.seat < seat_limit) (event_of e) (map event_of es) seats) legal.0
+    (come_true (length start) (run_of h) (event_of e).seat (event_of e).op (run_open h) may.0) in
     let more : first_fault (in_block version (line + 1) rings (length start) k start (h ++ event_of e ∷ [])) (map EventLine es) ≡ None =
     events_fine version (line + 1) rings k start (h ++ event_of e ∷ []) es (well_push k start h (event_of e) w legal.0)
     (All-tail (λ (e : Event). e.seat < seat_limit) (event_of e) (map event_of es) seats)
-    (subst (λ (x : State ℕ). IsLegal till x (map event_of es)) (sym (after-push till (first_state (ring_with k start)) h (event_of e))) legal.1) in
+    (subst (λ (x : State ℕ). IsLegal till x (map event_of es)) (sym (after-push till (first_state (ring_with k start)) h (event_of e))) legal.1)
+    (subst (λ (u : List Event). AllMayCome (length start) u (map event_of es)) (sym (run_push h (event_of e))) may.1) in
     rw (fine, more) refl
 
 -- The surveys of a block.
@@ -119,12 +144,13 @@ surveys_mean version b line rings seat position (s ∷ ss) none =
     let p = behind_none (fault at (SurveyLine s)) line (first_fault (in_surveys version (line + 1) rings b.k b.start (history b) s.seat s.position) (map SurveyLine ss)) none in
     let q = both_none (nat_lt s.seat seat_limit) (is_onward seat position s && is_surveyed at s) p.0 in
     let on = both (is_onward seat position s) (is_surveyed at s) q.1 in
-    let said = both (nat_le s.position (length (history b))) (same_survey s (survey_at till (first_state (ring_with b.k b.start)) (history b) s.position)) on.1 in
-    let within = at_most s.position (length (history b)) said.0 in
+    let place = both (nat_le s.position (length (history b))) (same_survey s (survey_at till (first_state (ring_with b.k b.start)) (history b) s.position) && eqb (left_after (take s.position (history b))) 0) on.1 in
+    let said = both (same_survey s (survey_at till (first_state (ring_with b.k b.start)) (history b) s.position)) (eqb (left_after (take s.position (history b))) 0) place.1 in
+    let within = at_most s.position (length (history b)) place.0 in
     let more = surveys_mean version b (line + 1) rings s.seat s.position ss p.1 in
     let right : IsRightSurvey b s = record {
       seat = below s.seat seat_limit q.0;
-      right = (within, same_survey_means s (survey_at till (first_state (ring_with b.k b.start)) (history b) s.position) refl said.1);
+      right = (within, same_survey_means s (survey_at till (first_state (ring_with b.k b.start)) (history b) s.position) refl said.0, same (left_after (take s.position (history b))) 0 said.1);
     } in
     ((onward_means seat position s on.0, more.0), All-cons (IsRightSurvey b) s ss right more.1)
 
@@ -136,7 +162,9 @@ surveys_fine version b line rings seat position (s ∷ ss) order right =
     let here : IsRightSurvey b s = All-head (IsRightSurvey b) s ss right in
     let said : is_surveyed at s ≡ true =
     joined (nat_le s.position (length (history b))) _ (le_true s.position (length (history b)) here.right.0)
-    (same_survey_true s (survey_at till (first_state (ring_with b.k b.start)) (history b) s.position) here.right.1) in
+    (joined (same_survey s (survey_at till (first_state (ring_with b.k b.start)) (history b) s.position)) (eqb (left_after (take s.position (history b))) 0)
+    (same_survey_true s (survey_at till (first_state (ring_with b.k b.start)) (history b) s.position) here.right.1)
+    (eq_true (left_after (take s.position (history b))) 0 here.right.2)) in
     let all : (is_onward seat position s && is_surveyed at s) ≡ true = joined (is_onward seat position s) (is_surveyed at s) (onward_true seat position s order.0) said in
     let seats : nat_lt s.seat seat_limit ≡ true = lt_true s.seat seat_limit here.seat in
     let fine : fault at (SurveyLine s) ≡ None =
@@ -175,7 +203,8 @@ block_means b r n none =
     true_of (list_all (λ v. nat_lt v r.k) r.start) (λ f. clash (first_fault b (block_lines r)) (b.line + 2, Range) (start_bad b r par index f) none) in
     let parts = sym (block_parts b r b.line b.rings refl refl par (same r.index b.rings index) values n) ∙ none in
     let p = else_none (first_fault (in_block b.version (b.line + 2) (b.rings + 1) (length r.start) r.k r.start []) (map EventLine r.events)) _ parts in
-    let q = behind_none (cond (eqb r.events_said (length r.events)) None (Some Count)) _ _ p.1 in
+    let q = behind_none (end_fault r.events_said (history r)) _ _ p.1 in
+    let end = end_means r.events_said (history r) q.0 in
     let limits = parameters_mean b.version r.n r.k par in
     let well : IsWell r.k r.start [] = record { ring = ring_of b.version r.n r.k r.start par values n; long = refl } in
     let events = events_mean b.version (b.line + 2) (b.rings + 1) r.k r.start [] r.events well p.0 in
@@ -188,8 +217,8 @@ block_means b r n none =
       most = limits.3;
       below = below_means r.k r.start values;
       seats = events.0;
-      legal = events.1;
-      events_said = same r.events_said (length r.events) (count_none (eqb r.events_said (length r.events)) q.0);
+      legal = (events.1, (whole_by_events (length r.start) (history r)).1 events.2 end.1);
+      events_said = end.0 ∙ length-map r.events event_of;
       surveys = surveys.1;
       order = to_order r.surveys surveys.0;
     }
@@ -199,9 +228,10 @@ block_fine b r n h =
     let par = parameters_true b.version r.n r.k h.two h.most_machines h.enough h.most in
     let values = all_below_true r.k r.start h.below in
     let well : IsWell r.k r.start [] = record { ring = ring_of b.version r.n r.k r.start par values n; long = refl } in
-    let events = events_fine b.version (b.line + 2) (b.rings + 1) r.k r.start [] r.events well h.seats h.legal in
+    let whole = (whole_by_events (length r.start) (history r)).0 h.legal.1 in
+    let events = events_fine b.version (b.line + 2) (b.rings + 1) r.k r.start [] r.events well h.seats h.legal.0 whole.0 in
     let surveys = surveys_fine b.version r (b.line + 3 + length r.events) (b.rings + 1) 0 0 r.surveys (from_order r.surveys h.order) h.surveys in
-    let said = eq_true r.events_said (length r.events) h.events_said in
+    let said = end_fine r.events_said (history r) (h.events_said ∙ sym (length-map r.events event_of)) whole.1 in
     block_parts b r b.line b.rings refl refl par h.index values n ∙ rw (events, said, surveys) refl
 
 -- All blocks.

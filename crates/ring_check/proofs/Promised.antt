@@ -4,7 +4,8 @@ use Rattle.std.specs.Prelude.{All, Some, slice_get}
 use Rattle.std.proofs.lemmas.Option.{slice_get-get_or}
 use Rattle.ring_model.specs.Limits.{seat_limit}
 use Rattle.ring_model.specs.Ring.{Ring}
-use Rattle.ring_model.specs.History.{opening, IsLegal}
+use Rattle.ring_model.specs.History.{opening}
+use Rattle.ring_model.specs.Groups.{IsHistory}
 use Rattle.ring_model.specs.Logs.{Fits}
 use Rattle.ring_model.specs.Resources.{till}
 use Rattle.ring_state.specs.Sizes.{IsRingState}
@@ -37,7 +38,7 @@ promised_run settings ring d r is most farm =
       ring = allowed.ring;
       most_machines = allowed.most_machines;
       most = allowed.most;
-      legal = subst (λ (s : Ring). IsLegal till (opening s 0) r.book.history) start farm.one_history.1;
+      legal = subst (λ (s : Ring). IsHistory till (opening s 0) r.book.history) start farm.one_history.1;
       few = omega arith;
       by_number = λ seat l at. (farm.logs.each seat l at).0;
       seats = subst (λ (k : ℕ). AreOfSeats k r.book.history) (sym count) farm.calls.0;

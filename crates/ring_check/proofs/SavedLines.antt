@@ -2,7 +2,7 @@
 use Rattle.std.proofs.Common.{ℕ, ◌+◌, ◌≤◌, List, [], ◌∷◌, ◌++◌, length, length-append, arith}
 use Rattle.std.specs.List.{flat_map}
 use Rattle.ring_text.specs.declared.saved.SavedEvent.{SavedEvent}
-use Rattle.ring_text.specs.declared.saved.SavedEvent.TheVariants.{Granted, Refused, Corrupted}
+use Rattle.ring_text.specs.declared.saved.SavedEvent.TheVariants.{Granted, Refused, Member, Corrupted}
 use Rattle.ring_text.specs.Content.{Block, Content}
 use Rattle.ring_text.specs.Spelling.{first_line, head_line, head_of, start_line, event_line, end_line, survey_line, done_line, below_head, block_text, text}
 use Rattle.ring_check.specs.Lines.{block_lines, lines}
@@ -12,6 +12,7 @@ use Rattle.ring_check.proofs.BlockLines.{lines_long}
 event_some : (e : SavedEvent) → 1 ≤ length (event_line e)
 event_some (Granted seat machine order number answer) = omega arith
 event_some (Refused seat machine order) = omega arith
+event_some (Member seat machine order left number answer) = omega arith
 event_some (Corrupted seat machine value old) = omega arith
 
 each_some : {X : Type 0} (f : X → List ℕ) (xs : List X) → ((x : X) → 1 ≤ length (f x)) → length xs ≤ length (flat_map f xs)

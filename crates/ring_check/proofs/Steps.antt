@@ -8,14 +8,17 @@ use Rattle.ring_model.specs.Ring.{ring_with, written, Ring, IsRing, is_privilege
 use Rattle.ring_model.proofs.Settled.{move_ring}
 use Rattle.ring_model.proofs.Histories.{calm_next, after-push, StepOf-reply}
 use Rattle.ring_model.specs.declared.events.Op.{Op}
-use Rattle.ring_model.specs.declared.events.Op.TheVariants.{Pass, Corrupt}
+use Rattle.ring_model.specs.declared.events.Op.TheVariants.{Pass, Member, Corrupt}
 use Rattle.ring_model.specs.declared.events.Reply.{Reply}
 use Rattle.ring_model.specs.declared.events.Reply.TheVariants.{Granted, NotPrivileged, Corrupted}
 use Rattle.ring_model.specs.declared.events.Event.{Event}
-use Rattle.ring_model.specs.History.{State, Step, StepOf, next, reply, after}
+use Rattle.ring_model.specs.History.{State, Step, StepOf, granted_state, next, reply, after}
 use Rattle.ring_model.specs.Resources.{till}
-use Rattle.ring_check.specs.declared.answers.Kind.TheVariants.{Range, Reply as ReplyKind}
-use Rattle.ring_check.specs.Table.{first_state, same_reply, is_replied, op_in_range, in_range, event_fault}
+use Rattle.ring_text.specs.declared.saved.SavedEvent.{SavedEvent}
+use Rattle.ring_text.specs.declared.saved.SavedEvent.TheVariants as saved
+use Rattle.ring_check.specs.declared.answers.Kind.TheVariants.{Range, Reply as ReplyKind, Group}
+use Rattle.ring_check.specs.Members.{may_come}
+use Rattle.ring_check.specs.Table.{event_of, first_state, same_reply, is_replied, op_in_range, in_range, event_fault}
 use Rattle.ring_check.proofs.Booleans.{both, joined, same, below, eq_true, lt_true}
 
 same_is : (r q : Reply) → same_reply r q ≡ true → r ≡ q
@@ -34,24 +37,45 @@ same_self (Granted a b) = joined (eqb a a) (eqb b b) (eq_true a a refl) (eq_true
 same_self NotPrivileged = refl
 same_self (Corrupted a) = eq_true a a refl
 
--- no fault: in range, and the reply is the ring's
-event_right : (n : ℕ) (a : State ℕ) (e : Event) → event_fault n a e ≡ None → (in_range n a.ring.k e ≡ true) × (e.reply ≡ reply till a e.op)
-event_right n a e h = go (in_range n a.ring.k e) (is_replied a e) refl refl h
+-- no fault: in range, the reply is the ring's, and the event may come
+event_right : (n : ℕ) (run : List Event) (a : State ℕ) (e : Event) → event_fault n run a e ≡ None →
+    (in_range n a.ring.k e ≡ true) × (e.reply ≡ reply till a e.op) × (may_come n run e ≡ true)
+event_right n run a e h = go (in_range n a.ring.k e) (is_replied a e) (may_come n run e) refl refl refl h
   where
-    go : (x y : Bool) → in_range n a.ring.k e ≡ x → is_replied a e ≡ y → cond x (cond y None (Some ReplyKind)) (Some Range) ≡ None →
-        (in_range n a.ring.k e ≡ true) × (e.reply ≡ reply till a e.op)
-    go true true p q h = (p, same_is e.reply (reply till a e.op) q)
-    go true false p q h = absurd (cc)
-    go false y p q h = absurd (cc)
+    go : (x y z : Bool) → in_range n a.ring.k e ≡ x → is_replied a e ≡ y → may_come n run e ≡ z → cond x (cond y (cond z None (Some Group)) (Some ReplyKind)) (Some Range) ≡ None →
+        (in_range n a.ring.k e ≡ true) × (e.reply ≡ reply till a e.op) × (may_come n run e ≡ true)
+    go true true true p q t h = (p, same_is e.reply (reply till a e.op) q, t)
+    go true true false p q t h = absurd (cc)
+    go true false z p q t h = absurd (cc)
+    go false y z p q t h = absurd (cc)
 
-step_right : (a : State ℕ) (o : Op) (r : Reply) → op_in_range (length a.ring.values) a.ring.k o ≡ true → r ≡ reply till a o → StepOf till a o r (next till a o)
-step_right a (Pass machine order) r i e =
+-- a line can tell of this call and this reply: a member's says that it was granted
+abbrev pub IsTold : Op → Reply → Type 0
+IsTold (Member machine order left) NotPrivileged = ⊥
+IsTold o r = Unit {0}
+
+line_told : (e : SavedEvent) → IsTold (event_of e).op (event_of e).reply
+line_told (saved.Granted seat machine order number result) = tt
+line_told (saved.Refused seat machine order) = tt
+line_told (saved.Member seat machine order left number result) = tt
+line_told (saved.Corrupted seat machine value old) = tt
+
+step_right : (a : State ℕ) (o : Op) (r : Reply) → op_in_range (length a.ring.values) a.ring.k o ≡ true → IsTold o r → r ≡ reply till a o → StepOf till a o r (next till a o)
+step_right a (Member machine order left) r i told e =
+    let l : machine < length a.ring.values = below machine (length a.ring.values) i in
+    elim (cases_Bool (is_privileged a.ring.values machine)) [
+      | inl t ↦ rw (e, t) (l, t, refl, refl, refl)
+      | inr f ↦
+          let none : r ≡ NotPrivileged = e ∙ rw f refl in
+          absurd (subst (λ (x : Reply). IsTold (Member machine order left) x) none told)
+    ]
+step_right a (Pass machine order) r i told e =
     let l : machine < length a.ring.values = below machine (length a.ring.values) i in
     elim (cases_Bool (is_privileged a.ring.values machine)) [
       | inl t ↦ rw (e, t) (l, t, refl, refl, refl)
       | inr f ↦ rw (e, f) (l, f, refl)
     ]
-step_right a (Corrupt machine value) r i e =
+step_right a (Corrupt machine value) r i told e =
     let p = both (nat_lt machine (length a.ring.values)) (nat_lt value a.ring.k) i in
     rw e (below machine (length a.ring.values) p.0, below value a.ring.k p.1, refl, refl)
 
@@ -59,25 +83,31 @@ step_range : (a : State ℕ) (o : Op) (r : Reply) → StepOf till a o r (next ti
 step_range a (Pass i order) (Granted number result) h = lt_true i (length a.ring.values) h.0
 step_range a (Pass i order) NotPrivileged h = lt_true i (length a.ring.values) h.0
 step_range a (Pass i order) (Corrupted old) h = absurd h
+step_range a (Member i order left) (Granted number result) h = lt_true i (length a.ring.values) h.0
+step_range a (Member i order left) NotPrivileged h = absurd h
+step_range a (Member i order left) (Corrupted old) h = absurd h
 step_range a (Corrupt i v) (Granted number result) h = absurd h
 step_range a (Corrupt i v) NotPrivileged h = absurd h
 step_range a (Corrupt i v) (Corrupted old) h =
     joined (nat_lt i (length a.ring.values)) (nat_lt v a.ring.k) (lt_true i (length a.ring.values) h.0) (lt_true v a.ring.k h.1)
 
--- an event has no fault exactly where it is a step by one of the seats
-pub event_means : (n : ℕ) (a : State ℕ) (e : Event) → length a.ring.values ≡ n → event_fault n a e ≡ None → (e.seat < seat_limit) × Step till a e (next till a e.op)
-event_means n a e l h =
-    let p = event_right n a e h in
+-- an event line has no fault exactly where its event is a step by one of the seats, and may come
+pub event_means : (n : ℕ) (run : List Event) (a : State ℕ) (d : SavedEvent) → length a.ring.values ≡ n → event_fault n run a (event_of d) ≡ None →
+    ((event_of d).seat < seat_limit) × Step till a (event_of d) (next till a (event_of d).op) × (may_come n run (event_of d) ≡ true)
+event_means n run a d l h =
+    let e = event_of d in
+    let p = event_right n run a e h in
     let q = both (nat_lt e.seat seat_limit) (op_in_range n a.ring.k e.op) p.0 in
-    (below e.seat seat_limit q.0, step_right a e.op e.reply (ap (λ (x : ℕ). op_in_range x a.ring.k e.op) l ∙ q.1) p.1)
+    (below e.seat seat_limit q.0, step_right a e.op e.reply (ap (λ (x : ℕ). op_in_range x a.ring.k e.op) l ∙ q.1) (line_told d) p.1, p.2)
 
-pub event_fine : (n : ℕ) (a : State ℕ) (e : Event) → length a.ring.values ≡ n → e.seat < seat_limit → Step till a e (next till a e.op) → event_fault n a e ≡ None
-event_fine n a e l seat step =
+pub event_fine : (n : ℕ) (run : List Event) (a : State ℕ) (e : Event) → length a.ring.values ≡ n → e.seat < seat_limit → Step till a e (next till a e.op) → may_come n run e ≡ true →
+    event_fault n run a e ≡ None
+event_fine n run a e l seat step may =
     let p = step_range a e.op e.reply step in
     let said : e.reply ≡ reply till a e.op = StepOf-reply till a e.op e.reply (next till a e.op) step in
     let i : in_range n a.ring.k e ≡ true = joined (nat_lt e.seat seat_limit) (op_in_range n a.ring.k e.op) (lt_true e.seat seat_limit seat) (ap (λ (x : ℕ). op_in_range x a.ring.k e.op) (sym l) ∙ p) in
     let r : is_replied a e ≡ true = ap (λ (x : Reply). same_reply x (reply till a e.op)) said ∙ same_self (reply till a e.op) in
-    rw (i, r) refl
+    rw (i, r, may) refl
 
 -- a ring with one value written
 set_ring : (r : Ring) (i v : ℕ) → IsRing r → i < length r.values → v < r.k → IsRing (written r i v)
@@ -104,15 +134,16 @@ pub record IsKept (a b : State ℕ) : Type 0 where
   pub same_k : b.ring.k ≡ a.ring.k
   pub grants : b.grants ≤ a.grants + 1
 
+grant_keeps : (a : State ℕ) (i order : ℕ) → IsRing a.ring → i < length a.ring.values → IsKept a (granted_state till a i order)
+grant_keeps a i order ring l = record { ring = move_ring a.ring i ring l; long = length-set a.ring.values i _; same_k = refl; grants = omega arith }
+
 pub step_keeps : (a : State ℕ) (o : Op) (r : Reply) → IsRing a.ring → StepOf till a o r (next till a o) → IsKept a (next till a o)
-step_keeps a (Pass i order) (Granted number result) ring h = rw h.1 (record {
-  ring = move_ring a.ring i ring h.0;
-  long = length-set a.ring.values i _;
-  same_k = refl;
-  grants = omega arith;
-})
+step_keeps a (Pass i order) (Granted number result) ring h = rw h.1 (grant_keeps a i order ring h.0)
 step_keeps a (Pass i order) NotPrivileged ring h = rw h.1 (record { ring = ring; long = refl; same_k = refl; grants = omega arith })
 step_keeps a (Pass i order) (Corrupted old) ring h = absurd h
+step_keeps a (Member i order left) (Granted number result) ring h = rw h.1 (grant_keeps a i order ring h.0)
+step_keeps a (Member i order left) NotPrivileged ring h = absurd h
+step_keeps a (Member i order left) (Corrupted old) ring h = absurd h
 step_keeps a (Corrupt i v) (Granted number result) ring h = absurd h
 step_keeps a (Corrupt i v) NotPrivileged ring h = absurd h
 step_keeps a (Corrupt i v) (Corrupted old) ring h = record {

@@ -1,5 +1,5 @@
 -- A block's survey lines, one after the other.
-use Rattle.std.proofs.Common.{nat_lt, ◌≡◌, ℕ, ◌+◌, ◌<◌, ◌≤◌, List, length, take, get_or, map, Bool, true, false, Some, None, refl, sym, ◌∙◌, ap, subst, arith, ◌&&◌}
+use Rattle.std.proofs.Common.{nat_lt, ◌≡◌, ℕ, ◌+◌, ◌<◌, ◌≤◌, List, length, take, get_or, map, Bool, true, false, Some, None, refl, sym, ◌∙◌, ap, subst, arith, eqb, ◌&&◌}
 use Rattle.std.specs.Prelude.{nat_le}
 use Rattle.std.proofs.lemmas.List.{length-map, take_all}
 use Rattle.ring_model.specs.Ring.{ring_with}
@@ -8,6 +8,7 @@ use Rattle.ring_model.specs.declared.events.Event.{Event}
 use Rattle.ring_model.specs.declared.events.Survey.{Survey}
 use Rattle.ring_model.specs.Resources.{till}
 use Rattle.ring_model.specs.Surveys.{survey_at}
+use Rattle.ring_model.specs.Groups.{left_after}
 use Rattle.ring_text.specs.declared.saved.SavedEvent.{SavedEvent}
 use Rattle.ring_text.specs.declared.saved.SavedSurvey.{SavedSurvey}
 use Rattle.ring_check.specs.declared.answers.Kind.{Kind}
@@ -55,7 +56,7 @@ survey_fine b s l w v =
 
 -- a survey line is right where it says what a reading at its position says
 pub surveyed_by : (version line rings k : ℕ) (start : List ℕ) (es : List SavedEvent) (seat position : ℕ) (s : SavedSurvey) (t : Reading) (said : Bool) →
-    IsReading (ring_with k start) es t → t.survey.position ≡ s.position → said ≡ same_survey s t.survey →
+    IsReading (ring_with k start) es t → t.survey.position ≡ s.position → said ≡ (same_survey s t.survey && eqb (left_after (take s.position (map event_of es))) 0) →
     is_surveyed (in_surveys version line rings k start (map event_of es) seat position) s ≡ said
 surveyed_by version line rings k start es seat position s t said r at e =
     let n : length (map event_of es) ≡ length es = length-map es event_of in
@@ -63,7 +64,7 @@ surveyed_by version line rings k start es seat position s t said r at e =
     let i : nat_le s.position (length (map event_of es)) ≡ true = le_true s.position (length (map event_of es)) (omega arith) in
     let here : survey_at till (first_state (ring_with k start)) (map event_of es) s.position ≡ t.survey =
     ap (λ (x : ℕ). survey_at till (first_state (ring_with k start)) (map event_of es) x) (sym at) ∙ survey_is k start es t.survey.position t.replay r.stands ∙ sym r.right in
-    rw i (ap (λ (x : Survey). same_survey s x) here ∙ sym e)
+    rw i (ap (λ (x : Survey). same_survey s x && eqb (left_after (take s.position (map event_of es))) 0) here ∙ sym e)
 
 -- the first i surveys have no fault, and a reading stands at the last of them
 pub record AreRight (line k : ℕ) (start : List ℕ) (es : List SavedEvent) (ss : List SavedSurvey) (i seat position : ℕ) (r : Reading) : Type 0 where

@@ -1,5 +1,5 @@
 -- The sums of a text.
-use Rattle.std.proofs.Common.{◌≡◌, ℕ, ◌+◌, ◌<◌, ◌≤◌, List, [], ◌∷◌, length, take, get_or, map, Bool, cond, ◌∙◌, ap, subst, arith, length-append, zero, suc, refl}
+use Rattle.std.proofs.Common.{◌≡◌, ℕ, ◌+◌, ◌<◌, ◌≤◌, List, [], ◌∷◌, length, take, get_or, map, Bool, cond, ◌∙◌, ap, subst, arith, length-append}
 use Rattle.std.specs.List.{flat_map, sum_by, count_by}
 use Rattle.std.proofs.lemmas.List.{length-map, take_all}
 use Rattle.std.proofs.lemmas.List.Sums.{sum_by_more, sum_by-cons, sum_by_more_le, count_by-le-length}
@@ -11,15 +11,11 @@ use Rattle.ring_text.specs.Content.{Block, block_of}
 use Rattle.ring_check.specs.Lines.{block_lines}
 use Rattle.ring_check.specs.Table.{event_of}
 use Rattle.ring_check.specs.Legal.{history}
+use Rattle.ring_check.proofs.OpenRuns.{event_at}
 use Rattle.ring_check.proofs.Blocks.{block_long}
 use Rattle.ring_check.proofs.BlockLines.{ring_at}
 
 -- one more event, counted where it passes
-event_at : (es : List SavedEvent) (i : ℕ) (d : SavedEvent) → get_or (map event_of es) i (event_of d) ≡ event_of (get_or es i d)
-event_at [] i d = refl
-event_at (e ∷ es) zero d = refl
-event_at (e ∷ es) (suc i) d = event_at es i d
-
 pub count_step : (p : Event → Bool) (es : List SavedEvent) (i : ℕ) (d e : SavedEvent) → i < length es → get_or es i d ≡ e →
     count_by p (take (i + 1) (map event_of es)) ≡ count_by p (take i (map event_of es)) + cond {A = ℕ} (p (event_of e)) 1 0
 count_step p es i d e l is =

@@ -7,13 +7,14 @@ use Rattle.std.proofs.lemmas.List.Elements.{All-cons, All-head, All-tail}
 use Rattle.std.proofs.lemmas.Option.{slice_get_within, get_or_from_slice_get}
 use Rattle.ring_model.specs.Limits.{seat_limit}
 use Rattle.ring_model.specs.declared.events.Op.{Op}
-use Rattle.ring_model.specs.declared.events.Op.TheVariants.{Pass, Corrupt}
+use Rattle.ring_model.specs.declared.events.Op.TheVariants.{Pass, Member, Corrupt}
 use Rattle.ring_model.specs.declared.events.Reply.{Reply}
 use Rattle.ring_model.specs.declared.events.Reply.TheVariants.{Granted, NotPrivileged, Corrupted}
 use Rattle.ring_model.specs.declared.events.Event.{Event}
 use Rattle.ring_model.specs.declared.events.Entry.{Entry}
 use Rattle.ring_model.specs.declared.events.Entry.TheVariants as entry
 use Rattle.ring_model.specs.History.{State, StepOf, next, opening, IsLegal}
+use Rattle.ring_model.specs.Groups.{IsHistory}
 use Rattle.ring_model.specs.Resources.{till}
 use Rattle.ring_model.specs.Logs.{IsSurvey, IsFollowed, Fits}
 use Rattle.ring_shared.specs.declared.seats.Log.{Log}
@@ -33,6 +34,9 @@ line_tells : (a b : State ℕ) (seat : ℕ) (o : Op) (r : Reply) → StepOf till
 line_tells a b seat (Pass i order) (Granted number result) h = refl
 line_tells a b seat (Pass i order) NotPrivileged h = refl
 line_tells a b seat (Pass i order) (Corrupted old) h = absurd h
+line_tells a b seat (Member i order left) (Granted number result) h = refl
+line_tells a b seat (Member i order left) NotPrivileged h = absurd h
+line_tells a b seat (Member i order left) (Corrupted old) h = absurd h
 line_tells a b seat (Corrupt i v) (Granted number result) h = absurd h
 line_tells a b seat (Corrupt i v) NotPrivileged h = absurd h
 line_tells a b seat (Corrupt i v) (Corrupted old) h = refl
@@ -117,7 +121,7 @@ run_placed r h i l at =
 
 run_right : (place : ℕ) (r : RingOutcome) → IsRightRun r → IsRightBlock latest_version place (block_at place r)
 run_right place r h =
-    let same : history (block_at place r) ≡ r.book.history = told place r h.legal in
+    let same : history (block_at place r) ≡ r.book.history = told place r h.legal.0 in
     let few = h.few in
     let seats : All (λ (e : Event). e.seat < seat_limit) r.book.history = λ k d l. let s = h.seats k d l in omega arith in
     record {
@@ -128,9 +132,9 @@ run_right place r h =
       most = h.most;
       below = values_below r.book.start.k r.book.start.values h.ring.below;
       seats = subst (λ (x : List Event). All (λ (e : Event). e.seat < seat_limit) x) (sym same) seats;
-      legal = subst (λ (x : List Event). IsLegal till (opening r.book.start 0) x) (sym same) h.legal;
+      legal = subst (λ (x : List Event). IsHistory till (opening r.book.start 0) x) (sym same) h.legal;
       events_said = sym (length-map r.book.history saved_event);
-      surveys = logs_right place r h.legal 0 r.logs.items (omega arith) (run_placed r h);
+      surveys = logs_right place r h.legal.0 0 r.logs.items (omega arith) (run_placed r h);
       order = to_order (flat_map log_surveys r.logs.items) (logs_order (opening r.book.start 0) r.book.history 0 r.logs.items (run_placed r h));
     }
 

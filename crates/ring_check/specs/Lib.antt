@@ -1,5 +1,6 @@
 pub mod Lines
 pub mod Limits
+pub mod Members
 pub mod Table
 pub mod Legal
 pub mod Meaning

@@ -5,7 +5,7 @@ use Rattle.ring_model.specs.Ring.{ring_with}
 use Rattle.ring_model.specs.Limits.{seat_limit}
 use Rattle.ring_model.specs.declared.events.Event.{Event}
 use Rattle.ring_model.specs.declared.events.Survey.{Survey}
-use Rattle.ring_model.specs.History.{IsLegal}
+use Rattle.ring_model.specs.Groups.{IsHistory}
 use Rattle.ring_model.specs.Resources.{till}
 use Rattle.ring_model.specs.Logs.{IsSurvey}
 use Rattle.ring_text.specs.declared.saved.SavedSurvey.{SavedSurvey}
@@ -33,7 +33,7 @@ pub record IsRightSurvey (b : Block) (s : SavedSurvey) : Type 0 where
   pub seat : s.seat < seat_limit
   pub right : IsSurvey till (first_state (ring_with b.k b.start)) (history b) (survey_of s)
 
--- in a text of this version the block tells of a ring, of one legal history of it on one thread over the till, and of surveys of that history
+-- in a text of this version the block tells of a ring, of one history of it on one thread over the till, legal and whole, and of surveys of that history
 pub record IsRightBlock (version place : ℕ) (b : Block) : Type 0 where
   pub index : b.index ≡ place
   pub two : 2 ≤ b.n
@@ -42,7 +42,7 @@ pub record IsRightBlock (version place : ℕ) (b : Block) : Type 0 where
   pub most : b.k ≤ value_limit_of version
   pub below : All (λ v. v < b.k) b.start
   pub seats : All (λ (e : Event). e.seat < seat_limit) (history b)
-  pub legal : IsLegal till (first_state (ring_with b.k b.start)) (history b)
+  pub legal : IsHistory till (first_state (ring_with b.k b.start)) (history b)
   pub events_said : b.events_said ≡ length b.events
   pub surveys : All (IsRightSurvey b) b.surveys
   pub order : AreInOrder b.surveys
@@ -58,9 +58,9 @@ pub record IsRightText (s : Content) : Type 0 where
   pub rings_said : s.rings_said ≡ length s.rings
 
 -- each start has n values, as in every text of the grammar
-abbrev pub IsWhole : Content → Type 0
-IsWhole s = All (λ (b : Block). length b.start ≡ b.n) s.rings
+abbrev pub HasItsStarts : Content → Type 0
+HasItsStarts s = All (λ (b : Block). length b.start ≡ b.n) s.rings
 
 -- a text is legal by the table exactly where it is right in these words
 abbrev pub LegalMeans : Type 0
-LegalMeans = (s : Content) → IsWhole s → (IsLegalText s → IsRightText s) × (IsRightText s → IsLegalText s)
+LegalMeans = (s : Content) → HasItsStarts s → (IsLegalText s → IsRightText s) × (IsRightText s → IsLegalText s)

@@ -1,9 +1,9 @@
 -- What the checker refuses: the fault of a line, where the lines before it are known (this project's own).
-use Rattle.std.specs.Prelude.{ℕ, ◌+◌, cond, ◌==◌, nat_lt, nat_le, ◌&&◌, ◌||◌, List, [], ◌∷◌, ◌++◌, length, Option, Some, None, Bool, true, false}
+use Rattle.std.specs.Prelude.{ℕ, ◌+◌, cond, ◌==◌, nat_lt, nat_le, ◌&&◌, ◌||◌, List, [], ◌∷◌, ◌++◌, length, take, Option, Some, None, Bool, true, false}
 use Rattle.std.specs.List.{list_all}
 use Rattle.ring_model.specs.Limits.{seat_limit}
 use Rattle.ring_model.specs.declared.events.Op.{Op}
-use Rattle.ring_model.specs.declared.events.Op.TheVariants.{Pass, Corrupt}
+use Rattle.ring_model.specs.declared.events.Op.TheVariants.{Pass, Member, Corrupt}
 use Rattle.ring_model.specs.declared.events.Reply.{Reply}
 use Rattle.ring_model.specs.declared.events.Reply.TheVariants.{Granted, NotPrivileged, Corrupted}
 use Rattle.ring_model.specs.declared.events.Event.{Event}
@@ -12,17 +12,20 @@ use Rattle.ring_model.specs.Ring.{Ring, ring_with}
 use Rattle.ring_model.specs.History.{State, opening, after, reply}
 use Rattle.ring_model.specs.Resources.{till}
 use Rattle.ring_model.specs.Surveys.{survey_at}
+use Rattle.ring_model.specs.Groups.{left_after}
 use Rattle.ring_text.specs.declared.saved.SavedEvent.{SavedEvent}
 use Rattle.ring_text.specs.declared.saved.SavedEvent.TheVariants as saved
 use Rattle.ring_text.specs.declared.saved.SavedSurvey.{SavedSurvey}
 use Rattle.ring_check.specs.declared.answers.Kind.{Kind}
-use Rattle.ring_check.specs.declared.answers.Kind.TheVariants.{Parameter, Range, Reply as ReplyKind, Count, Survey as SurveyKind}
+use Rattle.ring_check.specs.declared.answers.Kind.TheVariants.{Parameter, Range, Reply as ReplyKind, Count, Survey as SurveyKind, Group}
 use Rattle.ring_check.specs.Limits.{machine_limit_of, value_limit_of}
+use Rattle.ring_check.specs.Members.{run_of, may_come}
 use Rattle.ring_check.specs.Lines.{Line, RingLine, StartLine, EventLine, EndLine, SurveyLine, DoneLine}
 
 -- the ring's event that an event line tells of
 abbrev pub event_of : SavedEvent → Event
 event_of (saved.Granted seat machine order number result) = record { seat = seat; op = Pass machine order; reply = Granted number result }
+event_of (saved.Member seat machine order left number result) = record { seat = seat; op = Member machine order left; reply = Granted number result }
 event_of (saved.Refused seat machine order) = record { seat = seat; op = Pass machine order; reply = NotPrivileged }
 event_of (saved.Corrupted seat machine value old) = record { seat = seat; op = Corrupt machine value; reply = Corrupted old }
 
@@ -76,6 +79,7 @@ now b = after till (first_state (ring_with b.k b.start)) b.events
 -- the call is one of a ring with n machines and K values
 abbrev pub op_in_range : ℕ → ℕ → Op → Bool
 op_in_range n k (Pass machine order) = nat_lt machine n
+op_in_range n k (Member machine order left) = nat_lt machine n
 op_in_range n k (Corrupt machine value) = nat_lt machine n && nat_lt value k
 
 -- and it is made by one of the seats
@@ -93,9 +97,13 @@ same_reply _ _ = false
 abbrev pub is_replied : State ℕ → Event → Bool
 is_replied a e = same_reply e.reply (reply till a e.op)
 
--- what is wrong with an event of a ring of n machines in this state
-abbrev pub event_fault : ℕ → State ℕ → Event → Option Kind
-event_fault n a e = cond (in_range n a.ring.k e) (cond (is_replied a e) None (Some ReplyKind)) (Some Range)
+-- what is wrong with an event of a ring of n machines in this state, behind the members of an open block
+abbrev pub event_fault : ℕ → List Event → State ℕ → Event → Option Kind
+event_fault n run a e = cond (in_range n a.ring.k e) (cond (is_replied a e) (cond (may_come n run e) None (Some Group)) (Some ReplyKind)) (Some Range)
+
+-- what is wrong with an end line that says so many, behind these events
+abbrev pub end_fault : ℕ → List Event → Option Kind
+end_fault said h = cond (said == length h) (cond (left_after h == 0) None (Some Group)) (Some Count)
 
 -- a survey does not go back behind the one before, which had this seat and position
 abbrev pub is_onward : ℕ → ℕ → SavedSurvey → Bool
@@ -105,15 +113,17 @@ is_onward seat position s = nat_lt seat s.seat || ((seat == s.seat) && nat_le po
 abbrev pub same_survey : SavedSurvey → Survey → Bool
 same_survey s r = (s.privileged == r.privileged) && ((s.first == r.first) && ((s.calm == r.calm) && (s.rest == r.rest)))
 
--- the survey is the ring's after its first POSITION events, and so many there are
+-- the survey is the ring's after its first POSITION events, so many there are, and that place is inside no block
 abbrev pub is_surveyed : Before → SavedSurvey → Bool
-is_surveyed b s = nat_le s.position (length b.events) && same_survey s (survey_at till (first_state (ring_with b.k b.start)) b.events s.position)
+is_surveyed b s =
+    nat_le s.position (length b.events)
+    && (same_survey s (survey_at till (first_state (ring_with b.k b.start)) b.events s.position) && (left_after (take s.position b.events) == 0))
 
 -- the table: what is wrong with a line; where two things are, the kind with the lower number
 abbrev pub fault : Before → Line → Option Kind
 fault b (RingLine index n k) = cond (are_parameters b.version n k) (cond (index == b.rings) None (Some Count)) (Some Parameter)
 fault b (StartLine s) = cond (list_all (λ v. nat_lt v b.k) s) None (Some Range)
-fault b (EventLine e) = event_fault b.n (now b) (event_of e)
-fault b (EndLine said) = cond (said == length b.events) None (Some Count)
+fault b (EventLine e) = event_fault b.n (run_of b.events) (now b) (event_of e)
+fault b (EndLine said) = end_fault said b.events
 fault b (SurveyLine s) = cond (nat_lt s.seat seat_limit) (cond (is_onward b.seat b.position s && is_surveyed b s) None (Some SurveyKind)) (Some Range)
 fault b (DoneLine said) = cond (said == b.rings) None (Some Count)

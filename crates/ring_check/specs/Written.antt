@@ -3,7 +3,8 @@ use Rattle.std.specs.Prelude.{◌≡◌, ℕ, ◌≤◌, length, slice_get, Some
 use Rattle.std.specs.List.{All}
 use Rattle.ring_model.specs.Limits.{machine_limit, value_limit, seat_limit}
 use Rattle.ring_model.specs.Ring.{IsRing}
-use Rattle.ring_model.specs.History.{opening, IsLegal}
+use Rattle.ring_model.specs.History.{opening}
+use Rattle.ring_model.specs.Groups.{IsHistory}
 use Rattle.ring_model.specs.Resources.{till}
 use Rattle.ring_model.specs.Logs.{Fits}
 use Rattle.ring_settings.specs.Contents.{SettingsData}
@@ -17,14 +18,14 @@ use Rattle.ring_text.specs.SavedOf.{saved_of}
 use Rattle.ring_check.specs.Legal.{IsLegalText}
 use Rattle.ring_check.specs.Meaning.{IsRightText}
 
--- A ring of an allowed size. Its history is a legal one of a one-thread ring over the till
+-- A ring of an allowed size. Its history is a legal and whole one of a one-thread ring over the till
 -- from the start values and the amount 0, the logs are no more than the seats may be and stand by the numbers of their seats, each event's seat is that of
 -- one of them, and each log fits the history.
 pub record IsRightRun (r : RingOutcome) : Type 0 where
   pub ring : IsRing r.book.start
   pub most_machines : length r.book.start.values ≤ machine_limit
   pub most : r.book.start.k ≤ value_limit
-  pub legal : IsLegal till (opening r.book.start 0) r.book.history
+  pub legal : IsHistory till (opening r.book.start 0) r.book.history
   pub few : length r.logs.items ≤ seat_limit
   pub by_number : (seat : ℕ) (l : Log) → slice_get r.logs.items seat ≡ Some l → l.seat ≡ seat
   pub seats : AreOfSeats (length r.logs.items) r.book.history

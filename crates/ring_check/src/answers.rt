@@ -17,8 +17,11 @@ pub enum Kind {
     Reply,
     /// A count of the text, or the place of a ring in it, is wrong.
     Count,
-    /// The survey is not the ring's at its place, has no place, or goes back behind the one before it.
+    /// The survey is not the ring's at its place, has no place or one inside a block, or goes back behind the one
+    /// before it.
     Survey,
+    /// The members of a group are too many, do not follow one another, or do not move in the order of a block.
+    Group,
 }
 
 impl fmt::Display for Kind {
@@ -31,6 +34,7 @@ impl fmt::Display for Kind {
             Kind::Reply => "reply",
             Kind::Count => "count",
             Kind::Survey => "survey",
+            Kind::Group => "group",
         })
     }
 }

@@ -9,6 +9,7 @@ ghost use Rattle.ring_check.specs.Table.{event_of, first_state};
 ghost use Rattle.ring_check.specs.Scan.{first_fault, Finds, in_block};
 
 use crate::answers::CheckError;
+use crate::group_lines::left_of;
 use crate::replay::Replay;
 use ring_text::SavedEvent;
 use std::alloc::Global;
@@ -29,12 +30,17 @@ pub(crate) fn check_events(
     let Ok(mut replay) = Replay::begin(alloc, k, start) else {
         return Err(CheckError::OutOfMemory);
     };
+    // where the open block begins, or else the next event stands
+    let mut first: usize = 0;
     for (i, event) in events.iter().enumerate() {
-        if let Some(kind) = replay.fault_of(event) {
+        if let Some(kind) = replay.fault_of(&events[first..i], event) {
             return Err(CheckError::Bad {
                 line: line + i as u64 + 1,
                 kind,
             });
+        }
+        if left_of(event) == 0 {
+            first = i + 1;
         }
         replay.apply(event);
     }

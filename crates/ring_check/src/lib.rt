@@ -8,6 +8,7 @@
 mod answers;
 mod check;
 mod events;
+mod group_lines;
 mod laws;
 mod limits;
 mod measures;

@@ -9,6 +9,7 @@ ghost use Rattle.ring_check.specs.Table.{event_of, in_range, is_replied, event_f
 ghost use Rattle.ring_check.specs.Replays.{state_of, survey_where, StandsAt};
 
 use crate::answers::Kind;
+use crate::group_lines::may_come;
 use crate::measures::{first_privileged, is_privileged, privileged_count, rest};
 use ring_model::Survey;
 use ring_model::limits::SEAT_LIMIT;
@@ -47,8 +48,11 @@ impl Replay {
         ensures { result ≡ in_range (length self.now.values.items) self.now.k (event_of event.now) }
     {
         match *event {
-            SavedEvent::Granted { seat, machine, .. } | SavedEvent::Refused { seat, machine, .. } =>
-                { (seat as usize) < SEAT_LIMIT && (machine as usize) < self.values.len() }
+            SavedEvent::Granted { seat, machine, .. }
+            | SavedEvent::Refused { seat, machine, .. }
+            | SavedEvent::Member { seat, machine, .. } => {
+                (seat as usize) < SEAT_LIMIT && (machine as usize) < self.values.len()
+            }
             SavedEvent::Corrupted {
                 seat,
                 machine,
@@ -73,6 +77,13 @@ impl Replay {
                 number,
                 result,
                 ..
+            }
+            | SavedEvent::Member {
+                machine,
+                order,
+                number,
+                result,
+                ..
             } => {
                 is_privileged(&self.values, machine as usize)
                     && number == self.grants + 1
@@ -83,15 +94,17 @@ impl Replay {
         }
     }
 
-    /// What is wrong with an event at this point.
-    pub(crate) fn fault_of(&self, event: &SavedEvent) -> Option<Kind>
+    /// What is wrong with an event at this point; `run` has the members of the block that is open here.
+    pub(crate) fn fault_of(&self, run: &[SavedEvent], event: &SavedEvent) -> Option<Kind>
         requires room { self.now.grants + 1 < 2 ^ 64 }
-        ensures { result ≡ event_fault (length self.now.values.items) (state_of self.now) (event_of event.now) }
+        ensures { result ≡ event_fault (length self.now.values.items) (map event_of run.now) (state_of self.now) (event_of event.now) }
     {
         if !self.is_in_range(event) {
             Some(Kind::Range)
         } else if !self.is_replied(event) {
             Some(Kind::Reply)
+        } else if !may_come(self.values.len(), run, event) {
+            Some(Kind::Group)
         } else {
             None
         }
@@ -106,7 +119,8 @@ impl Replay {
         ensures calm { self.new.calm ≡ calm_next self.old.calm (event_of event.now).reply }
     {
         match *event {
-            SavedEvent::Granted { machine, order, .. } => {
+            SavedEvent::Granted { machine, order, .. }
+            | SavedEvent::Member { machine, order, .. } => {
                 let i = machine as usize;
                 self.values[i] = if i == 0 {
                     (self.values[0] + 1) % self.k

@@ -4,11 +4,12 @@ ghost use Rattle.std.specs.Prelude.{◌≡◌, ◌+◌, ◌<◌, ◌^◌, length
 ghost use Rattle.std.specs.List.{flat_map, list_all};
 ghost use Rattle.ring_text.specs.Content.{block_of};
 ghost use Rattle.ring_check.specs.Lines.{block_lines};
-ghost use Rattle.ring_check.specs.Table.{Before, nothing, are_parameters};
+ghost use Rattle.ring_check.specs.Table.{Before, nothing, event_of, are_parameters, end_fault};
 ghost use Rattle.ring_check.specs.Scan.{first_fault, Finds};
 
 use crate::answers::{CheckError, Kind};
 use crate::events::check_events;
+use crate::group_lines::left_after;
 use crate::limits::{machine_limit_of, value_limit_of};
 use crate::surveys::check_surveys;
 use ring_text::SavedRing;
@@ -26,6 +27,19 @@ fn all_below(values: &[u32], limit: u32) -> bool
     ensures { result ≡ list_all (λ v. nat_lt v limit) values.now }
 {
     values.iter().all(|value| *value < limit)
+}
+
+/// What is wrong with the line that ends the events of a block.
+fn end_fault(ring: &SavedRing) -> Option<Kind>
+    ensures { result ≡ end_fault ring.now.events_said (map event_of ring.now.events.items) }
+{
+    if ring.events_said != ring.events.len() as u64 {
+        Some(Kind::Count)
+    } else if left_after(&ring.events, ring.events.len()) != 0 {
+        Some(Kind::Group)
+    } else {
+        None
+    }
 }
 
 /// Finds the first line of a block with a fault, in a text of this version; `place` blocks and `line` lines stand
@@ -60,11 +74,8 @@ fn check_ring(
     }
     check_events(alloc, ring.k, &ring.start, &ring.events, line + 2)?;
     let end = line + 3 + ring.events.len() as u64;
-    if ring.events_said != ring.events.len() as u64 {
-        return Err(CheckError::Bad {
-            line: end,
-            kind: Kind::Count,
-        });
+    if let Some(kind) = end_fault(ring) {
+        return Err(CheckError::Bad { line: end, kind });
     }
     check_surveys(alloc, ring.k, &ring.start, &ring.events, &ring.surveys, end)
 }

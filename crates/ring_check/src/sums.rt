@@ -29,6 +29,7 @@ pub fn count_events(events: &[SavedEvent]) -> Tally
         match event {
             SavedEvent::Granted { .. } => granted += 1,
             SavedEvent::Refused { .. } => {}
+            SavedEvent::Member { .. } => granted += 1,
             SavedEvent::Corrupted { .. } => corrupted += 1,
         }
     }

@@ -1,6 +1,7 @@
 //! The survey lines of a block.
 
-ghost use Rattle.std.specs.Prelude.{◌≡◌, ℕ, ◌+◌, ◌<◌, ◌≤◌, ◌^◌, List, length, map, IfOk};
+ghost use Rattle.std.specs.Prelude.{◌≡◌, ◌&&◌, ◌==◌, ℕ, ◌+◌, ◌<◌, ◌≤◌, ◌^◌, List, length, map, take, IfOk};
+ghost use Rattle.ring_model.specs.Groups.{left_after};
 ghost use Rattle.ring_model.specs.Limits.{value_limit};
 ghost use Rattle.ring_model.specs.Ring.{ring_with, IsRing};
 ghost use Rattle.ring_model.specs.History.{IsLegal};
@@ -12,6 +13,7 @@ ghost use Rattle.ring_check.specs.Scan.{first_fault, Finds, in_block};
 ghost use Rattle.ring_check.specs.Replays.{IsReading};
 
 use crate::answers::{CheckError, Kind};
+use crate::group_lines::left_after;
 use crate::replay::Replay;
 use ring_model::Survey;
 use ring_model::limits::SEAT_LIMIT;
@@ -81,6 +83,14 @@ fn is_same(line: &SavedSurvey, survey: &Survey) -> bool
         && line.rest == survey.rest
 }
 
+/// Whether a survey line has its place outside blocks, and says what the survey of the ring there says.
+fn is_right(events: &[SavedEvent], line: &SavedSurvey, survey: &Survey) -> bool
+    requires { line.now.position ≤ length events.now }
+    ensures { result ≡ (same_survey line.now survey.now && (left_after (take line.now.position (map event_of events.now)) == 0)) }
+{
+    is_same(line, survey) && left_after(events, line.position as usize) == 0
+}
+
 /// Finds the first survey with a fault; `line` is the number of lines before the surveys.
 /// A replay goes back to the start only at another seat's surveys, so at most nine times.
 pub(crate) fn check_surveys(
@@ -122,7 +132,7 @@ pub(crate) fn check_surveys(
         let Ok(()) = reading.go_to(alloc, start, events, survey.position) else {
             return Err(CheckError::OutOfMemory);
         };
-        if !is_same(survey, &reading.survey) {
+        if !is_right(events, survey, &reading.survey) {
             return Err(CheckError::Bad {
                 line: here,
                 kind: Kind::Survey,

@@ -25,12 +25,12 @@ returns-then-survey-events c = λ version rings.
     ]) version rings)
     (refl, refl)
 
-pub returns-then-not-is_same : goal.returns-then-not-is_same
-returns-then-not-is_same c = λ version rings.
+pub returns-then-not-is_right : goal.returns-then-not-is_right
+returns-then-not-is_right c = λ version rings.
     rw (surveys_bad c.args.line c.args.k c.args.start.now c.args.events.now c.args.surveys.now c.loop-i.i c.loop-i.seat c.loop-i.position blank c.loop-i-test.true c.loop-i.reading c.loop-i.invariant
     Survey (λ version rings. answer_bad (in_surveys version (c.args.line + c.loop-i.i) rings c.args.k c.args.start.now (map event_of c.args.events.now) c.loop-i.seat c.loop-i.position) (get_or c.args.surveys.now c.loop-i.i blank) c.if-survey-ge-SEAT_LIMIT.false
-    (surveyed_by version (c.args.line + c.loop-i.i) rings c.args.k c.args.start.now c.args.events.now c.loop-i.seat c.loop-i.position (get_or c.args.surveys.now c.loop-i.i blank) c.go_to.new.self c.is_same.result
-    (reading_of c.loop-i.reading.replay.k c.args.k c.args.start.now c.args.events.now c.go_to.new.self c.loop-i.invariant.same_k c.in-Ok-go_to.ensures.0) c.in-Ok-go_to.ensures.1 c.is_same.ensures ∙ c.if-not-is_same.true)) version rings)
+    (surveyed_by version (c.args.line + c.loop-i.i) rings c.args.k c.args.start.now c.args.events.now c.loop-i.seat c.loop-i.position (get_or c.args.surveys.now c.loop-i.i blank) c.go_to.new.self c.is_right.result
+    (reading_of c.loop-i.reading.replay.k c.args.k c.args.start.now c.args.events.now c.go_to.new.self c.loop-i.invariant.same_k c.in-Ok-go_to.ensures.0) c.in-Ok-go_to.ensures.1 c.is_right.ensures ∙ c.if-not-is_right.true)) version rings)
     (refl, refl)
 
 pub loop-i-preserved : goal.loop-i-preserved
@@ -39,8 +39,8 @@ loop-i-preserved c =
     c.go_to.new.self
     (λ version rings. survey_fine (in_surveys version (c.args.line + c.loop-i.i) rings c.args.k c.args.start.now (map event_of c.args.events.now) c.loop-i.seat c.loop-i.position) (get_or c.args.surveys.now c.loop-i.i blank) c.if-survey-ge-SEAT_LIMIT.false
     (sym c.is_onward.ensures ∙ c.if-not-is_onward.false)
-    (surveyed_by version (c.args.line + c.loop-i.i) rings c.args.k c.args.start.now c.args.events.now c.loop-i.seat c.loop-i.position (get_or c.args.surveys.now c.loop-i.i blank) c.go_to.new.self c.is_same.result
-    (reading_of c.loop-i.reading.replay.k c.args.k c.args.start.now c.args.events.now c.go_to.new.self c.loop-i.invariant.same_k c.in-Ok-go_to.ensures.0) c.in-Ok-go_to.ensures.1 c.is_same.ensures ∙ c.if-not-is_same.false))
+    (surveyed_by version (c.args.line + c.loop-i.i) rings c.args.k c.args.start.now c.args.events.now c.loop-i.seat c.loop-i.position (get_or c.args.surveys.now c.loop-i.i blank) c.go_to.new.self c.is_right.result
+    (reading_of c.loop-i.reading.replay.k c.args.k c.args.start.now c.args.events.now c.go_to.new.self c.loop-i.invariant.same_k c.in-Ok-go_to.ensures.0) c.in-Ok-go_to.ensures.1 c.is_right.ensures ∙ c.if-not-is_right.false))
     (reading_of c.loop-i.reading.replay.k c.args.k c.args.start.now c.args.events.now c.go_to.new.self c.loop-i.invariant.same_k c.in-Ok-go_to.ensures.0)
 
 pub returns : goal.returns
