@@ -179,7 +179,9 @@ fn a_group_needs_a_place_for_each_of_its_machines(rt: HostRuntime) {
             count: 2
         })
     );
-    check_block(&rt, &book.history()[3_999_998..], &[3, 1], 2);
+    let history = book.history();
+    assert_eq!(rt; history.len(), 4_000_000);
+    check_block(&rt, &history[3_999_998..], &[3, 1], 2);
     check_values(&rt, book.state(), &[0, 0, 1, 1]);
 }
 
