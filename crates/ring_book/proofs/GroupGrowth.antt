@@ -1,11 +1,10 @@
 -- How a book grows by a group, one member after the other.
 use Rattle.std.proofs.Common.{◌≡◌, ℕ, suc, ◌+◌, ◌-◌, ◌<◌, ◌≤◌, true, List, [], ◌∷◌, ◌++◌, length, get_or, drop, drop-cons, zero, false, append_assoc, append-nil, length-drop, refl, sym, ◌∙◌, ap, subst, inl, inr, arith}
-use Rattle.std.specs.Prelude.{◌⊎◌}
 use Rattle.std.proofs.lemmas.Bool.{cases_lt, cases_eq, both_ways}
 use Rattle.std.proofs.lemmas.List.{drop_all}
 use Rattle.ring_model.specs.Ring.{Ring, is_privileged, moved}
-use Rattle.ring_model.specs.History.{Works, State, opening, granted_state, next, reply, after, IsLegal}
-use Rattle.ring_model.specs.Groups.{has, Rises, move_order, IsBlock, IsBlockOf, IsWhole, GroupMove}
+use Rattle.ring_model.specs.History.{Works, State, granted_state, next, reply, after, IsLegal}
+use Rattle.ring_model.specs.Groups.{has, Rises, move_order, IsBlock, IsBlockOf, IsWhole}
 use Rattle.ring_model.specs.GroupLaws.{CanMove, AreAllPrivileged, block_of}
 use Rattle.ring_model.specs.declared.events.Op.{Op}
 use Rattle.ring_model.specs.declared.events.Op.TheVariants.{Member}

@@ -1,7 +1,7 @@
 -- What contracts see of a group pass.
 use Rattle.std.specs.Prelude.{◌≡◌, ◌++◌, ◌<◌, ℕ, List, length, true, false}
 use Rattle.ring_model.specs.Ring.{is_privileged}
-use Rattle.ring_model.specs.History.{Works, State, after, IsLegal}
+use Rattle.ring_model.specs.History.{Works, after, IsLegal}
 use Rattle.ring_model.specs.Groups.{has, GroupMove, move_order, IsBlockOf}
 use Rattle.ring_model.specs.declared.events.Event.{Event}
 use Rattle.ring_book.specs.BookView.{BookView}

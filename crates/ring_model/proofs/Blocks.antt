@@ -1,13 +1,13 @@
 -- Blocks in a legal history: what they move, and that they are steps.
-use Rattle.std.proofs.Common.{◌≡◌, ℕ, ◌+◌, ◌<◌, ◌≤◌, true, cond, List, [], ◌∷◌, length, take, refl, sym, ◌∙◌, ap, subst, inl, inr, arith}
+use Rattle.std.proofs.Common.{◌≡◌, ℕ, ◌+◌, ◌<◌, true, List, [], ◌∷◌, length, take, refl, sym, ◌∙◌, ap, subst, inl, inr, arith}
 use Rattle.std.proofs.lemmas.Bool.{cond-true}
-use Rattle.ring_model.specs.Ring.{Ring, IsRing, is_privileged, moved}
+use Rattle.ring_model.specs.Ring.{Ring, is_privileged}
 use Rattle.ring_model.specs.History.{Works, State, StepOf, granted_state, next, reply, after, IsLegal}
 use Rattle.ring_model.specs.HistoryLaws.{between}
-use Rattle.ring_model.specs.Groups.{has, GroupMove, IsInOrder, AreMembers, IsBlockOf}
+use Rattle.ring_model.specs.Groups.{has, GroupMove, IsInOrder, AreMembers}
 use Rattle.ring_model.specs.GroupLaws.{AreAllPrivileged, block_of, BlocksAreLegal, BlocksMove}
 use Rattle.ring_model.specs.declared.events.Op.{Op}
-use Rattle.ring_model.specs.declared.events.Op.TheVariants.{Pass, Member, Corrupt}
+use Rattle.ring_model.specs.declared.events.Op.TheVariants.{Member}
 use Rattle.ring_model.specs.declared.events.Reply.{Reply}
 use Rattle.ring_model.specs.declared.events.Reply.TheVariants.{Granted, NotPrivileged, Corrupted}
 use Rattle.ring_model.specs.declared.events.Event.{Event}

@@ -1,10 +1,10 @@
 -- A group moved one machine after the other: a machine that has not moved, whose left neighbour has not moved, is as it was.
 use Rattle.std.proofs.Common.{◌≡◌, ℕ, zero, suc, ◌+◌, ◌-◌, ◌%◌, ◌<◌, ◌≤◌, Bool, true, false, cond, not, List, [], ◌∷◌, ◌++◌, length, get_or, refl, sym, ◌∙◌, ap, subst, inl, inr, arith, eqb}
 use Rattle.std.specs.Prelude.{◌⊎◌, ◌||◌}
-use Rattle.std.proofs.lemmas.Bool.{cases_Bool, cases_eq, cond-true, cond-false, eqb-true, eq-eqb, ne_eqb, or_left, or_right, or_parts, both_ways, false_from_ne_true}
+use Rattle.std.proofs.lemmas.Bool.{cases_eq, cond-true, cond-false, eq-eqb, ne_eqb, or_left, or_right, both_ways, false_from_ne_true}
 use Rattle.std.proofs.lemmas.List.{ext_get_or}
-use Rattle.ring_model.specs.Ring.{Ring, ring_with, IsRing, is_privileged, moved_value, moved, rest}
-use Rattle.ring_model.specs.Runs.{passed, after_passes, granted_passes, AreBelow}
+use Rattle.ring_model.specs.Ring.{Ring, ring_with, is_privileged, moved_value, moved, rest}
+use Rattle.ring_model.specs.Runs.{after_passes, granted_passes, AreBelow}
 use Rattle.ring_model.specs.Groups.{has, GroupMove, down_from, Falls, IsInOrder}
 use Rattle.ring_model.specs.GroupLaws.{AreAllPrivileged, GroupOrder, GroupMoveIsOne, GroupDescent}
 use Rattle.ring_model.proofs.Moves.{length_move, at_mover, at_other, same_value}

@@ -1,14 +1,14 @@
 -- A rising list of machines, in the order of the moves.
-use Rattle.std.proofs.Common.{◌≡◌, ℕ, zero, suc, ◌+◌, ◌-◌, ◌<◌, ◌≤◌, Bool, true, false, cond, List, [], ◌∷◌, ◌++◌, length, get_or, drop, drop-cons, reverse, length-append, length-drop, refl, sym, ◌∙◌, ap, subst, inl, inr, arith, eqb}
+use Rattle.std.proofs.Common.{◌≡◌, ℕ, zero, suc, ◌+◌, ◌-◌, ◌<◌, ◌≤◌, Bool, true, false, List, [], ◌∷◌, ◌++◌, length, get_or, drop, drop-cons, reverse, length-append, length-drop, refl, sym, ◌∙◌, ap, subst, inl, inr, arith, eqb}
 use Rattle.std.specs.Prelude.{◌⊎◌, ◌||◌}
-use Rattle.std.proofs.lemmas.Bool.{cases_Bool, cases_eq, cases_lt, cond-true, cond-false, eqb-true, eq-eqb, ne_eqb, or_left, or_right, both_ways}
+use Rattle.std.proofs.lemmas.Bool.{cases_eq, cond-true, cond-false, eq-eqb, ne_eqb, or_left, or_right}
 use Rattle.std.proofs.lemmas.List.{reverse-append, length-reverse, get_or-reverse, get_or-drop}
 use Rattle.std.proofs.Math.ListN.{get_or-append}
 use Rattle.std.proofs.Math.Seq.{get_or-append_right}
-use Rattle.ring_model.specs.Groups.{has, down_from, Falls, IsInOrder, Rises, least_left_out, move_order, GroupMove}
-use Rattle.ring_model.specs.Ring.{Ring, IsRing}
+use Rattle.ring_model.specs.Groups.{has, down_from, Falls, Rises, least_left_out, move_order, GroupMove}
+use Rattle.ring_model.specs.Ring.{Ring}
 use Rattle.ring_model.specs.GroupLaws.{IsOrderOf, MoveOrder, CanMove, AreAllPrivileged}
-use Rattle.ring_model.proofs.Groups.{has_first, has_later, has_parts, has_append, down_has, or_cases', Walks, Walked, walk, walk_start, walk_end, group_done}
+use Rattle.ring_model.proofs.Groups.{has_later, has_parts, has_append, down_has, or_cases', Walks, Walked, walk, walk_start, walk_end, group_done}
 
 same_tests : (a b : Bool) → (a ≡ true → b ≡ true) → (b ≡ true → a ≡ true) → a ≡ b
 same_tests true b f g = sym (f refl)
@@ -226,7 +226,7 @@ group_move_like before ms machines t n same g =
       leaves_out = (g.leaves_out.0, g.leaves_out.1, sym (same g.leaves_out.0) ∙ g.leaves_out.2);
       privileged = λ i h. g.privileged i (same i ∙ h);
       same = g.same;
-  size = g.size;
+      size = g.size;
       values = λ i l. rw (← same i) (g.values i l);
     }
 

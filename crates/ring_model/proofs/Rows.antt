@@ -1,5 +1,5 @@
 -- Worked values, found by hand from the definitions.
-use Rattle.std.proofs.Common.{◌≡◌, ℕ, List, [], ◌∷◌, true, false, refl}
+use Rattle.std.proofs.Common.{◌≡◌, [], ◌∷◌, true, false, refl}
 use Rattle.ring_model.specs.Runs.{after_passes, granted_passes}
 use Rattle.ring_model.specs.Surveys.{survey_at}
 use Rattle.ring_model.specs.Resources.{till}
@@ -8,7 +8,6 @@ use Rattle.ring_model.specs.Groups.{move_order}
 use Rattle.ring_model.specs.GroupLaws.{block_of}
 use Rattle.ring_model.specs.declared.events.Op.TheVariants.{Member}
 use Rattle.ring_model.specs.declared.events.Reply.TheVariants.{Granted}
-use Rattle.ring_model.specs.declared.events.Event.{Event}
 use Rattle.ring_model.specs.Ring.{ring_with, is_privileged, privileged_count, first_privileged, is_settled, moved, weight, first_value_is_prefix, lead, rest, bound}
 
 -- three machines with three values: machine 0 of (0,2,0) steps on, machine 1 of (1,2,0) copies, machine 2 of (1,1,0) alone is privileged

@@ -1,5 +1,5 @@
 -- The laws of group passes.
-use Rattle.std.specs.Prelude.{◌≡◌, ℕ, ◌+◌, ◌-◌, ◌<◌, ◌≤◌, true, List, [], ◌∷◌, length, take, drop}
+use Rattle.std.specs.Prelude.{◌≡◌, ℕ, ◌-◌, ◌<◌, ◌≤◌, true, List, [], ◌∷◌, length, take, drop}
 use Rattle.ring_model.specs.Ring.{Ring, IsRing, is_privileged, rest}
 use Rattle.ring_model.specs.Runs.{after_passes, granted_passes}
 use Rattle.ring_model.specs.History.{Works, State, next, reply, after, IsLegal}

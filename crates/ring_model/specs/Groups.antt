@@ -1,6 +1,6 @@
 -- Group passes: privileged machines that leave out at least one machine move at once (this project's own). A history shows the move as a
 -- block of members, in an order in which each of them can also move by itself.
-use Rattle.std.specs.Prelude.{◌≡◌, ℕ, zero, suc, ◌+◌, ◌<◌, ◌≤◌, Bool, true, false, cond, ◌||◌, ◌==◌, List, [], ◌∷◌, ◌++◌, length, slice_index, drop, reverse, ◌⊎◌}
+use Rattle.std.specs.Prelude.{◌≡◌, ℕ, zero, suc, ◌<◌, ◌≤◌, Bool, true, false, cond, ◌||◌, ◌==◌, List, [], ◌∷◌, ◌++◌, length, slice_index, drop, reverse, ◌⊎◌}
 use Rattle.ring_model.specs.Ring.{Ring, is_privileged, moved_value}
 use Rattle.ring_model.specs.History.{Works, State, IsLegal}
 use Rattle.ring_model.specs.declared.events.Op.{Op}

@@ -1,5 +1,5 @@
 use Rattle.std.proofs.Common.{arith}
-use Rattle.ring_settle.proofs.GroupSteps.{CanTurn, moves_start, can_turn, moves_turn, moves_end}
+use Rattle.ring_settle.proofs.GroupSteps.{moves_start, can_turn, moves_turn, moves_end}
 use Rattle.ring_settle.proofs.groups.move_group.Goals as goal
 
 pub loop-turn-init : goal.loop-turn-init

@@ -1,8 +1,7 @@
-use Rattle.std.proofs.Common.{rules, ◌≡◌, ◌<◌, ◌≤◌, ◌+◌, Err, length, ap, arith, sym, refl, ◌∙◌}
+use Rattle.std.proofs.Common.{rules, ◌≡◌, ◌≤◌, ◌+◌, Err, length, ap, arith, sym, refl, ◌∙◌}
 use Rattle.ring_model.specs.Groups.{Rises, IsWhole}
-use Rattle.ring_model.specs.GroupLaws.{AreAllPrivileged, CanMove}
+use Rattle.ring_model.specs.GroupLaws.{CanMove}
 use Rattle.ring_state.specs.Sizes.{Size}
-use Rattle.ring_book.specs.BookView.{BookView, book_view}
 use Rattle.ring_book.proofs.Growth.{kept_closed}
 use Rattle.ring_book.proofs.GroupGrowth.{rising_few, can_move, moved_whole}
 use Rattle.ring_book.proofs.Repairing.{book_settlement}

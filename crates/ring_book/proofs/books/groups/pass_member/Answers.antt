@@ -1,7 +1,6 @@
-use Rattle.std.proofs.Common.{rules, ◌≡◌, ◌<◌, ◌≤◌, ◌+◌, List, length, ap, arith, sym, refl, ◌∙◌}
+use Rattle.std.proofs.Common.{rules, ◌≤◌, ◌+◌, length, ap, arith, sym, refl, ◌∙◌}
 use Rattle.ring_model.specs.Ring.{Ring, is_settled}
 use Rattle.ring_model.specs.declared.events.Op.TheVariants.{Member}
-use Rattle.ring_model.specs.declared.events.Event.{Event}
 use Rattle.ring_model.specs.Limits.{event_limit}
 use Rattle.ring_book.proofs.Growth.{IsOpenKept-grant, calls_fit, grants_fit, grant_even, settled_mark}
 use Rattle.ring_book.proofs.books.groups.pass_member.Goals as goal
