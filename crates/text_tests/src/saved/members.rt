@@ -22,9 +22,15 @@ fn member(machine: u32, left: u32, number: u64, amount: u64) -> SavedEvent {
 #[test]
 fn the_group_is_read(rt: HostRuntime) -> Result<(), Fail> {
     let saved = read_saved(rt.alloc(), GROUP)?;
-    assert_eq!(rt; (saved.version, saved.rings.len(), saved.rings_said), (2, 1, 1));
+    assert_eq!(rt;
+        (saved.version, saved.rings.len(), saved.rings_said),
+        (2, 1, 1)
+    );
     let ring = &saved.rings[0];
-    assert_eq!(rt; (ring.index, ring.n, ring.k, ring.events_said), (0, 4, 4, 3));
+    assert_eq!(rt;
+        (ring.index, ring.n, ring.k, ring.events_said),
+        (0, 4, 4, 3)
+    );
     assert_eq!(rt; ring.start.as_slice(), [0, 2, 1, 0].as_slice());
     let events = [member(1, 2, 1, 2), member(0, 1, 2, 4), member(3, 0, 3, 6)];
     assert_eq!(rt; ring.events.as_slice(), events.as_slice());
@@ -42,6 +48,7 @@ fn the_group_is_read(rt: HostRuntime) -> Result<(), Fail> {
 
 /// A text whose one event has the given line, behind the first line.
 const FRONT: &[u8] = b"\nring 0 4 4\nstart 0 2 1 0\n";
+
 const BACK: &[u8] = b"\nend 1\ndone 1\n";
 
 #[test]
@@ -50,7 +57,10 @@ fn lines_of_members(rt: HostRuntime) -> Result<(), Fail> {
     let cases: [(&[u8], Result<(), ReadError>); 15] = [
         (b"m 0 1 2 4294967295 1 2", Ok(())),
         (b"m 0 1 2 4294967296 1 2", bad),
-        (b"m 4294967295 4294967295 18446744073709551615 0 18446744073709551615 18446744073709551615", Ok(())),
+        (
+            b"m 4294967295 4294967295 18446744073709551615 0 18446744073709551615 18446744073709551615",
+            Ok(()),
+        ),
         (b"m 4294967296 1 2 2 1 2", bad),
         (b"m 0 4294967296 2 2 1 2", bad),
         (b"m 0 1 18446744073709551616 2 1 2", bad),

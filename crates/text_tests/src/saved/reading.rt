@@ -1,7 +1,9 @@
 //! Reading texts, texts that are cut, and texts with a byte of another value.
 
 use super::judge::judge;
-use super::texts::{GROUP, LATER_PASSES, LATER_TWO_RINGS, PASSES, TEXTS, TWO_CLIENTS, TWO_RINGS, write};
+use super::texts::{
+    GROUP, LATER_PASSES, LATER_TWO_RINGS, PASSES, TEXTS, TWO_CLIENTS, TWO_RINGS, write,
+};
 use ring_text::{ReadError, Saved, SavedEvent, SavedRing, SavedSurvey, read_saved};
 use std::alloc::Global;
 use std::process::Abort;
