@@ -112,6 +112,7 @@ for crate in $crates; do
     ring_tests)
         try_crate "$crate" "^(book|settle)::|memory"
         try_mark "$crate" book::settling::a_survey_takes_no_memory
+        try_mark "$crate" book::groups::a_group_with_room_takes_no_memory
         try_mark "$crate" settle::following_takes_no_memory
         ;;
     farm_tests)

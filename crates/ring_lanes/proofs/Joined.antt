@@ -46,7 +46,7 @@ some_in_two p a m n e f ne = elim (or_some m n ne) [
   | inr some ↦ some_hit_in p (a + 32) (a + 32 + 32) a (a + 64) (omega arith) (omega arith) (some_in_block p (a + 32) n f some)
 ]
 
-none_in_two : (p : ℕ → Bool) (a m n : ℕ) → m ≡ mask_from p a 32 → n ≡ mask_from p (a + 32) 32 → bit_or m n ≡ 0 → NoHit p a (a + 64)
+pub none_in_two : (p : ℕ → Bool) (a m n : ℕ) → m ≡ mask_from p a 32 → n ≡ mask_from p (a + 32) 32 → bit_or m n ≡ 0 → NoHit p a (a + 64)
 none_in_two p a m n e f z =
     let both : (m ≡ 0) × (n ≡ 0) = or_none m n z in
     no_hit_then p a (a + 32) (a + 32) (a + 64) (omega arith) (λ k low high. none_in_block p a 32 m k e both.0 low high)

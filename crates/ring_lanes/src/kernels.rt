@@ -87,6 +87,34 @@ pub(crate) fn first_hit<P: Probe>(p: &P, from: usize) -> usize
     n
 }
 
+// The same, for a search that mostly ends at once or far on: machine `from` is tested by itself, and
+// then two blocks are joined before each test, as long as the machines that are left are many enough
+// for that to be faster.
+#[inline(always)]
+pub(crate) fn first_late_hit<P: Probe>(p: &P, from: usize) -> usize
+    requires low { 1 ≤ from }
+    requires high { from ≤ P.size p.now }
+    ensures low { from ≤ result }
+    ensures high { result ≤ P.size p.now }
+    ensures before { (k : ℕ) → from ≤ k → k < result → P.hit p.now k ≡ false }
+    ensures here { result < P.size p.now → P.hit p.now result ≡ true }
+{
+    let n = p.len();
+    if from < n && p.is_hit(from) {
+        return from;
+    }
+    let mut i = from;
+    while n - i >= 256 {
+        let left = p.hits(i);
+        let right = p.hits(i + 32);
+        if (left | right) != 0 {
+            break;
+        }
+        i += 64;
+    }
+    first_hit(p, i)
+}
+
 // Whether one of the 128 machines before machine `end` passes: their four blocks are joined before
 // the one test.
 #[inline(always)]

@@ -15,7 +15,7 @@ mod wide;
 mod wide_limits;
 
 use bytes::{Holding, Privileged, Returning};
-use kernels::{any_hit, count_hits, first_hit, weigh_hits, write_hits};
+use kernels::{any_hit, count_hits, first_hit, first_late_hit, weigh_hits, write_hits};
 use limits::are_below;
 use probe::Probe;
 use wide::{WideDiffering, WideHolding, WidePrivileged};
@@ -172,7 +172,7 @@ pub fn wide_first_value_is_prefix(s: &[u16]) -> bool
 {
     // Two searches: a test of both neighbours at once would load and compare twice as much.
     let value = s[0];
-    let end = first_hit(&WideDiffering { values: s, value }, 1);
+    let end = first_late_hit(&WideDiffering { values: s, value }, 1);
     if end == s.len() {
         return true;
     }

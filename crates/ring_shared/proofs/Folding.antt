@@ -13,7 +13,7 @@ use Rattle.ring_book.specs.BookView.{BookView, IsBook}
 use Rattle.ring_model.proofs.Histories.{calm-push}
 use Rattle.ring_model.proofs.HistoryLaws.{settlement}
 use Rattle.ring_shared.specs.Replays.{IsCallOf, machine_of, called, calm_after}
-use Rattle.ring_shared.specs.Folds.{ring_after, survey_from, survey_of, IsSummary, IsEffect}
+use Rattle.ring_shared.specs.Folds.{ring_after, survey_from, survey_of, IsSummary, IsWritten}
 use Rattle.ring_shared.proofs.Prefixes.{prefix_take, take_before}
 use Rattle.ring_shared.proofs.Replaying.{next_ring, calm_same}
 
@@ -89,7 +89,7 @@ ring_of_book {C = C} w first start b book begins =
 
 -- what the last event did, by the ring behind it
 pub effect_of_last : (start now : Ring) (xs h : List Event) (e : Event) (machine value c : ℕ) → h ≡ xs ++ e ∷ [] → now ≡ ring_after start h → IsCallOf start e.op →
-    machine ≡ machine_of e.op → value ≡ slice_index now.values machine → value < now.k → c ≡ calm_after (calm xs) e.reply → IsEffect start h machine value c
+    machine ≡ machine_of e.op → value ≡ slice_index now.values machine → value < now.k → c ≡ calm_after (calm xs) e.reply → IsWritten start h machine value c
 effect_of_last start now xs h e machine value c is now_is call machine_is value_is below calm_is =
     let within : machine < length start.values = rw machine_is (machine_of_call start e.op call) in
     let behind : machine_of e.op < length (ring_after start xs).values = rw (ring_after_keeps start xs).1 (machine_of_call start e.op call) in
@@ -105,7 +105,7 @@ effect_of_last start now xs h e machine value c is now_is call machine_is value_
     }
 
 -- a summary goes on by one event
-pub summary_goes_on : (start : Ring) (xs ys : List Event) (ring new : Ring) (position behind c d machine value : ℕ) → IsSummary start xs ring position c → IsEffect start ys machine value d →
+pub summary_goes_on : (start : Ring) (xs ys : List Event) (ring new : Ring) (position behind c d machine value : ℕ) → IsSummary start xs ring position c → IsWritten start ys machine value d →
     IsPrefix xs ys → length ys ≡ suc (length xs) → new ≡ written ring machine value → behind ≡ position + 1 → IsSummary start ys new behind d
 summary_goes_on start xs ys ring new position behind c d machine value s effect begins one new_is behind_is =
     let p = s.position_is in

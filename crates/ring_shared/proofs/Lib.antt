@@ -8,4 +8,5 @@ pub mod Adding
 pub mod Stepped
 pub mod Folding
 pub mod Held
+pub mod GroupLogs
 pub mod Keeping

@@ -1,10 +1,12 @@
 -- What a list of events does to a ring, whatever the resource: the ring behind it, its survey, and its summary.
-use Rattle.std.specs.Prelude.{◌≡◌, ℕ, ◌-◌, ◌<◌, List, [], ◌∷◌, length, take, Option, Some, None}
+use Rattle.std.specs.Prelude.{◌≡◌, ℕ, Bool, true, false, ◌-◌, ◌<◌, List, [], ◌∷◌, length, take, Option, Some, None}
 use Rattle.ring_model.specs.Ring.{Ring, privileged_count, first_privileged, rest, written}
 use Rattle.ring_model.specs.Surveys.{calm}
 use Rattle.ring_model.specs.declared.events.Event.{Event}
 use Rattle.ring_model.specs.declared.events.Survey.{Survey}
 use Rattle.ring_shared.specs.Replays.{called}
+use Rattle.ring_shared.specs.declared.shown.Change.{Change}
+use Rattle.ring_shared.specs.declared.shown.Change.TheVariants.{Write, Become}
 
 -- the ring behind these events
 abbrev pub ring_after : Ring → List Event → Ring
@@ -32,11 +34,21 @@ pub record IsSummary (start : Ring) (h : List Event) (ring : Ring) (position : �
   pub calm_is : calm_there ≡ calm h
 
 -- the last of these events left this value in this machine and changed no other, and the calm at their end is this
-pub record IsEffect (start : Ring) (h : List Event) (machine value calm_there : ℕ) : Type 0 where
+pub record IsWritten (start : Ring) (h : List Event) (machine value calm_there : ℕ) : Type 0 where
   pub machine_is : machine < length start.values
   pub value_is : value < start.k
   pub ring_is : 0 < length h → ring_after start h ≡ written (ring_after start (take (length h - 1) h)) machine value
   pub calm_is : calm_there ≡ calm h
+
+-- what a change does is what these events did: the last of them alone, or all of them
+abbrev pub IsEffect : Ring → List Event → Change → ℕ → Type 0
+IsEffect start h (Write machine value) calm_there = IsWritten start h machine value calm_there
+IsEffect start h (Become ring) calm_there = (ring ≡ ring_after start h) × (calm_there ≡ calm h)
+
+-- whether it is that of several events at once
+abbrev pub is_block : Change → Bool
+is_block (Write machine value) = false
+is_block (Become ring) = true
 
 -- what answers for these events: their survey, or a summary of them where it was not made yet
 abbrev pub AnswersFor : Ring → List Event → Option Survey → Ring → ℕ → ℕ → Type 0

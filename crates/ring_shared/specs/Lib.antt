@@ -3,6 +3,7 @@ pub mod Calls
 pub mod Folds
 pub mod Fronts
 pub mod Gathered
+pub mod Groups
 pub mod Holding
 pub mod Opening
 pub mod Replays

@@ -90,9 +90,11 @@ impl Opened {
                 of: PhantomData,
             },
             Front {
-                count: 0,
-                seen,
-                of: PhantomData,
+                end: End {
+                    count: 0,
+                    seen,
+                    of: PhantomData,
+                },
             },
         )
     }
@@ -106,52 +108,49 @@ pub struct Head<N: Name> {
     ghost word_is: { word ≡ head_of N.log },
 }
 
-/// A legal beginning of the list that was seen, of events of the ring's seats. Contracts see it as its events; it
-/// is a count, with no event.
+/// A beginning of the list that was seen, legal or not. Contracts see it as its events; it is a count, with no
+/// event.
 #[derive(Drop)]
-pub struct Front<N: Name> {
+struct End<N: Name> {
     count: u64,
     seen: Seen<Event, u64, Law>,
     of: PhantomData<N>,
 }
 
-impl<N: Name> Model for Front<N> {
+impl<N: Name> Model for End<N> {
     ghost use Rattle.std.specs.Prelude.{◌≡◌, ◌≤◌, List, length};
     ghost use Rattle.ring_model.specs.Limits.{event_limit};
     ghost use Rattle.ring_model.specs.declared.events.Event.{Event};
-    ghost use Rattle.ring_shared.specs.Holding.{AreOfSeats};
 
     ghost Value = { List Event };
 
-    ghost view = { λ f. f.seen.log };
+    ghost view = { λ e. e.seen.log };
 
-    ghost invariant = { λ f. (f.count ≡ length f.seen.log) × (f.seen.book ≡ N.log) × N.legal f.seen.log × AreOfSeats N.seats f.seen.log × (length f.seen.log ≤ event_limit) };
+    ghost invariant = { λ e. (e.count ≡ length e.seen.log) × (e.seen.book ≡ N.log) × (length e.seen.log ≤ event_limit) };
 }
 
-impl<N: Name> Front<N> {
+impl<N: Name> End<N> {
     /// How many events it has.
-    pub(crate) fn len(&self) -> u64
+    fn len(&self) -> u64
         ensures length { result ≡ length self.now }
-        ensures legal { N.legal self.now }
-        ensures of_seats { AreOfSeats N.seats self.now }
         ensures few { length self.now ≤ event_limit }
     {
         self.count
     }
 
     /// A copy.
-    pub(crate) fn again(&self) -> Front<N>
+    fn again(&self) -> End<N>
         ensures { result ≡ self.now }
     {
-        Front {
+        End {
             count: self.count,
             seen: self.seen.again(),
             of: PhantomData,
         }
     }
 
-    /// Of two fronts the shorter begins the longer.
-    pub(crate) fn compare(&self, other: &Front<N>)
+    /// Of two the shorter begins the longer.
+    fn compare(&self, other: &End<N>)
         ensures shorter { length self.now ≤ length other.now → IsPrefix self.now other.now }
         ensures longer { length other.now ≤ length self.now → IsPrefix other.now self.now }
     {
@@ -161,9 +160,7 @@ impl<N: Name> Front<N> {
 
     /// Adds an event to all that was seen, and says whether it did. It did not where the list is longer.
     fn add(&mut self, head: &Head<N>, event: Event) -> bool
-        requires room { length self.old < event_limit }
-        requires legal { N.legal (self.old ++ event ∷ []) }
-        requires of_seats { AreOfSeats N.seats (self.old ++ event ∷ []) }
+        requires { length self.old < event_limit }
         ensures { MatchBool result (self.new ≡ self.old ++ event ∷ []) (self.new ≡ self.old) }
     {
         let mut seen = self.seen.again();
@@ -178,6 +175,67 @@ impl<N: Name> Front<N> {
             self.seen = seen;
         }
         found == count
+    }
+
+    /// Returns only where the event was added to all that was seen.
+    fn surely_add<W: Wait>(&mut self, rt: &W, head: &Head<N>, event: Event)
+        requires { length self.old < event_limit }
+        ensures { self.new ≡ self.old ++ event ∷ [] }
+    {
+        for _ in rt.forever() {
+            if self.add(head, event) {
+                return;
+            }
+        }
+        unreachable!()
+    }
+}
+
+/// A legal beginning of the list that was seen, of events of the ring's seats, which ends inside no block. Contracts
+/// see it as its events.
+#[derive(Drop)]
+pub struct Front<N: Name> {
+    end: End<N>,
+}
+
+impl<N: Name> Model for Front<N> {
+    ghost use Rattle.std.specs.Prelude.{List};
+    ghost use Rattle.ring_model.specs.declared.events.Event.{Event};
+    ghost use Rattle.ring_shared.specs.Holding.{AreOfSeats};
+
+    ghost Value = { List Event };
+
+    ghost view = { λ f. f.end };
+
+    ghost invariant = { λ f. N.legal f.end × AreOfSeats N.seats f.end };
+}
+
+impl<N: Name> Front<N> {
+    /// How many events it has.
+    pub(crate) fn len(&self) -> u64
+        ensures length { result ≡ length self.now }
+        ensures legal { N.legal self.now }
+        ensures of_seats { AreOfSeats N.seats self.now }
+        ensures few { length self.now ≤ event_limit }
+    {
+        self.end.len()
+    }
+
+    /// A copy.
+    pub(crate) fn again(&self) -> Front<N>
+        ensures { result ≡ self.now }
+    {
+        Front {
+            end: self.end.again(),
+        }
+    }
+
+    /// Of two fronts the shorter begins the longer.
+    pub(crate) fn compare(&self, other: &Front<N>)
+        ensures shorter { length self.now ≤ length other.now → IsPrefix self.now other.now }
+        ensures longer { length other.now ≤ length self.now → IsPrefix other.now self.now }
+    {
+        self.end.compare(&other.end);
     }
 
     /// Returns only where this front begins the other.
@@ -200,11 +258,20 @@ impl<N: Name> Front<N> {
         requires of_seats { AreOfSeats N.seats (self.old ++ event ∷ []) }
         ensures { self.new ≡ self.old ++ event ∷ [] }
     {
-        for _ in rt.forever() {
-            if self.add(head, event) {
-                return;
-            }
+        self.end.surely_add(rt, head, event);
+    }
+
+    /// Returns only where the events were added, in order, to all that was seen.
+    pub(crate) fn surely_add_all<W: Wait>(&mut self, rt: &W, head: &Head<N>, events: &[Event])
+        requires room { length self.old + length events.now ≤ event_limit }
+        requires legal { N.legal (self.old ++ events.now) }
+        requires of_seats { AreOfSeats N.seats (self.old ++ events.now) }
+        ensures { self.new ≡ self.old ++ events.now }
+    {
+        let mut end = self.end.again();
+        for event in events {
+            end.surely_add(rt, head, *event);
         }
-        unreachable!()
+        self.end = end;
     }
 }

@@ -5,6 +5,7 @@
 mod closing;
 mod front;
 mod gathering;
+mod groups;
 mod judge;
 mod locked;
 mod names;

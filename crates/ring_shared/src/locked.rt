@@ -17,6 +17,7 @@ use crossbeam_utils::rule::Unruled;
 use left_right::Absorb;
 use ring_book::{Book, BookError, Resource};
 use ring_model::{Entry, Event, Op, Receipt};
+use std::alloc::Global;
 use std::marker::Model;
 use std::sync::Wait;
 
@@ -30,10 +31,11 @@ pub struct Locked<N: Name, R: Resource + Drop>
 where
     Shown<N>: Absorb<Operation<N>, State = [Event; 0]>,
 {
-    book: Book<R>,
-    head: Head<N>,
-    front: Front<N>,
-    writer: RingWriter<N>,
+    pub(crate) alloc: Global,
+    pub(crate) book: Book<R>,
+    pub(crate) head: Head<N>,
+    pub(crate) front: Front<N>,
+    pub(crate) writer: RingWriter<N>,
 }
 
 impl<N: Name, R: Resource + Drop> Model for Locked<N, R>
@@ -76,11 +78,11 @@ fn publish<N: Name, W: Wait>(rt: &W, writer: RingWriter<N>) -> (RingWriter<N>, (
     (writer, ())
 }
 
-/// Shows readers one event more.
+/// Shows readers one event or one block more.
 #[tactic(auto, using(crate::proofs::Stepped::stepped_last))]
-fn show<N: Name, W: Wait>(rt: &W, writer: &mut RingWriter<N>, operation: Operation<N>)
-    requires { stepped (fold stepped writer.old.desk.shown.value (drop writer.old.behind writer.old.log.items)) operation ≡ operation }
-    ensures shown { writer.new.desk.shown.value ≡ operation }
+pub(crate) fn show<N: Name, W: Wait>(rt: &W, writer: &mut RingWriter<N>, operation: Operation<N>)
+    requires { stepped (fold stepped writer.old.desk.shown.value (drop writer.old.behind writer.old.log.items)) operation ≡ operation.list }
+    ensures shown { writer.new.desk.shown.value ≡ operation.list }
     ensures pending { drop writer.new.behind writer.new.log.items ≡ [] }
 {
     surely_append(rt, writer, operation);
@@ -110,6 +112,7 @@ fn show_last<N: Name, R: Resource + Drop, W: Wait>(
 impl<N: Name, R: Resource + Drop> Locked<N, R> {
     /// The book of a ring that is opened.
     pub(crate) fn new(
+        alloc: Global,
         book: Book<R>,
         head: Head<N>,
         front: Front<N>,
@@ -122,6 +125,7 @@ impl<N: Name, R: Resource + Drop> Locked<N, R> {
         ensures { result ≡ book }
     {
         Locked {
+            alloc,
             book,
             head,
             front,
@@ -192,6 +196,7 @@ impl<N: Name, R: Resource + Drop> Locked<N, R> {
         ensures front { result.1 ≡ result.0.history }
     {
         let Locked {
+            alloc: _,
             book,
             head: _head,
             front,

@@ -1,14 +1,15 @@
 //! Rings that threads share: how they are opened, and the calls of their seats.
-ghost use Rattle.std.specs.Prelude.{◌≡◌, ◌<◌, ◌≤◌, ◌+◌, ◌++◌, ◌∷◌, ◌↔◌, [], ℕ, List, Some, slice_get, length, map, eqb, drop, fold, IsOk, IfOk, IfErr, OnErr};
+ghost use Rattle.std.specs.Prelude.{◌≡◌, ◌<◌, ◌≤◌, ◌+◌, ◌++◌, ◌∷◌, ◌↔◌, [], ℕ, List, Some, slice_get, length, map, eqb, drop, fold, IsOk, IfOk, IfErr, OnErr, IsErrOf};
 ghost use Rattle.std.specs.List.{IsDistinct};
 ghost use mathlib.Core.List.{IsPrefix};
 ghost use Rattle.ring_model.specs.Ring.{bound};
 ghost use Rattle.ring_model.specs.Limits.{seat_limit};
-ghost use Rattle.ring_model.specs.Groups.{IsHistory};
+ghost use Rattle.ring_model.specs.Groups.{IsHistory, Rises};
 ghost use Rattle.ring_model.specs.History.{opening};
 ghost use Rattle.ring_model.specs.Surveys.{survey_at};
 ghost use Rattle.ring_state.specs.Sizes.{IsRingState};
 ghost use Rattle.ring_shared.specs.Client.{fresh_client};
+ghost use Rattle.ring_shared.specs.Groups.{IsGroupLogged, IsRefusedFor};
 ghost use Rattle.ring_shared.specs.Holding.{MeansLegal, AreOfSeats, IsSurveyOfSome};
 ghost use Rattle.ring_shared.specs.Opening.{AreFresh};
 ghost use Rattle.ring_shared.specs.Stepping.{stepped};
@@ -20,7 +21,7 @@ use crate::seats::{RingWriter, Seat};
 use crate::shown::{Operation, Shown};
 use left_right::Absorb;
 use left_right::writer::Writer;
-use ring_book::{Book, BookError, Resource};
+use ring_book::{Book, BookError, GroupError, GroupReceipt, Resource};
 use ring_model::{Entry, Event, Op, Receipt, Survey};
 use ring_state::RingState;
 use std::alloc::{AllocError, Global};
@@ -277,7 +278,7 @@ impl<N: Name, R: Resource + Drop> Ring<N, R> {
         match seated(alloc, &front, book.start(), count) {
             Ok((writer, seats)) => {
                 let ring = Ring {
-                    shared: Mutex::new(Locked::new(book, head, front, writer)),
+                    shared: Mutex::new(Locked::new(alloc, book, head, front, writer)),
                     seats: count,
                 };
                 Ok((ring, seats))
@@ -343,6 +344,37 @@ impl<N: Name, R: Resource + Drop> Ring<N, R> {
     {
         let mut locked = self.shared.lock(rt);
         let result = locked.corrupt(rt, seat, machine, value);
+        MutexGuard::unlock(locked);
+        result
+    }
+
+    /// Waits for the lock, and makes a pass by a group of machines at once, for the seat: its log gains the receipt of
+    /// each member, in the order of their positions, and what the seat has seen ends with their block. The machines are
+    /// strictly increasing, below n and at least one.
+    ///
+    /// # Errors
+    ///
+    /// `WholeRing` where the group is all n machines; `NotPrivileged` with the least machine of the group that is not
+    /// privileged; `HistoryFull` where the history has fewer places left than the group has machines; want of memory.
+    /// Nothing has changed then.
+    pub fn pass_group<W: Wait>(
+        &self,
+        rt: &W,
+        seat: &mut Seat<N>,
+        machines: &[u32],
+        order: u64,
+    ) -> Result<GroupReceipt, GroupError>
+        requires rising { Rises 0 (length N.start.values) machines.now }
+        requires some { 1 ≤ length machines.now }
+        ensures told { IfOk result (λ r. IsGroupLogged (length N.start.values) seat.old seat.new order machines.now r) }
+        ensures legal { IfOk result (λ r. IsHistory R.works (opening N.start R.first) seat.new.seen) }
+        ensures later { IsPrefix seat.old.seen seat.new.seen }
+        ensures whole { length machines.now ≡ length N.start.values → IsRefusedFor GroupError.WholeRing result }
+        ensures whole_only { IsErrOf result GroupError.WholeRing → length machines.now ≡ length N.start.values }
+        ensures err { OnErr result (seat.new ≡ seat.old) }
+    {
+        let mut locked = self.shared.lock(rt);
+        let result = locked.pass_group(rt, seat, machines, order);
         MutexGuard::unlock(locked);
         result
     }

@@ -1,10 +1,11 @@
 //! The copy that readers see, and what brings it up to date.
-ghost use Rattle.std.specs.Prelude.{◌≡◌, ◌+◌, ◌<◌, ◌≤◌, ◌++◌, ◌∷◌, [], length};
+ghost use Rattle.std.specs.Prelude.{◌≡◌, ◌+◌, ◌<◌, ◌≤◌, ◌++◌, ◌∷◌, [], length, true, false};
 ghost use Rattle.ring_model.specs.Limits.{event_limit};
 ghost use Rattle.ring_model.specs.Surveys.{calm as calm_of};
-ghost use Rattle.ring_shared.specs.Folds.{survey_of, IsSummary, IsEffect};
+ghost use Rattle.ring_shared.specs.Folds.{ring_after, survey_of, IsSummary, IsWritten};
 ghost use Rattle.ring_shared.specs.Holding.{IsHeld};
 ghost use Rattle.ring_shared.specs.Replays.{IsCallOf, machine_of};
+ghost use Rattle.ring_shared.specs.Stepping.{stepped};
 
 use crate::front::Front;
 use crate::judge::calm_behind;
@@ -36,26 +37,33 @@ impl<N: Name> Model for Shown<N> {
     ghost invariant = { λ s. IsSummary N.start s.front s.summary.ring s.summary.position s.summary.calm };
 }
 
-/// What an event does to a summary: which value it left in which machine, and the calm there; and the front
-/// that ends with it. Contracts see it as that front.
+/// What events do to the ring of a summary.
+#[derive(Drop)]
+enum Change {
+    /// One event leaves this value in this machine.
+    Write { machine: u32, value: u32 },
+    /// The events of a block lead to this ring.
+    Become(RingState),
+}
+
+/// What an event or a block does to a summary: the change of the ring, and the calm behind it; and the front that
+/// ends with it. Contracts see that front, and whether it is a block that ends it.
 #[derive(Drop)]
 pub struct Operation<N: Name> {
-    machine: u32,
-    value: u32,
+    change: Change,
     calm: u64,
     front: Front<N>,
 }
 
 impl<N: Name> Model for Operation<N> {
-    ghost use Rattle.std.specs.Prelude.{List};
-    ghost use Rattle.ring_model.specs.declared.events.Event.{Event};
-    ghost use Rattle.ring_shared.specs.Folds.{IsEffect};
+    ghost use Rattle.ring_shared.specs.Folds.{IsEffect, is_block};
+    ghost use Rattle.ring_shared.specs.Stepping.{Told};
 
-    ghost Value = { List Event };
+    ghost Value = { Told };
 
-    ghost view = { λ o. o.front };
+    ghost view = { λ o. record { list = o.front; block = is_block o.change } };
 
-    ghost invariant = { λ o. IsEffect N.start o.front o.machine o.value o.calm };
+    ghost invariant = { λ o. IsEffect N.start o.front o.change o.calm };
 }
 
 impl<N: Name> Shown<N> {
@@ -95,13 +103,38 @@ impl<N: Name> Shown<N> {
         ensures machines { length summary.new.ring.values ≡ length N.start.values }
         ensures values { summary.new.ring.k ≡ N.start.k }
     {
-        summary.copy_from(&self.summary);
+        summary.go_to(&self.summary.ring, self.summary.position, self.summary.calm);
     }
 
     pub(crate) fn front(&self) -> Front<N>
         ensures { result ≡ self.now }
     {
         self.front.again()
+    }
+
+    /// Goes on to a list that is one event longer, which left this value in this machine and the calm there. Another
+    /// list changes nothing.
+    fn take_event(&mut self, machine: u32, value: u32, calm: u64, front: &Front<N>)
+        requires { IsWritten N.start front.now machine value calm }
+        ensures { self.new ≡ stepped self.old (record { list = front.now; block = false }) }
+    {
+        self.front.compare(front);
+        if front.len() == self.front.len() + 1 {
+            self.summary.go_on(machine, value, calm);
+            self.front = front.again();
+        }
+    }
+
+    /// Goes on to a list that is longer, with the ring and the calm there. Another list changes nothing.
+    fn take_block(&mut self, ring: &RingState, calm: u64, front: &Front<N>)
+        requires ring { ring.now ≡ ring_after N.start front.now }
+        requires calm { calm ≡ calm_of front.now }
+        ensures { self.new ≡ stepped self.old (record { list = front.now; block = true }) }
+    {
+        if self.front.len() < front.len() {
+            self.summary.go_to(ring, front.len(), calm);
+            self.front = front.again();
+        }
     }
 }
 
@@ -121,11 +154,13 @@ impl<N: Name> Operation<N> {
         requires machine { 0 < length N.start.values }
         requires value { 0 < N.start.k }
         requires front { front ≡ [] }
-        ensures { result ≡ [] }
+        ensures { result ≡ record { list = []; block = false } }
     {
         Operation {
-            machine: 0,
-            value: 0,
+            change: Change::Write {
+                machine: 0,
+                value: 0,
+            },
             calm: 0,
             front,
         }
@@ -142,13 +177,34 @@ impl<N: Name> Operation<N> {
         requires call { IsCallOf N.start event.op }
         requires one { book.now.history ≡ shown.now ++ event ∷ [] }
         requires front { front ≡ book.now.history }
-        ensures { result ≡ front }
+        ensures { result ≡ record { list = front; block = false } }
     {
         let machine = machine_named(event.op);
         Operation {
-            machine,
-            value: book.state().get(machine),
+            change: Change::Write {
+                machine,
+                value: book.state().get(machine),
+            },
             calm: calm_behind(shown.calm(), event.reply),
+            front,
+        }
+    }
+
+    /// What the block that ends the book's history does to what is shown, whatever part of the history that is. The
+    /// ring is the book's.
+    pub(crate) fn block<R: Resource + Drop>(
+        book: &Book<R>,
+        ring: RingState,
+        front: Front<N>,
+    ) -> Operation<N>
+        requires held { IsHeld R.works R.first N.start N.seats N.legal book.now }
+        requires ring { ring ≡ book.now.now.ring }
+        requires front { front ≡ book.now.history }
+        ensures { result ≡ record { list = front; block = true } }
+    {
+        Operation {
+            change: Change::Become(ring),
+            calm: book.survey().calm,
             front,
         }
     }
@@ -170,11 +226,11 @@ impl<N: Name> Absorb<Operation<N>> for Shown<N> {
         operation: &Operation<N>,
         _other: &Shown<N>,
     ) -> Result<(), AllocError> {
-        self.front.compare(&operation.front);
-        if operation.front.len() == self.front.len() + 1 {
-            self.summary
-                .go_on(operation.machine, operation.value, operation.calm);
-            self.front = operation.front.again();
+        match &operation.change {
+            Change::Write { machine, value } => {
+                self.take_event(*machine, *value, operation.calm, &operation.front);
+            }
+            Change::Become(ring) => self.take_block(ring, operation.calm, &operation.front),
         }
         Ok(())
     }

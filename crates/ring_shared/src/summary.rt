@@ -44,17 +44,17 @@ impl Summary {
         self.position += 1;
     }
 
-    /// Becomes equal to a summary of a ring of as many machines and values. It takes no memory.
-    pub(crate) fn copy_from(&mut self, other: &Summary)
-        requires machines { length self.old.ring.values ≡ length other.now.ring.values }
-        requires values { self.old.ring.k ≡ other.now.ring.k }
-        ensures ring { self.new.ring ≡ other.now.ring }
-        ensures position { self.new.position ≡ other.now.position }
-        ensures calm { self.new.calm ≡ other.now.calm }
+    /// Becomes that of this ring, of as many machines and values, at this position with this calm. It takes no memory.
+    pub(crate) fn go_to(&mut self, ring: &RingState, position: u64, calm: u64)
+        requires machines { length self.old.ring.values ≡ length ring.now.values }
+        requires values { self.old.ring.k ≡ ring.now.k }
+        ensures ring { self.new.ring ≡ ring.now }
+        ensures position { self.new.position ≡ position }
+        ensures calm { self.new.calm ≡ calm }
     {
-        self.ring.copy_from(&other.ring);
-        self.position = other.position;
-        self.calm = other.calm;
+        self.ring.copy_from(ring);
+        self.position = position;
+        self.calm = calm;
     }
 
     /// The survey here.

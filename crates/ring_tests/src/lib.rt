@@ -5,6 +5,8 @@
 #[cfg(test)]
 mod book;
 #[cfg(test)]
+mod groups;
+#[cfg(test)]
 mod lanes;
 #[cfg(test)]
 mod model_laws;

@@ -12,6 +12,7 @@ fn machine_of(op: Op) -> u32
 {
     match op {
         Op::Pass { machine, .. } => machine,
+        Op::Member { machine, .. } => machine,
         Op::Corrupt { machine, .. } => machine,
     }
 }

@@ -1,6 +1,7 @@
 //! Saved texts and reports, read, judged and written.
 
 mod judge;
+mod members;
 mod outcomes;
 mod reading;
 mod reports;

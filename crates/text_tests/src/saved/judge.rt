@@ -4,14 +4,22 @@ use crate::judging::{self, SMALL, decimal, is_row};
 use std::alloc::{AllocError, Global};
 use text_lines::ReadError;
 
+/// The kinds of line that the version which the first line says has.
+#[derive(Clone, Copy, PartialEq)]
+enum Version {
+    First,
+    /// Members of groups too.
+    Second,
+}
+
 /// What may stand on the next line.
 #[derive(Clone, Copy)]
 enum Next {
     First,
-    Ring,
-    Start(u64),
-    Event,
-    Survey,
+    Ring(Version),
+    Start(Version, u64),
+    Event(Version),
+    Survey(Version),
     Nothing,
 }
 
@@ -47,25 +55,38 @@ fn number_at(body: &[u8], place: usize) -> Option<u64> {
     decimal(token, LARGE)
 }
 
+/// The first line: what may stand behind it.
+fn after_first(body: &[u8]) -> Option<Next> {
+    if body == b"ringfarm 1".as_slice() {
+        Some(Next::Ring(Version::First))
+    } else if body == b"ringfarm 2".as_slice() {
+        Some(Next::Ring(Version::Second))
+    } else {
+        None
+    }
+}
+
 /// A ring's line: what may stand behind it.
-fn after_ring(body: &[u8]) -> Option<Next> {
+fn after_ring(version: Version, body: &[u8]) -> Option<Next> {
     let small = Word::Number(SMALL);
     if !has_words(body, &[Word::Fixed(b"ring"), small, small, small]) {
         return None;
     }
     match number_at(body, 2) {
-        Some(n) if n > 0 => Some(Next::Start(n)),
+        Some(n) if n > 0 => Some(Next::Start(version, n)),
         _ => None,
     }
 }
 
-fn is_event(body: &[u8]) -> bool {
-    let (p, c) = (Word::Fixed(b"p"), Word::Fixed(b"c"));
+fn is_event(version: Version, body: &[u8]) -> bool {
+    let (p, c, m) = (Word::Fixed(b"p"), Word::Fixed(b"c"), Word::Fixed(b"m"));
     let (g, n) = (Word::Fixed(b"g"), Word::Fixed(b"n"));
     let (small, large) = (Word::Number(SMALL), Word::Number(LARGE));
     has_words(body, &[p, small, small, large, g, large, large])
         || has_words(body, &[p, small, small, large, n])
         || has_words(body, &[c, small, small, small, small])
+        || version == Version::Second
+            && has_words(body, &[m, small, small, large, small, large, large])
 }
 
 fn is_survey(body: &[u8]) -> bool {
@@ -78,27 +99,24 @@ fn is_survey(body: &[u8]) -> bool {
 
 impl judging::Next for Next {
     fn after_line(self, body: &[u8]) -> Option<Next> {
+        let is_end = has_words(body, &[Word::Fixed(b"end"), Word::Number(LARGE)]);
         let is_done = has_words(body, &[Word::Fixed(b"done"), Word::Number(SMALL)]);
         match self {
-            Next::First if body == b"ringfarm 1".as_slice() || body == b"ringfarm 2".as_slice() => {
-                Some(Next::Ring)
-            }
-            Next::Ring => after_ring(body),
-            Next::Start(n) if is_row(body, b"start ", n) => Some(Next::Event),
-            Next::Event if is_event(body) => Some(Next::Event),
-            Next::Event if has_words(body, &[Word::Fixed(b"end"), Word::Number(LARGE)]) => {
-                Some(Next::Survey)
-            }
-            Next::Survey if is_survey(body) => Some(Next::Survey),
-            Next::Survey if is_done => Some(Next::Nothing),
-            Next::Survey => after_ring(body),
+            Next::First => after_first(body),
+            Next::Ring(version) => after_ring(version, body),
+            Next::Start(version, n) if is_row(body, b"start ", n) => Some(Next::Event(version)),
+            Next::Event(version) if is_event(version, body) => Some(Next::Event(version)),
+            Next::Event(version) if is_end => Some(Next::Survey(version)),
+            Next::Survey(version) if is_survey(body) => Some(Next::Survey(version)),
+            Next::Survey(_) if is_done => Some(Next::Nothing),
+            Next::Survey(version) => after_ring(version, body),
             _ => None,
         }
     }
 
     fn row(self) -> Option<(&'static [u8], u64)> {
         match self {
-            Next::Start(n) => Some((b"start ", n)),
+            Next::Start(_, n) => Some((b"start ", n)),
             _ => None,
         }
     }
@@ -110,6 +128,7 @@ impl judging::Next for Next {
             b"p 0 0 0 g 0 0",
             b"p 0 0 0 n",
             b"c 0 0 0 0",
+            b"m 0 0 0 0 0 0",
             b"end 0",
             b"s 0 0 0 0 0 0",
             b"done 0",

@@ -51,7 +51,7 @@ fn two_clients(rt: &impl Abort, alloc: Global) -> Result<Outcome, Fail> {
 }
 
 /// What is written of the outcome.
-fn written(rt: &impl Abort, alloc: Global, outcome: &Outcome) -> Vec<u8> {
+pub fn written(rt: &impl Abort, alloc: Global, outcome: &Outcome) -> Vec<u8> {
     assert!(rt; !outcome.rings.is_empty() && outcome.rings.len() <= 16);
     let mut out = Vec::new(alloc);
     assert_eq!(rt; write_outcome(outcome, &mut out), Ok(()));

@@ -1,7 +1,7 @@
 //! Reading texts, texts that are cut, and texts with a byte of another value.
 
 use super::judge::judge;
-use super::texts::{LATER_PASSES, LATER_TWO_RINGS, PASSES, TEXTS, TWO_CLIENTS, TWO_RINGS, write};
+use super::texts::{GROUP, LATER_PASSES, LATER_TWO_RINGS, PASSES, TEXTS, TWO_CLIENTS, TWO_RINGS, write};
 use ring_text::{ReadError, Saved, SavedEvent, SavedRing, SavedSurvey, read_saved};
 use std::alloc::Global;
 use std::process::Abort;
@@ -217,6 +217,11 @@ fn other_bytes_are_judged_alike(rt: &impl Abort, alloc: Global, text: &[u8]) -> 
 }
 
 #[test]
+fn each_other_byte_of_the_group_is_judged_alike(rt: HostRuntime) -> Result<(), Fail> {
+    other_bytes_are_judged_alike(&rt, rt.alloc(), GROUP)
+}
+
+#[test]
 fn each_other_byte_of_the_passes_is_judged_alike(rt: HostRuntime) -> Result<(), Fail> {
     other_bytes_are_judged_alike(&rt, rt.alloc(), PASSES)
 }
@@ -279,7 +284,7 @@ fn refusals(rt: HostRuntime) -> Result<(), Fail> {
         (b"ringfarm 2\nring 0 1 1\nstart 0\nend 0\ndone 1\n", Ok(())),
         (
             b"ringfarm 2\nring 0 3 3\nstart 0 2 0\nm 0 0 5 1 1 5\n",
-            Err(ReadError::Syntax(4)),
+            Err(ReadError::Truncated),
         ),
         (b"ringfarm 1\nring 0 0 3\n", Err(ReadError::Syntax(2))),
         (

@@ -4,7 +4,7 @@ ghost use Rattle.std.specs.Prelude.{◌≡◌, ◌≤◌, IfSome, sum_by, length
 ghost use Rattle.ring_text.specs.Report.{entries_of, entries_in};
 
 use super::outcomes::SCRIPT;
-use super::scenes::{Act, Scene, outcome_of};
+use super::scenes::{Act, Scene, group_outcome, outcome_of};
 use crate::scripted::{REFUSALS, Refusal, memory_ends, memory_is_back, writer_with};
 use ring_farm::{Open, Outcome, RingOutcome, run_farm};
 use ring_settings::read_settings;
@@ -26,6 +26,10 @@ const CORRUPTED_REPORT: &[u8] =
 /// The report on a ring of two machines without events.
 const WIDE_REPORT: &[u8] =
     b"ring 0 n 2 k 256 events 0 granted 0 refused 0 corrupted 0 surveys 0\nstates 255,10\nprivileged 1 first 1 calm 0 rest 0 bound 3\ngrants 0,0 settled 0,0\ntotal rings 1 events 0 granted 0 surveys 0\n";
+
+/// The report on a ring of which three machines passed at once, each of them granted.
+const GROUP_REPORT: &[u8] =
+    b"ring 0 n 4 k 4 events 3 granted 3 refused 0 corrupted 0 surveys 1\nstates 1,0,1,1\nprivileged 3 first 0 calm 3 rest 9 bound 18\ngrants 1,1,0,1 settled 0,0,0,0\ntotal rings 1 events 3 granted 3 surveys 1\n";
 
 /// The report on no ring.
 const NO_RINGS_REPORT: &[u8] = b"total rings 0 events 0 granted 0 surveys 0\n";
@@ -138,6 +142,14 @@ fn rings_are_reported_one_by_one_and_added_up(rt: HostRuntime) -> Result<(), Fai
     let alloc = rt.alloc();
     let outcome = corrupted(&rt, alloc)?;
     assert_eq!(rt; reported(&rt, alloc, &outcome).as_slice(), CORRUPTED_REPORT);
+    Ok(())
+}
+
+#[test]
+fn members_are_reported_as_granted_passes(rt: HostRuntime) -> Result<(), Fail> {
+    let alloc = rt.alloc();
+    let outcome = group_outcome(&rt, alloc)?;
+    assert_eq!(rt; reported(&rt, alloc, &outcome).as_slice(), GROUP_REPORT);
     Ok(())
 }
 

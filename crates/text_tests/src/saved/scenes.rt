@@ -93,3 +93,16 @@ pub fn outcome_of(rt: &impl Abort, alloc: Global, scenes: &[Scene]) -> Result<Ou
     }
     Ok(Outcome { rings })
 }
+
+/// A ring whose machines 0, 1 and 3 pass at once for seat 0, which then looks: its saved text is `GROUP`.
+pub fn group_outcome(rt: &impl Abort, alloc: Global) -> Result<Outcome, Fail> {
+    let mut book = book_of(rt, alloc, 4, &[0, 2, 1, 0])?;
+    assert_eq!(rt; book.state().params().n(), 4);
+    book.pass_group(0, &[0, 1, 3], 2)?;
+    let mut log = log_of(alloc, 0);
+    log.entries.push(Entry::Survey(book.survey()))?;
+    let second = log_of(alloc, 1);
+    let mut rings = Vec::new(alloc);
+    rings.push(ring_of(alloc, book, log, second)?)?;
+    Ok(Outcome { rings })
+}

@@ -1,6 +1,6 @@
 //! The writer of values, over writers that stop after a while or take little at a time, and upgrades.
 
-use super::texts::{LATER_PASSES, LATER_TWO_RINGS, PASSES, TEXTS, TWO_RINGS, write};
+use super::texts::{GROUP, LATER_PASSES, LATER_TWO_RINGS, PASSES, TEXTS, TWO_RINGS, write};
 use crate::scripted::{REFUSALS, Refusal, writer_with};
 use ring_text::{read_saved, upgrade};
 use std::test::Fail;
@@ -41,6 +41,7 @@ fn an_upgrade_is_the_same_in_the_second_version(rt: HostRuntime) -> Result<(), F
         (PASSES, LATER_PASSES),
         (TWO_RINGS, LATER_TWO_RINGS),
         (LATER_PASSES, LATER_PASSES),
+        (GROUP, GROUP),
     ] {
         let upgraded = upgrade(read_saved(rt.alloc(), text)?);
         assert_eq!(rt; upgraded.version, 2);

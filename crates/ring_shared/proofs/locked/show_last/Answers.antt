@@ -4,5 +4,5 @@ use Rattle.ring_shared.proofs.locked.show_last.Goals as goal
 
 pub show-requires : goal.show-requires
 show-requires g c =
-    let next = c.last-operation.ensures ∙ (c.again.ensures ∙ (c.requires.front ∙ c.requires.one)) in
-    rw c.requires.none (stepped_one _ _ c.args.event next)
+    let next = c.again.ensures ∙ (c.requires.front ∙ c.requires.one) in
+    rw (c.last-operation.ensures, c.requires.none) (stepped_one _ _ c.args.event next)

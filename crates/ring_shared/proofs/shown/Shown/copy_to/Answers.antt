@@ -3,18 +3,18 @@ use Rattle.ring_model.specs.Ring.{Ring}
 use Rattle.ring_shared.proofs.Folding.{ring_after_keeps}
 use Rattle.ring_shared.proofs.shown.Shown.copy_to.Goals as goal
 
-pub copy_from-requires-clause-machines : goal.copy_from-requires-clause-machines
-copy_from-requires-clause-machines g c =
+pub go_to-requires-clause-machines : goal.go_to-requires-clause-machines
+go_to-requires-clause-machines g c =
     c.requires.machines ∙ sym (ap (λ (r : Ring). length r.values) c.self.invariant.ring_is ∙ (ring_after_keeps g.N.Name.start c.self.inside.front).1)
 
-pub copy_from-requires-clause-values : goal.copy_from-requires-clause-values
-copy_from-requires-clause-values g c =
+pub go_to-requires-clause-values : goal.go_to-requires-clause-values
+go_to-requires-clause-values g c =
     c.requires.values ∙ sym (ap (λ (r : Ring). r.k) c.self.invariant.ring_is ∙ (ring_after_keeps g.N.Name.start c.self.inside.front).0)
 
 pub returns-clause-machines : goal.returns-clause-machines
 returns-clause-machines g c =
-    ap (λ (r : Ring). length r.values) (c.copy_from.ensures.ring ∙ c.self.invariant.ring_is) ∙ (ring_after_keeps g.N.Name.start c.self.inside.front).1
+    ap (λ (r : Ring). length r.values) (c.go_to.ensures.ring ∙ c.self.invariant.ring_is) ∙ (ring_after_keeps g.N.Name.start c.self.inside.front).1
 
 pub returns-clause-values : goal.returns-clause-values
 returns-clause-values g c =
-    ap (λ (r : Ring). r.k) (c.copy_from.ensures.ring ∙ c.self.invariant.ring_is) ∙ (ring_after_keeps g.N.Name.start c.self.inside.front).0
+    ap (λ (r : Ring). r.k) (c.go_to.ensures.ring ∙ c.self.invariant.ring_is) ∙ (ring_after_keeps g.N.Name.start c.self.inside.front).0

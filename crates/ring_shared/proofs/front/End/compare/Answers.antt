@@ -2,7 +2,7 @@ use Rattle.std.proofs.Common.{ap, ◌∙◌, subst, List}
 use mathlib.Core.List.{IsPrefix}
 use Rattle.ring_model.specs.declared.events.Event.{Event}
 use Rattle.ring_shared.proofs.Prefixes.{prefix_shorter}
-use Rattle.ring_shared.proofs.front.Front.compare.Goals as goal
+use Rattle.ring_shared.proofs.front.End.compare.Goals as goal
 
 pub returns-clause-shorter : goal.returns-clause-shorter
 returns-clause-shorter g c le =

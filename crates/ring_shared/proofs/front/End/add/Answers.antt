@@ -1,6 +1,6 @@
 use Rattle.std.proofs.Common.{sym, ap, ◌∙◌, length}
 use Rattle.ring_shared.proofs.Adding.{adds_moves}
-use Rattle.ring_shared.proofs.front.Front.add.Goals as goal
+use Rattle.ring_shared.proofs.front.End.add.Goals as goal
 
 pub compare_exchange-found-requires : goal.compare_exchange-found-requires
 compare_exchange-found-requires g c =

@@ -1,0 +1,22 @@
+use Rattle.std.proofs.Common.{rules, ◌≤◌, ◌+◌, length, vec_capacity, inl, arith}
+use Rattle.ring_shared.proofs.GroupLogs.{group_receipts}
+use Rattle.ring_shared.proofs.groups.log_group.Goals as goal
+
+pub returns-in-Err-clause-refused : goal.returns-in-Err-clause-refused
+returns-in-Err-clause-refused g c =
+    let e = c.in-Err.ensures in
+    record {
+      whole = λ q. inl (e.whole.1 q);
+      whole_only = λ q. e.whole.0 q;
+      unprivileged = λ m ne without. inl ((e.unprivileged m).1 (ne, without));
+      unprivileged_only = λ m q. (e.unprivileged m).0 q;
+      full = λ can past. inl (e.full.1 (can, past));
+      full_only = λ q. e.full.0 q;
+      unchanged = search rules;
+    }
+
+pub log_events-requires-clause-room : goal.log_events-requires-clause-room
+log_events-requires-clause-room g c =
+    let n = group_receipts g.R.Resource.works c.args.book.now c.pass_group.new.self c.number-number.result c.args.order c.args.machines.now c.in-Ok.receipt c.in-Ok.ensures.ok in
+    let cap : length c.reserve.new.self.items + length c.args.machines.now ≤ vec_capacity c.reserve.new.self = search rules in
+    rw c.history.ensures.is (omega (arith, n, cap))

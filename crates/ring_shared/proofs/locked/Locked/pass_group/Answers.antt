@@ -1,0 +1,62 @@
+use Rattle.std.proofs.Common.{List, ◌++◌, subst, ap, ◌∙◌, sym, drop}
+use mathlib.Core.List.{IsPrefix}
+use Rattle.ring_model.specs.declared.events.Event.{Event}
+use Rattle.ring_shared.specs.Client.{Client}
+use Rattle.ring_shared.specs.Groups.{receipts_from}
+use Rattle.ring_shared.specs.Holding.{AreOfSeats}
+use Rattle.ring_shared.proofs.GroupLogs.{group_held, group_grown, group_longer, group_logged, held_size}
+use Rattle.ring_shared.proofs.locked.Locked.pass_group.Goals as goal
+
+pub surely_add_all-requires-clause-of_seats : goal.surely_add_all-requires-clause-of_seats
+surely_add_all-requires-clause-of_seats g c =
+    let ok = c.in_ok-receipt.ensures.ok in
+    let held = group_held g.R.Resource.works g.R.Resource.first g.N.Name.start g.N.Name.seats g.N.Name.legal c.self.inside.book c.log_group.new.book c.args.seat.now.number c.args.order c.args.machines.now
+    c.self.invariant.0 c.in_ok-receipt.ensures.book c.in_ok-receipt.ensures.within ok.moved in
+    let grown = group_grown g.R.Resource.works c.self.inside.book c.log_group.new.book c.args.seat.now.number c.args.order c.args.machines.now c.in_ok-receipt.receipt c.self.inside.front c.history.result.now
+    ok c.self.invariant.1 c.history.ensures.is in
+    subst (AreOfSeats g.N.Name.seats) grown held.of_seats
+
+pub show_block-requires-clause-held : goal.show_block-requires-clause-held
+show_block-requires-clause-held g c =
+    group_held g.R.Resource.works g.R.Resource.first g.N.Name.start g.N.Name.seats g.N.Name.legal c.self.inside.book c.log_group.new.book c.args.seat.now.number c.args.order c.args.machines.now
+    c.self.invariant.0 c.in_ok-receipt.ensures.book c.in_ok-receipt.ensures.within c.in_ok-receipt.ensures.ok.moved
+
+pub show_block-requires-clause-longer : goal.show_block-requires-clause-longer
+show_block-requires-clause-longer g c =
+    group_longer g.R.Resource.works c.self.inside.book c.log_group.new.book c.args.seat.now.number c.args.order c.args.machines.now c.in_ok-receipt.receipt c.self.inside.writer.desk.shown.value
+    c.in_ok-receipt.ensures.ok c.self.invariant.2 c.requires.some
+
+pub show_block-requires-clause-front : goal.show_block-requires-clause-front
+show_block-requires-clause-front g c =
+    c.surely_add_all.ensures
+    ∙ sym (group_grown g.R.Resource.works c.self.inside.book c.log_group.new.book c.args.seat.now.number c.args.order c.args.machines.now c.in_ok-receipt.receipt c.self.inside.front c.history.result.now
+    c.in_ok-receipt.ensures.ok c.self.invariant.1 c.history.ensures.is)
+
+pub invariant_of-self-2 : goal.invariant_of-self-2
+invariant_of-self-2 g c =
+    let ok = c.in_ok-receipt.ensures.ok in
+    let held = group_held g.R.Resource.works g.R.Resource.first g.N.Name.start g.N.Name.seats g.N.Name.legal c.self.inside.book c.log_group.new.book c.args.seat.now.number c.args.order c.args.machines.now
+    c.self.invariant.0 c.in_ok-receipt.ensures.book c.in_ok-receipt.ensures.within ok.moved in
+    let front = c.surely_add_all.ensures
+    ∙ sym (group_grown g.R.Resource.works c.self.inside.book c.log_group.new.book c.args.seat.now.number c.args.order c.args.machines.now c.in_ok-receipt.receipt c.self.inside.front c.history.result.now
+    ok c.self.invariant.1 c.history.ensures.is) in
+    let shown = c.show_block.ensures.shown in
+    (held, front, shown, rw c.show_block.ensures.pending shown)
+
+pub returns-clause-ok : goal.returns-clause-ok
+returns-clause-ok g c =
+    let ok = c.in_ok-receipt.ensures.ok in
+    let seen = c.published.ensures ∙ c.show_block.ensures.shown in
+    let logged = c.catch_up.ensures.is
+    ∙ (ap (λ (s : Client). record { number = s.number; log = s.log; seen = c.published.result.now }) c.in_ok-receipt.ensures.logged
+    ∙ ap (λ (h : List Event). record { number = c.args.seat.now.number; log = c.args.seat.now.log ++ receipts_from c.in_ok-receipt.receipt.first (drop c.in_ok-receipt.receipt.first c.log_group.new.book.history); seen = h }) seen) in
+    let held = group_held g.R.Resource.works g.R.Resource.first g.N.Name.start g.N.Name.seats g.N.Name.legal c.self.inside.book c.log_group.new.book c.args.seat.now.number c.args.order c.args.machines.now
+    c.self.invariant.0 c.in_ok-receipt.ensures.book c.in_ok-receipt.ensures.within ok.moved in
+    let size = held_size g.R.Resource.works g.R.Resource.first g.N.Name.start g.N.Name.seats g.N.Name.legal c.self.inside.book c.self.invariant.0 in
+    rw (← c.self.view_is) (record {
+      recorded = ok;
+      told = group_logged g.R.Resource.works _ c.self.inside.book c.log_group.new.book c.args.seat.now c.catch_up.new.self c.args.order c.args.machines.now c.in_ok-receipt.receipt size ok logged;
+      all = ap (λ (s : Client). s.seen) logged;
+      later = subst (λ (s : Client). IsPrefix s.seen c.catch_up.new.self.seen) c.in_ok-receipt.ensures.logged c.catch_up.ensures.later;
+      held = held;
+    })
