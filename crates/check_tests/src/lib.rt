@@ -2,6 +2,8 @@
 #![tactic(auto)]
 
 #[cfg(test)]
+mod group_verdicts;
+#[cfg(test)]
 mod texts;
 #[cfg(test)]
 mod verdicts;

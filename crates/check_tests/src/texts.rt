@@ -97,6 +97,24 @@ pub fn granted(seat: u32, machine: u32, order: u64, number: u64, amount: u64) ->
     }
 }
 
+pub fn member(
+    seat: u32,
+    machine: u32,
+    order: u64,
+    left: u32,
+    number: u64,
+    amount: u64,
+) -> SavedEvent {
+    SavedEvent::Member {
+        seat,
+        machine,
+        order,
+        left,
+        number,
+        result: amount,
+    }
+}
+
 pub fn refused(seat: u32, machine: u32, order: u64) -> SavedEvent {
     SavedEvent::Refused {
         seat,

@@ -462,6 +462,7 @@ fn what_the_answers_are_called(rt: HostRuntime) -> Result<(), Fail> {
         (Kind::Reply, "line 12: reply"),
         (Kind::Count, "line 12: count"),
         (Kind::Survey, "line 12: survey"),
+        (Kind::Group, "line 12: group"),
     ];
     for (kind, name) in names {
         let text = told(rt.alloc(), CheckError::Bad { line: 12, kind })?;

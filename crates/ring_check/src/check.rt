@@ -13,7 +13,8 @@ use ring_text::Saved;
 use std::alloc::Global;
 
 /// Checks a saved text: whether each of its rings has one legal history from its start, on one thread over a till
-/// with the amount 0, whether each survey is that ring's at its place, and whether each count is right.
+/// with the amount 0, in which the members of a group stand as a block, whether each survey is that ring's at its place
+/// and inside no block, and whether each count is right.
 ///
 /// How large a ring may be goes by the version of the text.
 ///

@@ -53,7 +53,8 @@ fn machine_at(run: &[SavedEvent], last: u32, turn: usize) -> u32
     }
 }
 
-/// The machine above the first one where the turn of that number is machine 0's, and else machine 0.
+/// The least machine that is left out, where the machines of a run and then the last one are in the order of a block:
+/// they begin with the one below it and come so down to machine 0, or have no machine 0.
 fn least_of(run: &[SavedEvent], last: u32) -> usize
     ensures value { result ≡ least_of (machines_of (map event_of run.now) ++ last ∷ []) }
     ensures few { result ≤ length run.now + 1 }
@@ -66,7 +67,8 @@ fn least_of(run: &[SavedEvent], last: u32) -> usize
     }
 }
 
-/// Whether the machines of a run and then the last one are in the order of a block.
+/// Whether the machines of a run and then the last one are in the order of a block: down to machine 0 from the one below
+/// the least that is left out, and then down from the last machine of the ring.
 fn is_in_order(n: usize, run: &[SavedEvent], last: u32) -> bool
     ensures { result ≡ is_in_order n (machines_of (map event_of run.now) ++ last ∷ []) }
 {
@@ -113,7 +115,9 @@ fn goes_on(run: &[SavedEvent], seat: u32, order: u64, left: u32) -> bool
     run.is_empty() || precedes(&run[run.len() - 1], seat, order, left)
 }
 
-/// Whether an event may come behind the members of an open block of a ring of n machines.
+/// Whether an event may come behind the members of an open block of a ring of n machines: where none is open each by
+/// itself, and a member of a group that leaves one out; else the block's next member, and as its last one what completes
+/// the order. That order costs a look at each member, so once a block.
 pub(crate) fn may_come(n: usize, run: &[SavedEvent], event: &SavedEvent) -> bool
     ensures { result ≡ may_come n (map event_of run.now) (event_of event.now) }
 {
