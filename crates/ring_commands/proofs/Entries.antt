@@ -1,5 +1,5 @@
 -- How many entries the logs of a farm have at most, and how many rings it has.
-use Rattle.std.proofs.Common.{◌≡◌, ◌==◌, ℕ, ◌<◌, ◌≤◌, ◌*◌, ◌^◌, [], length, ap, arith, get_or}
+use Rattle.std.proofs.Common.{◌≡◌, ◌==◌, ℕ, ◌<◌, ◌≤◌, ◌*◌, ◌^◌, Some, [], length, ap, arith, get_or}
 use Rattle.std.specs.Prelude.{All}
 use Rattle.std.proofs.lemmas.List.{length-map}
 use Rattle.std.proofs.lemmas.List.Sums.{sum_by-le, length-filter, count_by-le-length}
@@ -10,7 +10,7 @@ use Rattle.ring_settings.specs.Contents.{SettingsData, IsSettings, RingData, pla
 use Rattle.ring_settings.specs.declared.actions.Action.{Action}
 use Rattle.ring_settings.proofs.PlanLaws.{plan_of-few}
 use Rattle.ring_shared.specs.declared.seats.Log.{Log}
-use Rattle.ring_farm.specs.Plans.{part, action_of, actions_of, ring_of}
+use Rattle.ring_farm.specs.Plans.{part, planned, action_of, actions_of, ring_of}
 use Rattle.ring_farm.specs.Headline.{HasLogs, IsFarmOf}
 use Rattle.ring_farm.specs.declared.outcomes.Outcome.{Outcome}
 use Rattle.ring_farm.specs.declared.outcomes.RingOutcome.{RingOutcome}
@@ -18,12 +18,12 @@ use Rattle.ring_text.specs.Report.{entries_of, entries_in}
 
 -- a client's log of a ring has no more entries than its plan has actions
 log_few : (settings : SettingsData) (ring seat : ℕ) (l : Log) → IsSettings settings → seat < length settings.seats →
-    actions_of ring l.entries.items ≡ part ring (plan_of settings seat) → length l.entries.items ≤ action_limit
+    actions_of ring l.entries.items ≡ planned ring (plan_of settings seat) → length l.entries.items ≤ action_limit
 log_few settings ring seat l is there same =
     let here = λ (a : Action). ring_of a == ring in
     let few = plan_of-few settings seat is there in
     omega
-    (arith, ap length same, length-map l.entries.items (action_of ring), length-filter here (plan_of settings seat), count_by-le-length here (plan_of settings seat))
+    (arith, ap length same, length-map l.entries.items (action_of ring), length-map (part ring (plan_of settings seat)) (λ (a : Action). Some a), length-filter here (plan_of settings seat), count_by-le-length here (plan_of settings seat))
 
 -- at most ten clients
 logs_few : (settings : SettingsData) (ring : ℕ) (r : RingOutcome) → IsSettings settings → HasLogs settings ring r → entries_of r.logs.items ≤ seat_limit * action_limit

@@ -2,7 +2,7 @@
 use Rattle.std.proofs.Common.{◌≡◌, ℕ, ◌+◌, ◌<◌, ◌≤◌, cond, true, false, List, [], ◌∷◌, ◌++◌, length, take, get_or, map, refl, sym, ap, ◌∙◌, arith}
 use Rattle.std.proofs.lemmas.List.{take_more, take_all, map-append, set_past}
 use Rattle.ring_model.specs.declared.events.Op.{Op}
-use Rattle.ring_model.specs.declared.events.Op.TheVariants.{Pass, Corrupt}
+use Rattle.ring_model.specs.declared.events.Op.TheVariants.{Pass, Member, Corrupt}
 use Rattle.ring_model.specs.declared.events.Event.{Event}
 use Rattle.ring_model.specs.Ring.{Ring, ring_with, is_privileged, moved, moved_value}
 use Rattle.ring_model.specs.History.{State, granted_state, next, after}
@@ -16,6 +16,7 @@ use Rattle.ring_picture.specs.Picture.{passed, next_ring, ring_at, calm_at}
 
 next_is : (a : State ℕ) (o : Op) → (next till a o).ring ≡ next_ring a.ring o
 next_is a (Pass i order) = elim (is_privileged a.ring.values i) as (λ p. (cond p (granted_state till a i order) a).ring ≡ cond p (moved a.ring i) a.ring) [ true ↦ refl | false ↦ refl ]
+next_is a (Member i order left) = elim (is_privileged a.ring.values i) as (λ p. (cond p (granted_state till a i order) a).ring ≡ cond p (moved a.ring i) a.ring) [ true ↦ refl | false ↦ refl ]
 next_is a (Corrupt i v) = refl
 
 -- a machine past the last has no part in the ring

@@ -3,7 +3,7 @@ use Rattle.std.specs.Prelude.{ℕ, ◌+◌, ◌-◌, ◌*◌, Bool, true, false,
 use Rattle.std.specs.List.{flat_map}
 use Rattle.ring_model.specs.Ring.{Ring, ring_with, is_privileged, moved, written, rest, bound}
 use Rattle.ring_model.specs.declared.events.Op.{Op}
-use Rattle.ring_model.specs.declared.events.Op.TheVariants.{Pass, Corrupt}
+use Rattle.ring_model.specs.declared.events.Op.TheVariants.{Pass, Member, Corrupt}
 use Rattle.ring_model.specs.History.{after}
 use Rattle.ring_model.specs.Resources.{till}
 use Rattle.ring_model.specs.Surveys.{calm, granted_count, corrupted_count}
@@ -21,6 +21,7 @@ passed r i = cond (is_privileged r.values i) (moved r i) r
 -- the ring after a call
 abbrev pub next_ring : Ring → Op → Ring
 next_ring r (Pass i order) = passed r i
+next_ring r (Member i order left) = passed r i
 next_ring r (Corrupt i v) = written r i v
 
 -- the ring behind the first so many events of a block, by the definition
@@ -64,6 +65,7 @@ rows_text b from columns = pieces (row_text b from columns) b.n
 abbrev pub marked : Bool → SavedEvent → Option ℕ
 marked corruptions (saved.Granted seat machine order number answer) = None
 marked corruptions (saved.Refused seat machine order) = cond corruptions None (Some machine)
+marked corruptions (saved.Member seat machine order left number answer) = None
 marked corruptions (saved.Corrupted seat machine value old) = cond corruptions (Some machine) None
 
 -- a mark between two columns, in the row of a machine: as high as the row for a corruption, and shorter for a refused pass

@@ -47,6 +47,7 @@ fn call(k: u32, event: SavedEvent, values: &mut Vec<u32>)
     match event {
         SavedEvent::Granted { machine, .. } => pass(k, values, machine),
         SavedEvent::Refused { machine, .. } => pass(k, values, machine),
+        SavedEvent::Member { machine, .. } => pass(k, values, machine),
         SavedEvent::Corrupted { machine, value, .. } => corrupt(values, machine, value),
     }
 }
@@ -100,6 +101,7 @@ fn calm_after(calm: u64, event: SavedEvent) -> u64
     match event {
         SavedEvent::Granted { .. } => calm + 1,
         SavedEvent::Refused { .. } => calm,
+        SavedEvent::Member { .. } => calm + 1,
         SavedEvent::Corrupted { .. } => 0,
     }
 }

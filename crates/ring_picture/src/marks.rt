@@ -15,7 +15,7 @@ fn marked(corruptions: bool, event: SavedEvent) -> Option<u32>
     ensures { result ≡ marked corruptions event }
 {
     match event {
-        SavedEvent::Granted { .. } => None,
+        SavedEvent::Granted { .. } | SavedEvent::Member { .. } => None,
         SavedEvent::Refused { machine, .. } => { if corruptions { None } else { Some(machine) } }
         SavedEvent::Corrupted { machine, .. } => { if corruptions { Some(machine) } else { None } }
     }
