@@ -23,18 +23,21 @@ def rest(v, k):
 
 
 def replay(k, start, events):
-    """Each place's values and calm. An event is ("p", machine), privileged or not, or ("c", machine, value)."""
+    """The values and the calm that are shown at each place, and whether each event is a pass that was granted. An event is
+    ("p", machine), privileged or not, ("m", machine, left), a group's member, or ("c", machine, value). Inside a group's
+    block its beginning is shown, since the group moves at once."""
     values, calm = list(start), 0
-    places = [(values, calm)]
+    places, passed = [(values, calm)], []
     for event in events:
         i, values = event[1], list(values)
+        passed.append(event[0] != "c" and priv(values, i))
         if event[0] == "c":
             values[i], calm = event[2], 0
-        elif priv(values, i):
+        elif passed[-1]:
             values[i] = (values[0] + 1) % k if i == 0 else values[i - 1]
             calm += 1
-        places.append((values, calm))
-    return places
+        places.append(places[-1] if event[0] == "m" and event[2] > 0 else (values, calm))
+    return places, passed
 
 
 def stretches(columns):
@@ -50,10 +53,9 @@ def stretches(columns):
 
 def draw(index, k, start, events, frm, count, surveys=0):
     n, columns, bound = len(start), count + 1, 3 * len(start) * (len(start) - 1) // 2
-    places = replay(k, start, events)
+    places, passed = replay(k, start, events)
     at = lambda c: places[min(frm + c, len(events))]
-    passed = [priv(places[p][0], e[1]) for p, e in enumerate(events)]
-    granted = sum(e[0] == "p" and good for e, good in zip(events, passed))
+    granted = sum(passed)
     corrupted = sum(e[0] == "c" for e in events)
     s = f'''<svg xmlns="http://www.w3.org/2000/svg" viewBox="0 0 1000 640" font-family="sans-serif" font-size="15">
 <style>rect,path,polyline{{vector-effect:non-scaling-stroke}}</style>
@@ -123,6 +125,8 @@ def saved_ring(path, place):
             found.append([int(w) for w in words[1:]])
         elif found and words[0] == "p":
             events.append(("p", int(words[2])))
+        elif found and words[0] == "m":
+            events.append(("m", int(words[2]), int(words[4])))
         elif found and words[0] == "c":
             events.append(("c", int(words[2]), int(words[3])))
         elif found and words[0] == "s":
@@ -151,12 +155,17 @@ def passes(*machines):
     return [("p", machine) for machine in machines]
 
 
+def group(*machines):
+    return [("m", machine, len(machines) - turn) for turn, machine in enumerate(machines, 1)]
+
+
 LIBRARY = "crates/picture_tests/src/pictures.rt"
 COMMAND = "crates/command_tests/src/picture.rt"
 PICTURES = {
     (LIBRARY, "FIRST"): draw(0, 3, [0, 2, 0], passes(0, 0, 2), 0, 3),
     (LIBRARY, "REPAIR"): draw(1, 4, [0, 2, 1, 0], passes(3, 2, 3, 1, 2, 3, 0, 1, 2, 3, 0, 1), 0, 12),
     (LIBRARY, "CORRUPTED"): draw(2, 3, [0, 0, 0], passes(0) + [("c", 2, 2)] + passes(0, 2, 1), 1, 3),
+    (LIBRARY, "GROUPED"): draw(3, 4, [0, 2, 1, 0], group(1, 0, 3) + passes(2, 2), 1, 4),
     (COMMAND, "DRAWN"): draw(0, 3, [0, 2, 0], passes(0, 0, 2), 0, 3, 1),
     (COMMAND, "PART"): draw(1, 2, [0, 0], passes(0) + [("c", 1, 1)] + passes(0), 1, 1),
 }

@@ -13,14 +13,19 @@ LINES = {
     "ring": ["ring", BELOW_32, BELOW_32, BELOW_32],
     "granted": ["p", BELOW_32, BELOW_32, BELOW_64, "g", BELOW_64, BELOW_64],
     "refused": ["p", BELOW_32, BELOW_32, BELOW_64, "n"],
+    "member": ["m", BELOW_32, BELOW_32, BELOW_64, BELOW_32, BELOW_64, BELOW_64],
     "corrupted": ["c", BELOW_32, BELOW_32, BELOW_32, BELOW_32],
     "end": ["end", BELOW_64],
     "survey": ["s", BELOW_32, BELOW_64, BELOW_32, BELOW_32, BELOW_64, BELOW_64],
     "done": ["done", BELOW_32],
 }
 FOLLOWS = {"first": ["ring"], "ring": ["start"], "done": []}
-FOLLOWS.update({it: ["granted", "refused", "corrupted", "end"] for it in ("start", "granted", "refused", "corrupted")})
+FOLLOWS.update({it: ["granted", "refused", "member", "corrupted", "end"] for it in ("start", "granted", "refused", "member", "corrupted")})
 FOLLOWS.update({it: ["survey", "ring", "done"] for it in ("end", "survey")})
+
+
+# the kinds of lines that are in no text of the first version
+LATER = {"ringfarm 1": ["member"], "ringfarm 2": []}
 
 
 class NotLegal(Exception):
@@ -65,11 +70,12 @@ def lines_of(text):
     """The lines of a text with their kinds, or the refusal of bytes that are no text."""
     *whole, rest = text.split("\n")
     state, machines, found = None, 0, []
+    later = LATER.get(text.split("\n", 1)[0], [])
     for number, line in enumerate(whole, 1):
         if state is None:
             kinds = ["first"] if line in FIRST_LINES else []
         else:
-            kinds = [it for it in FOLLOWS[state] if is_line(it, line.split(" "), machines)]
+            kinds = [it for it in FOLLOWS[state] if it not in later and is_line(it, line.split(" "), machines)]
         if not kinds:
             raise NotLegal(f"line {number}: syntax")
         state = kinds[0]
@@ -79,7 +85,7 @@ def lines_of(text):
     if state is None:
         goes_on = any(it.startswith(rest) for it in FIRST_LINES)
     else:
-        goes_on = any(can_become(it, rest.split(" "), machines) for it in FOLLOWS[state])
+        goes_on = any(can_become(it, rest.split(" "), machines) for it in FOLLOWS[state] if it not in later)
     if state == "done" and rest == "":
         return found
     raise NotLegal("text is truncated" if goes_on else f"line {len(whole) + 1}: syntax")
@@ -109,27 +115,29 @@ class Block:
     def __init__(self, n, k):
         self.n, self.k, self.values = n, k, []
         self.grants = self.amount = self.calm = self.events = self.corruptions = self.surveys = 0
-        # the last survey's seat and position, and what a survey tells at each place so far
+        # the last survey's seat and position, and what a survey tells at each place so far, None inside a group's members
         self.last, self.places = (-1, 0), []
+        # the members so far of a group that is not complete: seat, order, left and machine of each
+        self.members = []
 
     def take(self, kind, numbers):
         """What is wrong with a line of this block; a right one is taken in."""
         if kind == "survey":
             return self.fault_of_survey(numbers)
         if kind == "end":
-            return None if numbers[0] == self.events else "count"
+            return "count" if numbers[0] != self.events else "group" if self.members else None
         if kind == "start":
             fault = "range" if any(it >= self.k for it in numbers) else None
             self.values = numbers
         else:
-            fault = self.fault_of_event(kind, numbers)
+            fault = self.fault_of_event(kind, numbers) or self.fault_of_group(kind, numbers)
         if not fault:
             self.do(kind, numbers)
         return fault
 
     def keep(self):
         movers = privileged(self.values)
-        self.places.append((len(movers), movers[0], self.calm, rest_of(self.values, self.k)))
+        self.places.append(None if self.members else (len(movers), movers[0], self.calm, rest_of(self.values, self.k)))
 
     def fault_of_event(self, kind, numbers):
         seat, machine = numbers[0], numbers[1]
@@ -141,15 +149,35 @@ class Block:
         if kind == "refused":
             return "reply" if may else None
         right = (self.grants + 1, min(self.amount + numbers[2], BELOW_64 - 1))
-        return None if may and right == (numbers[3], numbers[4]) else "reply"
+        return None if may and right == tuple(numbers[-2:]) else "reply"
+
+    def fault_of_group(self, kind, numbers):
+        """Whether an event stands where a group's members allow no such one."""
+        if kind != "member":
+            return "group" if self.members else None
+        seat, machine, order, left = numbers[:4]
+        if left > self.n - 2 or (self.members and (seat, order, left + 1) != self.members[-1][:3]):
+            return "group"
+        machines = [it[3] for it in self.members] + [machine]
+        left_out = [it for it in range(self.n) if it not in machines]
+        if left > 0:
+            return None
+        if not left_out:
+            return "group"
+        below = [it for it in machines if it < left_out[0]]
+        above = [it for it in machines if it > left_out[0]]
+        return None if machines == sorted(set(below), reverse=True) + sorted(set(above), reverse=True) else "group"
 
     def do(self, kind, numbers):
         machine = numbers[1]
         if kind == "corrupted":
             self.values[machine], self.calm, self.corruptions = numbers[2], 0, self.corruptions + 1
-        elif kind == "granted":
-            self.grants, self.calm, self.amount = self.grants + 1, self.calm + 1, numbers[4]
+        elif kind in ("granted", "member"):
+            self.grants, self.calm, self.amount = self.grants + 1, self.calm + 1, numbers[-1]
             self.values[machine] = (self.values[0] + 1) % self.k if machine == 0 else self.values[machine - 1]
+        if kind == "member":
+            seat, _, order, left = numbers[:4]
+            self.members = self.members + [(seat, order, left, machine)] if left > 0 else []
         self.events += kind != "start"
         self.keep()
 

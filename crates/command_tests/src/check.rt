@@ -27,6 +27,13 @@ const CORRUPTED: &str =
 /// Its sums.
 const CORRUPTED_SUMS: &str = "legal rings 2 events 3 granted 1 corrupted 2 surveys 1\n";
 
+/// A ring of which the machines 0, 1 and 3 pass as a group, and a survey behind them.
+pub const GROUPED: &str =
+    "ringfarm 2\nring 0 4 4\nstart 0 2 1 0\nm 0 1 2 2 1 2\nm 0 0 2 1 2 4\nm 0 3 2 0 3 6\nend 3\ns 0 3 3 0 3 9\ndone 1\n";
+
+/// Its sums.
+pub const GROUPED_SUMS: &str = "legal rings 1 events 3 granted 3 corrupted 0 surveys 1\n";
+
 /// What the legal text's line is.
 pub const PASSES_SUMS: &str = "legal rings 1 events 3 granted 2 corrupted 0 surveys 1\n";
 
@@ -52,21 +59,22 @@ fn a_legal_text_gives_its_sums(rt: HostRuntime) -> Result<(), Fail> {
         (PASSES, PASSES_SUMS),
         (LATER_PASSES, PASSES_SUMS),
         (CORRUPTED, CORRUPTED_SUMS),
+        (GROUPED, GROUPED_SUMS),
     ] {
         expect_check(&rt, path.as_str(), text, 0, sums, "")?;
     }
     Ok(())
 }
 
-/// Runs `check` on the legal text with one piece changed, which is refused so.
+/// Runs `check` on a legal text with one piece changed, which is refused so.
 fn expect_refused<R: Abort + AllocGlobal + Files + Threads + Wait + Sync>(
     rt: &R,
     path: &str,
-    right: &str,
-    wrong: &str,
+    whole: &str,
+    (right, wrong): (&str, &str),
     text: &str,
 ) -> Result<(), Fail> {
-    let (front, back) = PASSES.split_once(right).expect(rt, "it is a piece");
+    let (front, back) = whole.split_once(right).expect(rt, "it is a piece");
     let changed = format!(in rt.alloc(); "{front}{wrong}{back}")?;
     expect_check(rt, path, changed.as_str(), 1, "", text)
 }
@@ -97,7 +105,21 @@ fn the_first_bad_line_is_told(rt: HostRuntime) -> Result<(), Fail> {
         ),
     ];
     for (right, wrong, text) in table {
-        expect_refused(&rt, path.as_str(), right, wrong, text)?;
+        expect_refused(&rt, path.as_str(), PASSES, (right, wrong), text)?;
+    }
+    Ok(())
+}
+
+#[test]
+fn the_first_bad_line_of_a_group_is_told(rt: HostRuntime) -> Result<(), Fail> {
+    let path = path_of(&rt, "bad-group.txt")?;
+    let table = [
+        ("m 0 1 2 2 1 2", "m 0 1 2 1 1 2", "line 5: group\n"),
+        ("s 0 3 3", "s 0 2 3", "line 8: survey\n"),
+        ("ringfarm 2", "ringfarm 1", "line 4: syntax\n"),
+    ];
+    for (right, wrong, text) in table {
+        expect_refused(&rt, path.as_str(), GROUPED, (right, wrong), text)?;
     }
     Ok(())
 }
@@ -116,7 +138,7 @@ fn what_is_no_saved_text_is_told(rt: HostRuntime) -> Result<(), Fail> {
         (PASSES, "ringfarm 1\ndone 0\n", "line 2: syntax\n"),
     ];
     for (right, wrong, text) in table {
-        expect_refused(&rt, path.as_str(), right, wrong, text)?;
+        expect_refused(&rt, path.as_str(), PASSES, (right, wrong), text)?;
     }
     Ok(())
 }

@@ -54,6 +54,7 @@ fn each_fault_has_its_line(rt: HostRuntime) {
         (ToolError::Bad(4, Kind::Reply), 1, "line 4: reply\n"),
         (ToolError::Bad(5, Kind::Count), 1, "line 5: count\n"),
         (ToolError::Bad(6, Kind::Survey), 1, "line 6: survey\n"),
+        (ToolError::Bad(7, Kind::Group), 1, "line 7: group\n"),
         (ToolError::Read("in.txt"), 1, "cannot read in.txt\n"),
         (ToolError::TooLarge("in.txt"), 1, "in.txt is too large\n"),
         (ToolError::Save("out.txt"), 1, "cannot write out.txt\n"),

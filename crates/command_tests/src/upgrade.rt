@@ -1,6 +1,6 @@
 //! `upgrade`: the text of the latest version, each refusal, and when the new file is made.
 
-use crate::check::{LATER_PASSES, PASSES, PASSES_SUMS};
+use crate::check::{GROUPED, GROUPED_SUMS, LATER_PASSES, PASSES, PASSES_SUMS};
 use crate::paper::{expect, expect_cut};
 use crate::places::path_of;
 use std::fs;
@@ -15,13 +15,12 @@ fn expect_upgrade<R: Abort + AllocGlobal + Files + Threads + Wait + Sync>(
     rt: &R,
     file: &str,
     new: &str,
-    text: &str,
     before: &str,
-    after: &str,
+    (text, sums, after): (&str, &str, &str),
 ) -> Result<(), Fail> {
     fs::write(rt, file, text)?;
     fs::write(rt, new, before)?;
-    expect(rt, &["upgrade", file, new], 0, PASSES_SUMS, "")?;
+    expect(rt, &["upgrade", file, new], 0, sums, "")?;
     let made = fs::read_to_string(rt, new)?;
     assert_eq!(rt; made.as_str(), after);
     Ok(())
@@ -35,8 +34,12 @@ fn a_text_of_either_version_is_upgraded(rt: HostRuntime) -> Result<(), Fail> {
     assert_eq!(rt; (PASSES.len(), LATER_PASSES.len()), (99, 99));
     let long = "x".repeat(rt.alloc(), 1000)?;
     for before in ["", long.as_str()] {
-        for text in [PASSES, LATER_PASSES] {
-            expect_upgrade(&rt, file, new, text, before, LATER_PASSES)?;
+        for upgrade in [
+            (PASSES, PASSES_SUMS, LATER_PASSES),
+            (LATER_PASSES, PASSES_SUMS, LATER_PASSES),
+            (GROUPED, GROUPED_SUMS, GROUPED),
+        ] {
+            expect_upgrade(&rt, file, new, before, upgrade)?;
         }
     }
     fs::remove_file(&rt, file)?;

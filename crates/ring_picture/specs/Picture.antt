@@ -1,9 +1,10 @@
 -- The picture of a ring's history, as a plain function of a block (this project's own).
-use Rattle.std.specs.Prelude.{ℕ, ◌+◌, ◌-◌, ◌*◌, Bool, true, false, cond, List, [], ◌++◌, Option, Some, None, map, take, length, slice_get, codes, decimal}
+use Rattle.std.specs.Prelude.{ℕ, zero, suc, ◌+◌, ◌-◌, ◌*◌, nat_lt, Bool, true, false, cond, List, [], ◌++◌, Option, Some, None, map, take, length, slice_get, codes, decimal}
 use Rattle.std.specs.List.{flat_map}
 use Rattle.ring_model.specs.Ring.{Ring, ring_with, is_privileged, moved, written, rest, bound}
 use Rattle.ring_model.specs.declared.events.Op.{Op}
 use Rattle.ring_model.specs.declared.events.Op.TheVariants.{Pass, Member, Corrupt}
+use Rattle.ring_model.specs.Groups.{left_after}
 use Rattle.ring_model.specs.History.{after}
 use Rattle.ring_model.specs.Resources.{till}
 use Rattle.ring_model.specs.Surveys.{calm, granted_count, corrupted_count}
@@ -32,16 +33,28 @@ ring_at b place = (after till (first_state (ring_with b.k b.start)) (map event_o
 abbrev pub calm_at : Block → ℕ → ℕ
 calm_at b place = calm (map event_of (take place b.events))
 
+-- the place that is shown for a place: itself, or, where that is inside a group's block, the place before the block, since a group moves at once
+abbrev pub shown : Block → ℕ → ℕ
+shown b zero = 0
+shown b (suc place) = cond (nat_lt 0 (left_after (take (suc place) (history b)))) (shown b place) (suc place)
+
+-- the ring and the calm that are shown for a place
+abbrev pub ring_shown : Block → ℕ → Ring
+ring_shown b place = ring_at b (shown b place)
+
+abbrev pub calm_shown : Block → ℕ → ℕ
+calm_shown b place = calm_at b (shown b place)
+
 -- whether a machine is privileged in a column: behind the events before the first one drawn and so many more
 abbrev pub privileged_in : Block → ℕ → ℕ → ℕ → Bool
-privileged_in b from machine column = is_privileged (ring_at b (from + column)).values machine
+privileged_in b from machine column = is_privileged (ring_shown b (from + column)).values machine
 
 -- the rest and the calm in a column
 abbrev pub rest_in : Block → ℕ → ℕ → ℕ
-rest_in b from column = rest (ring_at b (from + column))
+rest_in b from column = rest (ring_shown b (from + column))
 
 abbrev pub calm_in : Block → ℕ → ℕ → ℕ
-calm_in b from column = calm_at b (from + column)
+calm_in b from column = calm_shown b (from + column)
 
 -- ---- the machines: each has a row of 4 units
 

@@ -5,8 +5,9 @@ ghost use Rattle.ring_model.specs.Ring.{ring_with};
 ghost use Rattle.ring_text.specs.Content.{block_of};
 ghost use Rattle.ring_check.specs.Table.{event_of};
 ghost use Rattle.ring_model.proofs.Histories.{calm_next};
-ghost use Rattle.ring_picture.specs.Picture.{passed, next_ring, ring_at, calm_at};
+ghost use Rattle.ring_picture.specs.Picture.{passed, next_ring, ring_at, calm_at, shown, ring_shown, calm_shown};
 
+use crate::groups::{left_before, shown};
 use ring_model::plain::is_privileged;
 use ring_text::{SavedEvent, SavedRing};
 use std::alloc::{AllocError, Global};
@@ -53,7 +54,7 @@ fn call(k: u32, event: SavedEvent, values: &mut Vec<u32>)
 }
 
 /// Goes one event further; behind the last one the ring stays as it is.
-pub(crate) fn go_on(ring: &SavedRing, place: usize, values: &mut Vec<u32>)
+fn step_on(ring: &SavedRing, place: usize, values: &mut Vec<u32>)
     requires some { 0 < ring.now.k }
     requires ring { ring_with ring.now.k values.old.items ≡ ring_at (block_of ring.now) place }
     ensures ring { ring_with ring.now.k values.new.items ≡ ring_at (block_of ring.now) (place + 1) }
@@ -64,12 +65,29 @@ pub(crate) fn go_on(ring: &SavedRing, place: usize, values: &mut Vec<u32>)
     }
 }
 
+/// Goes one place further, as places are shown: inside a group's block the ring stays as it is, and at the block's end
+/// all its members move.
+pub(crate) fn go_on(ring: &SavedRing, place: usize, values: &mut Vec<u32>)
+    requires some { 0 < ring.now.k }
+    requires room { place + 1 < 2 ^ 63 }
+    requires ring { ring_with ring.now.k values.old.items ≡ ring_shown (block_of ring.now) place }
+    ensures ring { ring_with ring.now.k values.new.items ≡ ring_shown (block_of ring.now) (place + 1) }
+    ensures len { vec_len values.new ≡ vec_len values.old }
+{
+    if left_before(ring, place + 1) == 0 {
+        for i in shown(ring, place)..place + 1 {
+            step_on(ring, i, values);
+        }
+    }
+}
+
 /// Goes on from the start to a place.
 fn go_to(ring: &SavedRing, place: usize, values: &mut Vec<u32>)
     requires some { 0 < ring.now.k }
     requires start { values.old.items ≡ ring.now.start.items }
     requires len { vec_len values.old ≡ vec_len ring.now.start }
-    ensures ring { ring_with ring.now.k values.new.items ≡ ring_at (block_of ring.now) place }
+    requires room { place < 2 ^ 63 }
+    ensures ring { ring_with ring.now.k values.new.items ≡ ring_shown (block_of ring.now) place }
     ensures len { vec_len values.new ≡ vec_len ring.now.start }
 {
     for i in 0..place {
@@ -77,14 +95,15 @@ fn go_to(ring: &SavedRing, place: usize, values: &mut Vec<u32>)
     }
 }
 
-/// The values of a ring's machines behind its first so many events.
+/// The values of a ring's machines that are shown behind its first so many events.
 pub(crate) fn values_at(
     alloc: Global,
     ring: &SavedRing,
     place: usize,
 ) -> Result<Vec<u32>, AllocError>
-    requires { 0 < ring.now.k }
-    ensures ring { IfOk result (λ values. ring_with ring.now.k values.items ≡ ring_at (block_of ring.now) place) }
+    requires some { 0 < ring.now.k }
+    requires room { place < 2 ^ 63 }
+    ensures ring { IfOk result (λ values. ring_with ring.now.k values.items ≡ ring_shown (block_of ring.now) place) }
     ensures len { IfOk result (λ values. vec_len values ≡ ring.now.n) }
 {
     let mut values = Vec::from_slice(alloc, &ring.start)?;
@@ -106,8 +125,8 @@ fn calm_after(calm: u64, event: SavedEvent) -> u64
     }
 }
 
-/// The calm one place further; behind the last event it stays as it is.
-pub(crate) fn calm_on(ring: &SavedRing, place: usize, calm: u64) -> u64
+/// The calm one event further; behind the last one it stays as it is.
+fn calm_step(ring: &SavedRing, place: usize, calm: u64) -> u64
     requires calm { calm ≡ calm_at (block_of ring.now) place }
     requires few { calm ≤ place }
     requires room { place + 1 < 2 ^ 63 }
@@ -121,11 +140,29 @@ pub(crate) fn calm_on(ring: &SavedRing, place: usize, calm: u64) -> u64
     }
 }
 
-/// The calm at a place.
+/// The calm one place further, as places are shown: inside a group's block it stays as it is, and at the block's end
+/// it grows by all its members.
+pub(crate) fn calm_on(ring: &SavedRing, place: usize, calm: u64) -> u64
+    requires calm { calm ≡ calm_shown (block_of ring.now) place }
+    requires few { calm ≤ shown (block_of ring.now) place }
+    requires room { place + 1 < 2 ^ 63 }
+    ensures calm { result ≡ calm_shown (block_of ring.now) (place + 1) }
+    ensures few { result ≤ shown (block_of ring.now) (place + 1) }
+{
+    let mut after = calm;
+    if left_before(ring, place + 1) == 0 {
+        for i in shown(ring, place)..place + 1 {
+            after = calm_step(ring, i, after);
+        }
+    }
+    after
+}
+
+/// The calm that is shown for a place.
 pub(crate) fn calm_to(ring: &SavedRing, place: usize) -> u64
     requires { place < 2 ^ 63 }
-    ensures calm { result ≡ calm_at (block_of ring.now) place }
-    ensures few { result ≤ place }
+    ensures calm { result ≡ calm_shown (block_of ring.now) place }
+    ensures few { result ≤ shown (block_of ring.now) place }
 {
     let mut calm = 0;
     for i in 0..place {

@@ -5,7 +5,7 @@ ghost use Rattle.text_lines.specs.Writing.{Writes};
 ghost use Rattle.ring_model.specs.Limits.{machine_limit};
 ghost use Rattle.ring_model.specs.Ring.{ring_with};
 ghost use Rattle.ring_text.specs.Content.{block_of};
-ghost use Rattle.ring_picture.specs.Picture.{ring_at, point, rest_points, calm_points};
+ghost use Rattle.ring_picture.specs.Picture.{ring_shown, point, rest_points, calm_points};
 
 use crate::columns::{calm_on, calm_to, go_on};
 use itoa::Buffer;
@@ -35,7 +35,7 @@ pub(crate) fn put_rests<W: Write>(
     requires some { 0 < ring.now.k }
     requires one { 1 ≤ vec_len values.old }
     requires few { vec_len values.old ≤ machine_limit }
-    requires ring { ring_with ring.now.k values.old.items ≡ ring_at (block_of ring.now) from }
+    requires ring { ring_with ring.now.k values.old.items ≡ ring_shown (block_of ring.now) from }
     requires room { from + columns < 2 ^ 63 }
     ensures { Writes (W.contents out.old) (W.contents out.new) result (rest_points (block_of ring.now) from columns) }
 {

@@ -3,11 +3,14 @@
 //! `specs/Picture.antt` spells it. Time goes to the right, a column for each place of the history that is drawn; each
 //! machine has a row with a rectangle for each stretch of columns in which it is privileged by the definition, and a mark
 //! for each corruption and each refused pass. Below stand the curves of the rest and of the calm, one point for each column.
+//! A group moves at once: the columns inside its block show what was before it, and the one behind it what all its members
+//! have made of that.
 #![tactic(auto)]
 
 mod columns;
 mod curves;
 mod frame;
+mod groups;
 mod laws;
 mod marks;
 mod picture;

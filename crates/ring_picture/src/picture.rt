@@ -6,7 +6,7 @@ ghost use Rattle.text_lines.specs.Writing.{Wrote, Writes};
 ghost use Rattle.ring_model.specs.Limits.{machine_limit};
 ghost use Rattle.ring_model.specs.Ring.{ring_with, bound};
 ghost use Rattle.ring_text.specs.Content.{block_of};
-ghost use Rattle.ring_picture.specs.Picture.{ring_at, upper_part, marks_part, lower_part, picture};
+ghost use Rattle.ring_picture.specs.Picture.{ring_shown, upper_part, marks_part, lower_part, picture};
 
 use crate::columns::{bring_back, values_at};
 use crate::curves::{put_calms, put_rests};
@@ -40,7 +40,7 @@ fn put_upper<W: Write>(
     requires few { ring.now.n ≤ machine_limit }
     requires same { length base.now ≡ ring.now.n }
     requires len { vec_len values.old ≡ ring.now.n }
-    requires ring { ring_with ring.now.k base.now ≡ ring_at (block_of ring.now) from }
+    requires ring { ring_with ring.now.k base.now ≡ ring_shown (block_of ring.now) from }
     requires columns { count + 1 < 2 ^ 32 }
     requires room { from + count + 1 < 2 ^ 63 }
     ensures text { Writes (W.contents out.old) (W.contents out.new) result (upper_part (block_of ring.now) from count) }
@@ -86,7 +86,7 @@ fn put_lower<W: Write>(
     requires some { 0 < ring.now.k }
     requires few { ring.now.n ≤ machine_limit }
     requires len { vec_len values.old ≡ ring.now.n }
-    requires ring { ring_with ring.now.k values.old.items ≡ ring_at (block_of ring.now) from }
+    requires ring { ring_with ring.now.k values.old.items ≡ ring_shown (block_of ring.now) from }
     requires room { from + columns < 2 ^ 63 }
     ensures { Writes (W.contents out.old) (W.contents out.new) result (lower_part (block_of ring.now) from columns) }
 {
@@ -116,7 +116,7 @@ fn put_picture<W: Write>(
     requires few { ring.now.n ≤ machine_limit }
     requires same { length base.now ≡ ring.now.n }
     requires len { vec_len values.old ≡ ring.now.n }
-    requires ring { ring_with ring.now.k base.now ≡ ring_at (block_of ring.now) from }
+    requires ring { ring_with ring.now.k base.now ≡ ring_shown (block_of ring.now) from }
     requires columns { count + 1 < 2 ^ 32 }
     requires room { from + count + 1 < 2 ^ 63 }
     ensures { Writes (W.contents out.old) (W.contents out.new) result (picture (block_of ring.now) from count) }

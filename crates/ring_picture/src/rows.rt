@@ -8,7 +8,7 @@ ghost use Rattle.ring_model.specs.Ring.{ring_with};
 ghost use Rattle.ring_model.specs.Limits.{machine_limit};
 ghost use Rattle.ring_text.specs.Content.{block_of};
 ghost use Rattle.ring_picture.specs.Stretches.{run_from, ended_from, begin_after};
-ghost use Rattle.ring_picture.specs.Picture.{ring_at, rectangle, row_text, rows_text};
+ghost use Rattle.ring_picture.specs.Picture.{ring_shown, rectangle, row_text, rows_text};
 
 use crate::columns::{bring_back, go_on};
 use itoa::Buffer;
@@ -98,7 +98,7 @@ fn put_row<W: Write>(
     requires some { 0 < ring.now.k }
     requires few { machine < machine_limit }
     requires within { machine < vec_len values.old }
-    requires ring { ring_with ring.now.k values.old.items ≡ ring_at (block_of ring.now) from }
+    requires ring { ring_with ring.now.k values.old.items ≡ ring_shown (block_of ring.now) from }
     requires room { from + columns < 2 ^ 63 }
     ensures text { Writes (W.contents out.old) (W.contents out.new) result (row_text (block_of ring.now) from columns machine) }
     ensures len { vec_len values.new ≡ vec_len values.old }
@@ -129,7 +129,7 @@ pub(crate) fn put_rows<W: Write>(
     requires few { ring.now.n ≤ machine_limit }
     requires same { length base.now ≡ ring.now.n }
     requires len { vec_len values.old ≡ ring.now.n }
-    requires ring { ring_with ring.now.k base.now ≡ ring_at (block_of ring.now) from }
+    requires ring { ring_with ring.now.k base.now ≡ ring_shown (block_of ring.now) from }
     requires room { from + columns < 2 ^ 63 }
     ensures text { Writes (W.contents out.old) (W.contents out.new) result (rows_text (block_of ring.now) from columns) }
     ensures len { vec_len values.new ≡ ring.now.n }

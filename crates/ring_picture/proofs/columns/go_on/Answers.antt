@@ -1,20 +1,22 @@
-use Rattle.std.proofs.Common.{◌≡◌, ◌<◌, ◌≤◌, ◌∙◌, length, get_or, ap, arith, rules}
-use Rattle.ring_model.specs.Ring.{ring_with}
-use Rattle.ring_text.specs.declared.saved.SavedEvent.{SavedEvent}
-use Rattle.ring_check.specs.Table.{event_of}
-use Rattle.ring_picture.specs.Picture.{next_ring}
+use Rattle.std.proofs.Common.{◌≡◌, ◌+◌, ◌<◌, ◌∙◌, take, refl, sym, ap, arith}
+use Rattle.ring_model.specs.Groups.{left_after}
 use Rattle.ring_text.specs.Content.{block_of}
-use Rattle.ring_picture.proofs.Places.{ring_more, ring_stays}
+use Rattle.ring_check.specs.Legal.{history}
+use Rattle.ring_picture.specs.Picture.{ring_at}
+use Rattle.ring_picture.proofs.Shown.{shown_here, shown_before}
 use Rattle.ring_picture.proofs.columns.go_on.Goals as goal
 
-pub returns-then-place-len-clause-ring : goal.returns-then-place-len-clause-ring
-returns-then-place-len-clause-ring c =
-    let lt : c.args.place < length c.args.ring.now.events.items = omega (arith, c.len.ensures, c.if-place-len.true) in
-    let is : c.index.result.now ≡ get_or c.args.ring.now.events.items c.args.place c.index.result.now = search rules in
-    let on = c.call.ensures.ring ∙ ap (λ (e : SavedEvent). next_ring (ring_with c.args.ring.now.k c.args.values.now.items) (event_of e).op) is in
-    ring_more (block_of c.args.ring.now) c.args.place c.index.result.now _ _ lt c.requires.ring on
+pub loop-i-init : goal.loop-i-init
+loop-i-init c = record { ring = c.requires.ring ∙ ap (ring_at (block_of c.args.ring.now)) (sym c.shown-i.ensures.value); len = refl }
 
-pub returns-else-place-len-clause-ring : goal.returns-else-place-len-clause-ring
-returns-else-place-len-clause-ring c =
-    let le : length c.args.ring.now.events.items ≤ c.args.place = omega (arith, c.len.ensures, c.if-place-len.false) in
-    c.requires.ring ∙ ring_stays (block_of c.args.ring.now) c.args.place le
+pub returns-after-loop-i-clause-ring : goal.returns-after-loop-i-clause-ring
+returns-after-loop-i-clause-ring c =
+    let b = block_of c.args.ring.now in
+    let end : c.loop-i.i ≡ c.args.place + 1 = omega (arith, c.loop-i-test.false, c.loop-i.auto.i-end, c.shown-i.ensures.few) in
+    c.loop-i.invariant.ring ∙ ap (ring_at b) (end ∙ sym (shown_here b (c.args.place + 1) (sym c.left_before.ensures ∙ c.if-left_before-eq0.true)))
+
+pub returns-else-left_before-eq0-clause-ring : goal.returns-else-left_before-eq0-clause-ring
+returns-else-left_before-eq0-clause-ring c =
+    let b = block_of c.args.ring.now in
+    let inside : 0 < left_after (take (c.args.place + 1) (history b)) = omega (arith, c.left_before.ensures, c.if-left_before-eq0.false) in
+    c.requires.ring ∙ ap (ring_at b) (sym (shown_before b c.args.place (c.args.place + 1) refl inside))

@@ -2,7 +2,7 @@ use Rattle.std.proofs.Common.{◌≡◌, ◌+◌, ◌∙◌, List, ℕ, Ok, Err,
 use Rattle.text_lines.proofs.Writing.{writes_same}
 use Rattle.ring_model.specs.Ring.{Ring, ring_with, rest}
 use Rattle.ring_text.specs.Content.{block_of}
-use Rattle.ring_picture.specs.Picture.{ring_at, rest_in, point}
+use Rattle.ring_picture.specs.Picture.{ring_shown, rest_in, point}
 use Rattle.ring_picture.proofs.Texts.{piece_more, piece_fault}
 use Rattle.ring_picture.proofs.curves.put_rests.Goals as goal
 
@@ -20,7 +20,7 @@ loop-column-preserved g c =
     let piece = writes_same _ _ (Ok c.in-Ok.field-0) _ _ (ap (point c.loop-column.column) here) c.in-Ok.ensures in
     let further : c.args.from + c.loop-column.column + 1 ≡ c.args.from + (c.loop-column.column + 1) = omega arith in
     record {
-      ring = c.go_on.ensures.ring ∙ ap (ring_at (block_of c.args.ring.now)) further;
+      ring = c.go_on.ensures.ring ∙ ap (ring_shown (block_of c.args.ring.now)) further;
       len = c.go_on.ensures.len ∙ c.loop-column.invariant.len;
       text = piece_more (λ x. point x (rest_in (block_of c.args.ring.now) c.args.from x)) c.loop-column.column _ _ _ c.loop-column.invariant.text piece;
     }

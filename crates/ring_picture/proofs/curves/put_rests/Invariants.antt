@@ -4,12 +4,12 @@ use Rattle.std.specs.Io.KnownBytes.{Appends}
 use Rattle.ring_model.specs.Ring.{ring_with}
 use Rattle.ring_text.specs.Content.{block_of}
 use Rattle.ring_picture.specs.Stretches.{pieces}
-use Rattle.ring_picture.specs.Picture.{ring_at, point, rest_in}
+use Rattle.ring_picture.specs.Picture.{ring_shown, point, rest_in}
 use Rattle.ring_picture.proofs.curves.put_rests.Given as goal
 
 abbrev pub invariant-loop-column : goal.invariant-loop-column
 invariant-loop-column g l = record {
-  ring : ring_with l.ring.k l.values.items ≡ ring_at (block_of l.ring) (l.from + l.column);
+  ring : ring_with l.ring.k l.values.items ≡ ring_shown (block_of l.ring) (l.from + l.column);
   len : vec_len l.values ≡ vec_len l.initial.values;
   text : Appends (g.W.Write.contents l.initial.out) (g.W.Write.contents l.out) (pieces (λ c. point c (rest_in (block_of l.ring) l.from c)) l.column);
 }

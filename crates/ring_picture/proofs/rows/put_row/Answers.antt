@@ -2,7 +2,7 @@ use Rattle.std.proofs.Common.{◌≡◌, ◌+◌, ◌∙◌, Bool, List, ℕ, Ok
 use Rattle.text_lines.proofs.Writing.{writes_same}
 use Rattle.ring_model.specs.Ring.{Ring, is_privileged}
 use Rattle.ring_text.specs.Content.{block_of}
-use Rattle.ring_picture.specs.Picture.{ring_at, privileged_in, rectangle}
+use Rattle.ring_picture.specs.Picture.{ring_shown, privileged_in, rectangle}
 use Rattle.ring_picture.proofs.Texts.{piece_more, ended_same, begin_more, begin_within, row_fault, row_end}
 use Rattle.ring_picture.proofs.rows.put_row.Goals as goal
 
@@ -24,7 +24,7 @@ loop-column-preserved g c =
     record {
       begin = begin_more (rectangle c.args.machine) p c.loop-column.column c.loop-column.begin _ _ c.loop-column.invariant.begin here c.next_begin-begin.ensures;
       order = begin_within c.loop-column.begin c.loop-column.column _ _ c.loop-column.invariant.order c.next_begin-begin.ensures;
-      ring = c.go_on.ensures.ring ∙ ap (ring_at (block_of c.args.ring.now)) further;
+      ring = c.go_on.ensures.ring ∙ ap (ring_shown (block_of c.args.ring.now)) further;
       len = c.go_on.ensures.len ∙ c.loop-column.invariant.len;
       text = piece_more _ c.loop-column.column _ _ _ c.loop-column.invariant.text piece;
     }
