@@ -1,5 +1,5 @@
-//! A ring on one thread, with its history: each call is one event, and every number that the book reports
-//! is a function of its events.
+//! A ring on one thread, with its history: each call is one event, a group pass one for each of its machines, and
+//! every number that the book reports is a function of its events.
 #![tactic(auto)]
 
 mod books;

@@ -29,7 +29,7 @@ pub fn lines_law()
     ensures read { LinesOfMemoryAreFew }
 {}
 
-/// The saved text of an outcome is legal, where each ring's history is legal from its start over the till with the amount 0,
+/// The saved text of an outcome is legal, where each ring's history is legal from its start over the till with the amount 0 and whole,
 /// n and K are within their limits, each event's seat is that of a log, and its logs, at most `SEAT_LIMIT`, stand by number
 /// and fit the history. It needs neither a limit of the rings nor one of the events. The second clause says the same in the subject's words.
 pub fn written_law()

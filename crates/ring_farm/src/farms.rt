@@ -133,7 +133,7 @@ pub fn run_rings<G: Gate + Sync, W: Threads + Wait + Sync>(
 /// the last corruption, exactly one machine is privileged, and grants go round the ring until the next one.
 /// The record `IsFarmOf` says it part by part: that there is one outcome for each ring of the settings (`count`), and
 /// of each (`IsFarmRing`): `one_history`, `calls` and `logs` by the plans, `right` receipts and surveys, `repaired`,
-/// `turns`, the `size` of the settings, the laws of `settlement` from every place, and as many `receipts` as calls.
+/// `turns`, the `size` of the settings, the laws of `settlement` from every place, as many `receipts` as calls, and every call `alone`, no member of a group.
 ///
 /// # Errors
 ///

@@ -50,13 +50,13 @@ StepOf w a _ _ b = ⊥
 abbrev pub Step : {C : Type 0} → Works C → State C → Event → State C → Type 0
 Step w a e b = StepOf w a e.op e.reply b
 
--- the state after a call, whoever makes it: that of the only step with this call
+-- the state after a call, whoever makes it: that of the only step with this call, where there is one
 abbrev pub next : {C : Type 0} → Works C → State C → Op → State C
 next w a (Pass i order) = cond (is_privileged a.ring.values i) (granted_state w a i order) a
 next w a (Member i order left) = cond (is_privileged a.ring.values i) (granted_state w a i order) a
 next w a (Corrupt i v) = corrupted_state a i v
 
--- the reply to a call: that of the only step with this call
+-- the reply to a call: that of the only step with this call, where there is one
 abbrev pub reply : {C : Type 0} → Works C → State C → Op → Reply
 reply w a (Pass i order) = cond (is_privileged a.ring.values i) (Granted (a.grants + 1) (w.answer a.content i order)) NotPrivileged
 reply w a (Member i order left) = cond (is_privileged a.ring.values i) (Granted (a.grants + 1) (w.answer a.content i order)) NotPrivileged

@@ -25,7 +25,7 @@ use std::sync::Wait;
 /// list, and the writer that shows it.
 ///
 /// Contracts see the book. Whenever the lock is free, the book's start and its resource's first content are
-/// the ring's, its history is legal from them, each event's seat is one of the ring's, and what the writer
+/// the ring's, its history is legal from them and whole, each event's seat is one of the ring's, and what the writer
 /// shows is the book's history. It is not `Drop`, since a writer is not.
 pub struct Locked<N: Name, R: Resource + Drop>
 where

@@ -115,7 +115,7 @@ impl<N: Name, R: Resource + Drop> OpenFault<N, R> {
 
 /// A ring that threads share. It ends by `close`, and by nothing else.
 ///
-/// A pass or a corruption waits for the lock; what it then does is one critical section. A survey and a
+/// A pass, a group pass or a corruption waits for the lock; what it then does is one critical section. A survey and a
 /// glance wait for nobody.
 pub struct Ring<N: Name, R: Resource + Drop> {
     pub(crate) shared: Mutex<Locked<N, R>>,

@@ -166,7 +166,7 @@ impl<N: Name> Seat<N> {
     }
 
     /// Takes memory for `more` entries of the log, and answers how many it then has room for: as many calls and
-    /// surveys ask for no memory for the log. The number, the log and what was seen stay, also after a refusal.
+    /// surveys ask for no memory for the log, where a group counts once for each machine. The number, the log and what was seen stay, also after a refusal.
     ///
     /// # Errors
     ///

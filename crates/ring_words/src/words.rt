@@ -63,7 +63,7 @@ const CHECK_ABOUT: &str = "Checks a saved history, line by line";
 const CHECK_HELP: &str = "\
 It replays each ring of the file on one thread, and trusts nothing that the file says. Where each event, each
 survey and each count is right it prints the sums over all rings. Else it says which line is the first bad one,
-and why: `parameter`, `range`, `reply`, `count`, `survey`, or `syntax` where the file is no saved history.
+and why: `parameter`, `range`, `reply`, `count`, `survey`, `group`, or `syntax` where the file is no saved history.
 
 Example:
   $ ring_tool check saved.txt

@@ -87,7 +87,8 @@ impl<R: Resource + Drop> Book<R> {
         Ok(Receipt { position, event })
     }
 
-    /// Takes memory for `more` events, so that as many passes and corruptions take none and are not refused.
+    /// Takes memory for `more` events, so that as many passes, corruptions and members of groups take none and are
+    /// not refused for want of room.
     ///
     /// # Errors
     ///

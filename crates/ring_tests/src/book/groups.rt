@@ -46,8 +46,8 @@ fn check_refused<R: Resource + Drop>(
     }
 }
 
-/// The events from this place on are members of seat 0, of one order, by these machines, with the numbers from `number` on
-/// and the answers that a till gives that begins with nothing.
+/// The events from this place on are members of seat 0, of one order, by these machines, with the numbers from 1 on and the
+/// answers that a till gives that begins with nothing.
 fn check_block(rt: &impl Abort, events: &[Event], machines: &[u32], order: u64)
     requires { length machines.now ≤ 1024 }
 {
