@@ -1,34 +1,38 @@
--- What fits in one version of the saved text fits in each other one, so far.
+-- What fits in some version of the saved text fits in the latest one.
 use Rattle.std.proofs.Common.{ℕ, List, [], ◌∷◌, rules}
 use Rattle.std.specs.List.{AllByRecursion}
 use Rattle.ring_text.specs.declared.saved.SavedEvent.{SavedEvent}
-use Rattle.ring_text.specs.declared.saved.SavedEvent.TheVariants.{Granted, Refused, Corrupted}
+use Rattle.ring_text.specs.declared.saved.SavedEvent.TheVariants.{Granted, Refused, Member, Corrupted}
 use Rattle.ring_text.specs.Content.{Block, Content, upgraded}
 use Rattle.ring_text.specs.Spelling.{EventFits, BlockFits, Fits}
-use Rattle.ring_text.specs.Versions.{IsVersion, latest_version}
+use Rattle.ring_text.specs.Versions.{IsVersion, HasGroups, latest_version}
 
-event_fits : (v w : ℕ) (e : SavedEvent) → EventFits v e → EventFits w e
-event_fits v w (Granted seat machine order number answer) fits = fits
-event_fits v w (Refused seat machine order) fits = fits
-event_fits v w (Corrupted seat machine value old) fits = fits
+groups : HasGroups latest_version
+groups = search rules
 
-events_fit : (v w : ℕ) (es : List SavedEvent) → AllByRecursion (EventFits v) es → AllByRecursion (EventFits w) es
-events_fit v w [] all = all
-events_fit v w (e ∷ es) all = (event_fits v w e all.0, events_fit v w es all.1)
+event_fits : (v : ℕ) (e : SavedEvent) → EventFits v e → EventFits latest_version e
+event_fits v (Granted seat machine order number answer) fits = fits
+event_fits v (Refused seat machine order) fits = fits
+event_fits v (Member seat machine order left number answer) fits = (groups, fits.1, fits.2, fits.3, fits.4, fits.5, fits.6)
+event_fits v (Corrupted seat machine value old) fits = fits
 
-block_fits : (v w : ℕ) (b : Block) → BlockFits v b → BlockFits w b
-block_fits v w b fits = record {
+events_fit : (v : ℕ) (es : List SavedEvent) → AllByRecursion (EventFits v) es → AllByRecursion (EventFits latest_version) es
+events_fit v [] all = all
+events_fit v (e ∷ es) all = (event_fits v e all.0, events_fit v es all.1)
+
+block_fits : (v : ℕ) (b : Block) → BlockFits v b → BlockFits latest_version b
+block_fits v b fits = record {
   head = fits.head;
   start = fits.start;
   values = fits.values;
-  events = events_fit v w b.events fits.events;
+  events = events_fit v b.events fits.events;
   events_said = fits.events_said;
   surveys = fits.surveys;
 }
 
-blocks_fit : (v w : ℕ) (bs : List Block) → AllByRecursion (BlockFits v) bs → AllByRecursion (BlockFits w) bs
-blocks_fit v w [] all = all
-blocks_fit v w (b ∷ bs) all = (block_fits v w b all.0, blocks_fit v w bs all.1)
+blocks_fit : (v : ℕ) (bs : List Block) → AllByRecursion (BlockFits v) bs → AllByRecursion (BlockFits latest_version) bs
+blocks_fit v [] all = all
+blocks_fit v (b ∷ bs) all = (block_fits v b all.0, blocks_fit v bs all.1)
 
 latest : IsVersion latest_version
 latest = search rules
@@ -37,6 +41,6 @@ pub upgraded_fits : (s : Content) → Fits s → Fits (upgraded s)
 upgraded_fits s fits = record {
   version = latest;
   some = fits.some;
-  rings = blocks_fit s.version latest_version s.rings fits.rings;
+  rings = blocks_fit s.version s.rings fits.rings;
   rings_said = fits.rings_said;
 }
