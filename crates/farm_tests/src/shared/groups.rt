@@ -93,8 +93,9 @@ fn refuses<N: Name, W: Wait + Abort>(
     let mut seat = seat;
     let logged = seat.log().len();
     let before = ring.glance(&mut seat);
-    for (group, error) in scene {
-        assert_eq!(rt; passed(rt, ring, &mut seat, *group), Err(*error));
+    for case in scene {
+        let (group, error) = *case;
+        assert_eq!(rt; passed(rt, ring, &mut seat, group), Err(error));
         assert_eq!(rt; seat.log().len(), logged);
         assert_eq!(rt; ring.glance(&mut seat), before);
     }
