@@ -1,6 +1,7 @@
 //! Two seats of one ring, by its calls and its close.
 
 mod calls;
+mod groups;
 mod readers;
 mod threads;
 mod watched;
@@ -56,11 +57,13 @@ fn start_of(script: Script) -> &'static [u32] {
 
 /// A book over a till that starts with these values, as many as K.
 fn book_of(rt: &impl Abort, alloc: Global, start: &[u32]) -> Book<Till>
+    ensures size { length result.start.values ≡ length start.now }
     ensures machines { 2 ≤ length result.start.values }
     ensures values { 2 ≤ result.start.k }
+    ensures many { length start.now ≤ result.start.k }
     ensures empty { result.history ≡ [] }
 {
-    assert!(rt; start.len() == 2 || start.len() == 3);
+    assert!(rt; start.len() >= 2 && start.len() <= 4);
     let Ok(params) = Params::new(start.len() as u32, start.len() as u32) else {
         panic!(rt; "the size is allowed");
     };

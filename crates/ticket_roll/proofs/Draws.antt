@@ -3,9 +3,9 @@ use Rattle.std.proofs.Common.{◌≡◌, ℕ, ◌+◌, ◌≤◌, Bool, true, fa
 use Rattle.std.specs.Prelude.{count_by}
 use Rattle.std.proofs.lemmas.Bool.Decides.{nat_tests}
 use Rattle.ring_model.specs.Numbers.{bit}
-use Rattle.ring_model.specs.History.{State, StepOf, next, after, IsLegal}
+use Rattle.ring_model.specs.History.{State, IsGrant, StepOf, next, after, IsLegal}
 use Rattle.ring_model.specs.declared.events.Op.{Op}
-use Rattle.ring_model.specs.declared.events.Op.TheVariants.{Pass, Corrupt}
+use Rattle.ring_model.specs.declared.events.Op.TheVariants.{Pass, Member, Corrupt}
 use Rattle.ring_model.specs.declared.events.Reply.{Reply}
 use Rattle.ring_model.specs.declared.events.Reply.TheVariants.{Granted, NotPrivileged, Corrupted}
 use Rattle.ring_model.specs.declared.events.Event.{Event}
@@ -33,12 +33,18 @@ one_work : (b : Bool) (t gone : ℕ) → 1 ≤ t → bit (eqb (cond b (gone + 1)
 one_work true t gone one = next_ticket t gone one
 one_work false t gone one = no_ticket t gone one
 
--- one step: the ticket is handed out exactly where it goes
-one_step : (t : ℕ) (a : State ℕ) (o : Op) (r : Reply) (b : State ℕ) → 1 ≤ t → StepOf roll a o r b → bit (gives t r) + bit (leb t a.content) ≡ bit (leb t b.content)
-one_step t a (Pass i order) (Granted number result) b one s =
+one_grant : (t : ℕ) (a : State ℕ) (i order number result : ℕ) (b : State ℕ) → 1 ≤ t → IsGrant roll a i order number result b → bit (eqb result t) + bit (leb t a.content) ≡ bit (leb t b.content)
+one_grant t a i order number result b one s =
     ap (λ (n : ℕ). bit (eqb n t) + bit (leb t a.content)) s.3
     ∙ one_work (ltb a.content roll_size) t a.content one
     ∙ sym (ap (λ (x : State ℕ). bit (leb t x.content)) s.4)
+
+-- one step: the ticket is handed out exactly where it goes
+one_step : (t : ℕ) (a : State ℕ) (o : Op) (r : Reply) (b : State ℕ) → 1 ≤ t → StepOf roll a o r b → bit (gives t r) + bit (leb t a.content) ≡ bit (leb t b.content)
+one_step t a (Pass i order) (Granted number result) b one s = one_grant t a i order number result b one s
+one_step t a (Member i order left) (Granted number result) b one s = one_grant t a i order number result b one s
+one_step t a (Member i order left) NotPrivileged b one s = absurd s
+one_step t a (Member i order left) (Corrupted old) b one s = absurd s
 one_step t a (Pass i order) NotPrivileged b one s = nothing_more _ _ (sym (ap (λ (x : State ℕ). bit (leb t x.content)) s.2))
 one_step t a (Pass i order) (Corrupted old) b one s = absurd s
 one_step t a (Corrupt i v) (Granted number result) b one s = absurd s

@@ -88,6 +88,7 @@ fn recorded<N: Name, W: Wait + Abort>(
             assert!(rt; value < 2);
             ring.corrupt(rt, seat, machine, value)
         }
+        Op::Member { .. } => panic!(rt; "a member makes no call"),
     };
     match result {
         Ok(receipt) => Some(Entry::Receipt(receipt)),
