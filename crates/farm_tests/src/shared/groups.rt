@@ -274,7 +274,9 @@ fn are_between(rt: &impl Abort, history: &[Event], places: &[u64]) {
         let at = *place as usize;
         assert!(rt; at <= history.len());
         if at > 0 {
-            let inside = matches!(history[at - 1].op, Op::Member { left: 1.., .. });
+            let event = history[at - 1];
+            let op = event.op;
+            let inside = matches!(op, Op::Member { left, .. } if left > 0);
             assert!(rt; !inside, "{at}");
         }
     }
@@ -291,7 +293,8 @@ fn pass_at_once<N: Name + Send + Sync, W: Threads + Wait + Abort + Sync>(
     requires first { seats.0.number ≡ 0 }
     requires second { seats.1.number ≡ 1 }
 {
-    let (first, (second, places)) = at_once(rt, &ring, seats.0, seats.1);
+    let (first, looked) = at_once(rt, &ring, seats.0, seats.1);
+    let (second, places) = looked;
     let seats = both(rt, alloc, first, second);
     match ring.close(rt, alloc, seats) {
         Ok(closed) => {
