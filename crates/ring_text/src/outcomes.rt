@@ -7,7 +7,7 @@ ghost use Rattle.text_lines.specs.Spelling.{row};
 ghost use Rattle.text_lines.specs.Writing.{Writes};
 ghost use Rattle.ring_text.specs.Spelling.{ring_line, start_line, event_line, end_line, survey_line, block_text, text, EventFits, SurveyFits, BlockFits, Fits};
 ghost use Rattle.ring_text.specs.Versions.{latest_version};
-ghost use Rattle.ring_text.specs.SavedOf.{saved_event, saved_survey, entry_surveys, log_surveys, block_at, blocks_from, saved_of};
+ghost use Rattle.ring_text.specs.SavedOf.{saved_for, saved_event, saved_survey, entry_surveys, log_surveys, block_at, blocks_from, saved_of};
 
 use crate::put_lines::{
     put_done_line, put_end_line, put_event_line, put_first_line, put_ring_line, put_survey_line,
@@ -20,6 +20,28 @@ use ring_shared::Log;
 use ring_state::RingState;
 use std::io::Write;
 use text_lines::{WriteFault, put, put_numbers};
+
+/// The line of a member of a group, whose reply is that of a granted pass; a refused pass stands for any other.
+fn saved_member(seat: u32, machine: u32, order: u64, left: u32, reply: Reply) -> SavedEvent
+    ensures is { result ≡ saved_for seat (Op.Member machine order left) reply }
+    ensures fits { EventFits latest_version result }
+{
+    match reply {
+        Reply::Granted { number, result } => SavedEvent::Member {
+            seat,
+            machine,
+            order,
+            left,
+            number,
+            result,
+        },
+        _ => SavedEvent::Refused {
+            seat,
+            machine,
+            order,
+        },
+    }
+}
 
 /// The line of an event. Where call and reply do not belong together there is none; no history has
 /// such an event, and a refused pass stands for it.
@@ -47,21 +69,7 @@ fn saved_event(event: Event) -> SavedEvent
             machine,
             order,
             left,
-        } => match reply {
-            Reply::Granted { number, result } => SavedEvent::Member {
-                seat,
-                machine,
-                order,
-                left,
-                number,
-                result,
-            },
-            _ => SavedEvent::Refused {
-                seat,
-                machine,
-                order,
-            },
-        },
+        } => saved_member(seat, machine, order, left, reply),
         Op::Corrupt { machine, value } => match reply {
             Reply::Corrupted { old } => SavedEvent::Corrupted {
                 seat,
