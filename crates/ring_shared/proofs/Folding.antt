@@ -12,10 +12,10 @@ use Rattle.ring_model.specs.declared.events.Survey.{Survey}
 use Rattle.ring_book.specs.BookView.{BookView, IsBook}
 use Rattle.ring_model.proofs.Histories.{calm-push}
 use Rattle.ring_model.proofs.HistoryLaws.{settlement}
-use Rattle.ring_shared.specs.Replays.{IsCallOf, machine_of, called, calm_after}
+use Rattle.ring_replay.specs.Replays.{IsCallOf, machine_of, called, calm_after}
 use Rattle.ring_shared.specs.Folds.{ring_after, survey_from, survey_of, IsSummary, IsWritten}
 use Rattle.ring_shared.proofs.Prefixes.{prefix_take, take_before}
-use Rattle.ring_shared.proofs.Replaying.{next_ring, calm_same}
+use Rattle.ring_replay.proofs.Replaying.{next_ring, calm_same}
 
 pub ring_after-push : (r : Ring) (h : List Event) (e : Event) → ring_after r (h ++ e ∷ []) ≡ called (ring_after r h) e.op
 ring_after-push r [] e = refl

@@ -1,6 +1,3 @@
-pub mod Replaying
-pub mod Following
-pub mod AllSurveys
 pub mod Orders
 pub mod Numbers
 pub mod Prefixes

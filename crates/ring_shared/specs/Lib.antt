@@ -1,13 +1,9 @@
 pub mod Client
 pub mod Calls
 pub mod Folds
-pub mod Fronts
-pub mod Gathered
 pub mod Groups
 pub mod Holding
 pub mod Opening
-pub mod Replays
 pub mod Rules
 pub mod Stepping
 pub mod Closing
-pub mod Walks

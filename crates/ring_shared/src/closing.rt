@@ -8,18 +8,16 @@ ghost use Rattle.ring_model.specs.History.{opening};
 ghost use Rattle.ring_model.specs.HistoryLaws.{Settlement};
 ghost use Rattle.ring_model.specs.Logs.{Fits, calls_of, receipts_of};
 ghost use Rattle.ring_book.specs.BookView.{IsBook};
-ghost use Rattle.ring_shared.specs.Client.{Client};
+ghost use Rattle.ring_shared.specs.Client.{Client, told_of};
 ghost use Rattle.ring_shared.specs.Closing.{HasLog, AreNumbered, AreLogsOf};
 ghost use Rattle.ring_shared.specs.Holding.{AreOfSeats};
 
 use crate::front::Front;
-use crate::gathering::surveys_in_order;
-use crate::judge::are_right;
 use crate::names::Name;
-use crate::placing::all_placed;
 use crate::rings::Ring;
 use crate::seats::{Log, Seat};
 use ring_book::{Book, Resource};
+use ring_replay::{ClientLog, logs_fit};
 use std::alloc::{AllocError, Global};
 use std::sync::Wait;
 
@@ -143,11 +141,22 @@ fn room_for_logs<N: Name, R: Resource + Drop>(
     Ok(logs)
 }
 
+/// The logs of the seats, in their order.
+fn logs_of<N: Name>(alloc: Global, seats: &[Seat<N>]) -> Result<Vec<ClientLog>, AllocError>
+    ensures { IfOk result (λ v. v.items ≡ map told_of seats.now) }
+{
+    let mut logs = Vec::with_capacity(alloc, seats.len())?;
+    for seat in seats {
+        logs.push_reserved(seat.told());
+    }
+    Ok(logs)
+}
+
 /// Whether each seat's log fits the history of the book.
 ///
 /// # Errors
 ///
-/// Want of memory for following the logs, for the list of the surveys, and for playing the history again.
+/// Want of memory for the list of the logs, and for what `logs_fit` takes.
 fn all_fit<N: Name, R: Resource + Drop>(
     alloc: Global,
     book: &Book<R>,
@@ -155,12 +164,8 @@ fn all_fit<N: Name, R: Resource + Drop>(
 ) -> Result<bool, AllocError>
     ensures { IfOk result (λ b. IsTrue b ↔ All (λ s. Fits R.works (opening book.now.start R.first) book.now.history s.number s.log) seats.now) }
 {
-    let placed = all_placed(alloc, book, seats)?;
-    if !placed {
-        return Ok(false);
-    }
-    let surveys = surveys_in_order(alloc, seats, book.history().len())?;
-    are_right(alloc, book, surveys.as_slice())
+    let logs = logs_of(alloc, seats)?;
+    logs_fit(alloc, book, logs.as_slice())
 }
 
 /// Returns only where what each seat has seen begins this front.

@@ -4,12 +4,9 @@
 
 mod closing;
 mod front;
-mod gathering;
 mod groups;
-mod judge;
 mod locked;
 mod names;
-mod placing;
 mod rings;
 mod seats;
 mod shown;

@@ -2,7 +2,7 @@
 ghost use Rattle.std.specs.Prelude.{◌≡◌, ◌<◌, ◌≤◌, ◌+◌, ◌++◌, ◌∷◌, [], length, IfOk, IfSome, IfNone, OnErr, vec_len, vec_capacity};
 ghost use mathlib.Core.List.{IsPrefix};
 ghost use Rattle.ring_model.specs.Limits.{seat_limit};
-ghost use Rattle.ring_shared.specs.Client.{fresh_client};
+ghost use Rattle.ring_shared.specs.Client.{fresh_client, told_of};
 ghost use Rattle.ring_shared.specs.Closing.{IsLogOf};
 ghost use Rattle.ring_shared.specs.Folds.{survey_of, AnswersFor};
 ghost use Rattle.ring_shared.specs.Holding.{AreOfSeats};
@@ -16,6 +16,7 @@ use crossbeam_utils::rule::Unruled;
 use left_right::reader::Reader;
 use left_right::writer::Writer;
 use ring_model::{Entry, Survey};
+use ring_replay::ClientLog;
 use ring_state::RingState;
 use std::alloc::{AllocError, Global};
 use std::marker::Model;
@@ -163,6 +164,16 @@ impl<N: Name> Seat<N> {
         ensures { result.now ≡ self.now.log }
     {
         self.log.as_slice()
+    }
+
+    /// The seat's number and its log.
+    pub(crate) fn told(&self) -> ClientLog
+        ensures { result ≡ told_of self.now }
+    {
+        ClientLog {
+            number: self.number(),
+            entries: self.log(),
+        }
     }
 
     /// Takes memory for `more` entries of the log, and answers how many it then has room for: as many calls and

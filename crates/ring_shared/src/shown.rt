@@ -4,16 +4,16 @@ ghost use Rattle.ring_model.specs.Limits.{event_limit};
 ghost use Rattle.ring_model.specs.Surveys.{calm as calm_of};
 ghost use Rattle.ring_shared.specs.Folds.{ring_after, survey_of, IsSummary, IsWritten};
 ghost use Rattle.ring_shared.specs.Holding.{IsHeld};
-ghost use Rattle.ring_shared.specs.Replays.{IsCallOf, machine_of};
+ghost use Rattle.ring_replay.specs.Replays.{IsCallOf, machine_of};
 ghost use Rattle.ring_shared.specs.Stepping.{stepped};
 
 use crate::front::Front;
-use crate::judge::calm_behind;
 use crate::names::Name;
 use crate::summary::Summary;
 use left_right::Absorb;
 use ring_book::{Book, Resource};
 use ring_model::{Event, Op, Survey};
+use ring_replay::calm_behind;
 use ring_state::RingState;
 use std::alloc::AllocError;
 use std::marker::Model;

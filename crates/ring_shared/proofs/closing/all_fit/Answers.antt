@@ -1,33 +1,25 @@
-use Rattle.std.proofs.Common.{◌≡◌, true, false, All, IfOk, List, sym, subst, ◌∙◌}
-use Rattle.std.specs.Prelude.{Result, Ok, Err}
-use Rattle.std.proofs.lemmas.List.Sorted.{All-permutation, IsPermutation-sym}
+use Rattle.std.proofs.Common.{All, List, [], ◌∷◌, map, sym, subst, ◌∙◌}
+use Rattle.std.specs.Prelude.{Result, Ok, Err, IfOk}
+use Rattle.std.proofs.lemmas.List.Elements.{All-map, All-nil, All-cons, All-head, All-tail}
 use Rattle.ring_model.specs.History.{opening}
-use Rattle.ring_model.specs.Logs.{IsSurvey}
-use Rattle.ring_model.specs.declared.events.Survey.{Survey}
-use Rattle.ring_shared.proofs.AllSurveys.{all_split}
+use Rattle.ring_model.specs.Logs.{Fits}
+use Rattle.ring_replay.specs.Told.{Told}
+use Rattle.ring_shared.specs.Client.{Client, told_of}
 use Rattle.ring_shared.proofs.closing.all_fit.Goals as goal
 
-false_true : {A : Type 0} → false ≡ true → A
-false_true e = cc
+of_map : (P : Told → Type 0) (ss : List Client) → All P (map told_of ss) → All (λ (s : Client). P (told_of s)) ss
+of_map P [] all = All-nil (λ (s : Client). P (told_of s))
+of_map P (s ∷ ss) all = All-cons (λ (s : Client). P (told_of s)) s ss (All-head P (told_of s) (map told_of ss) all) (of_map P ss (All-tail P (told_of s) (map told_of ss) all))
 
 ok_then : {A E : Type 0} (P S : A → Type 0) (r : Result A E) → ((v : A) → P v → S v) → IfOk r P → IfOk r S
 ok_then P S (Ok v) f p = f v p
 ok_then P S (Err e) f p = tt
 
-pub returns-then-not-placed : goal.returns-then-not-placed
-returns-then-not-placed g c =
-    let split = all_split g.R.Resource.works (opening c.args.book.now.start g.R.Resource.first) c.args.book.now.history c.args.seats.now in (
-      λ t. false_true t,
-      λ f. false_true (sym c.if-not-placed.true ∙ c.in_ok-placed.ensures.1 (split.1 f).0),
-    )
-
 pub returns : goal.returns
 returns g c =
-    let split = all_split g.R.Resource.works (opening c.args.book.now.start g.R.Resource.first) c.args.book.now.history c.args.seats.now in
-    let right = λ (ss : List Survey). All (IsSurvey g.R.Resource.works (opening c.args.book.now.start g.R.Resource.first) c.args.book.now.history) ss in
-    let same = c.as_slice.ensures.value in
-    let p = c.in_ok-surveys.ensures.permutation in
-    ok_then _ _ c.are_right.result (λ b is. (
-      λ t. split.0 (c.in_ok-placed.ensures.0 c.if-not-placed.false, All-permutation (IsSurvey g.R.Resource.works (opening c.args.book.now.start g.R.Resource.first) c.args.book.now.history) _ _ (IsPermutation-sym _ _ p) (subst right same (is.0 t))),
-      λ f. is.1 (subst right (sym same) (All-permutation (IsSurvey g.R.Resource.works (opening c.args.book.now.start g.R.Resource.first) c.args.book.now.history) _ _ p (split.1 f).1)),
-    )) c.are_right.ensures
+    let fits = λ (t : Told). Fits g.R.Resource.works (opening c.args.book.now.start g.R.Resource.first) c.args.book.now.history t.number t.log in
+    let same = c.as_slice.ensures.value ∙ c.in_ok-logs.ensures in
+    ok_then _ _ c.logs_fit.result (λ b is. (
+      λ t. of_map fits c.args.seats.now (subst (λ (ts : List Told). All fits ts) same (is.0 t)),
+      λ h. is.1 (subst (λ (ts : List Told). All fits ts) (sym same) (All-map fits told_of c.args.seats.now h)),
+    )) c.logs_fit.ensures

@@ -1,6 +1,6 @@
 use Rattle.std.proofs.Common.{ℕ, sym, ap, ◌∙◌}
 use Rattle.ring_shared.specs.Folds.{ring_after}
-use Rattle.ring_shared.specs.Replays.{calm_after}
+use Rattle.ring_replay.specs.Replays.{calm_after}
 use Rattle.ring_shared.proofs.Folding.{ring_of_book, effect_of_last}
 use Rattle.ring_shared.proofs.shown.Operation.last.Goals as goal
 
