@@ -3,6 +3,7 @@
 ghost use Rattle.std.specs.Prelude.{◌≡◌};
 
 mod calls;
+mod fitting;
 mod groups;
 mod limits;
 mod settling;

@@ -11,7 +11,7 @@ use ring_book::{
 use std::process::Abort;
 
 /// A group pass by seat 0. It is made a second time where there was no memory, after a look that nothing has changed.
-fn pass_group<R: Resource + Drop>(
+pub(super) fn pass_group<R: Resource + Drop>(
     rt: &impl Abort,
     book: &mut Book<R>,
     machines: &[u32],
