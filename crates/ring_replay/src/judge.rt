@@ -65,6 +65,7 @@ fn is_same_survey(one: Survey, other: Survey) -> bool
 }
 
 /// The calm behind a reply, where it was `calm` before: the granted passes since the last corruption.
+/// `calm` is at most `EVENT_LIMIT`.
 pub fn calm_behind(calm: u64, reply: Reply) -> u64
     requires { calm ≤ event_limit }
     ensures is { result ≡ calm_after calm reply }
