@@ -2,7 +2,7 @@
 
 use crate::texts::{Answer, Block, bad, check_in, corrupted, granted, member, refused, survey};
 use ring_check::{Kind, Summary};
-use ring_text::{SavedEvent, SavedSurvey};
+use ring_saved::{SavedEvent, SavedSurvey};
 use std::alloc::{AllocError, Global};
 use std::process::Abort;
 use std::test::Fail;

@@ -3,7 +3,7 @@
 ghost use Rattle.std.specs.Prelude.{◌≤◌, length, IfOk};
 
 use ring_check::{CheckError, Kind, Summary, check_saved};
-use ring_text::{Saved, SavedEvent, SavedRing, SavedSurvey};
+use ring_saved::{Saved, SavedEvent, SavedRing, SavedSurvey};
 use std::alloc::{AllocError, Global};
 use std::process::Abort;
 

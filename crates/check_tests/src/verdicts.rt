@@ -2,7 +2,7 @@
 
 use crate::texts::{Block, bad, check, check_in, corrupted, granted, refused, survey};
 use ring_check::{CheckError, Kind, Summary};
-use ring_text::{SavedEvent, SavedSurvey};
+use ring_saved::{SavedEvent, SavedSurvey};
 use std::alloc::{AllocError, Global};
 use std::test::Fail;
 

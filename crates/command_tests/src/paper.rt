@@ -1,7 +1,7 @@
 //! Writers into memory, and the program run on words.
 
 use crate::reading::Giver;
-use ring_words::run_tool_on;
+use ring_program::run_tool_on;
 use std::alloc::{AllocError, Global};
 use std::io::{self, Write};
 use std::process::Abort;

@@ -5,7 +5,7 @@ use crate::paper::{Paper, expect, expect_cut, expect_from};
 use crate::places::path_of;
 use crate::reading::Giver;
 use crate::run::{REPORT, SETTINGS, THREE, THREE_REPORT, THREE_SAVED, remove_both};
-use ring_words::run_tool;
+use ring_program::run_tool;
 use std::alloc::AllocError;
 use std::fs;
 use std::io::ErrorKind;

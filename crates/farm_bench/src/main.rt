@@ -2,8 +2,9 @@
 #![tactic(auto)]
 
 use ring_farm::{Open, Outcome, run_farm};
+use ring_saved::read_saved;
 use ring_settings::{Settings, plans, read_settings};
-use ring_text::{read_saved, write_outcome};
+use ring_text::write_outcome;
 use std::rt::Files;
 use std::sync::Wait;
 use std::thread::Threads;

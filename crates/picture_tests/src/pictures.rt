@@ -1,7 +1,7 @@
 //! The pictures of four histories that were worked out by hand.
 
 use ring_picture::write_picture;
-use ring_text::{SavedEvent, SavedRing};
+use ring_saved::{SavedEvent, SavedRing};
 use std::alloc::{AllocError, Global};
 use std::process::Abort;
 use std::test::Fail;

@@ -5,6 +5,7 @@
 mod books;
 mod events;
 mod grants;
+pub mod laws;
 mod resources;
 mod tallies;
 

@@ -13,6 +13,4 @@ pub mod BlockLines
 pub mod SavedLines
 pub mod Totals
 pub mod Meanings
-pub mod WrittenTexts
-pub mod Promised
 pub mod Upgrades

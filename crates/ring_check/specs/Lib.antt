@@ -4,7 +4,6 @@ pub mod Members
 pub mod Table
 pub mod Legal
 pub mod Meaning
-pub mod Written
 pub mod Scan
 pub mod Replays
 pub mod Names

@@ -1,12 +1,12 @@
 -- A saved text as its lines, but for the first one, which says its version (this project's own).
 use Rattle.std.specs.Prelude.{ℕ, ◌+◌, ◌≤◌, ◌<◌, ◌^◌, List, [], ◌∷◌, ◌++◌, map, length, Ok}
 use Rattle.std.specs.List.{flat_map}
-use Rattle.ring_text.specs.declared.saved.SavedEvent.{SavedEvent}
-use Rattle.ring_text.specs.declared.saved.SavedSurvey.{SavedSurvey}
-use Rattle.ring_text.specs.declared.saved.Saved.{Saved}
-use Rattle.ring_text.specs.Content.{Content, Block, content}
-use Rattle.ring_text.specs.Spelling.{text}
-use Rattle.ring_text.specs.Meaning.{IsRightRead}
+use Rattle.ring_saved.specs.declared.saved.SavedEvent.{SavedEvent}
+use Rattle.ring_saved.specs.declared.saved.SavedSurvey.{SavedSurvey}
+use Rattle.ring_saved.specs.declared.saved.Saved.{Saved}
+use Rattle.ring_saved.specs.Content.{Content, Block, content}
+use Rattle.ring_saved.specs.Spelling.{text}
+use Rattle.ring_saved.specs.Meaning.{IsRightRead}
 
 -- a line with what it says: R, N and K; the start values; an event; how many events; a survey; how many blocks
 pub data Line : Type 0 where

@@ -8,8 +8,8 @@ use Rattle.ring_model.specs.declared.events.Survey.{Survey}
 use Rattle.ring_model.specs.Groups.{IsHistory}
 use Rattle.ring_model.specs.Resources.{till}
 use Rattle.ring_model.specs.Logs.{IsSurvey}
-use Rattle.ring_text.specs.declared.saved.SavedSurvey.{SavedSurvey}
-use Rattle.ring_text.specs.Content.{Content, Block}
+use Rattle.ring_saved.specs.declared.saved.SavedSurvey.{SavedSurvey}
+use Rattle.ring_saved.specs.Content.{Content, Block}
 use Rattle.ring_check.specs.Limits.{machine_limit_of, value_limit_of}
 use Rattle.ring_check.specs.Table.{first_state}
 use Rattle.ring_check.specs.Legal.{IsLegalText, history}

@@ -5,7 +5,7 @@ ghost use Rattle.ring_model.specs.Groups.{left_of, left_after};
 ghost use Rattle.ring_check.specs.Members.{machine_of, machines_of, least_of, is_in_order, goes_on, may_come};
 ghost use Rattle.ring_check.specs.Table.{event_of};
 
-use ring_text::SavedEvent;
+use ring_saved::SavedEvent;
 
 /// How many members of its group come after an event.
 pub(crate) fn left_of(event: &SavedEvent) -> u32

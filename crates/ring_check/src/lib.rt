@@ -1,8 +1,7 @@
 //! The separate checker of saved histories: a plain replay of each ring of a saved text, which trusts nothing that the text says.
 //!
 //! It shares the definitions of `ring_model` with the crates that run a ring, and none of their code: no function of theirs is called
-//! here. What a farm hands out (`Outcome`, and the settings' data) is named in `specs/Written.antt` alone, for the laws that tie it
-//! to a legal text.
+//! here.
 #![tactic(auto)]
 
 mod answers;
@@ -19,7 +18,7 @@ mod surveys;
 
 pub use answers::{CheckError, Kind, Summary};
 pub use check::check_saved;
-pub use laws::{answers_are_apart, legal_law, lines_law, outcome_law, upgrade_law, written_law};
+pub use laws::{answers_are_apart, legal_law, lines_law, upgrade_law};
 pub use limits::{
     FIRST_VERSION_MACHINE_LIMIT, FIRST_VERSION_VALUE_LIMIT, first_version_limits_as_defined,
 };

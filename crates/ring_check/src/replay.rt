@@ -13,7 +13,7 @@ use crate::group_lines::may_come;
 use crate::measures::{first_privileged, is_privileged, privileged_count, rest};
 use ring_model::Survey;
 use ring_model::limits::SEAT_LIMIT;
-use ring_text::SavedEvent;
+use ring_saved::SavedEvent;
 use std::alloc::{AllocError, Global};
 
 /// A ring over a till as some events of a block leave it.

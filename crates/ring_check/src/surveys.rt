@@ -6,7 +6,7 @@ ghost use Rattle.ring_model.specs.Limits.{value_limit};
 ghost use Rattle.ring_model.specs.Ring.{ring_with, IsRing};
 ghost use Rattle.ring_model.specs.History.{IsLegal};
 ghost use Rattle.ring_model.specs.Resources.{till};
-ghost use Rattle.ring_text.specs.declared.saved.SavedEvent.{SavedEvent};
+ghost use Rattle.ring_saved.specs.declared.saved.SavedEvent.{SavedEvent};
 ghost use Rattle.ring_check.specs.Lines.{SurveyLine};
 ghost use Rattle.ring_check.specs.Table.{event_of, first_state, same_survey, is_onward};
 ghost use Rattle.ring_check.specs.Scan.{first_fault, Finds, in_block};
@@ -17,7 +17,7 @@ use crate::group_lines::left_after;
 use crate::replay::Replay;
 use ring_model::Survey;
 use ring_model::limits::SEAT_LIMIT;
-use ring_text::{SavedEvent, SavedSurvey};
+use ring_saved::{SavedEvent, SavedSurvey};
 use std::alloc::{AllocError, Global};
 
 /// The survey of a ring at some place of its history, and the replay that stands there.

@@ -9,7 +9,7 @@ use Rattle.ring_model.specs.Limits.{seat_limit}
 use Rattle.ring_settings.specs.Contents.{SettingsData, IsSettings, RingData, plan_of}
 use Rattle.ring_settings.specs.declared.actions.Action.{Action}
 use Rattle.ring_settings.proofs.PlanLaws.{plan_of-few}
-use Rattle.ring_shared.specs.declared.seats.Log.{Log}
+use Rattle.ring_farm.specs.Log.{Log}
 use Rattle.ring_farm.specs.Plans.{part, planned, action_of, actions_of, ring_of}
 use Rattle.ring_farm.specs.Headline.{HasLogs, IsFarmOf}
 use Rattle.ring_farm.specs.declared.outcomes.Outcome.{Outcome}

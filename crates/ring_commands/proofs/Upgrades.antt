@@ -1,11 +1,11 @@
 -- What fits in a version of the saved text fits in the latest one.
 use Rattle.std.proofs.Common.{ℕ, List, [], ◌∷◌, rules}
 use Rattle.std.specs.List.{AllByRecursion}
-use Rattle.ring_text.specs.declared.saved.SavedEvent.{SavedEvent}
-use Rattle.ring_text.specs.declared.saved.SavedEvent.TheVariants.{Granted, Refused, Member, Corrupted}
-use Rattle.ring_text.specs.Content.{Block, Content, upgraded}
-use Rattle.ring_text.specs.Spelling.{EventFits, BlockFits, Fits}
-use Rattle.ring_text.specs.Versions.{IsVersion, HasGroups, latest_version}
+use Rattle.ring_saved.specs.declared.saved.SavedEvent.{SavedEvent}
+use Rattle.ring_saved.specs.declared.saved.SavedEvent.TheVariants.{Granted, Refused, Member, Corrupted}
+use Rattle.ring_saved.specs.Content.{Block, Content, upgraded}
+use Rattle.ring_saved.specs.Spelling.{EventFits, BlockFits, Fits}
+use Rattle.ring_saved.specs.Versions.{IsVersion, HasGroups, latest_version}
 
 has_groups : HasGroups latest_version
 has_groups = search rules

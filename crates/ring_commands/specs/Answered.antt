@@ -8,8 +8,8 @@ use Rattle.ring_commands.specs.Pictured.{IsPictureAnswer, IsPictureRefusal}
 use Rattle.ring_commands.specs.Reading.{is_dash}
 use Rattle.ring_commands.specs.Upgraded.{IsUpgradeRunAnswer, IsUpgradeRunRefusal}
 use Rattle.ring_commands.specs.declared.faults.ToolError.{ToolError}
-use Rattle.ring_commands.specs.declared.requests.Request.{Request}
-use Rattle.ring_commands.specs.declared.requests.Request.TheVariants as request
+use Rattle.ring_requests.specs.declared.requests.Request.{Request}
+use Rattle.ring_requests.specs.declared.requests.Request.TheVariants as request
 
 -- the answer of the command that was asked for
 abbrev pub IsAnswer : Request → Option (List ℕ) → Option (List ℕ) → Option (List ℕ) → Option (List ℕ) → Type 0

@@ -2,9 +2,9 @@
 use Rattle.std.specs.Prelude.{◌≡◌, ℕ, List, Option, ◌⊎◌}
 use Rattle.std.specs.Io.KnownBytes.{Appends}
 use Rattle.text_lines.specs.Texts.{IsCutShort, IsFirstBadLine}
-use Rattle.ring_text.specs.Content.{Content}
-use Rattle.ring_text.specs.Spelling.{Fits, text}
-use Rattle.ring_text.specs.Meaning.{IsText}
+use Rattle.ring_saved.specs.Content.{Content}
+use Rattle.ring_saved.specs.Spelling.{Fits, text}
+use Rattle.ring_saved.specs.Meaning.{IsText}
 use Rattle.ring_check.specs.declared.answers.Kind.{Kind}
 use Rattle.ring_check.specs.declared.answers.Summary.{Summary}
 use Rattle.ring_check.specs.Lines.{lines}
@@ -14,7 +14,7 @@ use Rattle.ring_commands.specs.CheckText.{legal_line}
 use Rattle.ring_commands.specs.Faults.{IsReadRefusal}
 use Rattle.ring_commands.specs.Reading.{most_bytes, IsAllOf, IsReadBy}
 use Rattle.ring_commands.specs.Written.{AppendsFront}
-use Rattle.ring_commands.specs.declared.check.CheckWords.{CheckWords}
+use Rattle.ring_requests.specs.declared.requests.CheckWords.{CheckWords}
 use Rattle.ring_commands.specs.declared.faults.ToolError.{ToolError}
 use Rattle.ring_commands.specs.declared.faults.ToolError.TheVariants as tool
 

@@ -1,8 +1,8 @@
 -- What `picture` draws, what it answers to its words, and which refusals there are.
 use Rattle.std.specs.Prelude.{◌≡◌, ℕ, ◌-◌, ◌<◌, ◌≤◌, min, List, length, slice_get, Option, Some, ◌⊎◌}
 use Rattle.std.specs.Io.KnownBytes.{Appends}
-use Rattle.ring_text.specs.Content.{Content, Block, block_of}
-use Rattle.ring_text.specs.Spelling.{Fits, text}
+use Rattle.ring_saved.specs.Content.{Content, Block, block_of}
+use Rattle.ring_saved.specs.Spelling.{Fits, text}
 use Rattle.ring_check.specs.declared.answers.Summary.{Summary}
 use Rattle.ring_check.specs.Legal.{summary_of}
 use Rattle.ring_check.specs.Meaning.{IsRightText}
@@ -12,7 +12,7 @@ use Rattle.ring_commands.specs.Checked.{IsSavedTextRefusal}
 use Rattle.ring_commands.specs.Faults.{IsReadRefusal}
 use Rattle.ring_commands.specs.Reading.{most_bytes, IsAllOf}
 use Rattle.ring_commands.specs.Written.{AppendsFront}
-use Rattle.ring_commands.specs.declared.picture.PictureWords.{PictureWords}
+use Rattle.ring_requests.specs.declared.requests.PictureWords.{PictureWords}
 use Rattle.ring_commands.specs.declared.picture.Drawing.{Drawing}
 use Rattle.ring_commands.specs.declared.faults.ToolError.{ToolError}
 use Rattle.ring_commands.specs.declared.faults.ToolError.TheVariants as tool

@@ -8,11 +8,11 @@ use Rattle.ring_farm.specs.Headline.{IsFarmOf}
 use Rattle.ring_farm.specs.declared.outcomes.Outcome.{Outcome}
 use Rattle.ring_text.specs.Report.{farm_line, report}
 use Rattle.ring_text.specs.SavedOf.{saved_of}
-use Rattle.ring_text.specs.Spelling.{text}
+use Rattle.ring_saved.specs.Spelling.{text}
 use Rattle.ring_commands.specs.Faults.{fault_of_settings, IsReadRefusal}
 use Rattle.ring_commands.specs.Reading.{most_bytes, is_dash, IsAllOf, IsReadBy}
 use Rattle.ring_commands.specs.Written.{AppendsFront}
-use Rattle.ring_commands.specs.declared.run.RunWords.{RunWords}
+use Rattle.ring_requests.specs.declared.requests.RunWords.{RunWords}
 use Rattle.ring_commands.specs.declared.faults.ToolError.{ToolError}
 use Rattle.ring_commands.specs.declared.faults.ToolError.TheVariants as tool
 

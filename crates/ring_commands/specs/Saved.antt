@@ -5,14 +5,14 @@ use Rattle.text_lines.specs.declared.answer.ReadError.{ReadError}
 use Rattle.ring_settings.specs.Contents.{SettingsData}
 use Rattle.ring_farm.specs.Headline.{IsFarmOf}
 use Rattle.ring_farm.specs.declared.outcomes.Outcome.{Outcome}
-use Rattle.ring_text.specs.declared.saved.Saved.{Saved}
-use Rattle.ring_text.specs.Meaning.{IsRightRead, IsReadAs}
+use Rattle.ring_saved.specs.declared.saved.Saved.{Saved}
+use Rattle.ring_saved.specs.Meaning.{IsRightRead, IsReadAs}
 use Rattle.ring_text.specs.SavedOf.{saved_of}
-use Rattle.ring_text.specs.Spelling.{text}
+use Rattle.ring_saved.specs.Spelling.{text}
 use Rattle.ring_check.specs.Legal.{IsLegalText, summary_of}
 use Rattle.ring_commands.specs.Checked.{IsLegalSavedText}
 use Rattle.ring_commands.specs.Ran.{printed, IsFarmNamed}
-use Rattle.ring_commands.specs.declared.run.RunWords.{RunWords}
+use Rattle.ring_requests.specs.declared.requests.RunWords.{RunWords}
 
 -- The saved text of an outcome is legal, in the subject's words with the outcome's sums, and by the table of what is refused; and the one right
 -- answer of its reader, memory aside, is what was saved.

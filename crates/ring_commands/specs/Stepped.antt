@@ -7,7 +7,7 @@ use Rattle.ring_commands.specs.Faults.{IsListRefusal, IsStepRefusal}
 use Rattle.ring_commands.specs.ListWords.{IsListText}
 use Rattle.ring_commands.specs.StepText.{step_text}
 use Rattle.ring_commands.specs.Written.{AppendsFront}
-use Rattle.ring_commands.specs.declared.step.StepWords.{StepWords}
+use Rattle.ring_requests.specs.declared.requests.StepWords.{StepWords}
 use Rattle.ring_commands.specs.declared.faults.ToolError.{ToolError}
 
 -- the word, where there is one, is the text of the choices; where there is none, there are no choices

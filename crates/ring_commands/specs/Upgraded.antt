@@ -1,8 +1,8 @@
 -- What `upgrade` answers.
 use Rattle.std.specs.Prelude.{◌≡◌, ℕ, List, Option, Some, ◌⊎◌}
 use Rattle.std.specs.Io.KnownBytes.{Appends}
-use Rattle.ring_text.specs.Content.{Content, upgraded}
-use Rattle.ring_text.specs.Spelling.{Fits, text}
+use Rattle.ring_saved.specs.Content.{Content, upgraded}
+use Rattle.ring_saved.specs.Spelling.{Fits, text}
 use Rattle.ring_check.specs.declared.answers.Summary.{Summary}
 use Rattle.ring_check.specs.Legal.{IsLegalText, summary_of}
 use Rattle.ring_commands.specs.CheckText.{legal_line}
@@ -10,7 +10,7 @@ use Rattle.ring_commands.specs.Checked.{IsLegalSavedText, IsSavedTextRefusal}
 use Rattle.ring_commands.specs.Faults.{IsReadRefusal}
 use Rattle.ring_commands.specs.Ran.{IsHandOutRefusal}
 use Rattle.ring_commands.specs.Reading.{most_bytes, IsAllOf}
-use Rattle.ring_commands.specs.declared.upgrade.UpgradeWords.{UpgradeWords}
+use Rattle.ring_requests.specs.declared.requests.UpgradeWords.{UpgradeWords}
 use Rattle.ring_commands.specs.declared.faults.ToolError.{ToolError}
 
 -- All the bytes that a reader gave are a legal saved text with these sums, and this content is that of their value in the latest version: it has a text, and

@@ -5,7 +5,7 @@ ghost use Rattle.std.specs.Io.KnownBytes.{Appends};
 ghost use Rattle.text_lines.specs.Writing.{Writes};
 ghost use Rattle.ring_check.specs.declared.answers.Summary.{Summary};
 ghost use Rattle.ring_check.specs.Legal.{IsLegalText};
-ghost use Rattle.ring_text.specs.Content.{content};
+ghost use Rattle.ring_saved.specs.Content.{content};
 ghost use Rattle.ring_commands.specs.CheckText.{legal_line};
 ghost use Rattle.ring_commands.specs.Checked.{IsLegalSavedText, IsSavedTextRefusal, IsCheckFileAnswer, IsCheckAnswer, IsCheckRefusal, IsCheckFileRefusal, IsCheckRunRefusal};
 ghost use Rattle.ring_commands.specs.Reading.{is_dash};
@@ -14,19 +14,13 @@ use crate::faults::ToolError;
 use crate::reading::{names_stream, read_whole};
 use itoa::Buffer;
 use ring_check::{Summary, check_saved};
-use ring_text::{Saved, read_saved};
+use ring_requests::CheckWords;
+use ring_saved::{Saved, read_saved};
 use std::alloc::Global;
 use std::fs;
 use std::io::{Read, Write};
 use std::rt::Files;
 use text_lines::{WriteFault, put_all};
-
-/// What `check` was asked for.
-#[derive(Clone, Copy, Debug)]
-pub struct CheckWords<'a> {
-    /// The file's name; `-` is standard input.
-    pub file: &'a str,
-}
 
 /// The line of a legal text: its sums.
 pub fn write_sums<W: Write>(out: &mut W, sums: &Summary) -> Result<(), WriteFault>

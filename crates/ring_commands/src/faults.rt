@@ -3,92 +3,64 @@
 use ring_book::BookError;
 use ring_check::{CheckError, Kind};
 use ring_farm::FarmError;
+use ring_saved::ReadError;
 use ring_settings::{Field, RingCause, SettingsError};
 use ring_state::{ParamsError, StateError};
-use ring_text::ReadError;
+use std::error::Error;
+use std::fmt;
 use text_lines::WriteFault;
-use thiserror::Error;
 
 /// Why the program does not do what it was asked for. Its `Display` is the line on standard error.
 ///
 /// A fault of a file has the file's name as it was given.
-#[derive(Clone, Copy, Debug, Error)]
+#[derive(Clone, Copy)]
 pub enum ToolError<'a> {
     /// A list is not one or more canonical decimals below 2 to the power 32, separated by commas.
-    #[error("bad list")]
     BadList,
-    #[error("n is less than 2")]
     TooFew,
-    #[error("n is more than 1024")]
     TooMany,
-    #[error("k is less than n")]
     FewValues,
-    #[error("k is more than 65536")]
     ManyValues,
-    #[error("start does not have n values")]
     Length,
     /// The index of the first start value that is not below K.
-    #[error("start value {0} is not below k")]
     Value(usize),
     /// The index of the first choice that is not below n.
-    #[error("choice {0} is not below n")]
     Choice(usize),
     /// The settings have no reading as JSON.
-    #[error("settings are not JSON")]
     Json,
-    #[error("settings: {0} is missing or has the wrong shape")]
     Shape(Field),
-    #[error("settings: {0} is out of limits")]
     Limit(Field),
     /// A ring of the settings, by its place, and what is wrong with it.
-    #[error("ring {0}: {1}")]
     Ring(usize, RingCause),
     /// A seat of the settings, and the place in its script of the first entry that is no action.
-    #[error("seat {0}, action {1}: not an action")]
     Script(usize, usize),
-    #[error("a thread could not be started")]
     Spawn,
-    #[error("the gate was shut")]
     GateShut,
     /// There is no place for a seat to look at its ring from.
-    #[error("no reader place")]
     NoSeat,
-    #[error("a history is full")]
     HistoryFull,
     /// A seat's log does not fit its ring's history.
-    #[error("logs and history differ")]
     Mismatch,
     /// The first line, from 1, that cannot stand in a saved text.
-    #[error("line {0}: syntax")]
     Syntax(u64),
     /// A saved text ends too early.
-    #[error("text is truncated")]
     Truncated,
     /// The first bad line of a saved text, from 1, and what is wrong with it.
-    #[error("line {0}: {1}")]
     Bad(u64, Kind),
     /// A file cannot be opened or read.
-    #[error("cannot read {0}")]
     Read(&'a str),
     /// A file has more bytes than are read.
-    #[error("{0} is too large")]
     TooLarge(&'a str),
     /// The file for the saved text cannot be made or written.
-    #[error("cannot write {0}")]
     Save(&'a str),
     /// Standard output failed, or took no byte.
-    #[error("cannot write")]
     Write,
-    #[error("out of memory")]
     OutOfMemory,
     /// A saved text has no ring at this place.
-    #[error("there is no ring {0}")]
     NoRing(u32),
     /// The ring that is to be drawn has fewer events.
-    #[error("the ring has fewer than {0} events")]
     NoPlace(u32),
     /// More events are to be drawn than a picture may have.
-    #[error("a picture has at most 20000 events")]
     ManyDrawn,
 }
 
@@ -107,6 +79,82 @@ impl ToolError<'_> {
         }
     }
 }
+
+impl ToolError<'_> {
+    /// The line of a refusal that has no value.
+    fn fixed_line(&self) -> Option<&'static str> {
+        match self {
+            ToolError::BadList => Some("bad list"),
+            ToolError::TooFew => Some("n is less than 2"),
+            ToolError::TooMany => Some("n is more than 1024"),
+            ToolError::FewValues => Some("k is less than n"),
+            ToolError::ManyValues => Some("k is more than 65536"),
+            ToolError::Length => Some("start does not have n values"),
+            ToolError::Json => Some("settings are not JSON"),
+            ToolError::Spawn => Some("a thread could not be started"),
+            ToolError::GateShut => Some("the gate was shut"),
+            ToolError::NoSeat => Some("no reader place"),
+            ToolError::HistoryFull => Some("a history is full"),
+            ToolError::Mismatch => Some("logs and history differ"),
+            ToolError::Truncated => Some("text is truncated"),
+            ToolError::Write => Some("cannot write"),
+            ToolError::OutOfMemory => Some("out of memory"),
+            ToolError::ManyDrawn => Some("a picture has at most 20000 events"),
+            _ => None,
+        }
+    }
+
+    /// Writes the line of a refusal of words or settings, which has values, or of what else has some.
+    fn put_asked<W: fmt::Write>(&self, f: &mut fmt::Formatter<W>) -> fmt::Result {
+        match self {
+            ToolError::Value(place) => write!(f, "start value {place} is not below k"),
+            ToolError::Choice(place) => write!(f, "choice {place} is not below n"),
+            ToolError::Shape(field) => write!(
+                f,
+                "settings: {field} is missing or has the wrong shape"
+            ),
+            ToolError::Limit(field) => write!(f, "settings: {field} is out of limits"),
+            ToolError::Ring(place, cause) => write!(f, "ring {place}: {cause}"),
+            ToolError::Script(seat, place) => write!(
+                f,
+                "seat {seat}, action {place}: not an action"
+            ),
+            ToolError::Syntax(line) => write!(f, "line {line}: syntax"),
+            _ => self.put_met(f),
+        }
+    }
+
+    /// Writes the line of a refusal of a file or a saved text, which has values.
+    fn put_met<W: fmt::Write>(&self, f: &mut fmt::Formatter<W>) -> fmt::Result {
+        match self {
+            ToolError::Bad(line, kind) => write!(f, "line {line}: {kind}"),
+            ToolError::Read(name) => write!(f, "cannot read {name}"),
+            ToolError::TooLarge(name) => write!(f, "{name} is too large"),
+            ToolError::Save(name) => write!(f, "cannot write {name}"),
+            ToolError::NoRing(place) => write!(f, "there is no ring {place}"),
+            ToolError::NoPlace(place) => write!(f, "the ring has fewer than {place} events"),
+            _ => Ok(()),
+        }
+    }
+}
+
+impl fmt::Display for ToolError<'_> {
+    fn fmt<W: fmt::Write>(&self, f: &mut fmt::Formatter<W>) -> fmt::Result {
+        match self.fixed_line() {
+            Some(line) => f.write_str(line),
+            None => self.put_asked(f),
+        }
+    }
+}
+
+/// The same line: a derived form would be proved for 29 variants and shown by tests alone.
+impl fmt::Debug for ToolError<'_> {
+    fn fmt<W: fmt::Write>(&self, f: &mut fmt::Formatter<W>) -> fmt::Result {
+        fmt::Display::fmt(self, f)
+    }
+}
+
+impl Error for ToolError<'_> {}
 
 impl From<ParamsError> for ToolError<'_> {
     ghost use Rattle.std.specs.Prelude.{◌≡◌};

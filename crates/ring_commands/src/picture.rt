@@ -2,7 +2,7 @@
 
 ghost use Rattle.std.specs.Prelude.{◌≡◌, ◌≢◌, ℕ, ◌<◌, ◌≤◌, List, length, slice_get, Some, OnOk, IfOk, IfErr};
 ghost use Rattle.std.specs.Io.KnownBytes.{Appends};
-ghost use Rattle.ring_text.specs.Content.{content, block_of};
+ghost use Rattle.ring_saved.specs.Content.{content, block_of};
 ghost use Rattle.ring_commands.specs.CheckText.{legal_line};
 ghost use Rattle.ring_commands.specs.Pictured.{most_drawn, drawn_count, picture_of, IsDrawing, IsDrawingRefusal, IsDrawingFileRefusal, IsHandingRefusal, IsPictureAnswer, IsPictureRefusal};
 ghost use Rattle.ring_commands.specs.Ran.{IsSaveRefusal};
@@ -13,7 +13,8 @@ use crate::faults::ToolError;
 use crate::reading::read_whole;
 use ring_check::Summary;
 use ring_picture::{PictureFault, write_picture};
-use ring_text::{Saved, SavedRing};
+use ring_requests::PictureWords;
+use ring_saved::{Saved, SavedRing};
 use std::alloc::Global;
 use std::fs;
 use std::io::{BufWriter, Read, Write};
@@ -21,20 +22,6 @@ use std::rt::Files;
 
 /// The most events of a picture.
 pub const MOST_DRAWN: u32 = 20_000;
-
-/// What `picture` was asked for.
-#[derive(Clone, Copy, Debug)]
-pub struct PictureWords<'a> {
-    pub file: &'a str,
-    /// The file for the picture.
-    pub picture: &'a str,
-    /// The ring that is drawn, by its place among the rings.
-    pub ring: u32,
-    /// How many of its events stand before the first that is drawn.
-    pub from: u32,
-    /// How many are drawn at most.
-    pub events: u32,
-}
 
 /// What is drawn of a legal text.
 #[derive(Drop)]

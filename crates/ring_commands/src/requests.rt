@@ -1,28 +1,15 @@
-//! What the program can be asked for.
+//! Does what the program was asked for.
 
 ghost use Rattle.std.specs.Prelude.{◌≡◌, OnOk, IfErr};
 ghost use Rattle.ring_commands.specs.Answered.{IsAnswer, IsRefusal, IsOfFile};
 
-use crate::check::{self, CheckWords};
 use crate::faults::ToolError;
-use crate::picture::{self, PictureWords};
-use crate::run::{self, RunWords};
-use crate::step::{self, StepWords};
-use crate::upgrade::{self, UpgradeWords};
+use crate::{check, picture, run, step, upgrade};
+use ring_requests::Request;
 use std::io::{Read, Write};
 use std::rt::Files;
 use std::sync::Wait;
 use std::thread::Threads;
-
-/// A command, with its words.
-#[derive(Clone, Copy, Debug)]
-pub enum Request<'a> {
-    Step(StepWords<'a>),
-    Run(RunWords<'a>),
-    Check(CheckWords<'a>),
-    Picture(PictureWords<'a>),
-    Upgrade(UpgradeWords<'a>),
-}
 
 /// Does what was asked for. A word `-` for what is read names `input`; where there is none it stays as it was.
 ///

@@ -6,7 +6,7 @@ ghost use Rattle.ring_settings.specs.Limits.{ring_limit};
 ghost use Rattle.ring_farm.specs.declared.outcomes.Outcome.{Outcome};
 ghost use Rattle.ring_text.specs.Report.{entries_in};
 ghost use Rattle.ring_text.specs.SavedOf.{saved_of};
-ghost use Rattle.ring_text.specs.Spelling.{text};
+ghost use Rattle.ring_saved.specs.Spelling.{text};
 ghost use Rattle.text_lines.specs.Writing.{Writes};
 ghost use Rattle.ring_commands.specs.Ran.{told, printed, IsFarmOn, IsFarmRefusal, IsFarmFileRefusal, IsFarmNamed, IsFarmNamedRefusal, IsSaveRefusal, IsHandOutRefusal, IsOutcomeRefusal, IsRunRefusal};
 ghost use Rattle.ring_commands.specs.Reading.{most_bytes, is_dash, IsAllOf};
@@ -15,8 +15,10 @@ ghost use Rattle.ring_commands.specs.Saved.{IsLegalOfFarm, IsRunAnswer};
 use crate::faults::ToolError;
 use crate::reading::{names_stream, read_whole};
 use ring_farm::{Open, Outcome, run_farm};
+use ring_requests::RunWords;
+use ring_saved::texts_read_back;
 use ring_settings::read_settings;
-use ring_text::{texts_read_back, write_outcome, write_report, write_total};
+use ring_text::{write_outcome, write_report, write_total};
 use std::alloc::Global;
 use std::fs;
 use std::io::{BufWriter, Read, Write};
@@ -24,17 +26,6 @@ use std::rt::Files;
 use std::sync::Wait;
 use std::thread::Threads;
 use text_lines::WriteFault;
-
-/// What `run` was asked for.
-#[derive(Clone, Copy, Debug)]
-pub struct RunWords<'a> {
-    /// The settings file's name; `-` is standard input.
-    pub settings: &'a str,
-    /// The name of the file for the saved text; `-` is standard output, in the place of the report.
-    pub history: Option<&'a str>,
-    /// Whether the report's last line alone is wanted.
-    pub quiet: bool,
-}
 
 /// Why a saved text does not stand behind what a writer held.
 #[derive(Clone, Copy, Debug, PartialEq, Eq)]

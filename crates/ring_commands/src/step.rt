@@ -17,19 +17,11 @@ use crate::faults::ToolError;
 use crate::lists::read_list;
 use itoa::Buffer;
 use ring_book::{Book, Idle, Reply};
+use ring_requests::StepWords;
 use ring_state::{Params, RingState};
 use std::alloc::Global;
 use std::io::Write;
 use text_lines::{WriteFault, put, put_all, put_list};
-
-/// What `step` was asked for, with its lists as they were given.
-#[derive(Clone, Copy, Debug)]
-pub struct StepWords<'a> {
-    pub n: u32,
-    pub k: u32,
-    pub states: &'a str,
-    pub choices: Option<&'a str>,
-}
 
 /// The line of a granted pass: the machine, and the number of the grant.
 fn write_granted<W: Write>(out: &mut W, machine: u32, number: u64) -> Result<(), WriteFault>

@@ -3,8 +3,8 @@
 ghost use Rattle.std.specs.Prelude.{◌≡◌, ◌≢◌, ◌≤◌, ◌⊎◌, ℕ, length, Some, OnOk, IfOk, IfErr};
 ghost use Rattle.std.specs.Io.KnownBytes.{Appends};
 ghost use Rattle.ring_check.specs.declared.answers.Summary.{Summary};
-ghost use Rattle.ring_text.specs.Content.{Content, content};
-ghost use Rattle.ring_text.specs.Spelling.{Fits, text};
+ghost use Rattle.ring_saved.specs.Content.{Content, content};
+ghost use Rattle.ring_saved.specs.Spelling.{Fits, text};
 ghost use Rattle.ring_commands.specs.CheckText.{legal_line};
 ghost use Rattle.ring_commands.specs.Ran.{IsSaveRefusal, IsHandOutRefusal};
 ghost use Rattle.ring_commands.specs.Upgraded.{IsUpgradeOf, IsUpgradeTextRefusal, IsUpgradeAnswer, IsUpgradeRefusal, IsUpgradeRunAnswer, IsUpgradeRunRefusal};
@@ -13,20 +13,12 @@ use crate::check::{legal_saved, write_sums};
 use crate::faults::ToolError;
 use crate::reading::read_whole;
 use ring_check::{Summary, upgrade_law};
-use ring_text::{Saved, upgrade, write_saved};
+use ring_requests::UpgradeWords;
+use ring_saved::{Saved, upgrade, write_saved};
 use std::alloc::Global;
 use std::fs;
 use std::io::{self, BufWriter, Read, Write};
 use std::rt::Files;
-
-/// What `upgrade` was asked for.
-#[derive(Clone, Copy, Debug)]
-pub struct UpgradeWords<'a> {
-    /// The name of the file with the saved text.
-    pub file: &'a str,
-    /// The name of the file that is made for the new text.
-    pub new: &'a str,
-}
 
 /// Where a file is made.
 pub trait Place<F> {

@@ -14,3 +14,4 @@ pub use farms::{run_farm, run_rings};
 pub use faults::FarmError;
 pub use gates::{Gate, Open};
 pub use outcomes::{Outcome, RingOutcome};
+pub use ring_shared::Log;

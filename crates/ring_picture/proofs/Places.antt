@@ -9,8 +9,8 @@ use Rattle.ring_model.specs.History.{State, granted_state, next, after}
 use Rattle.ring_model.specs.Resources.{till}
 use Rattle.ring_model.specs.Surveys.{calm}
 use Rattle.ring_model.proofs.Histories.{after-push, calm_next, calm-push}
-use Rattle.ring_text.specs.declared.saved.SavedEvent.{SavedEvent}
-use Rattle.ring_text.specs.Content.{Block}
+use Rattle.ring_saved.specs.declared.saved.SavedEvent.{SavedEvent}
+use Rattle.ring_saved.specs.Content.{Block}
 use Rattle.ring_check.specs.Table.{event_of, first_state}
 use Rattle.ring_picture.specs.Picture.{passed, next_ring, ring_at, calm_at}
 

@@ -5,7 +5,7 @@ use Rattle.std.proofs.lemmas.Bool.Decides.{nat_tests}
 use Rattle.std.proofs.lemmas.List.{take_all, length-map}
 use Rattle.ring_model.specs.declared.events.Event.{Event}
 use Rattle.ring_model.specs.Groups.{left_after}
-use Rattle.ring_text.specs.Content.{Block}
+use Rattle.ring_saved.specs.Content.{Block}
 use Rattle.ring_check.specs.Legal.{history}
 use Rattle.ring_check.specs.Table.{event_of}
 use Rattle.ring_picture.specs.Picture.{shown}

@@ -8,9 +8,9 @@ use Rattle.ring_model.specs.Groups.{left_after}
 use Rattle.ring_model.specs.History.{after}
 use Rattle.ring_model.specs.Resources.{till}
 use Rattle.ring_model.specs.Surveys.{calm, granted_count, corrupted_count}
-use Rattle.ring_text.specs.declared.saved.SavedEvent.{SavedEvent}
-use Rattle.ring_text.specs.declared.saved.SavedEvent.TheVariants as saved
-use Rattle.ring_text.specs.Content.{Block}
+use Rattle.ring_saved.specs.declared.saved.SavedEvent.{SavedEvent}
+use Rattle.ring_saved.specs.declared.saved.SavedEvent.TheVariants as saved
+use Rattle.ring_saved.specs.Content.{Block}
 use Rattle.ring_check.specs.Legal.{history}
 use Rattle.ring_check.specs.Table.{event_of, first_state}
 use Rattle.ring_picture.specs.Stretches.{Stretch, stretches, pieces}

@@ -2,14 +2,14 @@
 
 ghost use Rattle.std.specs.Prelude.{◌≡◌, ◌+◌, ◌<◌, ◌≤◌, ◌^◌, length, vec_len, slice_set, IfOk};
 ghost use Rattle.ring_model.specs.Ring.{ring_with};
-ghost use Rattle.ring_text.specs.Content.{block_of};
+ghost use Rattle.ring_saved.specs.Content.{block_of};
 ghost use Rattle.ring_check.specs.Table.{event_of};
 ghost use Rattle.ring_model.proofs.Histories.{calm_next};
 ghost use Rattle.ring_picture.specs.Picture.{passed, next_ring, ring_at, calm_at, shown, ring_shown, calm_shown};
 
 use crate::groups::{left_before, shown};
 use ring_model::plain::is_privileged;
-use ring_text::{SavedEvent, SavedRing};
+use ring_saved::{SavedEvent, SavedRing};
 use std::alloc::{AllocError, Global};
 
 /// Moves a machine that is privileged. One that is not, or is none of the ring's, changes nothing.

@@ -4,13 +4,13 @@ ghost use Rattle.std.specs.Prelude.{◌≡◌, ◌+◌, ◌<◌, ◌≤◌, ◌^
 ghost use Rattle.text_lines.specs.Writing.{Writes};
 ghost use Rattle.ring_model.specs.Limits.{machine_limit};
 ghost use Rattle.ring_model.specs.Ring.{ring_with};
-ghost use Rattle.ring_text.specs.Content.{block_of};
+ghost use Rattle.ring_saved.specs.Content.{block_of};
 ghost use Rattle.ring_picture.specs.Picture.{ring_shown, point, rest_points, calm_points};
 
 use crate::columns::{calm_on, calm_to, go_on};
 use itoa::Buffer;
 use ring_model::plain::rest;
-use ring_text::SavedRing;
+use ring_saved::SavedRing;
 use std::io::Write;
 use text_lines::{WriteFault, put_all};
 

@@ -3,12 +3,12 @@
 ghost use Rattle.std.specs.Prelude.{◌≡◌, ◌+◌, ◌<◌, ◌≤◌, ◌^◌};
 ghost use Rattle.text_lines.specs.Writing.{Writes};
 ghost use Rattle.ring_model.specs.Limits.{machine_limit};
-ghost use Rattle.ring_text.specs.Content.{block_of};
+ghost use Rattle.ring_saved.specs.Content.{block_of};
 ghost use Rattle.ring_picture.specs.Picture.{title_text, axes_text, rows_opening, curves_opening};
 
 use itoa::Buffer;
 use ring_check::count_events;
-use ring_text::SavedRing;
+use ring_saved::SavedRing;
 use std::io::Write;
 use text_lines::{WriteFault, put_all};
 

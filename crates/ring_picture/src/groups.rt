@@ -2,12 +2,12 @@
 
 ghost use Rattle.std.specs.Prelude.{◌≡◌, ◌≤◌, take, vec_len};
 ghost use Rattle.ring_model.specs.Groups.{left_of, left_after};
-ghost use Rattle.ring_text.specs.Content.{block_of};
+ghost use Rattle.ring_saved.specs.Content.{block_of};
 ghost use Rattle.ring_check.specs.Legal.{history};
 ghost use Rattle.ring_check.specs.Table.{event_of};
 ghost use Rattle.ring_picture.specs.Picture.{shown};
 
-use ring_text::{SavedEvent, SavedRing};
+use ring_saved::{SavedEvent, SavedRing};
 
 /// How many members of its group come after an event.
 fn left_of(event: SavedEvent) -> u32

@@ -2,11 +2,11 @@
 
 ghost use Rattle.std.specs.Prelude.{◌≡◌, ◌+◌, ◌<◌, ◌^◌, slice_get};
 ghost use Rattle.text_lines.specs.Writing.{Writes};
-ghost use Rattle.ring_text.specs.Content.{block_of};
+ghost use Rattle.ring_saved.specs.Content.{block_of};
 ghost use Rattle.ring_picture.specs.Picture.{marked, mark, mark_at, mark_of, mark_in, marks_text};
 
 use itoa::Buffer;
-use ring_text::{SavedEvent, SavedRing};
+use ring_saved::{SavedEvent, SavedRing};
 use std::io::Write;
 use text_lines::{WriteFault, put_all};
 

@@ -5,7 +5,7 @@ ghost use Rattle.std.specs.Io.KnownBytes.{Appends};
 ghost use Rattle.text_lines.specs.Writing.{Wrote, Writes};
 ghost use Rattle.ring_model.specs.Limits.{machine_limit};
 ghost use Rattle.ring_model.specs.Ring.{ring_with, bound};
-ghost use Rattle.ring_text.specs.Content.{block_of};
+ghost use Rattle.ring_saved.specs.Content.{block_of};
 ghost use Rattle.ring_picture.specs.Picture.{ring_shown, upper_part, marks_part, lower_part, picture};
 
 use crate::columns::{bring_back, values_at};
@@ -14,7 +14,7 @@ use crate::frame::{put_axes, put_curves_opening, put_rows_opening, put_title};
 use crate::marks::put_marks;
 use crate::rows::put_rows;
 use ring_model::plain::bound;
-use ring_text::SavedRing;
+use ring_saved::SavedRing;
 use std::alloc::Global;
 use std::io::Write;
 use text_lines::{WriteFault, put};

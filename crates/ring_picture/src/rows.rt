@@ -6,14 +6,14 @@ ghost use Rattle.text_lines.specs.Writing.{Writes};
 ghost use Rattle.ring_model.specs.Limits.{machine_limit};
 ghost use Rattle.ring_model.specs.Ring.{ring_with};
 ghost use Rattle.ring_model.specs.Limits.{machine_limit};
-ghost use Rattle.ring_text.specs.Content.{block_of};
+ghost use Rattle.ring_saved.specs.Content.{block_of};
 ghost use Rattle.ring_picture.specs.Stretches.{run_from, ended_from, begin_after};
 ghost use Rattle.ring_picture.specs.Picture.{ring_shown, rectangle, row_text, rows_text};
 
 use crate::columns::{bring_back, go_on};
 use itoa::Buffer;
 use ring_model::plain::is_privileged;
-use ring_text::SavedRing;
+use ring_saved::SavedRing;
 use std::io::Write;
 use text_lines::{WriteFault, put_all};
 

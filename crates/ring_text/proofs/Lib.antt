@@ -1,10 +1,7 @@
-pub mod LineLaws
-pub mod TextLaws
-pub mod Loops
-pub mod Passing
 pub mod SavedParts
-pub mod TextParts
+pub mod Fitting
 pub mod Sums
 pub mod BookEnds
 pub mod RingLines
-pub mod ValueParts
+pub mod WrittenTexts
+pub mod Promised

@@ -6,13 +6,13 @@ use Rattle.std.proofs.lemmas.List.Concat.{flat_map-append}
 use Rattle.ring_model.specs.declared.events.Event.{Event}
 use Rattle.ring_model.specs.declared.events.Entry.{Entry}
 use Rattle.ring_model.specs.declared.events.Entry.TheVariants as entry
-use Rattle.ring_shared.specs.declared.seats.Log.{Log}
+use Rattle.ring_farm.specs.Log.{Log}
 use Rattle.ring_farm.specs.declared.outcomes.RingOutcome.{RingOutcome}
-use Rattle.ring_text.specs.declared.saved.SavedSurvey.{SavedSurvey}
-use Rattle.ring_text.specs.Versions.{latest_version}
-use Rattle.ring_text.specs.Spelling.{event_line, survey_line, block_text, EventFits, SurveyFits, BlockFits}
+use Rattle.ring_saved.specs.declared.saved.SavedSurvey.{SavedSurvey}
+use Rattle.ring_saved.specs.Versions.{latest_version}
+use Rattle.ring_saved.specs.Spelling.{event_line, survey_line, block_text, EventFits, SurveyFits, BlockFits}
 use Rattle.ring_text.specs.SavedOf.{saved_event, saved_survey, entry_surveys, log_surveys, block_at, blocks_from}
-use Rattle.ring_text.proofs.Passing.{Spelled}
+use Rattle.ring_saved.proofs.Passing.{Spelled}
 
 -- ---- the values of a start
 

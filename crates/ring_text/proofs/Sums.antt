@@ -2,7 +2,7 @@
 use Rattle.std.proofs.Common.{◌≡◌, ◌+◌, ◌<◌, ◌≤◌, ◌∙◌, ℕ, List, length, take, get_or, sum_by, ap, sym, arith}
 use Rattle.std.proofs.lemmas.List.Sums.{sum_by_more, sum_by_more_le_part, sum_by-le-sum_by, count_by-le-length}
 use Rattle.ring_model.specs.Surveys.{granted_count}
-use Rattle.ring_shared.specs.declared.seats.Log.{Log}
+use Rattle.ring_farm.specs.Log.{Log}
 use Rattle.ring_farm.specs.declared.outcomes.RingOutcome.{RingOutcome}
 use Rattle.ring_text.specs.declared.counts.Counts.{Counts}
 use Rattle.ring_text.specs.declared.counts.Totals.{Totals}

@@ -15,7 +15,7 @@ use Rattle.ring_model.specs.declared.events.Survey.{Survey}
 use Rattle.ring_model.specs.declared.events.Entry.{Entry}
 use Rattle.ring_model.specs.declared.events.Entry.TheVariants as entry
 use Rattle.ring_book.specs.BookView.{BookView}
-use Rattle.ring_shared.specs.declared.seats.Log.{Log}
+use Rattle.ring_farm.specs.Log.{Log}
 use Rattle.ring_farm.specs.declared.outcomes.Outcome.{Outcome}
 use Rattle.ring_farm.specs.declared.outcomes.RingOutcome.{RingOutcome}
 use Rattle.ring_text.specs.declared.counts.Counts.{Counts}

@@ -9,14 +9,14 @@ use Rattle.ring_model.specs.declared.events.Event.{Event}
 use Rattle.ring_model.specs.declared.events.Survey.{Survey}
 use Rattle.ring_model.specs.declared.events.Entry.{Entry}
 use Rattle.ring_model.specs.declared.events.Entry.TheVariants as entry
-use Rattle.ring_shared.specs.declared.seats.Log.{Log}
+use Rattle.ring_farm.specs.Log.{Log}
 use Rattle.ring_farm.specs.declared.outcomes.Outcome.{Outcome}
 use Rattle.ring_farm.specs.declared.outcomes.RingOutcome.{RingOutcome}
-use Rattle.ring_text.specs.declared.saved.SavedEvent.{SavedEvent}
-use Rattle.ring_text.specs.declared.saved.SavedEvent.TheVariants as saved
-use Rattle.ring_text.specs.declared.saved.SavedSurvey.{SavedSurvey}
-use Rattle.ring_text.specs.Versions.{latest_version}
-use Rattle.ring_text.specs.Content.{Content, Block}
+use Rattle.ring_saved.specs.declared.saved.SavedEvent.{SavedEvent}
+use Rattle.ring_saved.specs.declared.saved.SavedEvent.TheVariants as saved
+use Rattle.ring_saved.specs.declared.saved.SavedSurvey.{SavedSurvey}
+use Rattle.ring_saved.specs.Versions.{latest_version}
+use Rattle.ring_saved.specs.Content.{Content, Block}
 
 -- the line of an event; where call and reply do not belong together there is none, and a refused pass stands for it
 abbrev pub saved_for : ℕ → Op → Reply → SavedEvent

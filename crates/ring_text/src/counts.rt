@@ -6,9 +6,8 @@ ghost use Rattle.ring_model.specs.Limits.{event_limit};
 ghost use Rattle.ring_settings.specs.Limits.{ring_limit};
 ghost use Rattle.ring_text.specs.Report.{refused_count, survey_count, surveys_in, entries_of, entries_among, counts_of, totals_of};
 
-use ring_farm::RingOutcome;
+use ring_farm::{Log, RingOutcome};
 use ring_model::{Entry, Event, Reply};
-use ring_shared::Log;
 
 /// What is counted of one ring.
 #[derive(Clone, Copy, Debug, PartialEq, Eq)]

@@ -5,18 +5,16 @@ ghost use Rattle.std.specs.List.{flat_map, AllByRecursion};
 ghost use Rattle.ring_settings.specs.Limits.{ring_limit};
 ghost use Rattle.text_lines.specs.Spelling.{row};
 ghost use Rattle.text_lines.specs.Writing.{Writes};
-ghost use Rattle.ring_text.specs.Spelling.{ring_line, start_line, event_line, end_line, survey_line, block_text, text, EventFits, SurveyFits, BlockFits, Fits};
-ghost use Rattle.ring_text.specs.Versions.{latest_version};
+ghost use Rattle.ring_saved.specs.Spelling.{ring_line, start_line, event_line, end_line, survey_line, block_text, text, EventFits, SurveyFits, BlockFits, Fits};
+ghost use Rattle.ring_saved.specs.Versions.{latest_version};
 ghost use Rattle.ring_text.specs.SavedOf.{saved_for, saved_event, saved_survey, entry_surveys, log_surveys, block_at, blocks_from, saved_of};
 
-use crate::put_lines::{
+use ring_book::{Entry, Event, Op, Reply, Survey};
+use ring_farm::{Log, Outcome, RingOutcome};
+use ring_saved::put_lines::{
     put_done_line, put_end_line, put_event_line, put_first_line, put_ring_line, put_survey_line,
 };
-use crate::saved::{SavedEvent, SavedSurvey};
-use crate::versions::LATEST_VERSION;
-use ring_book::{Entry, Event, Op, Reply, Survey};
-use ring_farm::{Outcome, RingOutcome};
-use ring_shared::Log;
+use ring_saved::{LATEST_VERSION, SavedEvent, SavedSurvey};
 use ring_state::RingState;
 use std::io::Write;
 use text_lines::{WriteFault, put, put_numbers};

@@ -1,11 +1,8 @@
 //! The program: it reads its words, does a command and prints what the command answers.
 #![tactic(auto)]
 
-use ring_commands::endings::tell;
-pub use ring_commands::faults::ToolError;
-pub use ring_commands::reading::read_limited;
-pub use ring_commands::step::step_lines;
-pub use ring_words::run_tool;
+use ring_program::tell;
+pub use ring_program::{ToolError, read_limited, run_tool, step_lines};
 use std::io::{self, BufWriter, ErrorKind, Input, Write};
 use std::process::ExitCode;
 use std::rt::{Env, Files};

@@ -1,10 +1,9 @@
-//! The program over its words: the command line, as `clap` reads it, and the command that it asks for.
+//! The command line of the program, as `clap` reads it: from words to what is asked for.
 #![tactic(auto)]
 
 mod picture;
-mod program;
 mod version;
 mod words;
 
-pub use program::{run_tool, run_tool_on};
 pub use version::VERSION;
+pub use words::read_words;

@@ -2,8 +2,7 @@
 
 use crate::words::needed_text;
 use clap::{Arg, ArgMatches, Command, Error, value_parser};
-use ring_commands::picture::PictureWords;
-use ring_commands::requests::Request;
+use ring_requests::{PictureWords, Request};
 use std::alloc::Global;
 
 /// How many events are drawn where no word says it.

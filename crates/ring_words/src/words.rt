@@ -4,11 +4,7 @@ use crate::picture::{picture_command, picture_words};
 use crate::version::VERSION;
 use clap::error::ErrorKind;
 use clap::{Arg, ArgAction, ArgMatches, Command, Error, value_parser};
-use ring_commands::check::CheckWords;
-use ring_commands::requests::Request;
-use ring_commands::run::RunWords;
-use ring_commands::step::StepWords;
-use ring_commands::upgrade::UpgradeWords;
+use ring_requests::{CheckWords, Request, RunWords, StepWords, UpgradeWords};
 use std::alloc::Global;
 
 const ABOUT: &str =

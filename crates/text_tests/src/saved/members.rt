@@ -4,7 +4,7 @@ use super::judge::judge;
 use super::outcomes::written;
 use super::scenes::group_outcome;
 use super::texts::GROUP;
-use ring_text::{ReadError, SavedEvent, SavedSurvey, read_saved};
+use ring_saved::{ReadError, SavedEvent, SavedSurvey, read_saved};
 use std::test::Fail;
 
 /// A member of seat 0's group with the order 2.

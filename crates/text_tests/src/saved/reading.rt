@@ -4,7 +4,7 @@ use super::judge::judge;
 use super::texts::{
     GROUP, LATER_PASSES, LATER_TWO_RINGS, PASSES, TEXTS, TWO_CLIENTS, TWO_RINGS, write,
 };
-use ring_text::{ReadError, Saved, SavedEvent, SavedRing, SavedSurvey, read_saved};
+use ring_saved::{ReadError, Saved, SavedEvent, SavedRing, SavedSurvey, read_saved};
 use std::alloc::Global;
 use std::process::Abort;
 use std::test::Fail;

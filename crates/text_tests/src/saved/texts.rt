@@ -1,11 +1,12 @@
 //! The worked texts, and the writer of a value.
 
 ghost use Rattle.std.specs.Prelude.{◌≡◌};
-ghost use Rattle.ring_text.specs.Versions.{first_version};
-ghost use Rattle.ring_text.specs.Content.{content};
-ghost use Rattle.ring_text.specs.Spelling.{HasNoMember};
+ghost use Rattle.ring_saved.specs.Versions.{first_version};
+ghost use Rattle.ring_saved.specs.Content.{content};
+ghost use Rattle.ring_saved.specs.Spelling.{HasNoMember};
 
-use ring_text::{Saved, WriteFault, write_saved};
+use ring_saved::{Saved, write_saved};
+use ring_text::WriteFault;
 use std::io::Write;
 use std::process::Abort;
 

@@ -2,7 +2,7 @@
 
 use super::texts::{GROUP, LATER_PASSES, LATER_TWO_RINGS, PASSES, TEXTS, TWO_RINGS, write};
 use crate::scripted::{REFUSALS, Refusal, writer_with};
-use ring_text::{read_saved, upgrade};
+use ring_saved::{read_saved, upgrade};
 use std::test::Fail;
 
 #[test]

@@ -2,8 +2,8 @@ use Rattle.std.proofs.Common.{◌≡◌, ℕ, ◌+◌, ◌*◌, ◌≤◌, List,
 use Rattle.std.specs.List.{flat_map}
 use Rattle.std.proofs.lemmas.List.{map-append}
 use Rattle.std.proofs.lemmas.Grind.{flat_map-append}
-use Rattle.ring_text.specs.declared.saved.SavedRing.{SavedRing}
-use Rattle.ring_text.specs.Content.{Block, block_of}
+use Rattle.ring_saved.specs.declared.saved.SavedRing.{SavedRing}
+use Rattle.ring_saved.specs.Content.{Block, block_of}
 use Rattle.ring_check.specs.Lines.{block_lines}
 use Rattle.ring_check.proofs.Blocks.{block_long}
 use Rattle.ring_check.proofs.BlockLines.{lines_long}

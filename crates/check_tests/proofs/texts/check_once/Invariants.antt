@@ -1,6 +1,6 @@
 use Rattle.std.proofs.Common.{◌≤◌, ◌*◌, length, map}
 use Rattle.std.specs.List.{flat_map}
-use Rattle.ring_text.specs.Content.{block_of}
+use Rattle.ring_saved.specs.Content.{block_of}
 use Rattle.ring_check.specs.Lines.{block_lines}
 use Rattle.check_tests.proofs.texts.check_once.Given as goal
 

@@ -1,6 +1,6 @@
 use Rattle.std.proofs.Common.{refl}
 use Rattle.std.proofs.lemmas.Result.{err_from_is_err_and}
-use Rattle.ring_text.specs.Content.{content, block_of}
+use Rattle.ring_saved.specs.Content.{content, block_of}
 use Rattle.ring_commands.proofs.Drawings.{legal_text}
 use Rattle.ring_commands.proofs.picture.drawing_of.Goals as goal
 

@@ -1,6 +1,6 @@
 use Rattle.std.proofs.Common.{refl}
 use Rattle.ring_text.specs.SavedOf.{saved_of}
-use Rattle.ring_check.proofs.Promised.{outcome_is_legal, outcome_is_right}
+use Rattle.ring_text.proofs.Promised.{outcome_is_legal, outcome_is_right}
 use Rattle.ring_commands.proofs.run.save.Goals as goal
 
 pub returns-in-Ok-clause-legal : goal.returns-in-Ok-clause-legal

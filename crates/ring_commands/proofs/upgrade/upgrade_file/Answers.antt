@@ -1,6 +1,6 @@
 use Rattle.std.proofs.Common.{inr}
 use Rattle.std.proofs.lemmas.Result.{err_from_is_err_and}
-use Rattle.ring_text.specs.Content.{content}
+use Rattle.ring_saved.specs.Content.{content}
 use Rattle.ring_commands.proofs.upgrade.upgrade_file.Goals as goal
 
 pub returns-in_err-write_sums-clause-err : goal.returns-in_err-write_sums-clause-err

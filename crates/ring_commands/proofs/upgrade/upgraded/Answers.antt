@@ -1,6 +1,6 @@
 use Rattle.std.proofs.Common.{◌≡◌, ◌∙◌, ℕ, List, ap, sym, subst}
-use Rattle.ring_text.specs.Content.{content, upgraded}
-use Rattle.ring_text.specs.Spelling.{Fits}
+use Rattle.ring_saved.specs.Content.{content, upgraded}
+use Rattle.ring_saved.specs.Spelling.{Fits}
 use Rattle.ring_check.specs.Legal.{IsLegalText, summary_of}
 use Rattle.ring_commands.specs.Reading.{most_bytes, IsAllOf}
 use Rattle.ring_commands.proofs.Upgrades.{upgraded_fits}

@@ -1,7 +1,7 @@
 use Rattle.std.proofs.Common.{◌≡◌, ◌<◌, ◌≤◌, ◌∙◌, length, get_or, ap, arith, rules}
 use Rattle.ring_model.proofs.Histories.{calm_next}
-use Rattle.ring_text.specs.declared.saved.SavedEvent.{SavedEvent}
-use Rattle.ring_text.specs.Content.{block_of}
+use Rattle.ring_saved.specs.declared.saved.SavedEvent.{SavedEvent}
+use Rattle.ring_saved.specs.Content.{block_of}
 use Rattle.ring_check.specs.Table.{event_of}
 use Rattle.ring_picture.proofs.Places.{calm_more, calm_stays}
 use Rattle.ring_picture.proofs.columns.calm_step.Goals as goal

@@ -1,7 +1,7 @@
 use Rattle.std.proofs.Common.{◌≡◌}
 use Rattle.std.specs.Prelude.{vec_len}
 use Rattle.ring_model.specs.Ring.{ring_with}
-use Rattle.ring_text.specs.Content.{block_of}
+use Rattle.ring_saved.specs.Content.{block_of}
 use Rattle.ring_picture.specs.Picture.{ring_at}
 use Rattle.ring_picture.proofs.columns.go_on.Given as goal
 

@@ -1,9 +1,9 @@
 use Rattle.std.proofs.Common.{◌≡◌, ◌<◌, ◌≤◌, ◌∙◌, length, get_or, ap, arith, rules}
 use Rattle.ring_model.specs.Ring.{ring_with}
-use Rattle.ring_text.specs.declared.saved.SavedEvent.{SavedEvent}
+use Rattle.ring_saved.specs.declared.saved.SavedEvent.{SavedEvent}
 use Rattle.ring_check.specs.Table.{event_of}
 use Rattle.ring_picture.specs.Picture.{next_ring}
-use Rattle.ring_text.specs.Content.{block_of}
+use Rattle.ring_saved.specs.Content.{block_of}
 use Rattle.ring_picture.proofs.Places.{ring_more, ring_stays}
 use Rattle.ring_picture.proofs.columns.step_on.Goals as goal
 

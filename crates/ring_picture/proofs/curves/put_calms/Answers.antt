@@ -1,6 +1,6 @@
 use Rattle.std.proofs.Common.{◌≡◌, ℕ, ◌+◌, ◌≤◌, ◌∙◌, Ok, Err, ap, subst, arith}
 use Rattle.text_lines.proofs.Writing.{writes_same}
-use Rattle.ring_text.specs.Content.{block_of}
+use Rattle.ring_saved.specs.Content.{block_of}
 use Rattle.ring_picture.specs.Picture.{shown, calm_shown, calm_in, point}
 use Rattle.ring_picture.proofs.Texts.{piece_more, piece_fault}
 use Rattle.ring_picture.proofs.curves.put_calms.Goals as goal

@@ -1,6 +1,6 @@
 use Rattle.std.proofs.Common.{◌≡◌, ◌+◌, ◌≤◌}
 use Rattle.std.specs.Io.KnownBytes.{Appends}
-use Rattle.ring_text.specs.Content.{block_of}
+use Rattle.ring_saved.specs.Content.{block_of}
 use Rattle.ring_picture.specs.Stretches.{pieces}
 use Rattle.ring_picture.specs.Picture.{shown, calm_shown, point, calm_in}
 use Rattle.ring_picture.proofs.curves.put_calms.Given as goal

@@ -1,7 +1,7 @@
 use Rattle.std.proofs.Common.{◌≡◌, ◌+◌, ◌∙◌, List, ℕ, Ok, Err, ap, arith}
 use Rattle.text_lines.proofs.Writing.{writes_same}
 use Rattle.ring_model.specs.Ring.{Ring, ring_with, rest}
-use Rattle.ring_text.specs.Content.{block_of}
+use Rattle.ring_saved.specs.Content.{block_of}
 use Rattle.ring_picture.specs.Picture.{ring_shown, rest_in, point}
 use Rattle.ring_picture.proofs.Texts.{piece_more, piece_fault}
 use Rattle.ring_picture.proofs.curves.put_rests.Goals as goal

@@ -2,7 +2,7 @@ use Rattle.std.proofs.Common.{◌≡◌, ◌+◌}
 use Rattle.std.specs.Prelude.{vec_len}
 use Rattle.std.specs.Io.KnownBytes.{Appends}
 use Rattle.ring_model.specs.Ring.{ring_with}
-use Rattle.ring_text.specs.Content.{block_of}
+use Rattle.ring_saved.specs.Content.{block_of}
 use Rattle.ring_picture.specs.Stretches.{pieces}
 use Rattle.ring_picture.specs.Picture.{ring_shown, point, rest_in}
 use Rattle.ring_picture.proofs.curves.put_rests.Given as goal

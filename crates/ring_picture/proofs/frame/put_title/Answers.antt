@@ -1,8 +1,8 @@
 use Rattle.std.proofs.Common.{◌≡◌, ◌∙◌, List, length, map, ap, arith}
 use Rattle.std.specs.Prelude.{decimal}
 use Rattle.ring_model.specs.Surveys.{granted_count, corrupted_count}
-use Rattle.ring_text.specs.Content.{block_of}
-use Rattle.ring_text.specs.declared.saved.SavedEvent.{SavedEvent}
+use Rattle.ring_saved.specs.Content.{block_of}
+use Rattle.ring_saved.specs.declared.saved.SavedEvent.{SavedEvent}
 use Rattle.ring_check.specs.Legal.{history}
 use Rattle.ring_check.specs.Table.{event_of}
 use Rattle.ring_picture.proofs.frame.put_title.Goals as goal

@@ -1,6 +1,6 @@
 use Rattle.std.proofs.Common.{◌≡◌, ◌-◌, ◌<◌, ◌∙◌, get_or, sym, ap, arith, rules}
 use Rattle.ring_model.specs.Groups.{left_of}
-use Rattle.ring_text.specs.declared.saved.SavedEvent.{SavedEvent}
+use Rattle.ring_saved.specs.declared.saved.SavedEvent.{SavedEvent}
 use Rattle.ring_check.specs.Table.{event_of}
 use Rattle.ring_check.proofs.OpenRuns.{left_told}
 use Rattle.ring_picture.proofs.groups.left_at.Goals as goal

@@ -1,6 +1,6 @@
 use Rattle.std.proofs.Common.{◌≡◌, ◌-◌, ◌+◌, ◌<◌, ◌∙◌, take, sym, ap, arith}
 use Rattle.ring_model.specs.Groups.{left_after}
-use Rattle.ring_text.specs.Content.{block_of}
+use Rattle.ring_saved.specs.Content.{block_of}
 use Rattle.ring_check.specs.Legal.{history}
 use Rattle.ring_picture.specs.Picture.{shown}
 use Rattle.ring_picture.proofs.Shown.{shown_here, shown_before}

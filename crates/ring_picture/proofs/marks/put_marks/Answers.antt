@@ -1,6 +1,6 @@
 use Rattle.std.proofs.Common.{◌+◌, Ok, Err, ap}
 use Rattle.text_lines.proofs.Writing.{writes_same}
-use Rattle.ring_text.specs.Content.{block_of}
+use Rattle.ring_saved.specs.Content.{block_of}
 use Rattle.ring_picture.specs.Picture.{mark_of, mark_in}
 use Rattle.ring_picture.proofs.Texts.{piece_more, piece_fault}
 use Rattle.ring_picture.proofs.marks.put_marks.Goals as goal

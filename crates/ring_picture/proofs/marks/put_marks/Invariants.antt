@@ -1,5 +1,5 @@
 use Rattle.std.specs.Io.KnownBytes.{Appends}
-use Rattle.ring_text.specs.Content.{block_of}
+use Rattle.ring_saved.specs.Content.{block_of}
 use Rattle.ring_picture.specs.Stretches.{pieces}
 use Rattle.ring_picture.specs.Picture.{mark_in}
 use Rattle.ring_picture.proofs.marks.put_marks.Given as goal

@@ -1,7 +1,7 @@
 use Rattle.std.proofs.Common.{true, false, ◌++◌, Err}
 use Rattle.std.proofs.lemmas.Result.{err_from_is_err_and}
 use Rattle.text_lines.proofs.Writing.{writes_then, writes_err}
-use Rattle.ring_text.specs.Content.{block_of}
+use Rattle.ring_saved.specs.Content.{block_of}
 use Rattle.ring_picture.specs.Picture.{marks_text, refusals_opening, corruptions_opening}
 use Rattle.ring_picture.proofs.Texts.{writes_second}
 use Rattle.ring_picture.proofs.picture.put_both_marks.Goals as goal

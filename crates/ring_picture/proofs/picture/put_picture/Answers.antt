@@ -1,7 +1,7 @@
 use Rattle.std.proofs.Common.{◌+◌, ◌++◌}
 use Rattle.std.proofs.lemmas.Result.{err_from_is_err_and}
 use Rattle.text_lines.proofs.Writing.{writes_then, writes_err}
-use Rattle.ring_text.specs.Content.{block_of}
+use Rattle.ring_saved.specs.Content.{block_of}
 use Rattle.ring_picture.specs.Picture.{upper_part, marks_part, lower_part}
 use Rattle.ring_picture.proofs.Texts.{writes_second}
 use Rattle.ring_picture.proofs.picture.put_picture.Goals as goal

@@ -2,7 +2,7 @@ use Rattle.std.proofs.Common.{◌+◌, ◌++◌, Ok, Err, ap}
 use Rattle.std.proofs.lemmas.Result.{err_from_is_err_and}
 use Rattle.text_lines.proofs.Writing.{writes_then, writes_err, writes_same}
 use Rattle.ring_model.specs.Ring.{bound}
-use Rattle.ring_text.specs.Content.{block_of}
+use Rattle.ring_saved.specs.Content.{block_of}
 use Rattle.ring_picture.specs.Picture.{title_text, axes_text, rows_opening, rows_text}
 use Rattle.ring_picture.proofs.Texts.{writes_second}
 use Rattle.ring_picture.proofs.picture.put_upper.Goals as goal

@@ -1,7 +1,7 @@
 use Rattle.std.proofs.Common.{◌≡◌, ◌+◌, ◌∙◌, Bool, List, ℕ, Ok, Err, ap, arith}
 use Rattle.text_lines.proofs.Writing.{writes_same}
 use Rattle.ring_model.specs.Ring.{Ring, is_privileged}
-use Rattle.ring_text.specs.Content.{block_of}
+use Rattle.ring_saved.specs.Content.{block_of}
 use Rattle.ring_picture.specs.Picture.{ring_shown, privileged_in, rectangle}
 use Rattle.ring_picture.proofs.Texts.{piece_more, ended_same, begin_more, begin_within, row_fault, row_end}
 use Rattle.ring_picture.proofs.rows.put_row.Goals as goal

@@ -3,7 +3,7 @@ use Rattle.std.specs.Prelude.{vec_len}
 use Rattle.std.specs.List.{flat_map}
 use Rattle.std.specs.Io.KnownBytes.{Appends}
 use Rattle.ring_model.specs.Ring.{ring_with}
-use Rattle.ring_text.specs.Content.{block_of}
+use Rattle.ring_saved.specs.Content.{block_of}
 use Rattle.ring_picture.specs.Stretches.{run_begin, run_ended, pieces}
 use Rattle.ring_picture.specs.Picture.{ring_shown, privileged_in, rectangle}
 use Rattle.ring_picture.proofs.rows.put_row.Given as goal

@@ -1,7 +1,7 @@
 use Rattle.std.proofs.Common.{◌≡◌}
 use Rattle.std.specs.Prelude.{vec_len}
 use Rattle.std.specs.Io.KnownBytes.{Appends}
-use Rattle.ring_text.specs.Content.{block_of}
+use Rattle.ring_saved.specs.Content.{block_of}
 use Rattle.ring_picture.specs.Stretches.{pieces}
 use Rattle.ring_picture.specs.Picture.{row_text}
 use Rattle.ring_picture.proofs.rows.put_rows.Given as goal

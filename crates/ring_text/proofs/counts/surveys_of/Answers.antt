@@ -1,5 +1,5 @@
 use Rattle.std.proofs.Common.{arith, ap}
-use Rattle.ring_shared.specs.declared.seats.Log.{Log}
+use Rattle.ring_farm.specs.Log.{Log}
 use Rattle.ring_text.specs.Report.{survey_count}
 use Rattle.ring_text.proofs.Sums.{surveys_within}
 use Rattle.ring_text.proofs.counts.surveys_of.Goals as goal

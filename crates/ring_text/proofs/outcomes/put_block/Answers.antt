@@ -1,7 +1,8 @@
 use Rattle.std.proofs.Common.{arith}
 use Rattle.std.proofs.lemmas.Result.{err_from_is_err_and}
 use Rattle.ring_text.specs.SavedOf.{block_at}
-use Rattle.ring_text.proofs.TextParts.{head_done, head_fault, start_done, start_fault, history_done, history_fault, surveys_fault, block_fits}
+use Rattle.ring_saved.proofs.TextParts.{head_done, head_fault, start_done, start_fault, history_done, history_fault, surveys_fault}
+use Rattle.ring_text.proofs.Fitting.{block_fits}
 use Rattle.ring_text.proofs.outcomes.put_block.Goals as goal
 
 pub returns-in_err-put_size-clause-written : goal.returns-in_err-put_size-clause-written

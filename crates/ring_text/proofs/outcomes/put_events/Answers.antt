@@ -1,5 +1,5 @@
 use Rattle.std.proofs.Common.{refl}
-use Rattle.ring_text.proofs.Passing.{below_more, below_fault, below_all}
+use Rattle.ring_saved.proofs.Passing.{below_more, below_fault, below_all}
 use Rattle.ring_text.proofs.SavedParts.{events_spelled}
 use Rattle.ring_text.proofs.outcomes.put_events.Goals as goal
 

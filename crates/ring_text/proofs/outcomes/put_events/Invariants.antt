@@ -1,4 +1,4 @@
-use Rattle.ring_text.proofs.Passing.{WroteBelow}
+use Rattle.ring_saved.proofs.Passing.{WroteBelow}
 use Rattle.ring_text.proofs.SavedParts.{events_text, EventsFit}
 use Rattle.ring_text.proofs.outcomes.put_events.Given as goal
 

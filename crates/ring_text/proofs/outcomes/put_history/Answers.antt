@@ -1,5 +1,5 @@
 use Rattle.text_lines.proofs.Writing.{writes_err}
-use Rattle.ring_text.specs.Spelling.{end_line}
+use Rattle.ring_saved.specs.Spelling.{end_line}
 use Rattle.ring_text.proofs.SavedParts.{events_text}
 use Rattle.std.proofs.Common.{length}
 use Rattle.ring_text.proofs.outcomes.put_history.Goals as goal

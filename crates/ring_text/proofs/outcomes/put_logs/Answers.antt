@@ -1,4 +1,4 @@
-use Rattle.ring_text.proofs.Passing.{below_more, below_fault, below_all}
+use Rattle.ring_saved.proofs.Passing.{below_more, below_fault, below_all}
 use Rattle.ring_text.proofs.SavedParts.{logs_spelled}
 use Rattle.ring_text.proofs.outcomes.put_logs.Goals as goal
 

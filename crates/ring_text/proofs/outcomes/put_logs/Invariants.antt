@@ -1,4 +1,4 @@
-use Rattle.ring_text.proofs.Passing.{WroteBelow}
+use Rattle.ring_saved.proofs.Passing.{WroteBelow}
 use Rattle.ring_text.proofs.SavedParts.{logs_text, LogsFit}
 use Rattle.ring_text.proofs.outcomes.put_logs.Given as goal
 

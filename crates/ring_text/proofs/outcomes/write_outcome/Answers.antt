@@ -1,7 +1,8 @@
 use Rattle.std.proofs.Common.{◌≡◌, length, arith}
 use Rattle.std.proofs.lemmas.Result.{err_from_is_err_and}
 use Rattle.ring_text.specs.SavedOf.{saved_of}
-use Rattle.ring_text.proofs.TextParts.{first_done, first_fault, blocks_done, blocks_fault, done_done, done_fault, text_fits}
+use Rattle.ring_saved.proofs.TextParts.{first_done, first_fault, blocks_done, blocks_fault, done_done, done_fault}
+use Rattle.ring_text.proofs.Fitting.{text_fits}
 use Rattle.ring_text.proofs.outcomes.write_outcome.Goals as goal
 
 pub returns-in_err-put_first_line-clause-written : goal.returns-in_err-put_first_line-clause-written

@@ -1,0 +1,7 @@
+//! What the program can be asked for. The command line makes these values and the commands are done by them, and neither
+//! knows the other.
+#![tactic(auto)]
+
+mod requests;
+
+pub use requests::{CheckWords, PictureWords, Request, RunWords, StepWords, UpgradeWords};

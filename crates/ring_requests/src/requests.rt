@@ -1,0 +1,61 @@
+//! A command with its words, as they were given: what stands in a list or a file is not looked at here.
+
+/// What `step` was asked for, with its lists as they were given.
+#[derive(Clone, Copy)]
+pub struct StepWords<'a> {
+    pub n: u32,
+    pub k: u32,
+    pub states: &'a str,
+    pub choices: Option<&'a str>,
+}
+
+/// What `run` was asked for.
+#[derive(Clone, Copy)]
+pub struct RunWords<'a> {
+    /// The settings file's name; `-` is standard input.
+    pub settings: &'a str,
+    /// The name of the file for the saved text; `-` is standard output, in the place of the report.
+    pub history: Option<&'a str>,
+    /// Whether the report's last line alone is wanted.
+    pub quiet: bool,
+}
+
+/// What `check` was asked for.
+#[derive(Clone, Copy)]
+pub struct CheckWords<'a> {
+    /// The file's name; `-` is standard input.
+    pub file: &'a str,
+}
+
+/// What `picture` was asked for.
+#[derive(Clone, Copy)]
+pub struct PictureWords<'a> {
+    pub file: &'a str,
+    /// The file for the picture.
+    pub picture: &'a str,
+    /// The ring that is drawn, by its place among the rings.
+    pub ring: u32,
+    /// How many of its events stand before the first that is drawn.
+    pub from: u32,
+    /// How many are drawn at most.
+    pub events: u32,
+}
+
+/// What `upgrade` was asked for.
+#[derive(Clone, Copy)]
+pub struct UpgradeWords<'a> {
+    /// The name of the file with the saved text.
+    pub file: &'a str,
+    /// The name of the file that is made for the new text.
+    pub new: &'a str,
+}
+
+/// A command, with its words.
+#[derive(Clone, Copy)]
+pub enum Request<'a> {
+    Step(StepWords<'a>),
+    Run(RunWords<'a>),
+    Check(CheckWords<'a>),
+    Picture(PictureWords<'a>),
+    Upgrade(UpgradeWords<'a>),
+}
