@@ -1,6 +1,6 @@
 //! What the program's commands do once its words are read: the commands, their lists and files, what is refused, and how a run ends.
 //!
-//! The command line itself stands in `ring_tool`. Here nothing knows of it, so that these parts are proved, and tried on wrong
+//! The command line itself stands in `ring_words`. Here nothing knows of it, so that these parts are proved, and tried on wrong
 //! bodies, without it.
 #![tactic(auto)]
 

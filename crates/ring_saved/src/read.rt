@@ -37,8 +37,8 @@ pub fn answers_are_apart()
 {}
 
 /// The text of a value that fits reads back: the right answer to it is that value, block by block and line by line, or
-/// want of memory, and nothing else. So does what [`write_outcome`](crate::write_outcome) wrote of an outcome, since it
-/// is the text of a value of which a clause of the writer says that it fits.
+/// want of memory, and nothing else. So does whatever a writer wrote of which a clause says that it is the text of such a
+/// value.
 pub fn texts_read_back()
     ensures { TextsReadBack }
 {}

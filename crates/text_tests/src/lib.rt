@@ -1,7 +1,7 @@
-//! The tests of `text_lines` and `ring_text`, which use their public items alone.
+//! The tests of `text_lines`, `ring_saved` and `ring_text`, which use their public items alone.
 //!
 //! `judging` reads texts once more, slowly and in plain words, and `scripted` has writers that stop after a while or
-//! take little at a time. `lines` has the tests of `text_lines`, over a toy grammar, and `saved` those of `ring_text`.
+//! take little at a time. `lines` has the tests of `text_lines`, over a toy grammar, and `saved` those of the other two.
 #![tactic(auto)]
 
 #[cfg(test)]
