@@ -251,6 +251,17 @@ def unread(rt, lines, texts):
     return next((it for it in lines if rt.unread(it, texts)), "")
 
 
+def stopped_at(lines, texts):
+    """The functions at which the front end stopped, before any proof."""
+    found = set()
+    for line in lines:
+        at = re.match(r"(src/\S+?):(\d+):\d+: error\[", line)
+        if at and at[1] in texts:
+            place = sum(len(it) + 1 for it in texts[at[1]].split("\n")[: int(at[2]) - 1])
+            found.add((at[1], *(body_at(texts[at[1]], place) or ())))
+    return found
+
+
 def try_group(rt, edits, seconds, log):
     """Tries edits that go together, and again in smaller groups or alone what has no verdict then."""
     crate, texts, places = edits[0].crate, {}, {}
@@ -260,9 +271,10 @@ def try_group(rt, edits, seconds, log):
     log(crate, edits, lines)
     reached = status is not None and lines[-1].startswith("logic=") and not unread(rt, lines, texts)
     if len(edits) > 1 and not reached:
-        half = len(edits) // 2
-        try_group(rt, edits[:half], seconds, log)
-        try_group(rt, edits[half:], seconds, log)
+        bad = [it for it in edits if places[it] in stopped_at(lines, texts)]
+        parts = (bad, [it for it in edits if it not in bad]) if 0 < len(bad) < len(edits) else (edits[::2], edits[1::2])
+        for part in parts:
+            try_group(rt, part, seconds, log)
         return
     found = reasons_in(lines) if reached else {}
     for edit in edits:
