@@ -12,7 +12,7 @@ use crate::answers::Summary;
 use ring_saved::{SavedEvent, SavedRing};
 
 /// How many events of a block are granted passes, and how many are corruptions.
-#[derive(Clone, Copy, Debug, PartialEq, Eq)]
+#[derive(Clone, Copy)]
 pub struct Tally {
     pub granted: u64,
     pub corrupted: u64,

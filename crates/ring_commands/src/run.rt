@@ -28,7 +28,7 @@ use std::thread::Threads;
 use text_lines::WriteFault;
 
 /// Why a saved text does not stand behind what a writer held.
-#[derive(Clone, Copy, Debug, PartialEq, Eq)]
+#[derive(Clone, Copy)]
 enum SaveFault {
     /// The writer failed, or took no byte.
     Failed,

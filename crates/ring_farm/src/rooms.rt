@@ -12,7 +12,7 @@ use ring_shared::{Name, Seat};
 use std::alloc::AllocError;
 
 /// The room that one ring needs: for its events, and for the entries of each seat's log.
-#[derive(Clone, Copy, Debug)]
+#[derive(Clone, Copy)]
 pub(crate) struct Room {
     events: u32,
     entries: [u32; SEAT_LIMIT],

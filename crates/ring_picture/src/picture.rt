@@ -20,7 +20,7 @@ use std::io::Write;
 use text_lines::{WriteFault, put};
 
 /// Why a picture does not stand behind what a writer held.
-#[derive(Clone, Copy, Debug, PartialEq, Eq)]
+#[derive(Clone, Copy)]
 pub enum PictureFault {
     /// The writer failed, or took no byte.
     Write,

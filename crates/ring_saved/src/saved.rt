@@ -51,7 +51,7 @@ pub struct SavedSurvey {
 
 /// One block of a saved text: a ring with its start, its events and its surveys.
 /// `n` is at least 1, and `start` has exactly `n` values.
-#[derive(Debug, Drop)]
+#[derive(Drop)]
 pub struct SavedRing {
     /// The place of the ring in its farm, as the text says it.
     pub index: u32,
@@ -67,7 +67,7 @@ pub struct SavedRing {
 }
 
 /// A saved text: the version of its grammar, its blocks, and the number of them as the text says it.
-#[derive(Debug, Drop)]
+#[derive(Drop)]
 pub struct Saved {
     /// [`FIRST_VERSION`](crate::FIRST_VERSION) to [`LATEST_VERSION`](crate::LATEST_VERSION), where it was read.
     pub version: u32,
@@ -76,7 +76,7 @@ pub struct Saved {
 }
 
 /// What a ring's first line says.
-#[derive(Clone, Copy, Debug, PartialEq, Eq)]
+#[derive(Clone, Copy)]
 pub struct Head {
     pub index: u32,
     pub n: u32,

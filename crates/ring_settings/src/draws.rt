@@ -1,6 +1,6 @@
 ghost use Rattle.std.specs.Prelude.{◌≡◌, ◌<◌, ◌≤◌, length, IfOk};
 ghost use Rattle.ring_settings.specs.Limits.{action_limit};
-ghost use Rattle.ring_settings.specs.Draws.{action_of_words, drawn, left_after};
+ghost use Rattle.ring_settings.specs.Draws.{action_of_words, next_four, after_four, drawn, left_after};
 
 use crate::actions::{Action, Plan, Role};
 use rand_core::Rng;
@@ -40,6 +40,14 @@ fn action_of_words(role: Role, rings: &[Params], words: [u32; 4]) -> Action
     }
 }
 
+/// The next four words of a generator.
+fn four_words<G: Rng>(g: &mut G) -> [u32; 4]
+    ensures words { result ≡ next_four (G.stream g.old) }
+    ensures left { G.stream g.new ≡ after_four (G.stream g.old) }
+{
+    [g.next_u32(), g.next_u32(), g.next_u32(), g.next_u32()]
+}
+
 /// Draws a plan of this many actions for rings of these sizes, with just four words of the
 /// generator for each action. There is at least one ring, and at most `ACTION_LIMIT` actions.
 ///
@@ -61,7 +69,7 @@ pub fn draw_plan<G: Rng>(
 {
     let mut plan = Vec::with_capacity(alloc, actions as usize)?;
     for _ in 0..actions {
-        let words = [g.next_u32(), g.next_u32(), g.next_u32(), g.next_u32()];
+        let words = four_words(g);
         plan.push(action_of_words(role, rings, words))?;
     }
     Ok(Plan { actions: plan })

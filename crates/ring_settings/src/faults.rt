@@ -1,8 +1,8 @@
-use std::fmt::{Display, Error as FmtError, Formatter, Write};
+use std::fmt::{Debug, Display, Error as FmtError, Formatter, Write};
 use thiserror::Error;
 
 /// A member of a settings document, or the document itself.
-#[derive(Clone, Copy, Debug, Drop, PartialEq, Eq)]
+#[derive(Clone, Copy, Drop, PartialEq, Eq)]
 pub enum Field {
     Top,
     Rings,
@@ -40,8 +40,14 @@ impl Display for Field {
     }
 }
 
+impl Debug for Field {
+    fn fmt<W: Write>(&self, f: &mut Formatter<W>) -> Result<(), FmtError> {
+        Display::fmt(self, f)
+    }
+}
+
 /// Why a ring of the settings is refused.
-#[derive(Clone, Copy, Debug, Drop, Error, PartialEq, Eq)]
+#[derive(Clone, Copy, Drop, Error, PartialEq, Eq)]
 pub enum RingCause {
     #[error("n is less than 2")]
     TooFew,
@@ -58,8 +64,14 @@ pub enum RingCause {
     Value(usize),
 }
 
+impl Debug for RingCause {
+    fn fmt<W: Write>(&self, f: &mut Formatter<W>) -> Result<(), FmtError> {
+        Display::fmt(self, f)
+    }
+}
+
 /// Why settings are refused: the first fault of the walk over the document.
-#[derive(Clone, Copy, Debug, Drop, Error, PartialEq, Eq)]
+#[derive(Clone, Copy, Drop, Error, PartialEq, Eq)]
 pub enum SettingsError {
     #[error("settings are not JSON")]
     Json,
@@ -75,4 +87,10 @@ pub enum SettingsError {
     Script(usize, usize),
     #[error("out of memory")]
     OutOfMemory,
+}
+
+impl Debug for SettingsError {
+    fn fmt<W: Write>(&self, f: &mut Formatter<W>) -> Result<(), FmtError> {
+        Display::fmt(self, f)
+    }
 }

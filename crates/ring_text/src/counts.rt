@@ -10,7 +10,7 @@ use ring_farm::{Log, RingOutcome};
 use ring_model::{Entry, Event, Reply};
 
 /// What is counted of one ring.
-#[derive(Clone, Copy, Debug, PartialEq, Eq)]
+#[derive(Clone, Copy)]
 pub struct Counts {
     pub events: u64,
     /// Passes that were granted.
@@ -23,7 +23,7 @@ pub struct Counts {
 }
 
 /// What adds up over the rings of a farm.
-#[derive(Clone, Copy, Debug, PartialEq, Eq)]
+#[derive(Clone, Copy)]
 pub struct Totals {
     pub events: u64,
     pub granted: u64,

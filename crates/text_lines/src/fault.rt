@@ -6,7 +6,7 @@ ghost use Rattle.text_lines.specs.declared.fault.Stop.TheVariants.{Memory};
 use std::alloc::{AllocError, AllocFailed};
 
 /// What is wrong with the bytes: they end too early, or there is a first byte too many.
-#[derive(Clone, Copy, Debug, PartialEq, Eq)]
+#[derive(Clone, Copy)]
 pub enum Fault {
     /// The bytes end within a spelling.
     Short,
@@ -16,7 +16,7 @@ pub enum Fault {
 }
 
 /// Why a reader has no value.
-#[derive(Clone, Copy, Debug, PartialEq, Eq)]
+#[derive(Clone, Copy)]
 pub enum Stop {
     /// There was no room for the value.
     Memory,
