@@ -110,7 +110,6 @@ pub fn checks_another_text(
     requires apart { summary_of (content other.now) ≢ summary_of (content saved.now) }
     ensures wrong { IfOk result (λ sums. IsRightCheck (content saved.now) (Ok sums) → ⊥) }
 {
-    let _ = saved;
     check_saved(alloc, other)
 }
 
@@ -125,7 +124,6 @@ pub fn checks_by_the_latest_limits(
     requires bad { IsLegalText (content saved.now) → ⊥ }
     ensures wrong { IfOk result (λ sums. IsRightCheck (content saved.now) (Ok sums) → ⊥) }
 {
-    let _ = saved;
     check_saved(alloc, newer)
 }
 
@@ -139,7 +137,6 @@ pub fn calls_a_wrong_count_legal(
     requires count { (content saved.now).rings_said ≢ length (content saved.now).rings }
     ensures wrong { IfOk result (λ sums. IsRightText (content saved.now) → ⊥) }
 {
-    let _ = saved;
     check_saved(alloc, corrected)
 }
 

@@ -1,7 +1,7 @@
 //! Wrong bodies of [`Book::pass_group`].
 
-ghost use Rattle.std.specs.Prelude.{◌≡◌, ◌≢◌, ◌<◌, ◌≤◌, ◌+◌, ◌↔◌, ◌∷◌, [], ℕ, length, slice_index, IsOk, IfOk, OnErr, IsErrOf};
-ghost use Rattle.ring_model.specs.Limits.{event_limit, seat_limit};
+ghost use Rattle.std.specs.Prelude.{◌≡◌, ◌≢◌, ◌<◌, ◌≤◌, ◌+◌, ◌↔◌, ◌∷◌, [], length, IsOk, IfOk, OnErr, IsErrOf};
+ghost use Rattle.ring_model.specs.Limits.{event_limit, machine_limit, seat_limit};
 ghost use Rattle.ring_model.specs.Groups.{Rises};
 ghost use Rattle.ring_model.specs.GroupLaws.{CanMove};
 ghost use Rattle.ring_book.specs.GroupView.{IsGroupRecorded, IsLeastWithout};
@@ -57,7 +57,7 @@ pub fn leaves_members_out<R: Resource + Drop>(
     requires rising { Rises 0 (length book.old.now.ring.values) fewer.now }
     requires some { 1 ≤ length fewer.now }
     requires apart { length fewer.now < length machines.now }
-    requires count { length machines.now < 1025 }
+    requires count { length machines.now ≤ machine_limit }
     ensures wrong { IfOk result (λ r. IsGroupRecorded R.works book.old book.new seat order machines.now r → ⊥) }
 {
     let receipt = book.pass_group(seat, fewer, order)?;

@@ -9,7 +9,7 @@ ghost use Rattle.ring_model.specs.Logs.{calls_of};
 ghost use Rattle.ring_model.specs.Numbers.{sum_below};
 ghost use Rattle.ring_model.specs.Surveys.{calm, survey_at};
 
-use crate::numbers::{another, another_narrow};
+use crate::numbers::another;
 use ring_book::{Book, BookError, Event, Resource, Survey};
 use ring_state::RingState;
 

@@ -31,7 +31,6 @@ pub fn lets_all_logs_fit<R: Resource + Drop>(
     requires mismatch { All (λ l. Fits R.works (opening book.now.start R.first) book.now.history l.number l.log) logs.now → ⊥ }
     ensures wrong { IfOk result (λ b. (IsTrue b ↔ All (λ l. Fits R.works (opening book.now.start R.first) book.now.history l.number l.log) logs.now) → ⊥) }
 {
-    let _ = book.history();
     Ok(true)
 }
 
@@ -43,7 +42,6 @@ pub fn lets_no_logs_fit<R: Resource + Drop>(
     requires all { All (λ l. Fits R.works (opening book.now.start R.first) book.now.history l.number l.log) logs.now }
     ensures wrong { IfOk result (λ b. (IsTrue b ↔ All (λ l. Fits R.works (opening book.now.start R.first) book.now.history l.number l.log) logs.now) → ⊥) }
 {
-    let _ = book.history();
     Ok(false)
 }
 
@@ -88,9 +86,6 @@ pub fn lets_a_survey_inside_a_block_fit<R: Resource + Drop>(
     requires inside { left_after (take survey.position book.now.history) ≢ 0 }
     ensures wrong { IfOk result (λ b. (IsTrue b ↔ Fits R.works (opening book.now.start R.first) book.now.history seat (Entry.Survey survey ∷ [])) → ⊥) }
 {
-    let _ = book.history();
-    let _ = seat;
-    let _ = survey;
     Ok(true)
 }
 
@@ -108,7 +103,6 @@ pub fn keeps_the_calm(calm: u64, old: u32) -> u64
     requires some { 1 ≤ calm }
     ensures wrong { result ≡ calm_after calm (Reply.Corrupted old) → ⊥ }
 {
-    let _ = old;
     calm_behind(calm, Reply::NotPrivileged)
 }
 

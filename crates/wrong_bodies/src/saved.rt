@@ -30,7 +30,6 @@ pub fn writes_another_value<W: Write>(
     requires known { IsSome (W.contents out.old) }
     ensures wrong { IfOk result (λ _. Writes (W.contents out.old) (W.contents out.new) result (text (content saved.now)) → ⊥) }
 {
-    let _ = saved;
     write_saved(other, out)?;
     Ok(())
 }
@@ -64,12 +63,29 @@ pub fn reads_another_count(alloc: Global, bytes: &[u8]) -> Result<Saved, ReadErr
     }
 }
 
+/// A text is read as its value: here as another, as one that lacks an event or a survey.
+#[tactic(auto, using(crate::proofs::Texts::one_value_is_read))]
+pub fn reads_another_value(
+    alloc: Global,
+    bytes: &[u8],
+    value: &Saved,
+    other: Saved,
+) -> Result<Saved, ReadError>
+    requires value { IsRightRead bytes.now (Ok value.now) }
+    requires apart { content other ≢ content value.now }
+    ensures wrong { IfOk result (λ saved. IsRightRead bytes.now (Ok saved) → ⊥) }
+{
+    match read_saved(alloc, bytes) {
+        Ok(_) => Ok(other),
+        Err(error) => Err(error),
+    }
+}
+
 /// The whole of the bytes is read: here others are, as all but the last of them.
 pub fn reads_other_bytes(alloc: Global, bytes: &[u8], others: &[u8]) -> Result<Saved, ReadError>
     requires apart { others.now ≢ bytes.now }
     ensures wrong { IfOk result (λ saved. IsRightRead bytes.now (Ok saved) → ⊥) }
 {
-    let _ = bytes;
     read_saved(alloc, others)
 }
 
@@ -120,7 +136,6 @@ pub fn tells_a_bad_line_as_cut_short(
     requires bad { IsFirstBadLine IsText bytes.now line }
     ensures wrong { IsRightRead bytes.now result → ⊥ }
 {
-    let _ = line;
     match read_saved(alloc, bytes) {
         Ok(_) => Err(ReadError::Truncated),
         Err(_) => Err(ReadError::Truncated),

@@ -55,7 +55,6 @@ pub fn follows_other_choices(state: &mut RingState, choices: &[u32], others: &[u
     requires apart { after_passes state.old others.now ≢ after_passes state.old choices.now }
     ensures wrong { state.new ≡ after_passes state.old choices.now → ⊥ }
 {
-    let _ = choices;
     ring_settle::follow(state, others);
 }
 
@@ -73,8 +72,6 @@ pub fn moves_a_group_without_one(
     ensures wrong { GroupMove state.old machines.now state.new → ⊥ }
 {
     let _ring = state.params();
-    let _ = machines;
-    let _ = machine;
     ring_settle::move_group(state, fewer);
 }
 

@@ -1,13 +1,14 @@
 //! Wrong bodies of sizes and states of rings.
 
-ghost use Rattle.std.specs.Prelude.{◌≡◌, ◌≢◌, ◌<◌, ◌≤◌, ◌↔◌, true, length, slice_index, not, IfOk, IfErr, IsErrOf, IsOk};
+ghost use Rattle.std.specs.Prelude.{◌≡◌, ◌≢◌, ◌<◌, ◌↔◌, true, length, slice_index, not, IfOk, IfErr, IsOk};
 ghost use Rattle.ring_model.specs.Limits.{machine_limit, value_limit};
 ghost use Rattle.ring_model.specs.Ring.{first_privileged, is_absent, is_privileged, moved, privileged_count, weight, written};
 ghost use Rattle.ring_lanes.specs.Masks.{IsMaskOf};
-ghost use Rattle.ring_state.specs.Sizes.{IsRingState, IsSize, size_of};
+ghost use Rattle.ring_state.specs.Sizes.{IsRingState, IsSize};
 ghost use Rattle.ring_state.specs.StateFault.{IsFaultOf, IsFirstOver};
 
 use crate::numbers::{another, another_narrow};
+use ring_model::limits::VALUE_LIMIT;
 use ring_state::{Params, ParamsError, RingState, StateError};
 use std::alloc::{AllocError, Global};
 
@@ -28,7 +29,7 @@ pub fn cuts_the_values_to_the_limit(n: u32, k: u32) -> Result<Params, ParamsErro
     requires many { value_limit < k }
     ensures wrong { IfOk result (λ p. p ≡ record { n = n; k = k } → ⊥) }
 {
-    Params::new(n, k.min(65_536))
+    Params::new(n, k.min(VALUE_LIMIT))
 }
 
 /// A size is that which was asked for: here it has another number of values.
@@ -49,7 +50,6 @@ pub fn holds_other_values(
     requires apart { others.now ≢ values.now }
     ensures wrong { IfOk result (λ r. r ≡ record { k = p.now.k; values = values.now } → ⊥) }
 {
-    let _ = values;
     RingState::from_values(alloc, p, others)
 }
 
@@ -64,8 +64,6 @@ pub fn takes_a_value_over_k(
     requires over { IsFirstOver p.now.k values.now place }
     ensures wrong { IfOk result (λ r. (r ≡ record { k = p.now.k; values = values.now }) × (length values.now ≡ p.now.n) × IsRingState r → ⊥) }
 {
-    let _ = values;
-    let _ = place;
     RingState::from_values(alloc, p, others)
 }
 
@@ -128,7 +126,6 @@ pub fn moves_no_machine(state: &mut RingState, i: u32)
     ensures wrong { state.new ≡ moved state.old i → ⊥ }
 {
     let _ring = state.params();
-    let _ = i;
 }
 
 /// The number of privileged machines is told: here another.
