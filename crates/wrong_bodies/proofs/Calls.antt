@@ -1,5 +1,5 @@
 -- What a recorded call tells is what the call determines.
-use Rattle.std.proofs.Common.{◌≡◌, ℕ, ◌+◌, true, false, slice_index, refl, ap, sym, ◌∙◌}
+use Rattle.std.proofs.Common.{◌≡◌, ℕ, ◌+◌, true, false, slice_index, refl, ap, sym, ◌∙◌, [], ◌∷◌, length, arith, length-append}
 use Rattle.ring_model.specs.Ring.{is_privileged}
 use Rattle.ring_model.specs.History.{Works, reply}
 use Rattle.ring_model.specs.declared.events.Op.{Op}
@@ -8,6 +8,15 @@ use Rattle.ring_model.specs.declared.events.Reply.TheVariants.{Granted, NotPrivi
 use Rattle.ring_model.specs.declared.events.Receipt.{Receipt}
 use Rattle.ring_model.proofs.Histories.{StepOf-reply}
 use Rattle.ring_book.specs.BookView.{BookView, IsRecorded}
+
+-- a call is one event, and not two
+pub one_event : {C : Type 0} (w : Works C) (old mid new : BookView C) (seat : ℕ) (op : Op) (r s t : Receipt) → IsRecorded w old mid seat op r → IsRecorded w mid new seat op s →
+    IsRecorded w old new seat op t → ⊥
+one_event w old mid new seat op r s t h k g =
+    let front : length mid.history ≡ length old.history + 1 = ap length h.grown ∙ length-append old.history (r.event ∷ []) in
+    let both : length new.history ≡ length mid.history + 1 = ap length k.grown ∙ length-append mid.history (s.event ∷ []) in
+    let one : length new.history ≡ length old.history + 1 = ap length g.grown ∙ length-append old.history (t.event ∷ []) in
+    omega arith
 
 -- the reply is the call's
 pub reply_is_told : {C : Type 0} (w : Works C) (old new : BookView C) (seat : ℕ) (op : Op) (r : Receipt) → IsRecorded w old new seat op r → r.event.reply ≡ reply w old.now op

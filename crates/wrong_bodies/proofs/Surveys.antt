@@ -52,10 +52,11 @@ pub calm_here : {C : Type 0} (w : Works C) (a : State C) (h : List Event) → (s
 calm_here w a h = ap (λ (s : Survey). s.calm) (survey_end w a h)
 
 -- which a corruption ends
-pub no_calm : {C : Type 0} (w : Works C) (a : State C) (old new : BookView C) (seat machine value : ℕ) (r : Receipt) → IsRecorded w old new seat (Corrupt machine value) r →
-    (survey_at w a new.history (length new.history)).calm ≡ 0
-no_calm w a old new seat machine value r h =
-    calm_here w a new.history ∙ (ap calm h.grown ∙ (calm-push old.history r.event ∙ ap (calm_next (calm old.history)) (corruption_is_told w old new seat machine value r h)))
+pub no_calm : {C : Type 0} (w : Works C) (a : State C) (old new : BookView C) (seat machine value : ℕ) (r : Receipt) (s : Survey) →
+    s ≡ survey_at w a new.history (length new.history) → IsRecorded w old new seat (Corrupt machine value) r → s.calm ≡ 0
+no_calm w a old new seat machine value r s e h =
+    ap (λ (t : Survey). t.calm) e
+    ∙ (calm_here w a new.history ∙ (ap calm h.grown ∙ (calm-push old.history r.event ∙ ap (calm_next (calm old.history)) (corruption_is_told w old new seat machine value r h))))
 
 -- each call of a seat is one more
 calls_more : (seat : ℕ) (h : List Event) (e : Event) → e.seat ≡ seat → length (calls_of seat (h ++ e ∷ [])) ≡ length (calls_of seat h) + 1

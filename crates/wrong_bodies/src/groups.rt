@@ -68,7 +68,6 @@ pub fn leaves_members_out<R: Resource + Drop>(
 }
 
 /// A group is one block: this one is two, its first machine's and that of the others.
-#[tactic(auto, using(crate::proofs::Blocks::pieces_are_no_group))]
 pub fn passes_a_group_in_pieces<R: Resource + Drop>(
     book: &mut Book<R>,
     seat: u32,
@@ -90,7 +89,6 @@ pub fn passes_a_group_in_pieces<R: Resource + Drop>(
 }
 
 /// A group of one machine is recorded as a member: this one as a call by itself.
-#[tactic(auto, using(crate::proofs::Blocks::a_pass_is_no_group))]
 pub fn passes_a_group_as_a_call<R: Resource + Drop>(
     book: &mut Book<R>,
     seat: u32,

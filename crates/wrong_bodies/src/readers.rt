@@ -116,7 +116,6 @@ pub fn surveys_before_all_events<R: Resource + Drop>(book: &Book<R>) -> Survey
 }
 
 /// A corruption ends the calm: here the calm before it is told behind it, where it is not 0.
-#[tactic(auto, using(crate::proofs::Surveys::no_calm))]
 pub fn keeps_the_calm_over_a_corruption<R: Resource + Drop>(
     book: &mut Book<R>,
     seat: u32,
@@ -154,7 +153,6 @@ pub fn counts_the_calls_of_all_seats<R: Resource + Drop>(book: &Book<R>, seat: u
 }
 
 /// A corruption is a call of its seat: here it is not counted.
-#[tactic(auto, using(crate::proofs::Surveys::one_call_more))]
 pub fn counts_no_corruption<R: Resource + Drop>(
     book: &mut Book<R>,
     seat: u32,

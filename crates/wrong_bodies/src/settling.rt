@@ -91,7 +91,6 @@ pub fn passes_in_a_settled_ring<R: Resource + Drop>(
 }
 
 /// A ring that is settled is let be: here it makes one pass more.
-#[tactic(auto, using(crate::proofs::Repairs::repairs_end))]
 pub fn settles_one_pass_late<R: Resource + Drop>(
     book: &mut Book<R>,
     seat: u32,
