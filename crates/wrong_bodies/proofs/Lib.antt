@@ -1,0 +1,9 @@
+pub mod Calls
+pub mod Repairs
+pub mod Surveys
+pub mod Blocks
+pub mod Logs
+pub mod Texts
+pub mod Moves
+pub mod Faults
+pub mod Checks
