@@ -308,12 +308,13 @@ def edits_in(crate, top, kept, word):
     return [Edit(crate, it) for it in paths if word in os.path.basename(it)]
 
 
-def take_over(folder, top):
-    """Copies what the crates of another clone kept."""
-    for name in os.listdir(f"{top}/crates"):
-        for part in ("incremental", "rlib"):
-            if os.path.isdir(f"{folder}/crates/{name}/out/{part}"):
-                shutil.copytree(f"{folder}/crates/{name}/out/{part}", f"{top}/crates/{name}/out/{part}")
+def take_over(folder, crates, tried):
+    """Copies what these crates of another clone kept: the built library, and the rest where it is to be worked over."""
+    for crate in crates:
+        for part in ("rlib", "incremental"):
+            kept = f"{folder}/crates/{crate.name}/out/{part}"
+            if os.path.isdir(kept) and (part == "rlib" or crate in tried or not crate.is_built()):
+                shutil.copytree(kept, f"{crate.folder}/out/{part}")
 
 
 def build(crates, jobs):
@@ -353,6 +354,7 @@ def words_given():
 def main():
     given, rt = words_given(), load()
     os.makedirs(OUT, exist_ok=True)
+    over = os.path.abspath(given.over)
     writes, rows = threading.Lock(), open(f"{OUT}/wrong-bodies.txt", "w", encoding="utf-8")
 
     def log(crate, edits, lines):
@@ -362,13 +364,14 @@ def main():
     with tempfile.TemporaryDirectory(prefix="wrong-bodies-of-") as room:
         top = f"{room}/clone"
         subprocess.run(["git", "clone", "-q", TOP, top], check=True)
-        if given.over:
-            take_over(os.path.abspath(given.over), top)
         os.chdir(top)
         crates = [it for it in rt.rtlib.crates_below(top) if not given.crates or it.name in given.crates]
         edits = [edit for crate in crates for edit in edits_in(crate, top, given.kept, given.only)]
         tried = {it.crate for it in edits}
-        failed = build({below for it in tried for below in (it, *it.below())}, given.jobs)
+        needed = {below for it in tried for below in (it, *it.below())}
+        if given.over:
+            take_over(over, needed, tried)
+        failed = build(needed, given.jobs)
         groups = []
         for crate in crates:
             mine = [it for it in edits if it.crate is crate]
