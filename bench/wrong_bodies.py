@@ -19,7 +19,7 @@ row for each edit says what refuses it:
   clause, invariant, condition   a goal of a clause, of an invariant or of what a called function asks for: it tells
   law                            a lemma below a law, where specs/ was edited: it tells
   name                           only a proof file that names what the edit took away: it says little
-  safety                         only an overflow, an index or the end of a loop: it says little
+  safety                         only an overflow, an index, what a call of std asks for or the end of a loop: it says little
   NOT REFUSED, NOT APPLIED, NOT READ, NO VERDICT
 
 The rows stand in bench/out/wrong-bodies.txt too, and all that the checks said in bench/out/wrong-bodies-CRATE.log. The
@@ -27,6 +27,7 @@ status is 1 where an edit is not refused or cannot be tried. What it costs: the 
 tried, unless --over has it, and then 5 to 20 processor seconds for each edit, where `rt must-fail` takes 14 to 54.
 """
 import argparse
+import functools
 import importlib.machinery
 import importlib.util
 import os
@@ -124,7 +125,8 @@ def owner_of(lines, first):
         head = re.sub(r"<[^<>]*>", "", head)
     words = re.findall(r"[\w:]+", head.partition("impl")[2].partition(" where")[0])
     words = [it.rpartition("::")[2] for it in words]
-    return words[2] + words[0] if words[1:2] == ["for"] else (words or [""])[0]
+    name = words[2] + words[0] if words[1:2] == ["for"] else (words or [""])[0]
+    return name[:1].upper() + name[1:]
 
 
 def apply(edit, texts):
@@ -190,11 +192,25 @@ def checked(rt, crate, texts, seconds):
         return ran.returncode, ran.stdout.rstrip("\n").split("\n")
 
 
+@functools.cache
+def own_names():
+    """The names of the repository's functions: what another one asks for is a question of safety."""
+    names = set()
+    for at, _, files in os.walk(f"{TOP}/crates"):
+        for file in files:
+            if file.endswith(".rt"):
+                with open(f"{at}/{file}", encoding="utf-8") as it:
+                    names.update(re.findall(r"\bfn (\w+)", it.read()))
+    return names
+
+
 def kind_of(goal, said):
     """What kind of thing refuses: a goal by its name, or by what is said of it."""
     if NAMES.search(said):
         return "name"
     if re.match(r"overflow|index|unreachable", goal) or SAFETY.match(said) or re.search(r"decreases|-smaller", goal):
+        return "safety"
+    if "-requires" in goal and goal.partition("-")[0] not in own_names():
         return "safety"
     if re.match(r"returns|clause", goal):
         return "clause"
@@ -351,49 +367,68 @@ def words_given():
     return given.parse_args()
 
 
-def main():
-    given, rt = words_given(), load()
-    os.makedirs(OUT, exist_ok=True)
-    over = os.path.abspath(given.over)
-    writes, rows = threading.Lock(), open(f"{OUT}/wrong-bodies.txt", "w", encoding="utf-8")
+class Records:
+    """What is printed, and kept in bench/out/, as the checks end."""
 
-    def log(crate, edits, lines):
-        with writes, open(f"{OUT}/wrong-bodies-{crate.name}.log", "a", encoding="utf-8") as it:
+    def __init__(self, crates):
+        os.makedirs(OUT, exist_ok=True)
+        self.lock, self.rows = threading.Lock(), open(f"{OUT}/wrong-bodies.txt", "w", encoding="utf-8")
+        for crate in crates:
+            open(f"{OUT}/wrong-bodies-{crate.name}.log", "w").close()
+
+    def log(self, crate, edits, lines):
+        with self.lock, open(f"{OUT}/wrong-bodies-{crate.name}.log", "a", encoding="utf-8") as it:
             print(f"\n=== {' '.join(edit.name for edit in edits)}", *lines, sep="\n", file=it)
 
+    def tell(self, edits):
+        with self.lock:
+            for edit in edits:
+                print(edit.row(), flush=True)
+                print(edit.row(), file=self.rows, flush=True)
+
+
+def planned(edits, failed, most):
+    """The groups of all edits that can be tried, the longest first."""
+    groups = []
+    for crate in dict.fromkeys(it.crate for it in edits):
+        mine = [it for it in edits if it.crate is crate]
+        if crate not in failed:
+            groups += groups_of(mine, most)
+            continue
+        for edit in mine:
+            edit.verdict, edit.why = "NO VERDICT", "the crate itself is not proved"
+    return sorted(groups, key=len, reverse=True)
+
+
+def try_all(rt, given, over, top):
+    """Tries the edits of a clone. Returns whether each is refused."""
+    crates = [it for it in rt.rtlib.crates_below(top) if not given.crates or it.name in given.crates]
+    edits = [edit for crate in crates for edit in edits_in(crate, top, given.kept, given.only)]
+    tried = {it.crate for it in edits}
+    needed = {below for it in tried for below in (it, *it.below())}
+    if given.over:
+        take_over(over, needed, tried)
+    failed, records = build(needed, given.jobs), Records(tried)
+    groups = planned(edits, failed, given.most)
+    records.tell([it for it in edits if it.verdict])
+
+    def run(group):
+        try_group(rt, group, given.seconds, records.log)
+        records.tell(group)
+
+    with ThreadPoolExecutor(given.jobs) as pool:
+        list(pool.map(run, groups))
+    return told(edits)
+
+
+def main():
+    given, rt = words_given(), load()
+    over = os.path.abspath(given.over)
     with tempfile.TemporaryDirectory(prefix="wrong-bodies-of-") as room:
         top = f"{room}/clone"
         subprocess.run(["git", "clone", "-q", TOP, top], check=True)
         os.chdir(top)
-        crates = [it for it in rt.rtlib.crates_below(top) if not given.crates or it.name in given.crates]
-        edits = [edit for crate in crates for edit in edits_in(crate, top, given.kept, given.only)]
-        tried = {it.crate for it in edits}
-        needed = {below for it in tried for below in (it, *it.below())}
-        if given.over:
-            take_over(over, needed, tried)
-        failed = build(needed, given.jobs)
-        groups = []
-        for crate in crates:
-            mine = [it for it in edits if it.crate is crate]
-            if crate not in failed:
-                groups += groups_of(mine, given.most)
-            elif mine:
-                for edit in mine:
-                    edit.verdict, edit.why = "NO VERDICT", "the crate itself is not proved"
-
-        def run(group):
-            try_group(rt, group, given.seconds, log)
-            with writes:
-                for edit in group:
-                    print(edit.row(), flush=True)
-                    print(edit.row(), file=rows, flush=True)
-
-        for crate in tried:
-            open(f"{OUT}/wrong-bodies-{crate.name}.log", "w").close()
-        with ThreadPoolExecutor(given.jobs) as pool:
-            # (the longest first; an exception of one ends the run)
-            list(pool.map(run, sorted(groups, key=len, reverse=True)))
-        return 0 if told(edits) else 1
+        return 0 if try_all(rt, given, over, top) else 1
 
 
 if __name__ == "__main__":
