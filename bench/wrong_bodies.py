@@ -9,7 +9,7 @@ in a temporary clone of what is committed. Words: the crates to try, all of them
   --jobs N       so many checks side by side (1)
   --only WORD    the edits alone whose name has the word
   --most N       joins at most so many edits into one check (10)
-  --seconds N    how long a check of one edit may take (300); each further edit of the check gives it a fifth of that
+  --seconds N    how many processor seconds a check of one edit may take (300); each further edit gives it a fifth of that
 
 Edits of the bodies of different functions are joined into one check, over a copy of what the crate's own check kept, and
 the lines of the check tell each function's verdict. Edits of anything else, as of specs/, of a constant or of several
@@ -32,6 +32,7 @@ import importlib.machinery
 import importlib.util
 import os
 import re
+import resource
 import shutil
 import subprocess
 import sys
@@ -185,11 +186,13 @@ def checked(rt, crate, texts, seconds):
                 it.write(text)
         words = [rt.rtlib.RATTLE, "check", *crate.words(["--jobs", "1"], keeps=False), "--incremental", f"{room}/kept"]
         how = {"cwd": room, "stdin": subprocess.DEVNULL, "stdout": subprocess.PIPE, "stderr": subprocess.STDOUT, "errors": "replace"}
+        how["preexec_fn"] = lambda: resource.setrlimit(resource.RLIMIT_CPU, (seconds, seconds))
         try:
-            ran = subprocess.run([*rt.rtlib.guarded(), *words], timeout=seconds, **how)
+            # (by the clock far more, since the machine may have much else to do)
+            ran = subprocess.run([*rt.rtlib.guarded(), *words], timeout=20 * seconds, **how)
         except subprocess.TimeoutExpired:
             return None, []
-        return ran.returncode, ran.stdout.rstrip("\n").split("\n")
+        return (None if ran.returncode < 0 else ran.returncode), ran.stdout.rstrip("\n").split("\n")
 
 
 @functools.cache
@@ -283,7 +286,7 @@ def try_group(rt, edits, seconds, log):
     crate, texts, places = edits[0].crate, {}, {}
     for edit in edits:
         _, places[edit] = apply(edit, texts)
-    status, lines = checked(rt, crate, texts, seconds * (4 + len(edits)) / 5)
+    status, lines = checked(rt, crate, texts, seconds * (4 + len(edits)) // 5)
     log(crate, edits, lines)
     reached = status is not None and lines[-1].startswith("logic=") and not unread(rt, lines, texts)
     if len(edits) > 1 and not reached:
@@ -307,7 +310,7 @@ def judge_alone(rt, edit, status, lines, texts, found):
     """The verdict of an edit that was tried alone, and with no reason at its own function."""
     bad = unread(rt, lines, texts)
     if status is None:
-        edit.verdict, edit.why = "NO VERDICT", "the check had not ended in time"
+        edit.verdict, edit.why = "NO VERDICT", "the check had not ended in its time"
     elif bad or not lines[-1].startswith("logic="):
         edit.verdict, edit.why = "NOT READ", (bad or next((it for it in lines if "error" in it), lines[0]))[:200]
     elif status == 0:
