@@ -9,7 +9,7 @@ in a temporary clone of what is committed. Words: the crates to try, all of them
   --jobs N       so many checks side by side (1)
   --only WORD    the edits alone whose name has the word
   --most N       joins at most so many edits into one check (10)
-  --seconds N    how long a check of one edit may take (300); each further edit of the check gives it a fifth of that
+  --seconds N    how many processor seconds a check of one edit may take (300); each further edit gives it a fifth of that
 
 Edits of the bodies of different functions are joined into one check, over a copy of what the crate's own check kept, and
 the lines of the check tell each function's verdict. Edits of anything else, as of specs/, of a constant or of several
@@ -19,7 +19,7 @@ row for each edit says what refuses it:
   clause, invariant, condition   a goal of a clause, of an invariant or of what a called function asks for: it tells
   law                            a lemma below a law, where specs/ was edited: it tells
   name                           only a proof file that names what the edit took away: it says little
-  safety                         only an overflow, an index or the end of a loop: it says little
+  safety                         only an overflow, an index, what a call of std asks for or the end of a loop: it says little
   NOT REFUSED, NOT APPLIED, NOT READ, NO VERDICT
 
 The rows stand in bench/out/wrong-bodies.txt too, and all that the checks said in bench/out/wrong-bodies-CRATE.log. The
@@ -27,10 +27,12 @@ status is 1 where an edit is not refused or cannot be tried. What it costs: the 
 tried, unless --over has it, and then 5 to 20 processor seconds for each edit, where `rt must-fail` takes 14 to 54.
 """
 import argparse
+import functools
 import importlib.machinery
 import importlib.util
 import os
 import re
+import resource
 import shutil
 import subprocess
 import sys
@@ -124,7 +126,8 @@ def owner_of(lines, first):
         head = re.sub(r"<[^<>]*>", "", head)
     words = re.findall(r"[\w:]+", head.partition("impl")[2].partition(" where")[0])
     words = [it.rpartition("::")[2] for it in words]
-    return words[2] + words[0] if words[1:2] == ["for"] else (words or [""])[0]
+    name = words[2] + words[0] if words[1:2] == ["for"] else (words or [""])[0]
+    return name[:1].upper() + name[1:]
 
 
 def apply(edit, texts):
@@ -183,11 +186,25 @@ def checked(rt, crate, texts, seconds):
                 it.write(text)
         words = [rt.rtlib.RATTLE, "check", *crate.words(["--jobs", "1"], keeps=False), "--incremental", f"{room}/kept"]
         how = {"cwd": room, "stdin": subprocess.DEVNULL, "stdout": subprocess.PIPE, "stderr": subprocess.STDOUT, "errors": "replace"}
+        how["preexec_fn"] = lambda: resource.setrlimit(resource.RLIMIT_CPU, (seconds, seconds))
         try:
-            ran = subprocess.run([*rt.rtlib.guarded(), *words], timeout=seconds, **how)
+            # (by the clock far more, since the machine may have much else to do)
+            ran = subprocess.run([*rt.rtlib.guarded(), *words], timeout=20 * seconds, **how)
         except subprocess.TimeoutExpired:
             return None, []
-        return ran.returncode, ran.stdout.rstrip("\n").split("\n")
+        return (None if ran.returncode < 0 else ran.returncode), ran.stdout.rstrip("\n").split("\n")
+
+
+@functools.cache
+def own_names():
+    """The names of the repository's functions: what another one asks for is a question of safety."""
+    names = set()
+    for at, _, files in os.walk(f"{TOP}/crates"):
+        for file in files:
+            if file.endswith(".rt"):
+                with open(f"{at}/{file}", encoding="utf-8") as it:
+                    names.update(re.findall(r"\bfn (\w+)", it.read()))
+    return names
 
 
 def kind_of(goal, said):
@@ -195,6 +212,8 @@ def kind_of(goal, said):
     if NAMES.search(said):
         return "name"
     if re.match(r"overflow|index|unreachable", goal) or SAFETY.match(said) or re.search(r"decreases|-smaller", goal):
+        return "safety"
+    if "-requires" in goal and goal.partition("-")[0] not in own_names():
         return "safety"
     if re.match(r"returns|clause", goal):
         return "clause"
@@ -267,7 +286,7 @@ def try_group(rt, edits, seconds, log):
     crate, texts, places = edits[0].crate, {}, {}
     for edit in edits:
         _, places[edit] = apply(edit, texts)
-    status, lines = checked(rt, crate, texts, seconds * (4 + len(edits)) / 5)
+    status, lines = checked(rt, crate, texts, seconds * (4 + len(edits)) // 5)
     log(crate, edits, lines)
     reached = status is not None and lines[-1].startswith("logic=") and not unread(rt, lines, texts)
     if len(edits) > 1 and not reached:
@@ -291,7 +310,7 @@ def judge_alone(rt, edit, status, lines, texts, found):
     """The verdict of an edit that was tried alone, and with no reason at its own function."""
     bad = unread(rt, lines, texts)
     if status is None:
-        edit.verdict, edit.why = "NO VERDICT", "the check had not ended in time"
+        edit.verdict, edit.why = "NO VERDICT", "the check had not ended in its time"
     elif bad or not lines[-1].startswith("logic="):
         edit.verdict, edit.why = "NOT READ", (bad or next((it for it in lines if "error" in it), lines[0]))[:200]
     elif status == 0:
@@ -308,12 +327,13 @@ def edits_in(crate, top, kept, word):
     return [Edit(crate, it) for it in paths if word in os.path.basename(it)]
 
 
-def take_over(folder, top):
-    """Copies what the crates of another clone kept."""
-    for name in os.listdir(f"{top}/crates"):
-        for part in ("incremental", "rlib"):
-            if os.path.isdir(f"{folder}/crates/{name}/out/{part}"):
-                shutil.copytree(f"{folder}/crates/{name}/out/{part}", f"{top}/crates/{name}/out/{part}")
+def take_over(folder, crates, tried):
+    """Copies what these crates of another clone kept: the built library, and the rest where it is to be worked over."""
+    for crate in crates:
+        for part in ("rlib", "incremental"):
+            kept = f"{folder}/crates/{crate.name}/out/{part}"
+            if os.path.isdir(kept) and (part == "rlib" or crate in tried or not crate.is_built()):
+                shutil.copytree(kept, f"{crate.folder}/out/{part}")
 
 
 def build(crates, jobs):
@@ -350,47 +370,68 @@ def words_given():
     return given.parse_args()
 
 
-def main():
-    given, rt = words_given(), load()
-    os.makedirs(OUT, exist_ok=True)
-    writes, rows = threading.Lock(), open(f"{OUT}/wrong-bodies.txt", "w", encoding="utf-8")
+class Records:
+    """What is printed, and kept in bench/out/, as the checks end."""
 
-    def log(crate, edits, lines):
-        with writes, open(f"{OUT}/wrong-bodies-{crate.name}.log", "a", encoding="utf-8") as it:
+    def __init__(self, crates):
+        os.makedirs(OUT, exist_ok=True)
+        self.lock, self.rows = threading.Lock(), open(f"{OUT}/wrong-bodies.txt", "w", encoding="utf-8")
+        for crate in crates:
+            open(f"{OUT}/wrong-bodies-{crate.name}.log", "w").close()
+
+    def log(self, crate, edits, lines):
+        with self.lock, open(f"{OUT}/wrong-bodies-{crate.name}.log", "a", encoding="utf-8") as it:
             print(f"\n=== {' '.join(edit.name for edit in edits)}", *lines, sep="\n", file=it)
 
+    def tell(self, edits):
+        with self.lock:
+            for edit in edits:
+                print(edit.row(), flush=True)
+                print(edit.row(), file=self.rows, flush=True)
+
+
+def planned(edits, failed, most):
+    """The groups of all edits that can be tried, the longest first."""
+    groups = []
+    for crate in dict.fromkeys(it.crate for it in edits):
+        mine = [it for it in edits if it.crate is crate]
+        if crate not in failed:
+            groups += groups_of(mine, most)
+            continue
+        for edit in mine:
+            edit.verdict, edit.why = "NO VERDICT", "the crate itself is not proved"
+    return sorted(groups, key=len, reverse=True)
+
+
+def try_all(rt, given, over, top):
+    """Tries the edits of a clone. Returns whether each is refused."""
+    crates = [it for it in rt.rtlib.crates_below(top) if not given.crates or it.name in given.crates]
+    edits = [edit for crate in crates for edit in edits_in(crate, top, given.kept, given.only)]
+    tried = {it.crate for it in edits}
+    needed = {below for it in tried for below in (it, *it.below())}
+    if given.over:
+        take_over(over, needed, tried)
+    failed, records = build(needed, given.jobs), Records(tried)
+    groups = planned(edits, failed, given.most)
+    records.tell([it for it in edits if it.verdict])
+
+    def run(group):
+        try_group(rt, group, given.seconds, records.log)
+        records.tell(group)
+
+    with ThreadPoolExecutor(given.jobs) as pool:
+        list(pool.map(run, groups))
+    return told(edits)
+
+
+def main():
+    given, rt = words_given(), load()
+    over = os.path.abspath(given.over)
     with tempfile.TemporaryDirectory(prefix="wrong-bodies-of-") as room:
         top = f"{room}/clone"
         subprocess.run(["git", "clone", "-q", TOP, top], check=True)
-        if given.over:
-            take_over(os.path.abspath(given.over), top)
         os.chdir(top)
-        crates = [it for it in rt.rtlib.crates_below(top) if not given.crates or it.name in given.crates]
-        edits = [edit for crate in crates for edit in edits_in(crate, top, given.kept, given.only)]
-        tried = {it.crate for it in edits}
-        failed = build({below for it in tried for below in (it, *it.below())}, given.jobs)
-        groups = []
-        for crate in crates:
-            mine = [it for it in edits if it.crate is crate]
-            if crate not in failed:
-                groups += groups_of(mine, given.most)
-            elif mine:
-                for edit in mine:
-                    edit.verdict, edit.why = "NO VERDICT", "the crate itself is not proved"
-
-        def run(group):
-            try_group(rt, group, given.seconds, log)
-            with writes:
-                for edit in group:
-                    print(edit.row(), flush=True)
-                    print(edit.row(), file=rows, flush=True)
-
-        for crate in tried:
-            open(f"{OUT}/wrong-bodies-{crate.name}.log", "w").close()
-        with ThreadPoolExecutor(given.jobs) as pool:
-            # (the longest first; an exception of one ends the run)
-            list(pool.map(run, sorted(groups, key=len, reverse=True)))
-        return 0 if told(edits) else 1
+        return 0 if try_all(rt, given, over, top) else 1
 
 
 if __name__ == "__main__":
