@@ -1,47 +1,82 @@
 //! Worked examples of rings in bytes, by hand.
 
+ghost use Rattle.std.specs.Prelude.{◌≤◌, length};
+
 use ring_lanes::{
     all_below, first_privileged, first_value_is_prefix, holds_past_first, privileged_count,
     privileged_mask, weight,
 };
 
-/// Rings that hold 0 but for a 1 at one machine: n, that machine, the mask's four words, how many are privileged, the first
-/// of them, the weight, and whether the first value is a prefix.
-const LONE: [(usize, usize, [u64; 4], usize, usize, u64, bool); 8] = [
-    (2, 0, [0b10, 0, 0, 0], 1, 1, 1, true),
-    (2, 1, [0b10, 0, 0, 0], 1, 1, 1, true),
-    (32, 15, [0x1_8001, 0, 0, 0], 3, 0, 33, false),
-    (33, 31, [0x1_8000_0001, 0, 0, 0], 3, 0, 3, false),
-    (65, 63, [0x8000_0000_0000_0001, 1, 0, 0], 3, 0, 3, false),
-    (65, 64, [0, 1, 0, 0], 1, 64, 1, true),
-    (256, 0, [0b10, 0, 0, 0], 1, 1, 255, true),
-    (256, 1, [0b111, 0, 0, 0], 3, 0, 509, false),
+/// A ring that holds 0 but for a 1 at one machine, and what the kernels find of it.
+#[derive(Clone, Copy)]
+struct Lone {
+    n: usize,
+    at: usize,
+    mask: [u64; 4],
+    count: usize,
+    first: usize,
+    weight: u64,
+    prefix: bool,
+}
+
+macro_rules! lone {
+    ($n:expr, $at:expr, $mask:expr, $count:expr, $first:expr, $weight:expr, $prefix:expr) => {
+        Lone {
+            n: $n,
+            at: $at,
+            mask: $mask,
+            count: $count,
+            first: $first,
+            weight: $weight,
+            prefix: $prefix,
+        }
+    };
+}
+
+const LONE: [Lone; 8] = [
+    lone!(2, 0, [0b10, 0, 0, 0], 1, 1, 1, true),
+    lone!(2, 1, [0b10, 0, 0, 0], 1, 1, 1, true),
+    lone!(32, 15, [0x1_8001, 0, 0, 0], 3, 0, 33, false),
+    lone!(33, 31, [0x1_8000_0001, 0, 0, 0], 3, 0, 3, false),
+    lone!(65, 63, [0x8000_0000_0000_0001, 1, 0, 0], 3, 0, 3, false),
+    lone!(65, 64, [0, 1, 0, 0], 1, 64, 1, true),
+    lone!(256, 0, [0b10, 0, 0, 0], 1, 1, 255, true),
+    lone!(256, 1, [0b111, 0, 0, 0], 3, 0, 509, false),
 ];
+
+/// Whether the kernels find this of the ring.
+fn is_found(ring: &[u8], lone: &Lone) -> bool
+    requires low { 2 ≤ length ring.now }
+    requires high { length ring.now ≤ 256 }
+{
+    // Every bit is set at first, so that one which is not written stands out.
+    let mut mask = [u64::MAX; 4];
+    privileged_mask(ring, &mut mask);
+    mask == lone.mask
+        && privileged_count(ring) == lone.count
+        && first_privileged(ring) == lone.first
+        && weight(ring) == lone.weight
+        && first_value_is_prefix(ring) == lone.prefix
+}
+
+/// Whether the kernels that take a value find that only 0 and 1 are there, and a 1 past the first or not.
+fn is_bounded(ring: &[u8], lone: &Lone) -> bool
+    requires { 2 ≤ length ring.now }
+{
+    !all_below(ring, 1)
+        && all_below(ring, 2)
+        && all_below(ring, u32::MAX)
+        && holds_past_first(ring, 1) == (lone.at >= 1)
+}
 
 #[test]
 fn a_lone_value(rt: HostRuntime) {
-    for (n, d, wanted, count, first, sum, prefix) in LONE {
-        assert!(rt; n >= 2 && n <= 256 && d < n);
+    for lone in &LONE {
+        assert!(rt; lone.n >= 2 && lone.n <= 256 && lone.at < lone.n);
         let mut values = [0u8; 256];
-        values[d] = 1;
-        let ring = &values[..n];
-        // Every bit is set at first, so that one which is not written stands out.
-        let mut mask = [u64::MAX; 4];
-        privileged_mask(ring, &mut mask);
-        assert!(rt; mask == wanted, "1 at {d} of {n}");
-        assert!(rt;
-            privileged_count(ring) == count && first_privileged(ring) == first,
-            "1 at {d} of {n}"
-        );
-        assert!(rt;
-            weight(ring) == sum && first_value_is_prefix(ring) == prefix,
-            "1 at {d} of {n}"
-        );
-        assert!(rt;
-            !all_below(ring, 1) && all_below(ring, 2) && all_below(ring, u32::MAX),
-            "1 at {d} of {n}"
-        );
-        assert!(rt; holds_past_first(ring, 1) == (d >= 1), "1 at {d} of {n}");
+        values[lone.at] = 1;
+        let ring = &values[..lone.n];
+        assert!(rt; is_found(ring, lone) && is_bounded(ring, lone));
     }
 }
 

@@ -20,31 +20,64 @@ fn steps_and_copies(rt: HostRuntime) {
     }
 }
 
-/// Rings with as many values as machines: how many are privileged, the first of them, whether the first value is a prefix,
-/// and the weight, the lead and the rest.
-const RINGS: [(&[u32], usize, usize, bool, u64, u64, u64); 8] = [
-    (&[0, 2, 0], 3, 0, false, 3, 1, 6),
-    (&[1, 2, 0], 2, 1, true, 3, 0, 3),
-    (&[1, 1, 0], 1, 2, true, 1, 0, 0),
-    (&[0, 2, 1, 0], 4, 0, false, 6, 3, 18),
-    (&[1, 2, 1, 0], 3, 1, false, 6, 2, 14),
-    (&[1, 1, 1, 0], 1, 3, true, 1, 0, 0),
-    (&[3, 3, 1, 0], 2, 2, true, 3, 0, 3),
-    (&[1, 0, 1, 1], 3, 0, false, 5, 1, 9),
+/// A ring with as many values as machines, and what is told of it.
+#[derive(Clone, Copy)]
+struct Told<'a> {
+    ring: &'a [u32],
+    count: usize,
+    first: usize,
+    prefix: bool,
+    weight: u64,
+    lead: u64,
+    rest: u64,
+}
+
+macro_rules! told {
+    ($ring:expr, $count:expr, $first:expr, $prefix:expr, $weight:expr, $lead:expr, $rest:expr) => {
+        Told {
+            ring: $ring,
+            count: $count,
+            first: $first,
+            prefix: $prefix,
+            weight: $weight,
+            lead: $lead,
+            rest: $rest,
+        }
+    };
+}
+
+const RINGS: [Told<'static>; 8] = [
+    told!(&[0, 2, 0], 3, 0, false, 3, 1, 6),
+    told!(&[1, 2, 0], 2, 1, true, 3, 0, 3),
+    told!(&[1, 1, 0], 1, 2, true, 1, 0, 0),
+    told!(&[0, 2, 1, 0], 4, 0, false, 6, 3, 18),
+    told!(&[1, 2, 1, 0], 3, 1, false, 6, 2, 14),
+    told!(&[1, 1, 1, 0], 1, 3, true, 1, 0, 0),
+    told!(&[3, 3, 1, 0], 2, 2, true, 3, 0, 3),
+    told!(&[1, 0, 1, 1], 3, 0, false, 5, 1, 9),
 ];
+
+/// Whether it is told of the privileges.
+fn is_told(told: &Told) -> bool {
+    privileged_count(told.ring) == told.count
+        && first_privileged(told.ring) == told.first
+        && is_settled(told.ring) == (told.count == 1)
+        && first_value_is_prefix(told.ring) == told.prefix
+}
 
 #[test]
 fn answers_for_small_rings(rt: HostRuntime) {
-    for (place, (ring, count, first, prefix, all, ahead, left)) in RINGS.iter().enumerate() {
+    for (place, told) in RINGS.iter().enumerate() {
+        let ring = told.ring;
         assert!(rt; ring.len() >= 1 && ring.len() <= 4);
         let k = ring.len() as u32;
-        assert!(rt; is_ring(k, ring), "ring {place}");
-        assert!(rt; privileged_count(ring) == *count, "ring {place}");
-        assert!(rt; first_privileged(ring) == *first, "ring {place}");
-        assert!(rt; is_settled(ring) == (*count == 1), "ring {place}");
-        assert!(rt; first_value_is_prefix(ring) == *prefix, "ring {place}");
-        let potential = (weight(ring), lead(k, ring), rest(k, ring));
-        assert!(rt; potential == (*all, *ahead, *left), "ring {place}");
+        let is_weighed = weight(ring) == told.weight
+            && lead(k, ring) == told.lead
+            && rest(k, ring) == told.rest;
+        assert!(rt;
+            is_weighed && is_ring(k, ring) && is_told(told),
+            "ring {place}"
+        );
     }
 }
 

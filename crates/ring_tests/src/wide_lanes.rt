@@ -1,56 +1,85 @@
 //! Worked examples of rings in two bytes each, by hand.
 
+ghost use Rattle.std.specs.Prelude.{◌≤◌, length};
+
 use ring_lanes::{
     wide_all_below, wide_count, wide_first, wide_first_value_is_prefix, wide_holds_past_first,
     wide_mask, wide_weight,
 };
 
-/// Rings that hold 0 but for 256, whose low byte is 0, at one machine: n, that machine, the mask's first three words, how
-/// many are privileged, the first of them, the weight, and whether the first value is a prefix.
-const LONE: [(usize, usize, [u64; 3], usize, usize, u64, bool); 8] = [
-    (2, 0, [0b10, 0, 0], 1, 1, 1, true),
-    (2, 1, [0b10, 0, 0], 1, 1, 1, true),
-    (17, 15, [0x1_8001, 0, 0], 3, 0, 3, false),
-    (33, 31, [0x1_8000_0001, 0, 0], 3, 0, 3, false),
-    (130, 127, [1, 0x8000_0000_0000_0000, 1], 3, 0, 5, false),
-    (130, 129, [0, 0, 2], 1, 129, 1, true),
-    (1024, 0, [0b10, 0, 0], 1, 1, 1_023, true),
-    (1024, 1, [0b111, 0, 0], 3, 0, 2_045, false),
+/// A ring that holds 0 but for 256, whose low byte is 0, at one machine, and what the kernels find of it: the first three
+/// words of the mask, and the rest.
+#[derive(Clone, Copy)]
+struct Lone {
+    n: usize,
+    at: usize,
+    mask: [u64; 3],
+    count: usize,
+    first: usize,
+    weight: u64,
+    prefix: bool,
+}
+
+macro_rules! lone {
+    ($n:expr, $at:expr, $mask:expr, $count:expr, $first:expr, $weight:expr, $prefix:expr) => {
+        Lone {
+            n: $n,
+            at: $at,
+            mask: $mask,
+            count: $count,
+            first: $first,
+            weight: $weight,
+            prefix: $prefix,
+        }
+    };
+}
+
+const LONE: [Lone; 8] = [
+    lone!(2, 0, [0b10, 0, 0], 1, 1, 1, true),
+    lone!(2, 1, [0b10, 0, 0], 1, 1, 1, true),
+    lone!(17, 15, [0x1_8001, 0, 0], 3, 0, 3, false),
+    lone!(33, 31, [0x1_8000_0001, 0, 0], 3, 0, 3, false),
+    lone!(130, 127, [1, 0x8000_0000_0000_0000, 1], 3, 0, 5, false),
+    lone!(130, 129, [0, 0, 2], 1, 129, 1, true),
+    lone!(1024, 0, [0b10, 0, 0], 1, 1, 1_023, true),
+    lone!(1024, 1, [0b111, 0, 0], 3, 0, 2_045, false),
 ];
+
+/// Whether the kernels find this of the ring.
+fn is_found(ring: &[u16], lone: &Lone) -> bool
+    requires low { 2 ≤ length ring.now }
+    requires high { length ring.now ≤ 1024 }
+{
+    let mut wanted = [0u64; 16];
+    wanted[..3].copy_from_slice(&lone.mask);
+    // Every bit is set at first, so that one which is not written stands out.
+    let mut mask = [u64::MAX; 16];
+    wide_mask(ring, &mut mask);
+    mask == wanted
+        && wide_count(ring) == lone.count
+        && wide_first(ring) == lone.first
+        && wide_weight(ring) == lone.weight
+        && wide_first_value_is_prefix(ring) == lone.prefix
+}
+
+/// Whether the kernels that take a value find that only 0 and 256 are there, and a 256 past the first or not.
+fn is_bounded(ring: &[u16], lone: &Lone) -> bool
+    requires { 2 ≤ length ring.now }
+{
+    !wide_all_below(ring, 256)
+        && wide_all_below(ring, 257)
+        && wide_all_below(ring, u32::MAX)
+        && wide_holds_past_first(ring, 256) == (lone.at >= 1)
+}
 
 #[test]
 fn a_lone_value(rt: HostRuntime) {
-    for (n, d, words, count, first, sum, prefix) in LONE {
-        assert!(rt; n >= 2 && n <= 1024 && d < n);
+    for lone in &LONE {
+        assert!(rt; lone.n >= 2 && lone.n <= 1024 && lone.at < lone.n);
         let mut values = [0u16; 1024];
-        values[d] = 256;
-        let ring = &values[..n];
-        let none = [0u64; 16];
-        // Every bit is set at first, so that one which is not written stands out.
-        let mut mask = [u64::MAX; 16];
-        wide_mask(ring, &mut mask);
-        assert!(rt;
-            mask[..3] == words[..] && mask[3..] == none[3..],
-            "256 at {d} of {n}"
-        );
-        assert!(rt;
-            wide_count(ring) == count && wide_first(ring) == first,
-            "256 at {d} of {n}"
-        );
-        assert!(rt;
-            wide_weight(ring) == sum && wide_first_value_is_prefix(ring) == prefix,
-            "256 at {d} of {n}"
-        );
-        assert!(rt;
-            !wide_all_below(ring, 256)
-                && wide_all_below(ring, 257)
-                && wide_all_below(ring, u32::MAX),
-            "256 at {d} of {n}"
-        );
-        assert!(rt;
-            wide_holds_past_first(ring, 256) == (d >= 1),
-            "256 at {d} of {n}"
-        );
+        values[lone.at] = 256;
+        let ring = &values[..lone.n];
+        assert!(rt; is_found(ring, lone) && is_bounded(ring, lone));
     }
 }
 
