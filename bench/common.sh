@@ -21,11 +21,20 @@ program() {
     room=$(mktemp -d)
     mkdir -p "$room/crates/$2" "$3"
     cp "$1/HANDLES" "$room"
-    { cat "$1/crates.txt"; echo "$2: $(cat "$1/bench/$2/libraries")"; } >"$room/crates.txt"
-    # each crate below, one a line: those that a crate of the list names join the list
-    awk -v program="$2" '{ sub(/#.*/, ""); colon = index($0, ":"); if (colon) { split($0, words); sub(/:/, "", words[1]); below[words[1]] = substr($0, colon + 1) } }
-        END { queue[1] = program; last = 1; for (i = 1; i <= last; i++) { count = split(below[queue[i]], names); for (j = 1; j <= count; j++) if (names[j] in below && !(names[j] in seen)) { seen[names[j]] = 1; queue[++last] = names[j]; print names[j] } } }' \
-        "$room/crates.txt" | while read -r below; do cp -a "$1/crates/$below" "$room/crates"; done
+    # its line and those of the crates below: what a line of the list names joins the list
+    { cat "$1/crates.txt"; echo "$2: $(cat "$1/bench/$2/libraries")"; } | awk -v program="$2" '
+        /^[a-z]/ { name = $1; sub(/:/, "", name); line[name] = $0 }
+        END {
+            queue[1] = program; last = 1; seen[program] = 1
+            for (i = 1; i <= last; i++) {
+                print line[queue[i]]
+                count = split(line[queue[i]], names, /[ :]+/)
+                for (j = 2; j <= count; j++) if ((names[j] in line) && !(names[j] in seen)) { seen[names[j]] = 1; queue[++last] = names[j] }
+            }
+        }' >"$room/crates.txt"
+    for below in $(sed 's/[ :].*//' "$room/crates.txt"); do
+        [ "$below" = "$2" ] || cp -a "$1/crates/$below" "$room/crates"
+    done
     (cd "$1/bench/$2" && find src proofs specs -name '*.txt' 2>/dev/null) | while read -r file; do
         mkdir -p "$room/crates/$2/$(dirname "$file")"
         cp "$1/bench/$2/$file" "$room/crates/$2/${file%.txt}"

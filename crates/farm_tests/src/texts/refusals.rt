@@ -7,76 +7,76 @@ use std::test::Fail;
 
 /// Bytes, and what they are refused for, if they are.
 const REFUSED: [(&[u8], Option<ReadError>); 28] = [
-        (b"", Some(ReadError::Truncated)),
-        (b"ringfarm 1\nring 0 03 3\n", Some(ReadError::Syntax(2))),
-        (b"ringfarm 1\nring 0  3 3\n", Some(ReadError::Syntax(2))),
-        (b"ringfarm 1\nring  0 3 3\n", Some(ReadError::Syntax(2))),
-        (
-            b"ringfarm 1\nring 0 3 3\nstart 0 2\n",
-            Some(ReadError::Syntax(3)),
-        ),
-        (
-            b"ringfarm 1\nring 0 3 3\nstart 0 2 0 0\n",
-            Some(ReadError::Syntax(3)),
-        ),
-        (b"ringfarm 1\ndone 0\n", Some(ReadError::Syntax(2))),
-        (b"ringfarm 1\r\nring 0 3 3\n", Some(ReadError::Syntax(1))),
-        (b"ringfarm 2\r\nring 0 3 3\n", Some(ReadError::Syntax(1))),
-        (b"ringfarm 2\nring 0 3 3\n", Some(ReadError::Truncated)),
-        (b"ringfarm 3\nring 0 3 3\n", Some(ReadError::Syntax(1))),
-        (b"ringfarm 0\nring 0 3 3\n", Some(ReadError::Syntax(1))),
-        (b"ringfarm 12\nring 0 3 3\n", Some(ReadError::Syntax(1))),
-        (b"ringfarm 2\nring 0 1 1\nstart 0\nend 0\ndone 1\n", None),
-        (
-            b"ringfarm 2\nring 0 3 3\nstart 0 2 0\nm 0 0 5 1 1 5\n",
-            Some(ReadError::Truncated),
-        ),
-        (b"ringfarm 1\nring 0 0 3\n", Some(ReadError::Syntax(2))),
-        (
-            b"ringfarm 1\nring 0 4294967296 3\n",
-            Some(ReadError::Syntax(2)),
-        ),
-        (
-            b"ringfarm 1\nring 0 4294967295 3\nstart 0 2 0\n",
-            Some(ReadError::Syntax(3)),
-        ),
-        (
-            b"ringfarm 1\nring 0 4294967295 3\nstart 0 2 0",
-            Some(ReadError::Truncated),
-        ),
-        (
-            b"ringfarm 1\nring 0 3 3\nstart 0 2 0\np 0 0 5 g 1\n",
-            Some(ReadError::Syntax(4)),
-        ),
-        (
-            b"ringfarm 1\nring 0 3 3\nstart 0 2 0\np 0 0 5 x 1\n",
-            Some(ReadError::Syntax(4)),
-        ),
-        (
-            b"ringfarm 1\nring 0 3 3\nstart 0 2 0\nm 0 0 5 1 1 5\n",
-            Some(ReadError::Syntax(4)),
-        ),
-        (
-            b"ringfarm 1\nring 0 3 3\nstart 0 2 0\ns 0 0 1 1 2 0\nend 0\n",
-            Some(ReadError::Syntax(4)),
-        ),
-        (
-            b"ringfarm 1\nring 0 3 3\nstart 0 2 0\np 0 0 5 g 1 5\np 0 0 1 n\np 0 2 4 g 2 9\nend 18446744073709551616\n",
-            Some(ReadError::Syntax(7)),
-        ),
-        (
-            b"ringfarm 1\nring 0 3 3\nstart 0 2 0\np 0 0 5 g 1 5\np 0 0 1 n\np 0 2 4 g 2 9\nend 18446744073709551615\n",
-            Some(ReadError::Truncated),
-        ),
-        (b"ringfarm 1\nring 0 1 1\nstart 0\nend 0\ndone 1\n", None),
-        (
-            b"ringfarm 1\nring 7 2 9\nstart 9 9\nend 5\ndone 4294967295\n",
-            None,
-        ),
-        (
-            b"ringfarm 1\nring 0 1 1\nstart 0\nend 0\ndone 4294967296\n",
-            Some(ReadError::Syntax(5)),
-        ),
+    (b"", Some(ReadError::Truncated)),
+    (b"ringfarm 1\nring 0 03 3\n", Some(ReadError::Syntax(2))),
+    (b"ringfarm 1\nring 0  3 3\n", Some(ReadError::Syntax(2))),
+    (b"ringfarm 1\nring  0 3 3\n", Some(ReadError::Syntax(2))),
+    (
+        b"ringfarm 1\nring 0 3 3\nstart 0 2\n",
+        Some(ReadError::Syntax(3)),
+    ),
+    (
+        b"ringfarm 1\nring 0 3 3\nstart 0 2 0 0\n",
+        Some(ReadError::Syntax(3)),
+    ),
+    (b"ringfarm 1\ndone 0\n", Some(ReadError::Syntax(2))),
+    (b"ringfarm 1\r\nring 0 3 3\n", Some(ReadError::Syntax(1))),
+    (b"ringfarm 2\r\nring 0 3 3\n", Some(ReadError::Syntax(1))),
+    (b"ringfarm 2\nring 0 3 3\n", Some(ReadError::Truncated)),
+    (b"ringfarm 3\nring 0 3 3\n", Some(ReadError::Syntax(1))),
+    (b"ringfarm 0\nring 0 3 3\n", Some(ReadError::Syntax(1))),
+    (b"ringfarm 12\nring 0 3 3\n", Some(ReadError::Syntax(1))),
+    (b"ringfarm 2\nring 0 1 1\nstart 0\nend 0\ndone 1\n", None),
+    (
+        b"ringfarm 2\nring 0 3 3\nstart 0 2 0\nm 0 0 5 1 1 5\n",
+        Some(ReadError::Truncated),
+    ),
+    (b"ringfarm 1\nring 0 0 3\n", Some(ReadError::Syntax(2))),
+    (
+        b"ringfarm 1\nring 0 4294967296 3\n",
+        Some(ReadError::Syntax(2)),
+    ),
+    (
+        b"ringfarm 1\nring 0 4294967295 3\nstart 0 2 0\n",
+        Some(ReadError::Syntax(3)),
+    ),
+    (
+        b"ringfarm 1\nring 0 4294967295 3\nstart 0 2 0",
+        Some(ReadError::Truncated),
+    ),
+    (
+        b"ringfarm 1\nring 0 3 3\nstart 0 2 0\np 0 0 5 g 1\n",
+        Some(ReadError::Syntax(4)),
+    ),
+    (
+        b"ringfarm 1\nring 0 3 3\nstart 0 2 0\np 0 0 5 x 1\n",
+        Some(ReadError::Syntax(4)),
+    ),
+    (
+        b"ringfarm 1\nring 0 3 3\nstart 0 2 0\nm 0 0 5 1 1 5\n",
+        Some(ReadError::Syntax(4)),
+    ),
+    (
+        b"ringfarm 1\nring 0 3 3\nstart 0 2 0\ns 0 0 1 1 2 0\nend 0\n",
+        Some(ReadError::Syntax(4)),
+    ),
+    (
+        b"ringfarm 1\nring 0 3 3\nstart 0 2 0\np 0 0 5 g 1 5\np 0 0 1 n\np 0 2 4 g 2 9\nend 18446744073709551616\n",
+        Some(ReadError::Syntax(7)),
+    ),
+    (
+        b"ringfarm 1\nring 0 3 3\nstart 0 2 0\np 0 0 5 g 1 5\np 0 0 1 n\np 0 2 4 g 2 9\nend 18446744073709551615\n",
+        Some(ReadError::Truncated),
+    ),
+    (b"ringfarm 1\nring 0 1 1\nstart 0\nend 0\ndone 1\n", None),
+    (
+        b"ringfarm 1\nring 7 2 9\nstart 9 9\nend 5\ndone 4294967295\n",
+        None,
+    ),
+    (
+        b"ringfarm 1\nring 0 1 1\nstart 0\nend 0\ndone 4294967296\n",
+        Some(ReadError::Syntax(5)),
+    ),
 ];
 
 /// Whether the bytes are refused for this, or read.
@@ -109,24 +109,24 @@ const BAD: Option<ReadError> = Some(ReadError::Syntax(4));
 
 /// A line of a member, and what a text of the second version is refused for that has it as its fourth line.
 const MEMBERS: [(&[u8], Option<ReadError>); 15] = [
-        (b"m 0 1 2 4294967295 1 2", None),
-        (b"m 0 1 2 4294967296 1 2", BAD),
-        (
-            b"m 4294967295 4294967295 18446744073709551615 0 18446744073709551615 18446744073709551615",
-            None,
-        ),
-        (b"m 4294967296 1 2 2 1 2", BAD),
-        (b"m 0 4294967296 2 2 1 2", BAD),
-        (b"m 0 1 18446744073709551616 2 1 2", BAD),
-        (b"m 0 1 2 2 18446744073709551616 2", BAD),
-        (b"m 0 1 2 2 1 18446744073709551616", BAD),
-        (b"m 0 1 2 2 1", BAD),
-        (b"m 0 1 2 2 1 2 3", BAD),
-        (b"m 0 1 2 02 1 2", BAD),
-        (b"m 0 1 2  2 1 2", BAD),
-        (b"m 0 1 2 2 g 1 2", BAD),
-        (b"m 0 1 2 2 n", BAD),
-        (b"M 0 1 2 2 1 2", BAD),
+    (b"m 0 1 2 4294967295 1 2", None),
+    (b"m 0 1 2 4294967296 1 2", BAD),
+    (
+        b"m 4294967295 4294967295 18446744073709551615 0 18446744073709551615 18446744073709551615",
+        None,
+    ),
+    (b"m 4294967296 1 2 2 1 2", BAD),
+    (b"m 0 4294967296 2 2 1 2", BAD),
+    (b"m 0 1 18446744073709551616 2 1 2", BAD),
+    (b"m 0 1 2 2 18446744073709551616 2", BAD),
+    (b"m 0 1 2 2 1 18446744073709551616", BAD),
+    (b"m 0 1 2 2 1", BAD),
+    (b"m 0 1 2 2 1 2 3", BAD),
+    (b"m 0 1 2 02 1 2", BAD),
+    (b"m 0 1 2  2 1 2", BAD),
+    (b"m 0 1 2 2 g 1 2", BAD),
+    (b"m 0 1 2 2 n", BAD),
+    (b"M 0 1 2 2 1 2", BAD),
 ];
 
 /// What stands before and behind that line, behind the first line.
