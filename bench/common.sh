@@ -14,6 +14,37 @@ build() {
     (cd "$top/crates/$1" && rt run -- ${2:+"$2"} >"$out/$1-build.log" 2>&1) || { cat "$out/$1-build.log"; exit 1; }
 }
 
+# program TREE NAME FOLDER [WORD]: proves and builds a program that stands as text in bench/NAME of a tree of this
+# repository, where each file's name ends in .txt and `libraries` has what it stands on, and leaves it as FOLDER/NAME. It is
+# built in a folder of its own, beside copies of the crates below it with the work that they keep, and run once with the word
+program() {
+    room=$(mktemp -d)
+    mkdir -p "$room/crates/$2" "$3"
+    cp "$1/HANDLES" "$room"
+    # its line and those of the crates below: what a line of the list names joins the list
+    { cat "$1/crates.txt"; echo "$2: $(cat "$1/bench/$2/libraries")"; } | awk -v program="$2" '
+        /^[a-z]/ { name = $1; sub(/:/, "", name); line[name] = $0 }
+        END {
+            queue[1] = program; last = 1; seen[program] = 1
+            for (i = 1; i <= last; i++) {
+                print line[queue[i]]
+                count = split(line[queue[i]], names, /[ :]+/)
+                for (j = 2; j <= count; j++) if ((names[j] in line) && !(names[j] in seen)) { seen[names[j]] = 1; queue[++last] = names[j] }
+            }
+        }' >"$room/crates.txt"
+    for below in $(sed 's/[ :].*//' "$room/crates.txt"); do
+        [ "$below" = "$2" ] || cp -a "$1/crates/$below" "$room/crates"
+    done
+    (cd "$1/bench/$2" && find src proofs specs -name '*.txt' 2>/dev/null) | while read -r file; do
+        mkdir -p "$room/crates/$2/$(dirname "$file")"
+        cp "$1/bench/$2/$file" "$room/crates/$2/${file%.txt}"
+    done
+    echo "proving and building $2"
+    (cd "$room/crates/$2" && rt run -- ${4:+"$4"} >"$out/$2-build.log" 2>&1) || { cat "$out/$2-build.log"; echo "left in $room"; exit 1; }
+    cp "$room/crates/$2/out/$2" "$3"
+    rm -rf "$room"
+}
+
 # drawn FILE RINGS N K WORKERS ACTIONS: settings of rings that start at 0, with so many drawn workers
 drawn() {
     awk -v rings="$2" -v n="$3" -v k="$4" -v workers="$5" -v actions="$6" 'BEGIN {

@@ -1,5 +1,5 @@
-"""Runs the programs of two trees of crates in turn and prints what the second costs of the first, for bench/compare.sh.
-Words: the folder crates/ before, and that now. Works in the current folder, which has the settings files."""
+"""Runs the programs of two folders in turn and prints what the second costs of the first, for bench/compare.sh.
+Words: the folder of the programs before, and that of those now. Works in the current folder, which has the settings files."""
 
 import os
 import re
@@ -44,10 +44,10 @@ def compare(before, now, what, words):
     print(f"| {what} | {old[0]:.3f} | {new[0]:.3f} | {ratios[0]} | {ratios[1]} | {sizes} | {ratios[2]} |", flush=True)
 
 
-def program(tree, names):
-    """The first of these programs that a tree has built, with the words that come with its name; or none."""
-    built = (([f"{tree}/{name}/out/{name}", *words], name) for name, *words in names)
-    return next((command for command, name in built if os.path.exists(command[0])), None)
+def program(folder, names):
+    """The first of these programs that a folder has, with the words that come with its name; or none."""
+    built = ([f"{folder}/{name}", *words] for name, *words in names)
+    return next((command for command in built if os.path.exists(command[0])), None)
 
 
 def told_by(command):
@@ -61,7 +61,7 @@ def speeds(command):
 
 
 def main(before, now):
-    tools = [f"{it}/ring_tool/out/ring_tool" for it in (before, now)]
+    tools = [f"{it}/ring_tool" for it in (before, now)]
     print("| What | s before | s now | by processor | by the clock | MiB before | MiB now | memory |")
     print("|---|---|---|---|---|---|---|---|")
     for n in (16, 256):
@@ -70,13 +70,13 @@ def main(before, now):
         compare(*tools, f"the same with a history, n = {n}", ["run", one, "--history", HISTORY])
         compare(*tools, f"check of that history, n = {n}", ["check", HISTORY])
         compare(*tools, f"run, sixteen rings, nine of 320,000, n = {n}", ["run", many])
-    trees = ((before, "before"), (now, "now"))
+    folders = ((before, "before"), (now, "now"))
     for n in (16, 256):
-        for tree, name in trees:
-            written, read = speeds([*program(tree, TEXTS), f"one-ring-{n}.json"])
+        for folder, name in folders:
+            written, read = speeds([*program(folder, TEXTS), f"one-ring-{n}.json"])
             print(f"text of one ring, n = {n}, {name}: written {written}, read {read} MB a second")
-    for tree, name in trees:
-        if calls := program(tree, CALLS):
+    for folder, name in folders:
+        if calls := program(folder, CALLS):
             print(f"calls of a ring, {name}:\n{told_by(calls)}", end="", flush=True)
 
 

@@ -9,13 +9,23 @@ commit=$(git -C "$top" rev-parse "$1^{commit}")
 base=${TMPDIR:-/tmp}/wozgirt-$(git -C "$top" rev-parse --short "$commit")
 [ -d "$base" ] || git clone -q "$top" "$base"
 git -C "$base" checkout -q "$commit"
-# both PROGRAM [WORD]: builds the program now and at the commit, where they have it
-both() {
-    [ ! -d "$top/crates/$1" ] || build "$@"
-    [ -d "$base/crates/$1" ] || return 0
-    echo "proving and building $1 at the commit"
-    (cd "$base/crates/$1" && rt run -- ${2:+"$2"} >"$out/$1-base.log" 2>&1) || { cat "$out/$1-base.log"; exit 1; }
+# built TREE FOLDER PROGRAM [WORD]: leaves the program of a tree in the folder, where the tree has it
+built() {
+    if [ -d "$1/bench/$3" ]; then
+        program "$1" "$3" "$2" ${4:+"$4"}
+    elif [ -d "$1/crates/$3" ]; then
+        echo "proving and building $3 of $1"
+        (cd "$1/crates/$3" && rt run -- ${4:+"$4"} >"$out/$3-build.log" 2>&1) || { cat "$out/$3-build.log"; exit 1; }
+        mkdir -p "$2"
+        cp "$1/crates/$3/out/$3" "$2"
+    fi
 }
+# both PROGRAM [WORD]: now and at the commit
+both() {
+    built "$top" "$out/now" "$@"
+    built "$base" "$out/before" "$@"
+}
+rm -rf "$out/now" "$out/before"
 both ring_tool --help
 both text_bench
 both farm_bench
@@ -26,4 +36,4 @@ for n in 16 256; do
     drawn "sixteen-long-$n.json" 16 "$n" "$n" 9 320000
 done
 cd "$out"
-exec env PYTHONDONTWRITEBYTECODE=1 python3 "$top/bench/compare.py" "$base/crates" "$top/crates"
+exec env PYTHONDONTWRITEBYTECODE=1 python3 "$top/bench/compare.py" "$out/before" "$out/now"

@@ -12,8 +12,8 @@ for n in 16 256; do
 done
 passes one-worker.json 8 1000000 0
 drawn nothing.json 1 16 16 9 0
-build farm_bench
+program "$top" farm_bench "$out"
 
 for file in nothing one-ring-16 one-ring-256 sixteen-rings-16 sixteen-rings-256 sixteen-long-16 sixteen-long-256 one-worker; do
-    (cd "$out" && /usr/bin/time -f "  %e s in all, %M KiB at most" "$top/crates/farm_bench/out/farm_bench" run "$file.json")
+    (cd "$out" && /usr/bin/time -f "  %e s in all, %M KiB at most" "$out/farm_bench" run "$file.json")
 done

@@ -106,24 +106,19 @@ try_program() {
     row "requests for memory refused in turn: ring_tool $*" "$((number - 1))" "$differ"
 }
 
-crates=${*:-ring_tests farm_tests text_tests check_tests ring_tool}
+crates=${*:-ring_tests farm_tests check_tests ring_tool}
 for crate in $crates; do
     case $crate in
     ring_tests)
         try_crate "$crate" "^(book|settle)::|memory"
-        try_mark "$crate" book::settling::a_survey_takes_no_memory
-        try_mark "$crate" book::groups::a_group_with_room_takes_no_memory
+        try_mark "$crate" book::calls_with_room_and_surveys_take_no_memory
         try_mark "$crate" settle::following_takes_no_memory
         ;;
     farm_tests)
-        try_crate "$crate" memory
-        try_mark "$crate" shared::want_of_memory_changes_nothing
-        ;;
-    text_tests)
         try_crate "$crate" want_of_memory
-        try_largest "$crate" saved::reading::room_is_asked_for_as_values_are_read 4096
-        try_mark "$crate" saved::outcomes::writing_takes_no_memory
-        try_mark "$crate" saved::reports::reporting_takes_no_memory
+        try_mark "$crate" shared::want_of_memory_changes_nothing
+        try_largest "$crate" texts::reading::room_is_asked_for_as_values_are_read 4096
+        try_mark "$crate" texts::outcomes::writing_and_reporting_take_no_memory
         ;;
     check_tests) try_crate "$crate" first_text_is_legal ;;
     ring_tool)

@@ -6,8 +6,8 @@ set -eu
 
 passes script.json 16 1000000 1
 drawn drawn.json 1 8 16 9 1000000
-build farm_bench
+program "$top" farm_bench "$out"
 
 for file in script drawn; do
-    (cd "$out" && /usr/bin/time -f "%e s in all, %M KiB at most" "$top/crates/farm_bench/out/farm_bench" plans "$file.json")
+    (cd "$out" && /usr/bin/time -f "%e s in all, %M KiB at most" "$out/farm_bench" plans "$file.json")
 done

@@ -6,8 +6,8 @@ set -eu
 
 passes one-worker.json 8 1000000 0
 drawn one-ring-16.json 1 16 16 9 100000
-build farm_bench
+program "$top" farm_bench "$out"
 
 for file in one-worker one-ring-16; do
-    (cd "$out" && "$top/crates/farm_bench/out/farm_bench" text "$file.json")
+    (cd "$out" && "$out/farm_bench" text "$file.json")
 done

@@ -1,4 +1,5 @@
-//! Tests of settings, of rings that threads share, and of farms, by their public calls alone.
+//! Tests of settings, of rings that threads share, of farms, and of the texts that are written of them, by their public
+//! calls alone.
 #![tactic(auto)]
 
 #[cfg(test)]
@@ -6,6 +7,10 @@ mod events;
 #[cfg(test)]
 mod farm;
 #[cfg(test)]
+mod scripted;
+#[cfg(test)]
 mod settings;
 #[cfg(test)]
 mod shared;
+#[cfg(test)]
+mod texts;

@@ -1,4 +1,4 @@
-//! Scenes: a table of calls with the answer to each, which one loop plays on a book.
+//! Scenes: a ring that begins so, and a table of calls and looks with the answer to each, which one loop plays on a book.
 
 ghost use Rattle.std.specs.Prelude.{◌≡◌};
 
@@ -6,56 +6,53 @@ mod calls;
 mod fitting;
 mod groups;
 mod limits;
-mod settling;
-mod widths;
 
-use crate::rings::{state_of, three};
-use ring_book::{Book, BookError, Event, Op, Receipt, Reply, Resource, Survey};
-use ring_state::RingState;
+use crate::groups::rises;
+use crate::rings::{has_values, memory_ends, memory_is_back, state_of};
+use ring_book::{
+    Book, BookError, Event, GroupError, GroupReceipt, Op, Receipt, Reply, Resource, Survey, Till,
+};
 use std::alloc::Global;
 use std::process::Abort;
 
-/// What a book is asked.
-#[derive(Clone, Copy, Debug)]
-pub enum Ask {
-    /// A pass by seat 0.
-    Pass { machine: u32, order: u64 },
-    /// A corruption by seat 9.
-    Corrupt { machine: u32, value: u32 },
+/// What a book is asked, and what it answers. Seat 0 passes, seat 9 corrupts, and seat 3 has the ring settled.
+#[derive(Clone, Copy)]
+pub enum Step<'a> {
+    /// A pass that is granted: its position, the machine, the order, the number of the grant, and the resource's answer.
+    Granted(u64, u32, u64, u64, u64),
+    /// A pass that is not granted: its position, the machine, and the order.
+    NotPrivileged(u64, u32, u64),
+    /// A corruption: its position, the machine, and the values that it writes and writes over.
+    Corrupted(u64, u32, u32, u32),
+    /// A call that a full history refuses.
+    Refused(Op),
+    /// A pass by a group with an order. Where it is refused, nothing changes.
+    Group(&'a [u32], u64, Result<GroupReceipt, GroupError>),
     /// Memory for so many events.
-    Reserve(u32),
-    /// To be settled by seat 3.
-    Settle,
-    /// A survey.
-    Survey,
-    /// The values of its three machines now.
-    Values,
-    /// The values of its three machines at the start.
-    Start,
+    Reserve(u32, Result<(), BookError>),
+    /// To be settled, by so many passes.
+    Settle(Result<u64, BookError>),
+    /// A survey: the position, how many machines are privileged, the first of them, the calm and the rest.
+    Survey(u64, u32, u32, u64, u64),
+    /// The values now.
+    Values(&'a [u32]),
     /// The granted passes of each of its three machines, in all and in the settled run.
-    Grants,
-    /// How many grants there are in all.
-    Total,
-    /// How many calls of seats 9, 0 and 5 there are.
-    Calls,
-    /// How many events there are.
-    Events,
+    Grants([u64; 3], [u64; 3]),
+    /// How many calls of seats 9, 0 and 5 there are, how many grants, and how many events.
+    Counts([u64; 3], u64, usize),
+    /// The last events.
+    Ends(&'a [Event]),
 }
 
-/// What it answers.
-#[derive(Clone, Copy, Debug, PartialEq)]
-pub enum Answer {
-    /// The call's receipt has this position and this reply, and the call's own seat and words.
-    Told(u64, Reply),
-    Refused(BookError),
-    Reserved,
-    /// So many events were added.
-    Settled(u64),
-    Seen(Survey),
-    Values(u32, u32, u32),
-    Grants([u64; 3], [u64; 3]),
-    Calls(u64, u64, u64),
-    Number(u64),
+/// A ring over a till.
+#[derive(Clone, Copy)]
+pub struct Scene<'a> {
+    pub k: u32,
+    pub start: &'a [u32],
+    /// How many events come first: corruptions of machine 0, which holds 0, to 0, behind a request for memory for all that
+    /// a history may have.
+    pub filled: u32,
+    pub steps: &'a [Step<'a>],
 }
 
 // Each call is made a second time where there was no memory, after a look that nothing has changed. So the
@@ -65,13 +62,13 @@ pub enum Answer {
 fn book_of<R: Resource + Drop>(
     rt: &impl Abort,
     alloc: Global,
-    size: (u32, u32),
+    k: u32,
     values: &[u32],
     resource: R,
 ) -> Book<R>
     requires { resource ≡ R.first }
 {
-    let state = state_of(rt, alloc, size.0, size.1, values);
+    let state = state_of(rt, alloc, k, values);
     match Book::new(alloc, state, resource) {
         Ok(book) => book,
         Err(refused) => match Book::new(alloc, refused.state, refused.resource) {
@@ -81,184 +78,216 @@ fn book_of<R: Resource + Drop>(
     }
 }
 
-/// What the receipt of a call by this seat tells.
-fn told(rt: &impl Abort, made: Result<Receipt, BookError>, seat: u32, op: Op) -> Answer {
-    match made {
-        Ok(receipt) => {
-            assert_eq!(rt; (receipt.event.seat, receipt.event.op), (seat, op));
-            Answer::Told(receipt.position, receipt.event.reply)
-        },
-        Err(error) => Answer::Refused(error),
+/// A pass by seat 0, or a corruption by seat 9.
+fn call<R: Resource + Drop>(
+    rt: &impl Abort,
+    book: &mut Book<R>,
+    op: Op,
+) -> Result<Receipt, BookError> {
+    let size = book.state().params();
+    match op {
+        Op::Pass { machine, order } => {
+            assert!(rt; machine < size.n());
+            book.pass(0, machine, order)
+        }
+        Op::Corrupt { machine, value } => {
+            assert!(rt; machine < size.n() && value < size.k());
+            book.corrupt(9, machine, value)
+        }
+        Op::Member { .. } => panic!(rt; "a member makes no call"),
     }
 }
 
-/// A pass by seat 0.
-fn pass<R: Resource + Drop>(
+/// The same with a second try.
+fn called<R: Resource + Drop>(
     rt: &impl Abort,
     book: &mut Book<R>,
-    machine: u32,
+    op: Op,
+) -> Result<Receipt, BookError> {
+    let before = book.survey();
+    match call(rt, book, op) {
+        Err(BookError::OutOfMemory) => {
+            assert!(rt; book.survey() == before);
+            call(rt, book, op)
+        }
+        made => made,
+    }
+}
+
+/// Whether the call is recorded at this position, by its seat and with its words, and answered so.
+fn is_recorded<R: Resource + Drop>(
+    rt: &impl Abort,
+    book: &mut Book<R>,
+    op: Op,
+    position: u64,
+    reply: Reply,
+) -> bool {
+    let seat = if matches!(op, Op::Pass { .. }) { 0 } else { 9 };
+    let event = Event { seat, op, reply };
+    called(rt, book, op) == Ok(Receipt { position, event })
+}
+
+/// A pass by a group, with a second try. Nothing has changed where it is refused.
+fn pass_group<R: Resource + Drop>(
+    rt: &impl Abort,
+    book: &mut Book<R>,
+    machines: &[u32],
     order: u64,
-) -> Answer {
-    assert!(rt; machine < book.state().params().n());
+) -> Result<GroupReceipt, GroupError> {
+    let n = book.state().params().n();
+    assert!(rt; rises(n, machines) && !machines.is_empty());
     let before = book.survey();
-    let made = match book.pass(0, machine, order) {
-        Err(BookError::OutOfMemory) => {
-            assert_eq!(rt; book.survey(), before);
-            book.pass(0, machine, order)
-        },
+    let made = book.pass_group(0, machines, order);
+    assert!(rt; made.is_ok() || book.survey() == before);
+    match made {
+        Err(GroupError::OutOfMemory) => book.pass_group(0, machines, order),
         made => made,
-    };
-    told(rt, made, 0, Op::Pass { machine, order })
+    }
 }
 
-/// A corruption by seat 9.
-fn corrupt<R: Resource + Drop>(
+/// Memory for so many events, with a second try.
+fn reserve<R: Resource + Drop>(
     rt: &impl Abort,
     book: &mut Book<R>,
-    machine: u32,
-    value: u32,
-) -> Answer {
-    let size = book.state().params();
-    assert!(rt; machine < size.n() && value < size.k());
-    let before = book.survey();
-    let made = match book.corrupt(9, machine, value) {
-        Err(BookError::OutOfMemory) => {
-            assert_eq!(rt; book.survey(), before);
-            book.corrupt(9, machine, value)
-        },
-        made => made,
-    };
-    told(rt, made, 9, Op::Corrupt { machine, value })
-}
-
-/// Memory for so many events.
-fn reserve<R: Resource + Drop>(rt: &impl Abort, book: &mut Book<R>, more: u32) -> Answer {
+    more: u32,
+) -> Result<(), BookError> {
     let before = book.survey();
     let made = match book.reserve(more) {
         Err(BookError::OutOfMemory) => book.reserve(more),
         made => made,
     };
-    assert_eq!(rt; book.survey(), before);
-    match made {
-        Ok(()) => Answer::Reserved,
-        Err(error) => Answer::Refused(error),
-    }
+    assert!(rt; book.survey() == before);
+    made
 }
 
-/// Settled by seat 3.
-fn settle<R: Resource + Drop>(rt: &impl Abort, book: &mut Book<R>) -> Answer {
+/// Settled by seat 3, with a second try: by so many passes.
+fn settle<R: Resource + Drop>(book: &mut Book<R>) -> Result<u64, BookError> {
     let before = book.survey().position;
     let made = match book.settle(3) {
-        Ok(passes) => {
-            assert_eq!(rt; book.survey().position, before + passes);
-            Ok(passes)
-        },
         Err(BookError::OutOfMemory) => book.settle(3),
-        Err(error) => Err(error),
+        made => made,
     };
     match made {
-        Ok(_) => Answer::Settled(book.survey().position - before),
-        Err(error) => Answer::Refused(error),
+        Ok(_) => Ok(book.survey().position - before),
+        Err(error) => Err(error),
     }
 }
 
-/// What is asked of a book, and is answered by a look at it.
-fn seen<R: Resource + Drop>(rt: &impl Abort, book: &Book<R>, ask: Ask) -> Answer {
-    match ask {
-        Ask::Values => values_of(rt, book.state()),
-        Ask::Start => values_of(rt, book.start()),
-        Ask::Grants => grants_of_three(rt, book),
-        Ask::Total => Answer::Number(book.grants().total()),
-        Ask::Calls => Answer::Calls(book.calls_of(9), book.calls_of(0), book.calls_of(5)),
-        Ask::Events => Answer::Number(book.history().len() as u64),
-        _ => Answer::Seen(book.survey()),
+/// Whether a look at the book shows this.
+fn shows<R: Resource + Drop>(book: &Book<R>, look: Step) -> bool {
+    match look {
+        Step::Survey(position, privileged, first, calm, rest) => {
+            book.survey()
+                == Survey {
+                    position,
+                    privileged,
+                    first,
+                    calm,
+                    rest,
+                }
+        }
+        Step::Values(values) => has_values(book.state(), values),
+        Step::Grants(all, settled) => has_grants(book, all, settled),
+        Step::Counts(calls, grants, events) => {
+            [book.calls_of(9), book.calls_of(0), book.calls_of(5)] == calls
+                && book.grants().total() == grants
+                && book.history().len() == events
+        }
+        Step::Ends(events) => book.history().ends_with(events),
+        _ => false,
     }
 }
 
-fn values_of(rt: &impl Abort, state: &RingState) -> Answer {
-    let (zero, one, two) = three(rt, state);
-    Answer::Values(zero, one, two)
-}
-
-fn grants_of_three<R: Resource + Drop>(rt: &impl Abort, book: &Book<R>) -> Answer {
-    assert_eq!(rt; book.start().params().n(), 3);
+/// Whether the three machines have these grants, in all and in the settled run.
+fn has_grants<R: Resource + Drop>(book: &Book<R>, all: [u64; 3], settled: [u64; 3]) -> bool {
+    if book.start().params().n() != 3 {
+        return false;
+    }
     let grants = book.grants();
-    Answer::Grants(
-        [grants.of(0), grants.of(1), grants.of(2)],
-        [
-            grants.settled_of(0),
-            grants.settled_of(1),
-            grants.settled_of(2),
-        ],
-    )
+    for machine in 0..3u32 {
+        let place = machine as usize;
+        if grants.of(machine) != all[place] || grants.settled_of(machine) != settled[place] {
+            return false;
+        }
+    }
+    true
 }
 
-/// One call, or one look.
-fn make_call<R: Resource + Drop>(rt: &impl Abort, book: &mut Book<R>, ask: Ask) -> Answer {
-    match ask {
-        Ask::Pass { machine, order } => pass(rt, book, machine, order),
-        Ask::Corrupt { machine, value } => corrupt(rt, book, machine, value),
-        Ask::Reserve(more) => reserve(rt, book, more),
-        Ask::Settle => settle(rt, book),
-        look => seen(rt, book, look),
+/// Whether a call, or a look, is answered so.
+fn is_answered<R: Resource + Drop>(rt: &impl Abort, book: &mut Book<R>, step: Step) -> bool {
+    match step {
+        Step::Granted(position, machine, order, number, result) => {
+            let op = Op::Pass { machine, order };
+            is_recorded(rt, book, op, position, Reply::Granted { number, result })
+        }
+        Step::NotPrivileged(position, machine, order) => {
+            let op = Op::Pass { machine, order };
+            is_recorded(rt, book, op, position, Reply::NotPrivileged)
+        }
+        Step::Corrupted(position, machine, value, old) => {
+            let op = Op::Corrupt { machine, value };
+            is_recorded(rt, book, op, position, Reply::Corrupted { old })
+        }
+        Step::Refused(op) => called(rt, book, op) == Err(BookError::HistoryFull),
+        Step::Group(machines, order, answer) => pass_group(rt, book, machines, order) == answer,
+        Step::Reserve(more, answer) => reserve(rt, book, more) == answer,
+        Step::Settle(answer) => settle(book) == answer,
+        look => shows(book, look),
     }
 }
 
-/// Plays a table of calls, and compares each answer.
-fn play<R: Resource + Drop>(rt: &impl Abort, book: &mut Book<R>, scene: &[(Ask, Answer)]) {
-    for (ask, wanted) in scene {
-        assert_eq!(rt; make_call(rt, book, *ask), *wanted, "at {ask:?}");
+/// Plays a table of calls and looks, and compares each answer.
+fn play<R: Resource + Drop>(rt: &impl Abort, book: &mut Book<R>, steps: &[Step]) {
+    for (place, step) in steps.iter().enumerate() {
+        assert!(rt; is_answered(rt, book, *step), "step {place}");
     }
 }
 
-/// The words of a pass, and those of a corruption.
-fn asks_pass(machine: u32, order: u64) -> Ask {
-    Ask::Pass { machine, order }
-}
-
-fn asks_corrupt(machine: u32, value: u32) -> Ask {
-    Ask::Corrupt { machine, value }
-}
-
-/// A granted pass, one that was not granted, and a corruption.
-fn granted(position: u64, number: u64, answer: u64) -> Answer {
-    Answer::Told(
-        position,
-        Reply::Granted {
-            number,
-            result: answer,
-        },
-    )
-}
-
-fn not_privileged(position: u64) -> Answer {
-    Answer::Told(position, Reply::NotPrivileged)
-}
-
-fn corrupted(position: u64, old: u32) -> Answer {
-    Answer::Told(position, Reply::Corrupted { old })
-}
-
-/// A survey.
-fn survey(position: u64, privileged: u32, first: u32, calm: u64, rest: u64) -> Answer {
-    Answer::Seen(Survey {
-        position,
-        privileged,
-        first,
-        calm,
-        rest,
-    })
-}
-
-/// The events, as passes by one seat with order 0.
-fn check_passes(rt: &impl Abort, history: &[Event], seat: u32, told: &[(u32, Reply)]) {
-    assert_eq!(rt; history.len(), told.len());
-    for (event, (machine, reply)) in history.iter().zip(told) {
-        let op = Op::Pass {
-            machine: *machine,
-            order: 0,
-        };
-        let reply = *reply;
-        assert_eq!(rt; *event, Event { seat, op, reply });
+/// Has the book make so many events.
+fn fill<R: Resource + Drop>(rt: &impl Abort, book: &mut Book<R>, events: u32) {
+    assert!(rt; reserve(rt, book, 4_000_000).is_ok());
+    let fault = Op::Corrupt {
+        machine: 0,
+        value: 0,
+    };
+    for _ in 0..events {
+        assert!(rt; call(rt, book, fault).is_ok());
     }
+}
+
+/// Plays scenes.
+fn play_all(rt: &impl Abort, alloc: Global, scenes: &[Scene]) {
+    for scene in scenes {
+        let mut book = book_of(rt, alloc, scene.k, scene.start, Till::new());
+        if scene.filled > 0 {
+            fill(rt, &mut book, scene.filled);
+        }
+        play(rt, &mut book, scene.steps);
+        assert!(rt; has_values(book.start(), scene.start));
+    }
+}
+
+// Passes too where each request for memory between the marks is refused, as `bench/refused_memory.sh` has it: of the
+// room for five events a group of three leaves that for two.
+#[test]
+fn calls_with_room_and_surveys_take_no_memory(rt: HostRuntime) {
+    let mut book = book_of(&rt, rt.alloc(), 4, &[0, 2, 1, 0], Till::new());
+    assert!(rt; reserve(&rt, &mut book, 5).is_ok());
+    assert!(rt; book.state().params().n() == 4);
+    memory_ends(rt.alloc());
+    let group = book.pass_group(0, &[0, 1, 3], 2);
+    let passed = book.pass(0, 2, 2).is_ok() && book.pass(0, 2, 2).is_ok();
+    let survey = book.survey();
+    memory_is_back(rt.alloc());
+    assert!(rt; group == Ok(GroupReceipt { first: 0, count: 3 }) && passed);
+    assert!(rt; book.history().len() == 5);
+    // 1, 0, 0, 1: the weight is 3 + 1, and the lead 1.
+    let wanted = Survey {
+        position: 5,
+        privileged: 3,
+        first: 0,
+        calm: 4,
+        rest: 8,
+    };
+    assert!(rt; survey == wanted);
 }

@@ -9,8 +9,6 @@ mod groups;
 #[cfg(test)]
 mod lanes;
 #[cfg(test)]
-mod model_laws;
-#[cfg(test)]
 mod plain;
 #[cfg(test)]
 mod replay;

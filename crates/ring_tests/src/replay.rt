@@ -17,22 +17,54 @@ fn machine_of(op: Op) -> u32
     }
 }
 
-/// A pass, and a corruption.
-fn pass(machine: u32, order: u64) -> Op {
-    Op::Pass { machine, order }
-}
-
-fn corrupt(machine: u32, value: u32) -> Op {
-    Op::Corrupt { machine, value }
-}
-
-/// A granted pass.
-fn granted(number: u64, answer: u64) -> Reply {
+const FIRST: (Op, Reply) = (
+    Op::Pass {
+        machine: 0,
+        order: 10,
+    },
     Reply::Granted {
-        number,
-        result: answer,
-    }
-}
+        number: 1,
+        result: 10,
+    },
+);
+
+const SECOND: (Op, Reply) = (
+    Op::Pass {
+        machine: 0,
+        order: 5,
+    },
+    Reply::NotPrivileged,
+);
+
+const THIRD: (Op, Reply) = (
+    Op::Pass {
+        machine: 2,
+        order: 7,
+    },
+    Reply::Granted {
+        number: 2,
+        result: 17,
+    },
+);
+
+const FAULT: (Op, Reply) = (
+    Op::Corrupt {
+        machine: 1,
+        value: 0,
+    },
+    Reply::Corrupted { old: 2 },
+);
+/// The till stays at its top.
+const LAST: (Op, Reply) = (
+    Op::Pass {
+        machine: 1,
+        order: u64::MAX - 1,
+    },
+    Reply::Granted {
+        number: 3,
+        result: u64::MAX,
+    },
+);
 
 // Each step with its reply, and the values, the amount and the grants behind it.
 #[test]
@@ -40,80 +72,34 @@ fn steps_with_a_till(rt: HostRuntime) {
     let mut ring = [0, 2, 0];
     let mut amount = 0;
     let mut grants = 0;
-    for (op, reply, behind) in [
-        (pass(0, 10), granted(1, 10), ([1, 2, 0], 10, 1)),
-        (pass(0, 5), Reply::NotPrivileged, ([1, 2, 0], 10, 1)),
-        (pass(2, 7), granted(2, 17), ([1, 2, 2], 17, 2)),
-        (
-            corrupt(1, 0),
-            Reply::Corrupted { old: 2 },
-            ([1, 0, 2], 17, 2),
-        ),
+    for ((op, reply), values, held, passed) in [
+        (FIRST, [1, 2, 0], 10, 1),
+        (SECOND, [1, 2, 0], 10, 1),
+        (THIRD, [1, 2, 2], 17, 2),
+        (FAULT, [1, 0, 2], 17, 2),
+        (LAST, [1, 1, 2], u64::MAX, 3),
     ] {
         assert!(rt; machine_of(op) < 3 && grants < 10);
-        let got = step_with_till(3, &mut ring, &mut amount, &mut grants, op);
-        assert_eq!(rt; got, reply, "to {op:?}");
-        assert_eq!(rt; (ring, amount, grants), behind, "behind {op:?}");
+        assert!(rt;
+            step_with_till(3, &mut ring, &mut amount, &mut grants, op) == reply,
+            "grants {grants}"
+        );
+        assert!(rt;
+            ring == values && amount == held && grants == passed,
+            "grants {grants}"
+        );
     }
 }
 
 #[test]
-fn the_till_stops_at_its_top(rt: HostRuntime) {
-    let mut ring = [0, 0];
-    let mut amount = u64::MAX - 1;
-    let mut grants = 41;
-    let reply = step_with_till(
-        2,
-        &mut ring,
-        &mut amount,
-        &mut grants,
-        Op::Pass {
-            machine: 0,
-            order: 5,
-        },
-    );
-    assert_eq!(rt;
-        reply,
-        Reply::Granted {
-            number: 42,
-            result: u64::MAX
-        }
-    );
-    assert_eq!(rt; amount, u64::MAX);
-}
-
-#[test]
 fn counts_the_calm(rt: HostRuntime) {
-    let pass = Op::Pass {
-        machine: 0,
-        order: 0,
-    };
-    let granted = Event {
+    let [granted, refused, fault] = [FIRST, SECOND, FAULT].map(|(op, reply)| Event {
         seat: 0,
-        op: pass,
-        reply: Reply::Granted {
-            number: 1,
-            result: 0,
-        },
-    };
-    let refused = Event {
-        seat: 1,
-        op: pass,
-        reply: Reply::NotPrivileged,
-    };
-    let fault = Event {
-        seat: 1,
-        op: Op::Corrupt {
-            machine: 0,
-            value: 1,
-        },
-        reply: Reply::Corrupted { old: 1 },
-    };
-    assert_eq!(rt; calm(&[]), 0);
-    assert_eq!(rt; calm(&[granted, refused, granted]), 2);
-    assert_eq!(rt; calm(&[granted, granted, fault]), 0);
-    assert_eq!(rt;
-        calm(&[granted, fault, refused, granted, granted, granted]),
-        3
-    );
+        op,
+        reply,
+    });
+    assert!(rt; calm(&[]) == 0);
+    assert!(rt; calm(&[granted, refused, granted]) == 2);
+    assert!(rt; calm(&[granted, granted, fault]) == 0);
+    assert!(rt; calm(&[granted, fault, refused, granted, granted, granted]) == 3);
 }

@@ -1,4 +1,4 @@
-use crate::rings::{memory_ends, memory_is_back, state_of, three};
+use crate::rings::{has_values, memory_ends, memory_is_back, state_of};
 use ring_settle::{bound, follow, is_settled, lead, rest};
 
 #[test]
@@ -13,37 +13,34 @@ fn bounds(rt: HostRuntime) {
         (65_536, 6_442_352_640),
     ] {
         assert!(rt; n >= 2 && n <= 65_536);
-        assert_eq!(rt; bound(n), most, "of {n} machines");
+        assert!(rt; bound(n) == most, "of {n} machines");
     }
 }
 
-#[test]
-fn leads_and_rests_of_three_machines(rt: HostRuntime) {
-    for (values, lead_now, rest_now) in [
-        ([0, 2, 0], 1, 6),
-        ([1, 2, 0], 0, 3),
-        ([1, 1, 0], 0, 0),
-        ([0, 0, 0], 0, 0),
-    ] {
-        let state = state_of(&rt, rt.alloc(), 3, 3, &values);
-        assert_eq!(rt; (lead(&state), rest(&state)), (lead_now, rest_now));
-        assert_eq!(rt; is_settled(&state), rest_now == 0);
-    }
-}
+/// States with as many values as machines, with their lead and their rest.
+const STATES: [(&[u32], u32, u64); 10] = [
+    (&[0, 2, 0], 1, 6),
+    (&[1, 2, 0], 0, 3),
+    (&[1, 1, 0], 0, 0),
+    (&[0, 0, 0], 0, 0),
+    (&[0, 2, 1, 0], 3, 18),
+    (&[1, 2, 1, 0], 2, 14),
+    (&[3, 3, 1, 0], 0, 3),
+    (&[3, 2, 1, 0], 0, 6),
+    (&[1, 0, 1, 1], 1, 9),
+    (&[1, 1, 1, 0], 0, 0),
+];
 
 #[test]
-fn leads_and_rests_of_four_machines(rt: HostRuntime) {
-    for (values, lead_now, rest_now) in [
-        ([0, 2, 1, 0], 3, 18),
-        ([1, 2, 1, 0], 2, 14),
-        ([3, 3, 1, 0], 0, 3),
-        ([3, 2, 1, 0], 0, 6),
-        ([1, 0, 1, 1], 1, 9),
-        ([1, 1, 1, 0], 0, 0),
-    ] {
-        let state = state_of(&rt, rt.alloc(), 4, 4, &values);
-        assert_eq!(rt; (lead(&state), rest(&state)), (lead_now, rest_now));
-        assert_eq!(rt; is_settled(&state), rest_now == 0);
+fn leads_and_rests(rt: HostRuntime) {
+    for (place, (values, lead_now, rest_now)) in STATES.iter().enumerate() {
+        assert!(rt; values.len() <= 4);
+        let state = state_of(&rt, rt.alloc(), values.len() as u32, values);
+        assert!(rt;
+            lead(&state) == *lead_now && rest(&state) == *rest_now,
+            "state {place}"
+        );
+        assert!(rt; is_settled(&state) == (*rest_now == 0), "state {place}");
     }
 }
 
@@ -54,33 +51,20 @@ fn the_largest_ring_of_different_values(rt: HostRuntime) {
     for i in 0..1024usize {
         values[i] = i as u32;
     }
-    let state = state_of(&rt, rt.alloc(), 1024, 1024, &values);
-    assert_eq!(rt; (state.privileged(), state.first()), (1_023, 1));
-    assert_eq!(rt;
-        (lead(&state), state.weight(), rest(&state)),
-        (0, 523_776, 523_776)
-    );
-    assert!(rt; !is_settled(&state));
-}
-
-#[test]
-fn follows_choices(rt: HostRuntime) {
-    let mut state = state_of(&rt, rt.alloc(), 3, 3, &[0, 2, 0]);
-    assert_eq!(rt; state.params().n(), 3);
-    assert_eq!(rt; follow(&mut state, &[0, 0, 2]), 2);
-    assert_eq!(rt; three(&rt, &state), (1, 2, 2));
-    assert_eq!(rt; state.params().n(), 3);
-    assert_eq!(rt; follow(&mut state, &[]), 0);
-    assert_eq!(rt; three(&rt, &state), (1, 2, 2));
+    let state = state_of(&rt, rt.alloc(), 1024, &values);
+    assert!(rt; state.privileged() == 1_023 && state.first() == 1 && state.weight() == 523_776);
+    assert!(rt; lead(&state) == 0 && rest(&state) == 523_776 && !is_settled(&state));
 }
 
 // Passes too where each request for memory between the marks is refused, as `bench/refused_memory.sh` has it.
 #[test]
 fn following_takes_no_memory(rt: HostRuntime) {
-    let mut state = state_of(&rt, rt.alloc(), 3, 3, &[0, 2, 0]);
-    assert_eq!(rt; state.params().n(), 3);
+    let mut state = state_of(&rt, rt.alloc(), 3, &[0, 2, 0]);
+    assert!(rt; state.params().n() == 3);
     memory_ends(rt.alloc());
     let granted = follow(&mut state, &[0, 0, 2]);
     memory_is_back(rt.alloc());
-    assert_eq!(rt; (granted, three(&rt, &state)), (2, (1, 2, 2)));
+    assert!(rt; granted == 2 && has_values(&state, &[1, 2, 2]));
+    assert!(rt; state.params().n() == 3);
+    assert!(rt; follow(&mut state, &[]) == 0 && has_values(&state, &[1, 2, 2]));
 }

@@ -1,108 +1,185 @@
-use super::{
-    Answer, Ask, asks_corrupt, asks_pass, book_of, check_passes, corrupted, granted,
-    not_privileged, play, survey,
-};
-use ring_book::{Idle, Reply, Till};
+//! Passes, corruptions, grants and settling of small rings.
 
-#[test]
-fn passes_move_the_ring_and_are_recorded(rt: HostRuntime) {
-    let mut book = book_of(&rt, rt.alloc(), (3, 3), &[0, 2, 0], Idle);
-    play(
-        &rt,
-        &mut book,
-        &[
-            (asks_pass(0, 0), granted(0, 1, 0)),
-            (Ask::Values, Answer::Values(1, 2, 0)),
-            (asks_pass(0, 0), not_privileged(1)),
-            (Ask::Values, Answer::Values(1, 2, 0)),
-            (asks_pass(2, 0), granted(2, 2, 0)),
-            (Ask::Values, Answer::Values(1, 2, 2)),
-            (Ask::Start, Answer::Values(0, 2, 0)),
-        ],
-    );
-    assert_eq!(rt; *book.resource(), Idle);
-    let first = Reply::Granted {
-        number: 1,
-        result: 0,
+use super::{Scene, Step, book_of, play, play_all};
+use ring_book::{Event, Idle, Op, Reply};
+
+/// A granted pass by a seat with order 0.
+macro_rules! granted {
+    ($seat:expr, $machine:expr, $number:expr) => {
+        Event {
+            seat: $seat,
+            op: Op::Pass {
+                machine: $machine,
+                order: 0,
+            },
+            reply: Reply::Granted {
+                number: $number,
+                result: 0,
+            },
+        }
     };
-    let second = Reply::Granted {
-        number: 2,
-        result: 0,
-    };
-    let told = [(0, first), (0, Reply::NotPrivileged), (2, second)];
-    check_passes(&rt, book.history(), 0, &told);
 }
 
-#[test]
-fn corruptions_are_recorded_and_end_the_calm(rt: HostRuntime) {
-    let mut book = book_of(&rt, rt.alloc(), (3, 3), &[0, 0, 0], Idle);
-    play(
-        &rt,
-        &mut book,
-        &[
-            (asks_corrupt(1, 2), corrupted(0, 0)),
-            (Ask::Values, Answer::Values(0, 2, 0)),
-            (Ask::Survey, survey(1, 3, 0, 0, 6)),
-            (asks_corrupt(1, 2), corrupted(1, 2)),
-            (Ask::Values, Answer::Values(0, 2, 0)),
-            (Ask::Survey, survey(2, 3, 0, 0, 6)),
-            (asks_pass(0, 0), granted(2, 1, 0)),
-            (Ask::Survey, survey(3, 2, 1, 1, 3)),
-            (Ask::Calls, Answer::Calls(2, 1, 0)),
+const MOST: u64 = u64::MAX;
+
+const PASSES: [Scene<'static>; 5] = [
+    // Passes move the ring, and are recorded.
+    Scene {
+        k: 3,
+        start: &[0, 2, 0],
+        filled: 0,
+        steps: &[
+            Step::Granted(0, 0, 0, 1, 0),
+            Step::Values(&[1, 2, 0]),
+            Step::NotPrivileged(1, 0, 0),
+            Step::Values(&[1, 2, 0]),
+            Step::Granted(2, 2, 0, 2, 0),
+            Step::Values(&[1, 2, 2]),
+            Step::Ends(&[
+                granted!(0, 0, 1),
+                Event {
+                    seat: 0,
+                    op: Op::Pass {
+                        machine: 0,
+                        order: 0,
+                    },
+                    reply: Reply::NotPrivileged,
+                },
+                granted!(0, 2, 2),
+            ]),
+            Step::Counts([0, 3, 0], 2, 3),
         ],
-    );
-}
+    },
+    // Corruptions are recorded, and end the calm.
+    Scene {
+        k: 3,
+        start: &[0, 0, 0],
+        filled: 0,
+        steps: &[
+            Step::Corrupted(0, 1, 2, 0),
+            Step::Values(&[0, 2, 0]),
+            Step::Survey(1, 3, 0, 0, 6),
+            Step::Corrupted(1, 1, 2, 2),
+            Step::Values(&[0, 2, 0]),
+            Step::Survey(2, 3, 0, 0, 6),
+            Step::Granted(2, 0, 0, 1, 0),
+            Step::Survey(3, 2, 1, 1, 3),
+            Step::Counts([2, 1, 0], 1, 3),
+        ],
+    },
+    // A till stays at the largest amount.
+    Scene {
+        k: 2,
+        start: &[0, 0],
+        filled: 0,
+        steps: &[
+            Step::Granted(0, 0, MOST, 1, MOST),
+            Step::Granted(1, 1, 1, 2, MOST),
+            Step::Counts([0, 2, 0], 2, 2),
+        ],
+    },
+    // Grants of a settled ring go round until a corruption.
+    Scene {
+        k: 3,
+        start: &[0, 0, 0],
+        filled: 0,
+        steps: &[
+            Step::Granted(0, 0, 0, 1, 0),
+            Step::Granted(1, 1, 0, 2, 0),
+            Step::Granted(2, 2, 0, 3, 0),
+            Step::Granted(3, 0, 0, 4, 0),
+            Step::Granted(4, 1, 0, 5, 0),
+            Step::Values(&[2, 2, 1]),
+            Step::Survey(5, 1, 2, 5, 0),
+            Step::Grants([2, 2, 1], [2, 2, 1]),
+            Step::Corrupted(5, 2, 2, 1),
+            Step::Values(&[2, 2, 2]),
+            Step::Survey(6, 1, 0, 0, 0),
+            Step::Grants([2, 2, 1], [0, 0, 0]),
+        ],
+    },
+    // Grants before the ring has settled are not settled ones.
+    Scene {
+        k: 3,
+        start: &[0, 2, 0],
+        filled: 0,
+        steps: &[
+            Step::Granted(0, 0, 5, 1, 5),
+            Step::NotPrivileged(1, 0, 1),
+            Step::Granted(2, 2, 4, 2, 9),
+            Step::Grants([1, 0, 1], [0, 0, 0]),
+            Step::Survey(3, 1, 1, 2, 0),
+        ],
+    },
+];
 
 #[test]
-fn a_till_stays_at_the_largest_amount(rt: HostRuntime) {
-    let most = u64::MAX;
-    let mut book = book_of(&rt, rt.alloc(), (2, 2), &[0, 0], Till::new());
-    play(
-        &rt,
-        &mut book,
-        &[
-            (asks_pass(0, most), granted(0, 1, most)),
-            (asks_pass(1, 1), granted(1, 2, most)),
-            (Ask::Total, Answer::Number(2)),
-        ],
-    );
+fn passes_and_corruptions_are_recorded(rt: HostRuntime) {
+    play_all(&rt, rt.alloc(), &PASSES);
 }
 
-#[test]
-fn grants_of_a_settled_ring_go_round_until_a_corruption(rt: HostRuntime) {
-    let mut book = book_of(&rt, rt.alloc(), (3, 3), &[0, 0, 0], Idle);
-    play(
-        &rt,
-        &mut book,
-        &[
-            (asks_pass(0, 0), granted(0, 1, 0)),
-            (asks_pass(1, 0), granted(1, 2, 0)),
-            (asks_pass(2, 0), granted(2, 3, 0)),
-            (asks_pass(0, 0), granted(3, 4, 0)),
-            (asks_pass(1, 0), granted(4, 5, 0)),
-            (Ask::Values, Answer::Values(2, 2, 1)),
-            (Ask::Survey, survey(5, 1, 2, 5, 0)),
-            (Ask::Grants, Answer::Grants([2, 2, 1], [2, 2, 1])),
-            (asks_corrupt(2, 2), corrupted(5, 1)),
-            (Ask::Values, Answer::Values(2, 2, 2)),
-            (Ask::Survey, survey(6, 1, 0, 0, 0)),
-            (Ask::Grants, Answer::Grants([2, 2, 1], [0, 0, 0])),
+const SETTLING: [Scene<'static>; 3] = [
+    Scene {
+        k: 3,
+        start: &[0, 2, 0],
+        filled: 0,
+        steps: &[
+            Step::Survey(0, 3, 0, 0, 6),
+            Step::Settle(Ok(2)),
+            Step::Values(&[1, 1, 0]),
+            Step::Survey(2, 1, 2, 2, 0),
+            Step::Ends(&[granted!(3, 0, 1), granted!(3, 1, 2)]),
         ],
-    );
-}
+    },
+    // A settled ring is not settled again.
+    Scene {
+        k: 4,
+        start: &[0, 2, 1, 0],
+        filled: 0,
+        steps: &[
+            Step::Survey(0, 4, 0, 0, 18),
+            Step::Settle(Ok(2)),
+            Step::Values(&[1, 1, 1, 0]),
+            Step::Survey(2, 1, 3, 2, 0),
+            Step::Settle(Ok(0)),
+            Step::Survey(2, 1, 3, 2, 0),
+        ],
+    },
+    // A ring that starts settled goes round.
+    Scene {
+        k: 3,
+        start: &[2, 0, 0],
+        filled: 0,
+        steps: &[
+            Step::Survey(0, 1, 1, 0, 0),
+            Step::Granted(0, 1, 0, 1, 0),
+            Step::Values(&[2, 2, 0]),
+            Step::Granted(1, 2, 0, 2, 0),
+            Step::Values(&[2, 2, 2]),
+            Step::Granted(2, 0, 0, 3, 0),
+            Step::Values(&[0, 2, 2]),
+            Step::Granted(3, 1, 0, 4, 0),
+            Step::Values(&[0, 0, 2]),
+            Step::Grants([1, 2, 1], [1, 2, 1]),
+        ],
+    },
+];
 
 #[test]
-fn grants_before_the_ring_settled_are_not_settled_ones(rt: HostRuntime) {
-    let mut book = book_of(&rt, rt.alloc(), (3, 3), &[0, 2, 0], Till::new());
-    play(
-        &rt,
-        &mut book,
-        &[
-            (asks_pass(0, 5), granted(0, 1, 5)),
-            (asks_pass(0, 1), not_privileged(1)),
-            (asks_pass(2, 4), granted(2, 2, 9)),
-            (Ask::Grants, Answer::Grants([1, 0, 1], [0, 0, 0])),
-            (Ask::Survey, survey(3, 1, 1, 2, 0)),
-        ],
-    );
+fn rings_settle(rt: HostRuntime) {
+    play_all(&rt, rt.alloc(), &SETTLING);
+}
+
+// Over a resource that does nothing; and room that was reserved serves a pass and a corruption.
+#[test]
+fn an_idle_resource_answers_0(rt: HostRuntime) {
+    let mut book = book_of(&rt, rt.alloc(), 3, &[0, 0, 0], Idle);
+    let steps = [
+        Step::Reserve(2, Ok(())),
+        Step::Survey(0, 1, 0, 0, 0),
+        Step::Granted(0, 0, 7, 1, 0),
+        Step::Corrupted(1, 2, 1, 0),
+    ];
+    play(&rt, &mut book, &steps);
+    assert!(rt; *book.resource() == Idle);
 }

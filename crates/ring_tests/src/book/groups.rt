@@ -1,238 +1,158 @@
+//! Groups that pass at once, up to the largest of the widest ring.
+
 ghost use Rattle.std.specs.Prelude.{◌≤◌, length};
 
-use super::{
-    Answer, Ask, asks_corrupt, asks_pass, book_of, corrupted, granted, not_privileged, play, survey,
-};
-use crate::groups::{check_values, rises, widest_group, widest_values, widest_values_moved};
-use crate::rings::{memory_ends, memory_is_back};
-use ring_book::{
-    Book, BookError, Event, GroupError, GroupReceipt, Idle, Op, Reply, Resource, Till,
-};
+use super::{Scene, Step, book_of, pass_group, play, play_all};
+use crate::groups::{widest_group, widest_values, widest_values_moved};
+use crate::rings::has_values;
+use ring_book::{Event, GroupError, GroupReceipt, Op, Reply, Till};
 use std::process::Abort;
 
-/// A group pass by seat 0. It is made a second time where there was no memory, after a look that nothing has changed.
-pub(super) fn pass_group<R: Resource + Drop>(
-    rt: &impl Abort,
-    book: &mut Book<R>,
-    machines: &[u32],
-    order: u64,
-) -> Result<GroupReceipt, GroupError> {
-    let n = book.state().params().n();
-    assert!(rt; rises(n, machines) && !machines.is_empty());
-    let before = book.survey();
-    match book.pass_group(0, machines, order) {
-        Err(GroupError::OutOfMemory) => {
-            assert_eq!(rt; book.survey(), before);
-            book.pass_group(0, machines, order)
-        },
-        made => made,
-    }
+/// A member of seat 0's group with order 2, behind which so many more come.
+macro_rules! member {
+    ($machine:expr, $left:expr, $number:expr, $amount:expr) => {
+        Event {
+            seat: 0,
+            op: Op::Member {
+                machine: $machine,
+                order: 2,
+                left: $left,
+            },
+            reply: Reply::Granted {
+                number: $number,
+                result: $amount,
+            },
+        }
+    };
 }
 
-/// Passes groups, each of which is refused, and nothing changes.
-fn check_refused<R: Resource + Drop>(
-    rt: &impl Abort,
-    book: &mut Book<R>,
-    scene: &[(&[u32], GroupError)],
-) {
-    let before = book.survey();
-    for (machines, error) in scene {
-        assert_eq!(rt;
-            pass_group(rt, book, *machines, 2),
-            Err(*error),
-            "{machines:?}"
-        );
-        assert_eq!(rt; book.survey(), before, "{machines:?}");
-    }
+const ALL: Step<'static> = Step::Group(&[0, 1, 2, 3], 2, Err(GroupError::WholeRing));
+
+const BUT_TWO: Step<'static> = Step::Group(&[0, 1, 3], 2, Ok(GroupReceipt { first: 0, count: 3 }));
+
+const GROUPS: [Scene<'static>; 4] = [
+    Scene {
+        k: 4,
+        start: &[0, 2, 1, 0],
+        filled: 0,
+        steps: &[
+            ALL,
+            BUT_TWO,
+            Step::Ends(&[
+                member!(1, 2, 1, 2),
+                member!(0, 1, 2, 4),
+                member!(3, 0, 3, 6),
+            ]),
+            Step::Values(&[1, 0, 1, 1]),
+            Step::Survey(3, 3, 0, 3, 9),
+            Step::Counts([0, 3, 0], 3, 3),
+            ALL,
+            Step::Group(&[2, 3], 2, Err(GroupError::NotPrivileged(3))),
+            Step::Values(&[1, 0, 1, 1]),
+        ],
+    },
+    // The least machine that is not privileged is named.
+    Scene {
+        k: 4,
+        start: &[1, 1, 1, 0],
+        filled: 0,
+        steps: &[
+            Step::Group(&[0, 1, 2], 2, Err(GroupError::NotPrivileged(0))),
+            Step::Group(&[1, 2, 3], 2, Err(GroupError::NotPrivileged(1))),
+            Step::Group(&[2, 3], 2, Err(GroupError::NotPrivileged(2))),
+            ALL,
+            Step::Counts([0, 0, 0], 0, 0),
+        ],
+    },
+    // A group, a pass and a corruption, after which 1, 1, 0, 1 are there, and a group that leaves out machine 1.
+    Scene {
+        k: 4,
+        start: &[0, 2, 1, 0],
+        filled: 0,
+        steps: &[
+            BUT_TWO,
+            Step::NotPrivileged(3, 3, 9),
+            Step::Granted(4, 2, 5, 4, 11),
+            Step::Corrupted(5, 1, 1, 0),
+            Step::Survey(6, 3, 0, 0, 7),
+            Step::Group(&[0, 2, 3], 1, Ok(GroupReceipt { first: 6, count: 3 })),
+            Step::Values(&[2, 1, 1, 0]),
+            Step::Survey(9, 2, 1, 3, 4),
+            Step::Counts([1, 8, 0], 7, 9),
+        ],
+    },
+    // A group needs a place in the history for each of its machines.
+    Scene {
+        k: 4,
+        start: &[0, 2, 1, 0],
+        filled: 3_999_998,
+        steps: &[
+            Step::Survey(3_999_998, 4, 0, 0, 18),
+            Step::Group(&[0, 1, 3], 2, Err(GroupError::HistoryFull)),
+            ALL,
+            Step::Counts([3_999_998, 0, 0], 0, 3_999_998),
+            Step::Group(
+                &[1, 3],
+                2,
+                Ok(GroupReceipt {
+                    first: 3_999_998,
+                    count: 2,
+                }),
+            ),
+            Step::Counts([3_999_998, 2, 0], 2, 4_000_000),
+            Step::Ends(&[member!(3, 1, 1, 2), member!(1, 0, 2, 4)]),
+            Step::Values(&[0, 0, 1, 1]),
+        ],
+    },
+];
+
+#[test]
+fn groups_pass_at_once(rt: HostRuntime) {
+    play_all(&rt, rt.alloc(), &GROUPS);
 }
 
-/// The events from this place on are members of seat 0, of one order, by these machines, with the numbers from 1 on and the
-/// answers that a till gives that begins with nothing.
-fn check_block(rt: &impl Abort, events: &[Event], machines: &[u32], order: u64)
+/// The events are members of seat 0, of order 3, by these machines, with the numbers from 1 on and the answers that a till
+/// gives that begins with nothing.
+fn check_block(rt: &impl Abort, events: &[Event], machines: &[u32])
     requires { length machines.now ≤ 1024 }
 {
-    assert_eq!(rt; events.len(), machines.len());
-    let mut left = machines.len() as u32;
-    let mut number: u64 = 0;
-    for (event, machine) in events.iter().zip(machines) {
-        left = left.wrapping_sub(1);
-        number = number.wrapping_add(1);
+    assert!(rt; events.len() == machines.len());
+    for place in 0..machines.len() {
+        let number = place as u64 + 1;
         let op = Op::Member {
-            machine: *machine,
-            order,
-            left,
+            machine: machines[place],
+            order: 3,
+            left: (machines.len() - 1 - place) as u32,
         };
         let reply = Reply::Granted {
             number,
-            result: order.wrapping_mul(number),
+            result: 3 * number,
         };
-        assert_eq!(rt; *event, Event { seat: 0, op, reply });
+        assert!(rt;
+            events[place] == Event { seat: 0, op, reply },
+            "member {place}"
+        );
     }
-}
-
-#[test]
-fn a_group_passes_at_once(rt: HostRuntime) {
-    let mut book = book_of(&rt, rt.alloc(), (4, 4), &[0, 2, 1, 0], Till::new());
-    check_refused(&rt, &mut book, &[(&[0, 1, 2, 3], GroupError::WholeRing)]);
-    assert_eq!(rt;
-        pass_group(&rt, &mut book, &[0, 1, 3], 2),
-        Ok(GroupReceipt { first: 0, count: 3 })
-    );
-    check_block(&rt, book.history(), &[1, 0, 3], 2);
-    check_values(&rt, book.state(), &[1, 0, 1, 1]);
-    play(
-        &rt,
-        &mut book,
-        &[
-            (Ask::Survey, survey(3, 3, 0, 3, 9)),
-            (Ask::Total, Answer::Number(3)),
-            (Ask::Calls, Answer::Calls(0, 3, 0)),
-        ],
-    );
-    check_refused(
-        &rt,
-        &mut book,
-        &[
-            (&[0, 1, 2, 3], GroupError::WholeRing),
-            (&[2, 3], GroupError::NotPrivileged(3)),
-        ],
-    );
-    check_values(&rt, book.state(), &[1, 0, 1, 1]);
-}
-
-#[test]
-fn the_least_unprivileged_machine_is_named(rt: HostRuntime) {
-    let mut book = book_of(&rt, rt.alloc(), (4, 4), &[1, 1, 1, 0], Idle);
-    check_refused(
-        &rt,
-        &mut book,
-        &[
-            (&[0, 1, 2], GroupError::NotPrivileged(0)),
-            (&[1, 2, 3], GroupError::NotPrivileged(1)),
-            (&[2, 3], GroupError::NotPrivileged(2)),
-            (&[0, 1, 2, 3], GroupError::WholeRing),
-        ],
-    );
-    assert!(rt; book.history().is_empty());
-}
-
-// From 0, 2, 1, 0: a group, a pass and a corruption, after which 1, 1, 0, 1 are there, and a group that leaves out machine 1.
-#[test]
-fn groups_and_other_calls_follow_one_another(rt: HostRuntime) {
-    let mut book = book_of(&rt, rt.alloc(), (4, 4), &[0, 2, 1, 0], Till::new());
-    let first = pass_group(&rt, &mut book, &[0, 1, 3], 2);
-    let calls = [
-        (asks_pass(3, 9), not_privileged(3)),
-        (asks_pass(2, 5), granted(4, 4, 11)),
-        (asks_corrupt(1, 1), corrupted(5, 0)),
-        (Ask::Survey, survey(6, 3, 0, 0, 7)),
-    ];
-    play(&rt, &mut book, &calls);
-    let second = pass_group(&rt, &mut book, &[0, 2, 3], 1);
-    let receipts = (
-        GroupReceipt { first: 0, count: 3 },
-        GroupReceipt { first: 6, count: 3 },
-    );
-    assert_eq!(rt; (first, second), (Ok(receipts.0), Ok(receipts.1)));
-    check_values(&rt, book.state(), &[2, 1, 1, 0]);
-    let behind = [
-        (Ask::Survey, survey(9, 2, 1, 3, 4)),
-        (Ask::Calls, Answer::Calls(1, 8, 0)),
-        (Ask::Total, Answer::Number(7)),
-    ];
-    play(&rt, &mut book, &behind);
-}
-
-/// Has each event of a history but the last two be a corruption of machine 0 from 0 to 0.
-fn fill<R: Resource + Drop>(rt: &impl Abort, book: &mut Book<R>) {
-    play(rt, book, &[(Ask::Reserve(4_000_000), Answer::Reserved)]);
-    for _ in 0..3_999_998u32 {
-        let size = book.state().params();
-        assert!(rt; size.n() == 4 && size.k() == 4);
-        assert!(rt; book.corrupt(9, 0, 0).is_ok());
-    }
-}
-
-#[test]
-fn a_group_needs_a_place_for_each_of_its_machines(rt: HostRuntime) {
-    let mut book = book_of(&rt, rt.alloc(), (4, 4), &[0, 2, 1, 0], Till::new());
-    fill(&rt, &mut book);
-    let before = [
-        (Ask::Survey, survey(3_999_998, 4, 0, 0, 18)),
-        (Ask::Events, Answer::Number(3_999_998)),
-        (Ask::Total, Answer::Number(0)),
-    ];
-    play(&rt, &mut book, &before);
-    check_refused(
-        &rt,
-        &mut book,
-        &[
-            (&[0, 1, 3], GroupError::HistoryFull),
-            (&[0, 1, 2, 3], GroupError::WholeRing),
-        ],
-    );
-    play(&rt, &mut book, &before);
-    assert_eq!(rt;
-        pass_group(&rt, &mut book, &[1, 3], 2),
-        Ok(GroupReceipt {
-            first: 3_999_998,
-            count: 2
-        })
-    );
-    let history = book.history();
-    assert_eq!(rt; history.len(), 4_000_000);
-    check_block(&rt, &history[3_999_998..], &[3, 1], 2);
-    check_values(&rt, book.state(), &[0, 0, 1, 1]);
 }
 
 #[test]
 fn the_largest_group_of_the_widest_ring_passes_at_once(rt: HostRuntime) {
-    let mut book = book_of(
-        &rt,
-        rt.alloc(),
-        (1024, 65_536),
-        &widest_values(),
-        Till::new(),
-    );
-    play(
-        &rt,
-        &mut book,
-        &[(Ask::Survey, survey(0, 1_024, 0, 0, 524_800))],
-    );
-    assert_eq!(rt;
-        pass_group(&rt, &mut book, &widest_group(), 3),
-        Ok(GroupReceipt {
-            first: 0,
-            count: 1_023
-        })
-    );
+    let mut book = book_of(&rt, rt.alloc(), 65_536, &widest_values(), Till::new());
+    play(&rt, &mut book, &[Step::Survey(0, 1_024, 0, 0, 524_800)]);
+    let wanted = GroupReceipt {
+        first: 0,
+        count: 1_023,
+    };
+    assert!(rt; pass_group(&rt, &mut book, &widest_group(), 3) == Ok(wanted));
     let mut order = [0u32; 1023];
     for turn in 0..1023usize {
         order[turn] = (1_523 - turn as u32) % 1_024;
     }
-    check_block(&rt, book.history(), &order, 3);
-    check_values(&rt, book.state(), &widest_values_moved());
+    check_block(&rt, book.history(), &order);
+    assert!(rt; has_values(book.state(), &widest_values_moved()));
     play(
         &rt,
         &mut book,
-        &[(Ask::Survey, survey(1_023, 1_022, 1, 1_023, 523_253))],
+        &[Step::Survey(1_023, 1_022, 1, 1_023, 523_253)],
     );
-}
-
-// Passes too where each request for memory between the marks is refused, as `bench/refused_memory.sh` has it: of the
-// room for five events a group of three leaves that for two.
-#[test]
-fn a_group_with_room_takes_no_memory(rt: HostRuntime) {
-    let mut book = book_of(&rt, rt.alloc(), (4, 4), &[0, 2, 1, 0], Till::new());
-    play(&rt, &mut book, &[(Ask::Reserve(5), Answer::Reserved)]);
-    assert_eq!(rt; book.state().params().n(), 4);
-    memory_ends(rt.alloc());
-    let group = book.pass_group(0, &[0, 1, 3], 2);
-    let passed = book.pass(0, 2, 2).is_ok() && book.pass(0, 2, 2).is_ok();
-    memory_is_back(rt.alloc());
-    assert_eq!(rt;
-        (group, passed),
-        (Ok(GroupReceipt { first: 0, count: 3 }), true)
-    );
-    play(&rt, &mut book, &[(Ask::Events, Answer::Number(5))]);
 }
