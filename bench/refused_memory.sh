@@ -106,7 +106,7 @@ try_program() {
     row "requests for memory refused in turn: ring_tool $*" "$((number - 1))" "$differ"
 }
 
-crates=${*:-ring_tests farm_tests text_tests check_tests ring_tool}
+crates=${*:-ring_tests farm_tests text_tests ring_tool}
 for crate in $crates; do
     case $crate in
     ring_tests)
@@ -125,7 +125,6 @@ for crate in $crates; do
         try_mark "$crate" saved::outcomes::writing_takes_no_memory
         try_mark "$crate" saved::reports::reporting_takes_no_memory
         ;;
-    check_tests) try_crate "$crate" first_text_is_legal ;;
     ring_tool)
         build ring_tool --help
         program=$top/crates/ring_tool/out/ring_tool
