@@ -1,9 +1,9 @@
 #!/usr/bin/env python3
 """Draws the pictures of the tests and `docs/picture.svg` anew, from the ring's rules alone, and compares them with the bytes
-that the tests expect and that stand there; each has to be well-formed XML. At the top of the repository:
+that the script of the program expects and that stand there; each has to be well-formed XML. At the top of the repository:
 python3 bench/picture.py [FOLDER]; with a folder, it writes them there.
 `python3 bench/picture.py FILE PICTURE RING FROM EVENTS` draws one of a saved history, and compares it with the file PICTURE."""
-import re, sys, xml.dom.minidom
+import sys, xml.dom.minidom
 
 BLUE, RED, BRIGHT, GREEN, GREY = "#15489f", "#b3261e", "#d00", "#0a7d4f", "#888"
 
@@ -144,13 +144,6 @@ def compare_drawn(path, picture, place, frm, most):
     print(f"{picture}: as drawn anew, well-formed, {len(text)} bytes, {len(text) // max(count, 1)} an event")
 
 
-def expected(path, name):
-    """The bytes that a test expects."""
-    text = open(path).read()
-    literal = re.search(r"const %s: &(?:str|\[u8\]) =\s*b?(\"(?:[^\"\\]|\\.)*\");" % name, text).group(1)
-    return eval(literal)
-
-
 def passes(*machines):
     return [("p", machine) for machine in machines]
 
@@ -159,15 +152,15 @@ def group(*machines):
     return [("m", machine, len(machines) - turn) for turn, machine in enumerate(machines, 1)]
 
 
-LIBRARY = "crates/picture_tests/src/pictures.rt"
-COMMAND = "crates/command_tests/src/picture.rt"
+SCRIPT = "crates/command_script/stdout"
 PICTURES = {
-    (LIBRARY, "FIRST"): draw(0, 3, [0, 2, 0], passes(0, 0, 2), 0, 3),
-    (LIBRARY, "REPAIR"): draw(1, 4, [0, 2, 1, 0], passes(3, 2, 3, 1, 2, 3, 0, 1, 2, 3, 0, 1), 0, 12),
-    (LIBRARY, "CORRUPTED"): draw(2, 3, [0, 0, 0], passes(0) + [("c", 2, 2)] + passes(0, 2, 1), 1, 3),
-    (LIBRARY, "GROUPED"): draw(3, 4, [0, 2, 1, 0], group(1, 0, 3) + passes(2, 2), 1, 4),
-    (COMMAND, "DRAWN"): draw(0, 3, [0, 2, 0], passes(0, 0, 2), 0, 3, 1),
-    (COMMAND, "PART"): draw(1, 2, [0, 0], passes(0) + [("c", 1, 1)] + passes(0), 1, 1),
+    "first": draw(0, 3, [0, 2, 0], passes(0, 0, 2), 0, 3),
+    "repair": draw(1, 4, [0, 2, 1, 0], passes(3, 2, 3, 1, 2, 3, 0, 1, 2, 3, 0, 1), 0, 12),
+    "corrupted": draw(2, 3, [0, 0, 0], passes(0) + [("c", 2, 2)] + passes(0, 2, 1), 1, 3),
+    "grouped": draw(3, 4, [0, 2, 1, 0], group(1, 0, 3) + passes(2, 2), 1, 4),
+    "drawn": draw(0, 3, [0, 2, 0], passes(0, 0, 2), 0, 3, 1),
+    "last": draw(0, 3, [0, 2, 0], passes(0, 0, 2), 3, 0, 1),
+    "part": draw(1, 2, [0, 0], passes(0) + [("c", 1, 1)] + passes(0), 1, 1),
 }
 
 
@@ -175,12 +168,13 @@ def main():
     if len(sys.argv) == 6:
         compare_drawn(sys.argv[1], sys.argv[2], *map(int, sys.argv[3:]))
         return
-    for (path, name), text in PICTURES.items():
+    script = open(SCRIPT).read()
+    for name, text in PICTURES.items():
         xml.dom.minidom.parseString(text)
         if len(sys.argv) > 1:
-            open(f"{sys.argv[1]}/{name.lower()}.svg", "w").write(text)
-        if text != expected(path, name):
-            sys.exit(f"{name}: the test expects another picture")
+            open(f"{sys.argv[1]}/{name}.svg", "w").write(text)
+        if text not in script:
+            sys.exit(f"{name}: the script has another picture")
         print(f"{name}: as drawn anew, well-formed")
     compare_drawn("examples/repair.txt", "docs/picture.svg", 0, 0, 2000)
 

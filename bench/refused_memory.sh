@@ -106,7 +106,7 @@ try_program() {
     row "requests for memory refused in turn: ring_tool $*" "$((number - 1))" "$differ"
 }
 
-crates=${*:-ring_tests farm_tests check_tests ring_tool}
+crates=${*:-ring_tests farm_tests ring_tool}
 for crate in $crates; do
     case $crate in
     ring_tests)
@@ -120,7 +120,6 @@ for crate in $crates; do
         try_largest "$crate" texts::reading::room_is_asked_for_as_values_are_read 4096
         try_mark "$crate" texts::outcomes::writing_and_reporting_take_no_memory
         ;;
-    check_tests) try_crate "$crate" first_text_is_legal ;;
     ring_tool)
         build ring_tool --help
         program=$top/crates/ring_tool/out/ring_tool

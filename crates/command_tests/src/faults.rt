@@ -1,10 +1,10 @@
-//! The line of each fault, also of those that no words lead to.
+//! The line of each fault, also of those that no words lead to, and the words of the checker's answers.
 
-use crate::paper::Paper;
-use ring_check::Kind;
+use ring_check::{CheckError, Kind};
 use ring_commands::endings::tell;
 use ring_commands::faults::ToolError;
 use ring_settings::{Field, RingCause};
+use std::test::Fail;
 
 #[test]
 fn each_fault_has_its_line(rt: HostRuntime) {
@@ -73,11 +73,29 @@ fn each_fault_has_its_line(rt: HostRuntime) {
         ),
     ];
     for (fault, status, text) in table {
-        let mut err = Paper::new(rt.alloc());
+        let mut err = Vec::new(rt.alloc());
         let got = tell(&fault, &mut err);
         assert!(rt;
-            got == status && err.holds(text),
+            got == status && err.as_slice() == text.as_bytes(),
             "at {fault}: status {got}"
         );
     }
+}
+
+#[test]
+fn each_answer_of_the_checker_has_its_words(rt: HostRuntime) -> Result<(), Fail> {
+    for (kind, words) in [
+        (Kind::Parameter, "line 12: parameter"),
+        (Kind::Range, "line 12: range"),
+        (Kind::Reply, "line 12: reply"),
+        (Kind::Count, "line 12: count"),
+        (Kind::Survey, "line 12: survey"),
+        (Kind::Group, "line 12: group"),
+    ] {
+        let text = CheckError::Bad { line: 12, kind }.to_string(rt.alloc())?;
+        assert_eq!(rt; text.as_str(), words);
+    }
+    let text = CheckError::OutOfMemory.to_string(rt.alloc())?;
+    assert_eq!(rt; text.as_str(), "out of memory");
+    Ok(())
 }

@@ -1,26 +1,12 @@
-//! Tests of the program's commands, and of the whole program over its words: what no contract says. The texts, the statuses, where
-//! each text goes, what `clap` takes, and files.
+//! Tests of the program and of its commands that are no row of the script of `command_script`: readers that fail or give too
+//! much, faults that no words lead to, and runs whose outcome the threads decide.
 #![tactic(auto)]
 
 #[cfg(test)]
-mod check;
-#[cfg(test)]
 mod faults;
 #[cfg(test)]
-mod paper;
-#[cfg(test)]
-mod picture;
-#[cfg(test)]
-mod places;
+mod lists;
 #[cfg(test)]
 mod reading;
 #[cfg(test)]
-mod run;
-#[cfg(test)]
-mod step;
-#[cfg(test)]
-mod streams;
-#[cfg(test)]
-mod upgrade;
-#[cfg(test)]
-mod words;
+mod runs;

@@ -5,8 +5,8 @@ mod examples;
 mod readers;
 mod refusals;
 
-use ring_settings::{Action, Plan, Settings, SettingsError, read_settings};
-use std::alloc::{AllocError, Global};
+use ring_settings::{Action, Plan, Settings, read_settings};
+use std::alloc::Global;
 use std::process::Abort;
 
 /// One ring of three machines, and one worker with a script of four actions.
@@ -39,26 +39,4 @@ fn has_first_ring(
 /// A plan has these actions.
 fn is_plan(rt: &impl Abort, plan: &Plan, actions: &[Action]) {
     assert_eq!(rt; plan.actions.as_slice(), actions);
-}
-
-/// Why a text is refused.
-fn refusal(rt: &impl Abort, alloc: Global, text: &str) -> SettingsError {
-    match read_settings(alloc, text.as_bytes()) {
-        Ok(_) => panic!(rt; "not refused"),
-        Err(e) => e,
-    }
-}
-
-/// An array of this many equal entries.
-pub(crate) fn array_of(alloc: Global, entry: &str, count: usize) -> Result<String, AllocError> {
-    let mut text = String::new(alloc);
-    text.push_str("[")?;
-    for i in 0..count {
-        if i > 0 {
-            text.push_str(",")?;
-        }
-        text.push_str(entry)?;
-    }
-    text.push_str("]")?;
-    Ok(text)
 }

@@ -4,7 +4,6 @@
 mod outcomes;
 mod pieces;
 mod reading;
-mod refusals;
 mod scenes;
 mod toy;
 mod worked;

@@ -1,0 +1,58 @@
+//! Lists as `step` reads them, and a history with as many events as one can have.
+
+use ring_commands::faults::ToolError;
+use ring_commands::lists::read_list;
+use ring_commands::step::step_lines;
+use std::test::Fail;
+
+#[test]
+fn only_canonical_lists_are_read(rt: HostRuntime) {
+    for list in [
+        "00",
+        "01",
+        "4294967296",
+        "1,",
+        ",1",
+        "1, 2",
+        "",
+        "+1",
+        "0,,0",
+        "1 2",
+        "x",
+        "99999999999999999999",
+        "-1",
+    ] {
+        let read = read_list(rt.alloc(), list);
+        assert!(rt; matches!(read, Err(ToolError::BadList)), "at {list}");
+    }
+    let Ok(numbers) = read_list(rt.alloc(), "0,10,4294967295") else {
+        panic!(rt; "refused");
+    };
+    assert_eq!(rt; numbers.as_slice(), [0, 10, 4294967295].as_slice());
+}
+
+/// Lets machine 1 of the ring 0, 0 ask to pass so often, and answers what is printed. It is not privileged, so each line has
+/// 17 bytes.
+fn pass_often<R: AllocGlobal>(
+    rt: &R,
+    often: usize,
+) -> Result<(Result<(), ToolError<'static>>, Vec<u8>), Fail> {
+    let mut choices = Vec::with_capacity(rt.alloc(), often)?;
+    for _ in 0..often {
+        choices.push(1)?;
+    }
+    let mut out = Vec::new(rt.alloc());
+    let done = step_lines(rt.alloc(), 2, 2, &[0, 0], choices.as_slice(), &mut out);
+    Ok((done, out))
+}
+
+#[test]
+fn a_history_holds_four_million_events(rt: HostRuntime) -> Result<(), Fail> {
+    let end = "states 0,0\nprivileged 1 first 0\n";
+    let line = "1 not privileged\n".len();
+    let (done, written) = pass_often(&rt, 4_000_000)?;
+    assert!(rt; done.is_ok() && written.len() == 4_000_000 * line + end.len());
+    let (done, written) = pass_often(&rt, 4_000_001)?;
+    assert!(rt; matches!(done, Err(ToolError::HistoryFull)) && written.len() == 4_000_000 * line);
+    Ok(())
+}
