@@ -6,7 +6,7 @@ mod readers;
 mod refusals;
 
 use ring_settings::{Action, Plan, Settings, read_settings};
-use std::alloc::Global;
+use std::alloc::{AllocError, Global};
 use std::process::Abort;
 
 /// One ring of three machines, and one worker with a script of four actions.
@@ -39,4 +39,18 @@ fn has_first_ring(
 /// A plan has these actions.
 fn is_plan(rt: &impl Abort, plan: &Plan, actions: &[Action]) {
     assert_eq!(rt; plan.actions.as_slice(), actions);
+}
+
+/// A list of as many copies of an entry.
+pub(crate) fn array_of(alloc: Global, entry: &str, count: usize) -> Result<String, AllocError> {
+    let mut text = String::new(alloc);
+    text.push_str("[")?;
+    for i in 0..count {
+        if i > 0 {
+            text.push_str(",")?;
+        }
+        text.push_str(entry)?;
+    }
+    text.push_str("]")?;
+    Ok(text)
 }
