@@ -1,0 +1,4 @@
+pub mod Ends
+pub mod Closed
+pub mod Blocks
+pub mod Drawn
