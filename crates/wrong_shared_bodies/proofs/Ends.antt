@@ -38,3 +38,7 @@ same_last {A} xs ys x y e =
 -- two steps at the end, one after the other
 pub two_steps : {A : Type 0} (xs ys front : List A) (x y : A) → xs ≡ ys ++ y ∷ [] → ys ≡ front ++ x ∷ [] → xs ≡ (front ++ x ∷ []) ++ y ∷ []
 two_steps {A} xs ys front x y e d = e ∙ ap (λ (l : List A). l ++ y ∷ []) d
+
+-- one more at the end
+pub one_more : {A : Type 0} (xs ys : List A) (x : A) → xs ≡ ys ++ x ∷ [] → length xs ≡ length ys + 1
+one_more {A} xs ys x e = ap (λ (l : List A). length l) e ∙ length-append ys (x ∷ [])

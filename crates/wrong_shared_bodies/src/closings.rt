@@ -97,7 +97,8 @@ pub fn log_without_its_last_receipt<N: Name, R: Resource + Drop, W: Wait>(
     };
     let last = closed.logs.pop()?;
     let mut entries = last.entries;
-    let Some(Entry::Receipt(receipt)) = entries.pop() else {
+    let entry = entries.pop()?;
+    let Entry::Receipt(_) = entry else {
         return None;
     };
     let shorter = Log {
@@ -107,7 +108,6 @@ pub fn log_without_its_last_receipt<N: Name, R: Resource + Drop, W: Wait>(
     let Ok(()) = closed.logs.push(shorter) else {
         return None;
     };
-    let _ = receipt;
     Some(closed)
 }
 
