@@ -2,3 +2,4 @@ pub mod Pairing
 pub mod Refusals
 pub mod Possible
 pub mod Headlines
+pub mod OneOutcome

@@ -5,3 +5,4 @@ pub mod Headline
 pub mod Refusals
 pub use Rattle.ring_shared.specs.Holding
 pub use Rattle.ring_shared.specs.declared.seats.Log
+pub mod OneOutcome

@@ -4,6 +4,7 @@
 mod farms;
 mod faults;
 mod gates;
+mod laws;
 mod outcomes;
 mod rings;
 mod rooms;
@@ -13,5 +14,6 @@ mod workers;
 pub use farms::{run_farm, run_rings};
 pub use faults::FarmError;
 pub use gates::{Gate, Open};
+pub use laws::logs_follow;
 pub use outcomes::{Outcome, RingOutcome};
 pub use ring_shared::Log;

@@ -7,3 +7,4 @@ pub mod Folding
 pub mod Held
 pub mod GroupLogs
 pub mod Keeping
+pub mod OneAnswer

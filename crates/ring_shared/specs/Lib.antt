@@ -7,3 +7,4 @@ pub mod Opening
 pub mod Rules
 pub mod Stepping
 pub mod Closing
+pub mod OneAnswer

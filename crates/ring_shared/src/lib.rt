@@ -5,6 +5,7 @@
 mod closing;
 mod front;
 mod groups;
+mod laws;
 mod locked;
 mod names;
 mod rings;
@@ -14,6 +15,7 @@ mod summary;
 
 pub use closing::{CloseFault, CloseReason, Closed};
 pub use front::{Front, Head, Opened};
+pub use laws::{calls_have_one_answer, groups_have_one_answer};
 pub use locked::Locked;
 pub use names::Name;
 pub use ring_model::Entry;

@@ -1,0 +1,5 @@
+pub mod Ends
+pub mod Closed
+pub mod Blocks
+pub mod Farmed
+pub mod Drawn

@@ -1,0 +1,13 @@
+//! Wrong bodies of what stands above the book: each calls a real function with something wrong, or spoils its answer, and its
+//! contract says that what it did does not meet the clause which the real one promises.
+#![tactic(auto)]
+
+pub mod calls;
+pub mod closings;
+pub mod farms;
+pub mod groups;
+pub mod locks;
+pub mod looks;
+pub mod openings;
+pub mod seats;
+pub mod settings;
