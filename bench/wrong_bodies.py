@@ -336,13 +336,21 @@ def take_over(folder, crates, tried):
                 shutil.copytree(kept, f"{crate.folder}/out/{part}")
 
 
-def build(crates, jobs):
-    """Proves these crates, each behind those below it, over what they kept. Returns those that are not proved."""
+def prove(rtlib, crate, jobs):
+    """Proves a crate over what it kept. Returns whether it is proved."""
+    flags = ["--jobs", str(jobs)]
+    if crate.makes_rlib():
+        return crate.build_rlib(flags, anew=False) == 0
+    return crate.call(rtlib.RATTLE, "check", *crate.words(flags), *rtlib.KEPT) == 0
+
+
+def build(rtlib, crates, jobs):
+    """Proves these crates, each behind those below it. Returns those that are not proved."""
     failed = set()
     for crate in sorted(crates, key=lambda it: len(it.below())):
         os.makedirs(f"{crate.folder}/out", exist_ok=True)
         with open(f"{crate.folder}/out/built.log", "w", errors="replace") as crate.out:
-            if failed & {*crate.below()} or crate.build_rlib(["--jobs", str(jobs)], anew=False):
+            if failed & {*crate.below()} or not prove(rtlib, crate, jobs):
                 failed.add(crate)
                 print(f"{crate.name}: it is not proved itself, so nothing shows", flush=True)
     return failed
@@ -411,7 +419,7 @@ def try_all(rt, given, over, top):
     needed = {below for it in tried for below in (it, *it.below())}
     if given.over:
         take_over(over, needed, tried)
-    failed, records = build(needed, given.jobs), Records(tried)
+    failed, records = build(rt.rtlib, needed, given.jobs), Records(tried)
     groups = planned(edits, failed, given.most)
     records.tell([it for it in edits if it.verdict])
 
