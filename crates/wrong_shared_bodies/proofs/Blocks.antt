@@ -1,7 +1,7 @@
 -- What spoils a group's answer.
-use Rattle.std.proofs.Common.{◌≡◌, ℕ, zero, suc, ◌+◌, ◌-◌, ◌<◌, ◌≤◌, List, [], ◌∷◌, ◌++◌, length, take, refl, ap, sym, ◌∙◌, subst, arith, length-append}
+use Rattle.std.proofs.Common.{◌≡◌, ℕ, zero, suc, ◌+◌, ◌-◌, ◌<◌, ◌≤◌, List, [], ◌∷◌, ◌++◌, length, take, ap, sym, ◌∙◌, subst, arith, length-append}
 use Rattle.ring_model.specs.History.{Works, State}
-use Rattle.ring_model.specs.Groups.{Rises, AreMembers, IsBlockOf, IsHistory, IsWhole, move_order, left_of, left_after}
+use Rattle.ring_model.specs.Groups.{Rises, AreMembers, IsHistory, move_order, left_of, left_after}
 use Rattle.ring_model.specs.declared.events.Op.{Op}
 use Rattle.ring_model.specs.declared.events.Op.TheVariants.{Member}
 use Rattle.ring_model.specs.declared.events.Event.{Event}

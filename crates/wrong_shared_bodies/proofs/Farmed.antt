@@ -1,5 +1,5 @@
 -- What spoils the outcome of a farm.
-use Rattle.std.proofs.Common.{◌≡◌, ◌≢◌, ℕ, ◌+◌, ◌-◌, ◌<◌, ◌≤◌, List, [], ◌∷◌, ◌++◌, length, map, Some, Ok, Result, slice_get, refl, ap, sym, ◌∙◌, subst, arith, length-append, eqb, eq-eqb, true}
+use Rattle.std.proofs.Common.{◌≡◌, ℕ, ◌+◌, ◌-◌, ◌<◌, ◌≤◌, List, [], ◌∷◌, ◌++◌, length, Some, slice_get, refl, ap, sym, ◌∙◌, arith, length-append, eqb, eq-eqb, true}
 use Rattle.std.proofs.lemmas.List.{map-append, length-map}
 use Rattle.std.proofs.lemmas.List.Elements.{filter-append}
 use Rattle.std.proofs.lemmas.Option.{slice_get-get_or, unwrap_or-slice_get}
@@ -19,7 +19,6 @@ use Rattle.ring_farm.specs.declared.outcomes.RingOutcome.{RingOutcome}
 use Rattle.ring_farm.specs.Headline.{IsFarmRing, IsFarmOf}
 use Rattle.ring_farm.specs.declared.outcomes.Outcome.{Outcome}
 use Rattle.ring_farm.specs.Plans.{action_of_op, action_of, actions_of, calls_read, planned}
-use Rattle.ring_farm.specs.Runs.{ring_of_data}
 use Rattle.wrong_shared_bodies.proofs.Ends.{last_of, before_last, behind_it, same_last}
 
 -- a ring's history holds no call more
