@@ -1,0 +1,5 @@
+pub mod Written
+pub mod Reports
+pub mod Checked
+pub mod Readings
+pub mod Makings

@@ -1,0 +1,226 @@
+//! What the commands read, judge, print and save, each broken.
+
+ghost use Rattle.std.specs.Prelude.{◌≡◌, ◌≢◌, ℕ, List, ◌<◌, ◌≤◌, ◌^◌, Some, IsSome, length, OnOk, IfOk, IfSome, IsErrOf};
+ghost use Rattle.std.specs.Io.KnownBytes.{Appends, Consumes};
+ghost use Rattle.text_lines.specs.Writing.{Writes};
+ghost use Rattle.ring_settings.specs.Limits.{ring_limit};
+ghost use Rattle.ring_check.specs.declared.answers.Summary.{Summary};
+ghost use Rattle.ring_saved.specs.Content.{content};
+ghost use Rattle.ring_saved.specs.Spelling.{text};
+ghost use Rattle.ring_check.specs.Legal.{IsLegalText};
+ghost use Rattle.ring_text.specs.Report.{entries_in};
+ghost use Rattle.ring_text.specs.SavedOf.{saved_of};
+ghost use Rattle.ring_commands.specs.CheckText.{legal_line};
+ghost use Rattle.ring_commands.specs.Checked.{IsLegalSavedText, IsCheckRefusal};
+ghost use Rattle.ring_commands.specs.Faults.{status_of, end_status};
+ghost use Rattle.ring_commands.specs.Ran.{told};
+ghost use Rattle.ring_commands.specs.Reading.{most_bytes, is_dash, IsAllOf, IsOver};
+
+use ring_check::{Kind, Summary};
+use ring_commands::check::{check_bytes, legal_saved, write_sums};
+use ring_commands::endings::{finish, tell};
+use ring_commands::faults::ToolError;
+use ring_commands::reading::{ReadFault, names_stream, read_limited, read_whole};
+use ring_commands::run::save_and_report;
+use ring_farm::Outcome;
+use ring_saved::Saved;
+use ring_text::write_report;
+use std::alloc::Global;
+use std::io::{self, Read, Write};
+use text_lines::WriteFault;
+
+/// A text passes the check only where it is legal: one with a bad line passes.
+pub fn bad_text_that_passes<W: Write>(
+    alloc: Global,
+    bytes: &[u8],
+    out: &mut W,
+) -> Option<Result<(), ToolError<'static>>>
+    ensures wrong { IfSome result (λ answer. OnOk answer ((sums : Summary) × IsLegalSavedText bytes.now sums × Appends (W.contents out.old) (W.contents out.new) (legal_line sums) → ⊥)) }
+{
+    match check_bytes(alloc, bytes, out) {
+        Err(ToolError::Bad(_, _)) => Some(Ok(())),
+        _ => None,
+    }
+}
+
+/// A legal text has no bad line: one that passes is told as bad.
+pub fn legal_text_that_is_told_as_bad<W: Write>(
+    alloc: Global,
+    bytes: &[u8],
+    out: &mut W,
+    line: u64,
+    kind: Kind,
+) -> Option<ToolError<'static>>
+    ensures wrong { IfSome result (λ e. IsCheckRefusal bytes.now (W.contents out.old) (W.contents out.new) e → ⊥) }
+{
+    match check_bytes(alloc, bytes, out) {
+        Ok(()) => Some(ToolError::Bad(line, kind)),
+        Err(_) => None,
+    }
+}
+
+/// The value of a text is handed out only where it is legal: one is handed out for a text with a bad line.
+pub fn bad_text_with_a_value(
+    alloc: Global,
+    bytes: &[u8],
+    saved: Saved,
+    sums: Summary,
+) -> Option<Result<(Saved, Summary), ToolError<'static>>>
+    ensures wrong { IfSome result (λ answer. IfOk answer (λ x. (legal : IsLegalSavedText bytes.now x.1) × (legal.content ≡ content x.0) × IsLegalText (content x.0) → ⊥)) }
+{
+    match legal_saved(alloc, bytes) {
+        Err(ToolError::Bad(_, _)) => Some(Ok((saved, sums))),
+        _ => None,
+    }
+}
+
+/// The line of a legal text has its sums: that of others is written, which reads otherwise.
+pub fn sums_of_another_text<W: Write>(
+    out: &mut W,
+    sums: &Summary,
+    other: &Summary,
+) -> Result<(), WriteFault>
+    requires known { IsSome (W.contents out.old) }
+    requires apart { legal_line other.now ≢ legal_line sums.now }
+    ensures wrong { IfOk result (λ _. Writes (W.contents out.old) (W.contents out.new) result (legal_line sums.now) → ⊥) }
+{
+    write_sums(out, other)?;
+    Ok(())
+}
+
+/// What is read of a file is all that its reader gives: the last byte is cut off.
+pub fn file_that_is_cut<R: Read>(alloc: Global, reader: &mut R, limit: u64) -> Option<Vec<u8>>
+    requires known { IsSome (R.remaining reader.old) }
+    ensures wrong { IfSome result (λ bytes. Consumes (R.remaining reader.old) (R.remaining reader.new) bytes.items → ⊥) }
+{
+    let Ok(mut bytes) = read_limited(alloc, reader, limit) else {
+        return None;
+    };
+    let _last = bytes.pop()?;
+    Some(bytes)
+}
+
+/// A file is too large only with more bytes than the limit: one with just so many is refused.
+pub fn file_at_the_limit_that_is_refused<R: Read>(
+    alloc: Global,
+    reader: &mut R,
+    limit: u64,
+) -> Result<Vec<u8>, ReadFault>
+    requires some { 1 ≤ limit }
+    requires known { IsSome (R.remaining reader.old) }
+    ensures wrong { IsErrOf result ReadFault.TooLarge → IsOver limit (R.remaining reader.old) (R.remaining reader.new) → ⊥ }
+{
+    read_limited(alloc, reader, limit - 1)
+}
+
+/// The dash alone stands for a standard stream: each other word does.
+pub fn another_word_for_the_dash(word: &str) -> bool
+    ensures wrong { result ≡ is_dash word.now → ⊥ }
+{
+    !names_stream(word)
+}
+
+/// A refusal has its status: 1 and 2 are exchanged.
+pub fn refusal_with_another_status<E: Write>(fault: &ToolError<'_>, err: &mut E) -> u8
+    ensures wrong { result ≡ status_of fault.now → ⊥ }
+{
+    if tell(fault, err) == 1 { 2 } else { 1 }
+}
+
+/// A command ends with 0 just where nothing was refused and all output left: it ends with 0 after a refusal, and with 1 after none.
+pub fn refusal_that_ends_well<E: Write>(
+    done: Result<(), ToolError<'_>>,
+    flushed: io::Result<()>,
+    err: &mut E,
+) -> u8
+    ensures wrong { result ≡ end_status done.entry flushed → ⊥ }
+{
+    if finish(done, flushed, err) == 0 {
+        1
+    } else {
+        0
+    }
+}
+
+/// What is saved of a farm is the saved text of its outcome: the report alone is written, and the file stays as it was.
+pub fn history_that_is_not_saved<H: Write + Drop, W: Write>(
+    outcome: &Outcome,
+    history: H,
+    out: &mut W,
+) -> Result<H, WriteFault>
+    requires some { 1 ≤ length outcome.now.rings.items }
+    requires most { length outcome.now.rings.items ≤ ring_limit }
+    requires few { entries_in outcome.now < 2 ^ 64 }
+    requires known { IsSome (H.contents history) }
+    ensures wrong { IfOk result (λ after. Appends (H.contents history) (H.contents after) (text (saved_of outcome.now)) → ⊥) }
+{
+    write_report(outcome, out)?;
+    Ok(history)
+}
+
+/// What is told of a farm is its outcome: another one is saved and told, which reads otherwise.
+pub fn outcome_that_is_anothers<'a, H: Write + Drop, W: Write>(
+    alloc: Global,
+    outcome: &Outcome,
+    other: &Outcome,
+    file: &'a str,
+    history: H,
+    quiet: bool,
+    out: &mut W,
+) -> Result<H, ToolError<'a>>
+    requires some { 1 ≤ length other.now.rings.items }
+    requires most { length other.now.rings.items ≤ ring_limit }
+    requires few { entries_in other.now < 2 ^ 64 }
+    requires known { IsSome (W.contents out.old) }
+    requires apart { told quiet other.now ≢ told quiet outcome.now }
+    ensures wrong { IfOk result (λ _. Appends (W.contents out.old) (W.contents out.new) (told quiet outcome.now) → ⊥) }
+{
+    let after = save_and_report(alloc, other, file, history, quiet, out)?;
+    Ok(after)
+}
+
+/// A quiet run tells the last line alone, and each other the whole report: it is the other way.
+pub fn quiet_run_that_reports<'a, H: Write + Drop, W: Write>(
+    alloc: Global,
+    outcome: &Outcome,
+    file: &'a str,
+    history: H,
+    quiet: bool,
+    out: &mut W,
+) -> Result<H, ToolError<'a>>
+    requires some { 1 ≤ length outcome.now.rings.items }
+    requires most { length outcome.now.rings.items ≤ ring_limit }
+    requires few { entries_in outcome.now < 2 ^ 64 }
+    requires known { IsSome (W.contents out.old) }
+    ensures wrong { IfOk result (λ _. Appends (W.contents out.old) (W.contents out.new) (told quiet outcome.now) → ⊥) }
+{
+    let after = save_and_report(alloc, outcome, file, history, !quiet, out)?;
+    Ok(after)
+}
+
+/// A file with more bytes than the limit is refused: it is read as empty.
+pub fn file_over_the_limit_that_is_read<R: Read>(
+    alloc: Global,
+    reader: &mut R,
+    limit: u64,
+) -> Option<Vec<u8>>
+    requires known { IsSome (R.remaining reader.old) }
+    ensures wrong { IfSome result (λ bytes. Consumes (R.remaining reader.old) (R.remaining reader.new) bytes.items → ⊥) }
+{
+    let Err(ReadFault::TooLarge) = read_limited(alloc, reader, limit) else {
+        return None;
+    };
+    Some(Vec::new(alloc))
+}
+
+/// A whole file is all that its reader gives: the last byte is cut off.
+pub fn whole_file_that_is_cut<R: Read>(alloc: Global, file: &str, reader: &mut R) -> Option<Vec<u8>>
+    requires known { IsSome (R.remaining reader.old) }
+    ensures wrong { IfSome result (λ bytes. IsAllOf most_bytes (R.remaining reader.old) (R.remaining reader.new) bytes.items → ⊥) }
+{
+    let Ok(mut bytes) = read_whole(alloc, file, reader) else {
+        return None;
+    };
+    let _last = bytes.pop()?;
+    Some(bytes)
+}

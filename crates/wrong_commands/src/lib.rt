@@ -1,0 +1,7 @@
+//! Wrong bodies of what writes a farm's texts and of the commands: each calls a real function with something wrong, or spoils
+//! its answer, and its contract says that what it did does not meet the clause which the real one promises.
+#![tactic(auto)]
+
+pub mod commands;
+pub mod texts;
+pub mod upgrades;
