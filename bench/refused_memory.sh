@@ -106,7 +106,7 @@ try_program() {
     row "requests for memory refused in turn: ring_tool $*" "$((number - 1))" "$differ"
 }
 
-crates=${*:-ring_tests farm_tests ring_tool}
+crates=${*:-ring_tests shared_tests farm_tests ring_tool}
 for crate in $crates; do
     case $crate in
     ring_tests)
@@ -114,9 +114,12 @@ for crate in $crates; do
         try_mark "$crate" book::calls_with_room_and_surveys_take_no_memory
         try_mark "$crate" settle::following_takes_no_memory
         ;;
-    farm_tests)
+    shared_tests)
         try_crate "$crate" want_of_memory
         try_mark "$crate" shared::want_of_memory_changes_nothing
+        ;;
+    farm_tests)
+        try_crate "$crate" want_of_memory
         try_largest "$crate" texts::reading::room_is_asked_for_as_values_are_read 4096
         try_mark "$crate" texts::outcomes::writing_and_reporting_take_no_memory
         ;;

@@ -7,12 +7,16 @@ mod refusals;
 
 ghost use Rattle.std.specs.Prelude.{◌≡◌, vec_len};
 
-use crate::settings::settings_of;
 use ring_farm::{FarmError, Gate, Outcome, run_farm};
-use std::alloc::Global;
+use ring_settings::{Settings, read_settings};
+use std::alloc::{AllocError, Global};
 use std::process::Abort;
 use std::sync::Wait;
 use std::thread::Threads;
+
+/// One ring of three machines, and one worker with a script of four actions.
+const SCRIPTED: &str =
+    r#"{"rings":[{"n":3,"k":3,"start":[0,2,0]}],"workers":[{"script":[["pass",0,0,5],["pass",0,0,1],["pass",0,2,4],["survey",0]]}]}"#;
 
 /// One ring of two machines, and ten seats with nothing to do.
 const IDLE: &str =
@@ -51,4 +55,26 @@ fn refusal(ran: Result<Outcome, FarmError>) -> Option<FarmError> {
         Ok(_) => None,
         Err(fault) => Some(fault),
     }
+}
+
+/// The settings that a text is.
+fn settings_of(rt: &impl Abort, alloc: Global, text: &str) -> Settings {
+    match read_settings(alloc, text.as_bytes()) {
+        Ok(settings) => settings,
+        Err(e) => panic!(rt; "refused: {e}"),
+    }
+}
+
+/// A list of as many copies of an entry.
+fn array_of(alloc: Global, entry: &str, count: usize) -> Result<String, AllocError> {
+    let mut text = String::new(alloc);
+    text.push_str("[")?;
+    for i in 0..count {
+        if i > 0 {
+            text.push_str(",")?;
+        }
+        text.push_str(entry)?;
+    }
+    text.push_str("]")?;
+    Ok(text)
 }

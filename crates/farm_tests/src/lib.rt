@@ -1,5 +1,5 @@
-//! Tests of settings, of rings that threads share, of farms, and of the texts that are written of them, by their public
-//! calls alone.
+//! Tests of farms, and of the texts that are written of them, by their public calls alone. Settings and rings that threads
+//! share have crates of tests of their own.
 #![tactic(auto)]
 
 #[cfg(test)]
@@ -8,9 +8,5 @@ mod events;
 mod farm;
 #[cfg(test)]
 mod scripted;
-#[cfg(test)]
-mod settings;
-#[cfg(test)]
-mod shared;
 #[cfg(test)]
 mod texts;

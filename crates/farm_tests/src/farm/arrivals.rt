@@ -1,8 +1,7 @@
 //! How the workers of a farm come to its gate, each on a thread of its own.
 
 use super::gates::{Arrival, BothRings, Crossed, Tally, Together, new_tally};
-use super::{CROSSING, IDLE, outcome, ran, refusal};
-use crate::settings::SCRIPTED;
+use super::{CROSSING, IDLE, SCRIPTED, outcome, ran, refusal};
 use ring_farm::FarmError;
 use std::sync::atomic::{AtomicU64, Ordering};
 

@@ -1,9 +1,8 @@
 //! What a farm hands out.
 
 use super::gates::{Crossed, waiting};
-use super::{CROSSING, outcome, ran};
+use super::{CROSSING, SCRIPTED, array_of, outcome, ran, settings_of};
 use crate::events::{granted, refused, told};
-use crate::settings::{SCRIPTED, array_of, settings_of};
 use ring_book::{Book, Till};
 use ring_farm::{FarmError, Open, Outcome, run_farm};
 use ring_model::Survey;

@@ -1,8 +1,7 @@
 //! Which refusal a farm answers.
 
 use super::gates::{Closed, ShutFor};
-use super::{CROSSING, ran, refusal};
-use crate::settings::settings_of;
+use super::{CROSSING, ran, refusal, settings_of};
 use ring_farm::{FarmError, run_farm, run_rings};
 use ring_settings::{SettingsError, read_settings};
 use std::sync::atomic::{AtomicU64, Ordering};

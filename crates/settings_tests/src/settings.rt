@@ -1,0 +1,42 @@
+//! Worked examples, with values found by hand from the rules, or by another program that follows them.
+
+mod draws;
+mod examples;
+mod readers;
+mod refusals;
+
+use ring_settings::{Action, Plan, Settings, read_settings};
+use std::alloc::Global;
+use std::process::Abort;
+
+/// One ring of three machines, and one worker with a script of four actions.
+const SCRIPTED: &str =
+    r#"{"rings":[{"n":3,"k":3,"start":[0,2,0]}],"workers":[{"script":[["pass",0,0,5],["pass",0,0,1],["pass",0,2,4],["survey",0]]}]}"#;
+
+/// The settings that a text is.
+fn settings_of(rt: &impl Abort, alloc: Global, text: &str) -> Settings {
+    match read_settings(alloc, text.as_bytes()) {
+        Ok(settings) => settings,
+        Err(e) => panic!(rt; "refused: {e}"),
+    }
+}
+
+/// How many rings and seats there are, the size of the first ring, and its start.
+fn has_first_ring(
+    rt: &impl Abort,
+    settings: &Settings,
+    (rings, seats): (usize, usize),
+    (n, k): (u32, u32),
+    start: &[u32],
+) {
+    assert!(rt; settings.ring_count() > 0);
+    let size = settings.params(0);
+    let counts = (settings.ring_count(), settings.seat_count());
+    assert_eq!(rt; (counts, size.n(), size.k()), ((rings, seats), n, k));
+    assert_eq!(rt; settings.start(0), start);
+}
+
+/// A plan has these actions.
+fn is_plan(rt: &impl Abort, plan: &Plan, actions: &[Action]) {
+    assert_eq!(rt; plan.actions.as_slice(), actions);
+}
