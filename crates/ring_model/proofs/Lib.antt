@@ -21,6 +21,10 @@ pub mod Groups
 pub mod Orders
 pub mod Blocks
 pub mod Wholes
+pub mod OneCut
 pub mod Scanning
+pub mod Rounds
+pub mod Waiting
+pub mod Progress
 mod Steps
 mod Worked

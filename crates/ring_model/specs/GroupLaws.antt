@@ -4,7 +4,7 @@ use Rattle.ring_model.specs.Ring.{Ring, IsRing, is_privileged, rest}
 use Rattle.ring_model.specs.Runs.{after_passes, granted_passes}
 use Rattle.ring_model.specs.History.{Works, State, next, reply, after, IsLegal}
 use Rattle.ring_model.specs.HistoryLaws.{between}
-use Rattle.ring_model.specs.Groups.{has, GroupMove, IsInOrder, Rises, move_order, IsBlockOf, IsWhole, left_after}
+use Rattle.ring_model.specs.Groups.{has, GroupMove, IsInOrder, Rises, move_order, IsBlockOf, ArePieces, joined, IsWhole, left_after}
 use Rattle.ring_model.specs.declared.events.Op.TheVariants.{Member}
 use Rattle.ring_model.specs.declared.events.Event.{Event}
 
@@ -64,3 +64,7 @@ BlocksMove C = (w : Works C) (a : State C) (h : List Event) → IsRing a.ring �
 abbrev pub WholePlaces : Type 0
 WholePlaces = (n : ℕ) (h : List Event) (p : ℕ) → IsWhole n h → p ≤ length h →
     (left_after (take p h) ≡ 0 → IsWhole n (take p h) × IsWhole n (drop p h)) × (IsWhole n (take p h) → left_after (take p h) ≡ 0)
+
+-- there is one way to cut a whole history into blocks and events by themselves
+abbrev pub OneWayToCut : Type 0
+OneWayToCut = (n : ℕ) (pieces others : List (List Event)) → ArePieces n pieces → ArePieces n others → joined pieces ≡ joined others → pieces ≡ others
