@@ -212,7 +212,7 @@ impl<N: Name> Model for Front<N> {
 
 impl<N: Name> Front<N> {
     /// How many events it has.
-    pub(crate) fn len(&self) -> u64
+    pub fn len(&self) -> u64
         ensures length { result ≡ length self.now }
         ensures legal { N.legal self.now }
         ensures of_seats { AreOfSeats N.seats self.now }
@@ -222,7 +222,7 @@ impl<N: Name> Front<N> {
     }
 
     /// A copy.
-    pub(crate) fn again(&self) -> Front<N>
+    pub fn again(&self) -> Front<N>
         ensures { result ≡ self.now }
     {
         Front {
@@ -230,8 +230,8 @@ impl<N: Name> Front<N> {
         }
     }
 
-    /// Of two fronts the shorter begins the longer.
-    pub(crate) fn compare(&self, other: &Front<N>)
+    /// Of two fronts of one ring's name the shorter begins the longer. It changes neither: it is called for its clauses.
+    pub fn compare(&self, other: &Front<N>)
         ensures shorter { length self.now ≤ length other.now → IsPrefix self.now other.now }
         ensures longer { length other.now ≤ length self.now → IsPrefix other.now self.now }
     {

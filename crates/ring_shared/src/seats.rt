@@ -159,6 +159,13 @@ impl<N: Name> Seat<N> {
         self.number
     }
 
+    /// A copy of what the seat has seen, for those who compare what they know of the history.
+    pub fn seen(&self) -> Front<N>
+        ensures { result ≡ self.now.seen }
+    {
+        self.front.again()
+    }
+
     /// What the client was told, in order: the receipt of each of its calls, and each of its surveys.
     pub fn log(&self) -> &[Entry]
         ensures { result.now ≡ self.now.log }
