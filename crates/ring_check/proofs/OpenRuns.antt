@@ -11,6 +11,7 @@ use Rattle.ring_check.specs.Members.{run_behind, run_of, machine_of, machines_of
 use Rattle.ring_check.proofs.Booleans.{both, joined, same, below, eq_true, lt_true}
 use Rattle.ring_saved.specs.declared.saved.SavedEvent.{SavedEvent}
 use Rattle.ring_check.specs.Table.{event_of}
+use Rattle.ring_check.specs.Meaning.{MembersMean}
 use Rattle.ring_check.proofs.GroupOrders.{order_means, order_true}
 
 -- one event more
@@ -132,6 +133,9 @@ come_true n run seat (Member machine order left) is m =
     joined (nat_lt (left + 1) n) _ (lt_true (left + 1) n m.0)
     (joined (goes_on run seat order left) _ (goes_true run seat order left m.1) (ends_true n left (machines_of run ++ machine ∷ []) ends))
 come_true n run seat (Corrupt machine value) is m = ap (λ (u : List Event). eqb (length u) 0) m
+
+pub members_mean : MembersMean
+members_mean n h e = (come_means n (run_of h) e.seat e.op (run_open h), come_true n (run_of h) e.seat e.op (run_open h))
 
 -- the events and the machines of lines
 pub event_at : (es : List SavedEvent) (i : ℕ) (d : SavedEvent) → get_or (map event_of es) i (event_of d) ≡ event_of (get_or es i d)

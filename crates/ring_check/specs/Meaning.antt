@@ -1,16 +1,18 @@
 -- Legal texts in the subject's words: what a text tells of (this project's own).
-use Rattle.std.specs.Prelude.{◌≡◌, ℕ, ◌+◌, ◌<◌, ◌≤◌, List, [], ◌∷◌, length, ◌⊎◌}
+use Rattle.std.specs.Prelude.{◌≡◌, ℕ, ◌+◌, ◌<◌, ◌≤◌, List, [], ◌∷◌, length, true, ◌⊎◌}
 use Rattle.std.specs.List.{All}
 use Rattle.ring_model.specs.Ring.{ring_with}
 use Rattle.ring_model.specs.Limits.{seat_limit}
 use Rattle.ring_model.specs.declared.events.Event.{Event}
 use Rattle.ring_model.specs.declared.events.Survey.{Survey}
 use Rattle.ring_model.specs.Groups.{IsHistory}
+use Rattle.ring_model.specs.Scanning.{MayCome}
 use Rattle.ring_model.specs.Resources.{till}
 use Rattle.ring_model.specs.Logs.{IsSurvey}
 use Rattle.ring_saved.specs.declared.saved.SavedSurvey.{SavedSurvey}
 use Rattle.ring_saved.specs.Content.{Content, Block}
 use Rattle.ring_check.specs.Limits.{machine_limit_of, value_limit_of}
+use Rattle.ring_check.specs.Members.{run_of, may_come}
 use Rattle.ring_check.specs.Table.{first_state}
 use Rattle.ring_check.specs.Legal.{IsLegalText, history}
 
@@ -64,3 +66,8 @@ HasItsStarts s = All (λ (b : Block). length b.start ≡ b.n) s.rings
 -- a text is legal by the table exactly where it is right in these words
 abbrev pub LegalMeans : Type 0
 LegalMeans = (s : Content) → HasItsStarts s → (IsLegalText s → IsRightText s) × (IsRightText s → IsLegalText s)
+
+-- the table's test of groups says what is defined: it lets an event come behind a history exactly if it may come there
+abbrev pub MembersMean : Type 0
+MembersMean = (n : ℕ) (h : List Event) (e : Event) →
+    (may_come n (run_of h) e ≡ true → MayCome n (run_of h) e.seat e.op) × (MayCome n (run_of h) e.seat e.op → may_come n (run_of h) e ≡ true)

@@ -1,4 +1,5 @@
--- Which event may come next in a history, as a test (this project's own).
+-- Which event may come next in a history, as a test (this project's own). The table of faults computes by it, so it stands here; what
+-- it says is `MayCome` of `ring_model`, by the law `members_law`, and who believes that law need not read it.
 use Rattle.std.specs.Prelude.{ℕ, zero, suc, ◌+◌, ◌==◌, nat_lt, nat_le, ◌&&◌, ◌||◌, cond, Bool, true, false, List, [], ◌∷◌, ◌++◌, length, map, slice_index, slice_index_or}
 use Rattle.ring_model.specs.Groups.{left_of}
 use Rattle.ring_model.specs.Scanning.{opened}

@@ -2,12 +2,19 @@
 
 ghost use Rattle.ring_check.specs.Legal.{AtMostOneIsRight, UpgradeIsLegal};
 ghost use Rattle.ring_check.specs.Lines.{LinesAreFew, LinesOfMemoryAreFew};
-ghost use Rattle.ring_check.specs.Meaning.{LegalMeans};
+ghost use Rattle.ring_check.specs.Meaning.{LegalMeans, MembersMean};
 
 /// A text is legal by the table of what is refused exactly where its blocks tell of legal histories of one-thread rings,
 /// and of surveys of them.
 pub fn legal_law()
     ensures { LegalMeans }
+{}
+
+/// The table tests whether an event may come behind a history: it lets an event come exactly if `MayCome` of `ring_model`
+/// says that it may. So who reads that need not read the test.
+#[tactic(auto, using(crate::proofs::OpenRuns::members_mean))]
+pub fn members_law()
+    ensures { MembersMean }
 {}
 
 /// At most one answer of the checker is right, memory aside: so it answers `Ok` exactly where the text is legal,

@@ -1,15 +1,18 @@
 //! Wrong bodies of the checker of saved histories.
 
-ghost use Rattle.std.specs.Prelude.{◌≡◌, ◌≢◌, ◌+◌, ◌<◌, ◌^◌, Ok, Err, length, map, IfOk};
+ghost use Rattle.std.specs.Prelude.{◌≡◌, ◌≢◌, ℕ, ◌+◌, ◌<◌, ◌^◌, Bool, true, List, Ok, Err, length, map, IfOk};
+ghost use Rattle.ring_model.specs.declared.events.Event.{Event};
+ghost use Rattle.ring_model.specs.Scanning.{MayCome};
 ghost use Rattle.ring_model.specs.Surveys.{corrupted_count, granted_count};
 ghost use Rattle.ring_saved.specs.Content.{content, upgraded};
 ghost use Rattle.ring_check.specs.Legal.{IsLegalText, IsRightCheck, summary_of};
 ghost use Rattle.ring_check.specs.Lines.{lines};
 ghost use Rattle.ring_check.specs.Meaning.{IsRightText};
+ghost use Rattle.ring_check.specs.Members.{run_of, may_come};
 ghost use Rattle.ring_check.specs.Table.{event_of};
 
 use crate::numbers::another;
-use ring_check::{CheckError, Kind, Summary, check_saved, count_events};
+use ring_check::{CheckError, Kind, Summary, check_saved, count_events, members_law};
 use ring_saved::{Saved, SavedEvent};
 use std::alloc::Global;
 
@@ -153,6 +156,13 @@ pub fn counts_another_number_of_corruptions(events: &[SavedEvent]) -> u64
     ensures wrong { result ≡ corrupted_count (map event_of events.now) → ⊥ }
 {
     another(count_events(events).corrupted)
+}
+
+/// The table's test says which event may come behind a history: a test that says otherwise of any event does not.
+pub fn tests_groups_in_another_way()
+    ensures wrong { (test : ℕ → List Event → Event → Bool) (n : ℕ) (h : List Event) (e : Event) → test n (run_of h) e ≢ may_come n (run_of h) e → ((test n (run_of h) e ≡ true → MayCome n (run_of h) e.seat e.op) × (MayCome n (run_of h) e.seat e.op → test n (run_of h) e ≡ true)) → ⊥ }
+{
+    members_law();
 }
 
 /// Another thing that can be wrong with a line.
