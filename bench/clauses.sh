@@ -5,10 +5,8 @@
 # It reads the sources alone: what the words of a clause mean stands in specs/, which `git diff` compares.
 set -eu
 . "$(dirname "$0")/common.sh"
-room=$(mktemp -d)
-trap 'rm -rf "$room"' EXIT
-git -C "$top" archive "$1" crates | tar -x -C "$room"
-python3 "$top/bench/clauses.py" "$room/crates" | sed "s/\b${2:-none}\b/${3:-none}/g" | sort -u >"$room/before"
+clone "$1"
+python3 "$top/bench/clauses.py" "$room/clone/crates" | sed "s/\b${2:-none}\b/${3:-none}/g" | sort -u >"$room/before"
 python3 "$top/bench/clauses.py" "$top/crates" | sed "s/\b${2:-none}\b/${3:-none}/g" | sort -u >"$room/now"
 diff "$room/before" "$room/now" | sed -n 's/^< /- /p; s/^> /+ /p'
 echo "$(wc -l <"$room/before") clauses before, $(wc -l <"$room/now") now"

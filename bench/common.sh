@@ -1,7 +1,17 @@
-# What the benchmarks share, for the scripts beside it: where things stand, settings files, and building a program.
+# What the benchmarks share, for the scripts beside it: where things stand, a clone to work in,
+# settings files, and building a program.
 top=$(cd "$(dirname "$0")/.." && pwd)
 out=$top/bench/out
 mkdir -p "$out"
+
+# clone [COMMIT]: makes a folder `room` of its own, removed at the end, and in it a clone of what is committed, `$room/clone`;
+# at a commit, if one is named
+clone() {
+    room=$(mktemp -d)
+    trap 'rm -rf "$room"' EXIT
+    git clone -q "$top" "$room/clone"
+    [ -z "${1:-}" ] || git -C "$room/clone" checkout -q "$1"
+}
 
 # row WHAT HOW_MANY FAILED: a row of the table of hostile.sh, where it asks for one
 row() {

@@ -6,8 +6,6 @@
 # Needs rt, git and python3.
 set -eu
 . "$(dirname "$0")/common.sh"
-room=$(mktemp -d)
-trap 'rm -rf "$room"' EXIT
-git clone -q "$top" "$room/clone"
+clone
 cd "$room/clone"
 python3 "$top/bench/gate.py" "$out" "$@" rt ci

@@ -3,16 +3,12 @@
 # ring_lanes from nothing at the commit below, with ring_model built beforehand. Machines differ by a factor of two and more,
 # P does not: measure it on the same machine, within the same hour, with nothing else running. Needs rt, git and python3.
 set -eu
-commit=9877057
-top=$(cd "$(dirname "$0")/.." && pwd)
-room=$(mktemp -d)
-trap 'rm -rf "$room"' EXIT
-git clone -q "$top" "$room/clone"
+. "$(dirname "$0")/common.sh"
+clone 9877057
 cd "$room/clone"
-git checkout -q "$commit"
 (cd crates/ring_model && rt lib) >"$room/model.log" 2>&1 || { cat "$room/model.log"; exit 1; }
 cd crates/ring_lanes
-exec python3 - <<'PYTHON'
+python3 - <<'PYTHON'
 import resource, subprocess, sys
 ran = subprocess.run(["rt", "check"], stdin=subprocess.DEVNULL, stdout=subprocess.PIPE, stderr=subprocess.STDOUT, text=True)
 used = resource.getrusage(resource.RUSAGE_CHILDREN)

@@ -1,5 +1,5 @@
 #!/usr/bin/env python3
-"""wrong_bodies.py [CRATE..] [--kept] [--over FOLDER] [--jobs N] [--only WORD] [--most N] [--seconds N]
+"""wrong_bodies.sh [CRATE..] [--kept] [--over FOLDER] [--jobs N] [--only WORD] [--most N] [--seconds N]
 
 Tries the wrong bodies that stand beside the gate, bench/wrong_bodies/CRATE/*.edit: the prover has to refuse each. It works
 in a temporary clone of what is committed. Words: the crates to try, all of them where there is none.
@@ -433,13 +433,11 @@ def try_all(rt, given, over, top):
 
 
 def main():
+    clone = sys.argv.pop(1)
     given, rt = words_given(), load()
     over = os.path.abspath(given.over)
-    with tempfile.TemporaryDirectory(prefix="wrong-bodies-of-") as room:
-        top = f"{room}/clone"
-        subprocess.run(["git", "clone", "-q", TOP, top], check=True)
-        os.chdir(top)
-        return 0 if try_all(rt, given, over, top) else 1
+    os.chdir(clone)
+    return 0 if try_all(rt, given, over, clone) else 1
 
 
 if __name__ == "__main__":

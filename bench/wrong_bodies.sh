@@ -3,4 +3,6 @@
 # committed, and tells of each what refuses it. `bench/wrong_bodies.sh --help` tells the words, and what it costs. For a
 # release. Needs rt, git and python3.
 set -eu
-exec python3 "$(dirname "$0")/wrong_bodies.py" "$@"
+. "$(dirname "$0")/common.sh"
+clone
+python3 "$top/bench/wrong_bodies.py" "$room/clone" "$@"
