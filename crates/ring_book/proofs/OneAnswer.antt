@@ -1,12 +1,8 @@
 -- A call has one answer.
-use Rattle.std.proofs.Common.{◌≡◌, ℕ, sym, ◌∙◌}
-use Rattle.ring_model.specs.History.{Works, next, reply}
-use Rattle.ring_model.specs.declared.events.Op.{Op}
-use Rattle.ring_model.specs.declared.events.Reply.{Reply}
-use Rattle.ring_model.specs.declared.events.Receipt.{Receipt}
+use Rattle.std.proofs.Common.{◌≡◌, sym, ◌∙◌}
+use Rattle.ring_model.specs.History.{next, reply}
 use Rattle.ring_model.proofs.Histories.{StepOf-next, StepOf-reply}
-use Rattle.ring_book.specs.BookView.{BookView, IsRecorded}
-use Rattle.ring_book.specs.OneAnswer.{AreOneAnswer, CallsHaveOneAnswer}
+use Rattle.ring_book.specs.OneAnswer.{CallsHaveOneAnswer}
 
 pub one_answer : {C : Type 0} → CallsHaveOneAnswer C
 one_answer {C} w old one other seat op r s h k =

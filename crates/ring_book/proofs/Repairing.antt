@@ -5,6 +5,7 @@ use Rattle.ring_model.specs.Ring.{is_privileged, moved, is_settled, privileged_c
 use Rattle.ring_model.specs.History.{Works, State, opening, granted_state, next, reply, after}
 use Rattle.ring_model.specs.Surveys.{is_granted, calm}
 use Rattle.ring_model.specs.HistoryLaws.{Settlement}
+use Rattle.ring_model.specs.Progress.{Progress}
 use Rattle.ring_model.specs.declared.events.Op.{Op}
 use Rattle.ring_model.specs.declared.events.Op.TheVariants.{Pass}
 use Rattle.ring_model.specs.declared.events.Event.{Event}
@@ -14,12 +15,17 @@ use Rattle.ring_model.proofs.Descent.{descent}
 use Rattle.ring_model.proofs.Histories.{StepOf-next, StepOf-reply, after-push}
 use Rattle.ring_model.proofs.Places.{calm_after}
 use Rattle.ring_model.proofs.HistoryLaws.{settlement}
+use Rattle.ring_model.proofs.Progress.{history_progress}
 use Rattle.ring_book.specs.BookView.{BookView, IsBook, IsRecorded}
 use Rattle.ring_book.specs.Repairs.{AreRepairs, IsRepairedBy}
 
 -- the laws of settlement hold of a book's history
 pub book_settlement : {C : Type 0} (w : Works C) (first : C) (b : BookView C) → IsBook w first b → Settlement w (opening b.start first) b.history
 book_settlement w first b k = settlement w (opening b.start first) b.history k.start_ring.ring k.legal
+
+-- and so do the laws of progress
+pub book_progress : {C : Type 0} (w : Works C) (first : C) (b : BookView C) → IsBook w first b → Progress w (opening b.start first) b.history
+book_progress w first b k = history_progress w (opening b.start first) b.history k.start_ring.ring k.legal
 
 -- the rest is at most the bound less the calm
 pub book_calm : {C : Type 0} (w : Works C) (first : C) (b : BookView C) → IsBook w first b → rest b.now.ring ≤ bound (length b.start.values) - calm b.history

@@ -6,6 +6,7 @@ ghost use Rattle.std.specs.List.Sorted.{IsPermutation, IsNonDecreasingBy};
 ghost use Rattle.ring_model.specs.Groups.{IsHistory};
 ghost use Rattle.ring_model.specs.History.{opening};
 ghost use Rattle.ring_model.specs.HistoryLaws.{Settlement};
+ghost use Rattle.ring_model.specs.Progress.{Progress};
 ghost use Rattle.ring_model.specs.Logs.{Fits, calls_of, receipts_of};
 ghost use Rattle.ring_book.specs.BookView.{IsBook};
 ghost use Rattle.ring_shared.specs.Client.{Client, told_of};
@@ -77,11 +78,12 @@ impl<N: Name, R: Resource + Drop> Ring<N, R> {
     ) -> Result<Closed<R>, CloseFault<N, R>>
         requires { IsDistinct eqb (map (λ s. s.number) seats.items) }
 
-        // The history is one of the one-thread ring, which settles as the laws say.
+        // The history is one of the one-thread ring, which settles as the laws say, and serves those who ask.
         ensures start { IfOk result (λ c. c.book.start ≡ N.start) }
         ensures book { IfOk result (λ c. IsBook R.works R.first c.book) }
         ensures legal { IfOk result (λ c. IsHistory R.works (opening N.start R.first) c.book.history) }
         ensures settlement { IfOk result (λ c. Settlement R.works (opening N.start R.first) c.book.history) }
+        ensures progress { IfOk result (λ c. Progress R.works (opening N.start R.first) c.book.history) }
 
         // It holds each client's calls, and no others; each reply and survey is right where it stands.
         ensures logs { IfOk result (λ c. (vec_len c.logs ≡ N.seats) × AreNumbered c.logs.items × All (HasLog c.logs.items) seats.items) }

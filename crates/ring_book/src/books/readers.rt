@@ -2,6 +2,7 @@ ghost use Rattle.std.specs.Prelude.{◌≡◌, ◌<◌, ◌≤◌, length};
 ghost use Rattle.ring_model.specs.Ring.{bound};
 ghost use Rattle.ring_model.specs.History.{opening};
 ghost use Rattle.ring_model.specs.HistoryLaws.{Settlement};
+ghost use Rattle.ring_model.specs.Progress.{Progress};
 ghost use Rattle.ring_model.specs.Surveys.{survey_at};
 ghost use Rattle.ring_model.specs.Logs.{calls_of};
 ghost use Rattle.ring_model.specs.Limits.{seat_limit};
@@ -46,6 +47,7 @@ impl<R: Resource + Drop> Book<R> {
         ensures is { result.now ≡ self.now.history }
         ensures book { IsBook R.works R.first self.now }
         ensures settlement { Settlement R.works (opening self.now.start R.first) self.now.history }
+        ensures progress { Progress R.works (opening self.now.start R.first) self.now.history }
     {
         self.events.as_slice()
     }
@@ -55,6 +57,7 @@ impl<R: Resource + Drop> Book<R> {
         ensures is { result ≡ survey_at R.works (opening self.now.start R.first) self.now.history (length self.now.history) }
         ensures book { IsBook R.works R.first self.now }
         ensures settlement { Settlement R.works (opening self.now.start R.first) self.now.history }
+        ensures progress { Progress R.works (opening self.now.start R.first) self.now.history }
         ensures calm { bound (length self.now.start.values) ≤ result.calm → (result.privileged ≡ 1) × (result.rest ≡ 0) }
     {
         Survey {

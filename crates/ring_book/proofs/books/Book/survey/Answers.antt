@@ -1,7 +1,7 @@
 use Rattle.std.proofs.Common.{refl}
 use Rattle.ring_model.specs.History.{opening}
 use Rattle.ring_book.proofs.Growth.{survey_end}
-use Rattle.ring_book.proofs.Repairing.{book_settlement, calm_settles}
+use Rattle.ring_book.proofs.Repairing.{book_progress, book_settlement, calm_settles}
 use Rattle.ring_book.proofs.books.Book.survey.Goals as goal
 
 pub returns-clause-is : goal.returns-clause-is
@@ -20,6 +20,9 @@ returns-clause-is g c =
 
 pub returns-clause-settlement : goal.returns-clause-settlement
 returns-clause-settlement g c = rw (← c.self.view_is) (book_settlement _ _ _ c.self.invariant.book)
+
+pub returns-clause-progress : goal.returns-clause-progress
+returns-clause-progress g c = rw (← c.self.view_is) (book_progress _ _ _ c.self.invariant.book)
 
 pub returns-clause-calm : goal.returns-clause-calm
 returns-clause-calm g c =

@@ -2,8 +2,10 @@ use Rattle.std.proofs.Common.{ap, length, sym, subst, All, List, arith}
 use Rattle.ring_model.specs.Ring.{Ring}
 use Rattle.ring_model.specs.History.{opening}
 use Rattle.ring_model.specs.HistoryLaws.{Settlement}
+use Rattle.ring_model.specs.Progress.{Progress}
 use Rattle.ring_model.specs.Logs.{Fits}
 use Rattle.ring_model.proofs.HistoryLaws.{settlement}
+use Rattle.ring_model.proofs.Progress.{history_progress}
 use mathlib.Core.List.{IsPrefix}
 use Rattle.ring_model.specs.declared.events.Event.{Event}
 use Rattle.ring_shared.specs.Client.{Client}
@@ -21,6 +23,12 @@ returns-clause-settlement g c =
     let held = c.into_parts-book.ensures.held in
     let at : Ring → Type 0 = λ r. Settlement g.R.Resource.works (opening r g.R.Resource.first) c.into_parts-book.result.0.history in
     subst at held.begins (settlement g.R.Resource.works (opening c.into_parts-book.result.0.start g.R.Resource.first) c.into_parts-book.result.0.history held.book.start_ring.ring held.book.legal)
+
+pub returns-clause-progress : goal.returns-clause-progress
+returns-clause-progress g c =
+    let held = c.into_parts-book.ensures.held in
+    let at : Ring → Type 0 = λ r. Progress g.R.Resource.works (opening r g.R.Resource.first) c.into_parts-book.result.0.history in
+    subst at held.begins (history_progress g.R.Resource.works (opening c.into_parts-book.result.0.start g.R.Resource.first) c.into_parts-book.result.0.history held.book.start_ring.ring held.book.legal)
 
 pub returns-clause-fits : goal.returns-clause-fits
 returns-clause-fits g c =
