@@ -1,0 +1,367 @@
+"""Tries what the documents say, for bench/documents.sh. Words: the top of the tree, and the program.
+
+Of each page (README, CHANGELOG, docs/, each crate's README):
+
+- a link leads to a file, and to a heading of it;
+- a name in backticks stands in the sources, a path is a file: NAME in capitals stands for any;
+- a block of commands (rt, ring_tool, bench/..) is run as far as it is the program's, in a copy of the tree's data, and the
+  next block of the section is what it printed; words in capitals or brackets are no run: then only the options are looked up;
+- `<!-- run: COMMAND -->` before a block says what prints it, `<!-- file: PATH -->` where its lines stand, in order;
+- a block that begins with `ringfarm 1` or `ringfarm 2` is a legal history, one that begins with `legal rings` what `check`
+  says of the last one; one of settings is run;
+- a table headed Words, Text, Status is run row by row, one headed "`check` says" with the last history and a changed line.
+"""
+
+import glob
+import os
+import re
+import shlex
+import shutil
+import subprocess
+import sys
+import tempfile
+
+FIRST_WORDS = re.compile(r"(rt|ring_tool|out/ring_tool|cd|git|bench/\S+|\.ci/run)( |$)")
+PLACEHOLDER = re.compile(r"\b[A-Z][A-Z_]+\b|[][|]|\.\.\.|\b[A-Z]\b")
+IDENTIFIER = re.compile(r"[A-Za-z_][A-Za-z0-9_]*(?:(?:::|\.)(?:[A-Za-z_][A-Za-z0-9_]*|\*))*(?:\(\))?!?$")
+FILE_ENDS = (".rt", ".antt", ".md", ".sh", ".py", ".c", ".rs", ".json", ".txt", ".svg", ".png", ".edit")
+COMMIT = re.compile(r"[0-9a-f]{7,40}$")
+KIT = os.path.dirname(os.path.dirname(os.path.realpath(shutil.which("rt") or sys.exit("there is no rt"))))
+
+# what is made and not kept, or lies elsewhere; names of tools that no script here calls
+OTHERS = ("perf",)
+MADE = ("out/", "bench/out", "/", "./", "missing", "-", "~", "../../")
+
+
+class Block:
+    """Lines of a page that are shown as they are."""
+
+    def __init__(self, number, section, mark, kind):
+        self.number, self.section, self.mark, self.kind = number, section, mark, kind
+        self.lines = []
+
+    def text(self):
+        return "\n".join(self.lines).strip("\n") + "\n"
+
+    def is_commands(self):
+        return bool(self.lines) and bool(FIRST_WORDS.match(self.lines[0]))
+
+
+class Page:
+    """A page cut into blocks, tables and prose."""
+
+    def __init__(self, top, path):
+        self.top, self.path = top, path
+        self.folder = os.path.dirname(f"{top}/{path}")
+        with open(f"{top}/{path}", encoding="utf-8") as file:
+            self.lines = file.read().split("\n")
+        self.blocks, self.tables, self.prose, self.headings = [], [], [], []
+        self.read()
+
+    def read(self):
+        section, mark, block, fenced = "", None, None, False
+        for number, line in enumerate(self.lines, 1):
+            if fenced:
+                if line.startswith("```"):
+                    fenced = False
+                    block = None
+                else:
+                    block.lines.append(line)
+                continue
+            if line.startswith("```"):
+                fenced, block, mark = True, Block(number, section, mark, line[3:].strip()), None
+                self.blocks.append(block)
+            elif line.startswith("    ") and (block or not self.lines[number - 2].strip()):
+                if block is None or (not block.lines[-1] and FIRST_WORDS.match(line[4:])):
+                    block, mark = Block(number, section, mark, ""), None
+                    self.blocks.append(block)
+                block.lines.append(line[4:])
+            elif block and not line.strip():
+                block.lines.append("")
+            else:
+                block = None
+                found = re.match(r"<!-- ((?:run|file): .*) -->$", line)
+                mark = found[1] if found else mark if not line.strip() else None
+                if line.startswith("#"):
+                    section = line
+                    self.headings.append(line.lstrip("#").strip())
+                self.add_prose(number, line)
+
+    def add_prose(self, number, line):
+        if line.startswith("|"):
+            if self.tables and self.tables[-1][-1][0] == number - 1:
+                self.tables[-1].append((number, line))
+            else:
+                self.tables.append([(number, line)])
+        self.prose.append((number, line))
+
+    def slugs(self):
+        plain = [re.sub(r"[^\w\- ]", "", it.lower()).replace(" ", "-") for it in self.headings]
+        return set(plain)
+
+
+class Sources:
+    """The words that stand in the sources, and the paths of the files that are kept."""
+
+    def __init__(self, top):
+        self.top = top
+        listed = subprocess.run(["git", "-C", top, "ls-files", "-co", "--exclude-standard"], capture_output=True, text=True, check=True)
+        self.files = [it for it in listed.stdout.split("\n") if it and os.path.exists(f"{top}/{it}")]
+        self.words = set()
+        for path in self.files:
+            if path.endswith((".md", ".png", ".svg")):
+                continue
+            self.words |= set(re.findall(r"\w+", path))
+            with open(f"{top}/{path}", encoding="utf-8", errors="replace") as file:
+                self.words |= set(re.findall(r"[A-Za-z_][A-Za-z0-9_]*", file.read()))
+
+    def has_path(self, page, path):
+        pattern = re.sub(r"\b[A-Z][A-Z_]*\b(?!\.(?:md|py))", "*", path) if "README" not in path else path.replace("NAME", "*")
+        pattern = pattern.replace("...", "**").rstrip("/")
+        below = ("", "/crates", "/crates/*", "/crates/*/src", "/bench", "/docs", "/examples")
+        roots = (page.folder, KIT, *(f"{self.top}{it}" for it in below))
+        return any(glob.glob(f"{root}/{it}", recursive=True) for root in roots for it in (path.rstrip("/"), pattern))
+
+    def has_word(self, word):
+        """Whether a word stands in the sources, or in those of the kit."""
+        if word not in self.words:
+            found = subprocess.run(["grep", "-rqwF", "--include=*.rt", "--include=*.antt", word, KIT], check=False)
+            self.words |= {word} if found.returncode == 0 else set()
+        return word in self.words
+
+    def has_commit(self, name):
+        return subprocess.run(["git", "-C", self.top, "cat-file", "-e", name], capture_output=True, check=False).returncode == 0
+
+
+class Trial:
+    """What was tried, and what differs."""
+
+    def __init__(self, top, tool):
+        self.top, self.sources = top, Sources(top)
+        self.counts = dict.fromkeys(("pages", "links", "names", "commands", "outputs", "rows"), 0)
+        self.faults = 0
+        self.room = tempfile.mkdtemp()
+        os.mkdir(f"{self.room}/bin")
+        os.symlink(os.path.abspath(tool), f"{self.room}/bin/ring_tool")
+
+    def differs(self, page, number, said):
+        self.faults += 1
+        print(f"{page.path}:{number}: {said}")
+
+    def begin(self, page):
+        """A copy of the data that a page's commands name."""
+        self.tree = tempfile.mkdtemp(dir=self.room)
+        for name in ("examples", "docs"):
+            shutil.copytree(f"{self.top}/{name}", f"{self.tree}/{name}")
+        shutil.copy(f"{self.top}/README.md", self.tree)
+        os.makedirs(f"{self.tree}/crates/ring_tool")
+        os.mkdir(f"{self.tree}/tmp")
+        for folder in (self.tree, f"{self.tree}/crates/ring_tool"):
+            shutil.copy(f"{self.top}/examples/first.json", folder)
+            self.run("ring_tool run first.json --history history.txt", folder)
+        self.place, self.history = self.tree, ""
+
+    def run(self, line, folder, given=""):
+        """Runs a command line of the program: its output, its status and its other output."""
+        path = f"{self.room}/bin:{os.environ['PATH']}"
+        line = line.replace("/tmp/", f"{self.tree}/tmp/")
+        done = subprocess.run(["sh", "-c", line], cwd=folder, input=given, capture_output=True, text=True, timeout=120, env={**os.environ, "PATH": path})
+        return done.stdout, done.returncode, done.stderr
+
+    def try_page(self, page):
+        self.counts["pages"] += 1
+        self.begin(page)
+        self.follow_links(page)
+        self.look_names_up(page)
+        self.play_blocks(page)
+        for table in page.tables:
+            self.play_table(page, table)
+
+    def follow_links(self, page):
+        for number, line in page.prose:
+            for target in re.findall(r"\]\(([^)\s]+)\)", line):
+                if target.startswith(("http:", "https:")):
+                    continue
+                self.counts["links"] += 1
+                path, _, heading = target.partition("#")
+                file = os.path.normpath(f"{page.folder}/{path}") if path else f"{page.top}/{page.path}"
+                if not os.path.exists(file):
+                    self.differs(page, number, f"no file {target}")
+                elif heading and heading not in Page(self.top, os.path.relpath(file, self.top)).slugs():
+                    self.differs(page, number, f"no heading {target}")
+
+    def look_names_up(self, page):
+        shown = {number for table in page.tables if is_of_words(table) for number, _ in table}
+        for number, line in page.prose:
+            if number in shown:
+                continue
+            for name in re.findall(r"`([^`]+)`", line):
+                if not self.is_known(page, name):
+                    self.differs(page, number, f"no `{name}`")
+
+    def is_known(self, page, name):
+        word = name.split(" ")[0]
+        if word.startswith("bench/") or (" " not in name and ("/" in name or name.endswith(FILE_ENDS))):
+            self.counts["names"] += 1
+            return name.startswith(MADE) or "first.json" in word or self.sources.has_path(page, word.partition(":")[0])
+        if IDENTIFIER.match(name):
+            self.counts["names"] += 1
+            parts = re.findall(r"[A-Za-z_][A-Za-z0-9_]*", name)
+            return name.isupper() or name in OTHERS or COMMIT.match(name) and self.sources.has_commit(name) or all(map(self.sources.has_word, parts))
+        return True
+
+    def play_blocks(self, page):
+        printed = None
+        for block in page.blocks:
+            if printed and printed[0] != block.section:
+                printed = None
+            if re.match(r"ringfarm [12]\n", block.text()):
+                self.history = block.text()
+            if block.mark:
+                self.play_mark(page, block)
+            elif block.is_commands():
+                said = self.play_commands(page, block)
+                printed = (block.section, said) if said else None
+            elif printed:
+                self.compare(page, block, printed[1])
+                printed = None
+            else:
+                self.play_text(page, block)
+
+    def compare(self, page, block, said):
+        self.counts["outputs"] += 1
+        if said != block.text():
+            self.differs(page, block.number, f"it prints\n{said}and not\n{block.text()}")
+
+    def play_mark(self, page, block):
+        kind, _, word = block.mark.partition(": ")
+        if kind == "run":
+            self.counts["commands"] += 1
+            self.compare(page, block, self.run(word, self.place)[0])
+            return
+        self.counts["outputs"] += 1
+        with open(f"{self.top}/{word}", encoding="utf-8") as file:
+            there = iter([it.strip() for it in file])
+        missing = [it for it in map(str.strip, block.lines) if it and it not in there]
+        if missing:
+            self.differs(page, block.number, f"{word} has no line (behind those before it) {missing[0]}")
+
+    def play_text(self, page, block):
+        text = block.text()
+        if text == self.history:
+            self.counts["commands"] += 1
+            _, status, fault = self.run("ring_tool check -", self.place, text)
+            if status:
+                self.differs(page, block.number, f"the history is not legal: {fault}")
+        elif block.kind == "json" and '"rings"' in text:
+            self.counts["commands"] += 1
+            _, status, fault = self.run("ring_tool run -", self.place, text)
+            if status:
+                self.differs(page, block.number, f"the settings are refused: {fault}")
+        elif text.startswith("legal rings") and not PLACEHOLDER.search(text):
+            self.compare(page, block, self.run("ring_tool check -", self.place, self.history)[0])
+        elif text.startswith("tickets "):
+            with open(f"{self.top}/crates/ticket_desk/stdout", encoding="utf-8") as file:
+                self.compare(page, block, file.read())
+
+    def play_commands(self, page, block):
+        """Runs the commands of a block, and returns what those of the program printed."""
+        said = []
+        for number, line in enumerate(block.lines, block.number):
+            line = re.sub(r"\s+#.*", "", line).strip()
+            self.look_commands_up(page, number, line)
+            if "../../" in line:
+                self.place = f"{self.tree}/crates/ring_tool"
+            found = re.search(r"(?:\brt (?:run|try)\b.*? -- |(?:^|&& )(?:\S*out/)?ring_tool )(.*)", line)
+            if not found or " --test" in line.partition(" -- ")[0]:
+                continue
+            words = re.sub(r"\S*out/ring_tool ", "ring_tool ", found[1])
+            if PLACEHOLDER.search(words.replace("| ring_tool", "")):
+                self.look_options_up(page, number, words)
+                continue
+            self.counts["commands"] += 1
+            printed, status, fault = self.run(f"ring_tool {words}", self.place)
+            if status:
+                self.differs(page, number, f"status {status}: {fault.strip()}")
+            said.append(printed)
+        return "".join(said)
+
+    def look_commands_up(self, page, number, line):
+        for part in line.split("&&"):
+            words = part.split()
+            if words and words[0] == "cd":
+                known = os.path.isdir(f"{self.top}/{words[1]}")
+                self.place = f"{self.tree}/crates/ring_tool" if words[1] == "crates/ring_tool" else self.place
+            else:
+                known = not words or not words[0].startswith("bench/") or os.access(f"{self.top}/{words[0]}", os.X_OK)
+            if not known:
+                self.differs(page, number, f"there is no {part.strip()}")
+
+    def look_options_up(self, page, number, words):
+        self.counts["commands"] += 1
+        command = words.split()[0]
+        if command.isupper() or command.startswith("-"):
+            return
+        told = self.run(f"ring_tool {command} --help", self.place)[0]
+        for option in re.findall(r"--[a-z]+", words):
+            if option not in told:
+                self.differs(page, number, f"{command} has no {option}")
+
+    def play_table(self, page, table):
+        if is_of_words(table):
+            for number, line in table[2:]:
+                self.play_words(page, number, cells(line))
+        elif "`check` says" in table[0][1]:
+            for number, line in table[2:]:
+                self.play_change(page, number, cells(line))
+
+    def play_words(self, page, number, row):
+        """A row of words that are refused: each of those in backticks is a run with the text and the status. A row that tells
+        of anything else, as of an input that fails, is not tried."""
+        texts = re.findall(r"`([^`]+)`", row[1])
+        if re.sub(r"`[^`]+`|[,\s]|none", "", row[0]):
+            return
+        for at, words in enumerate(re.findall(r"`([^`]+)`", row[0]) or [""]):
+            self.counts["rows"] += 1
+            words = re.sub(r"^ring_tool ", "", words)
+            _, status, fault = self.run(f"ring_tool {shlex.join(words.split())}", self.tree)
+            if " ".join(row[2].split()) != str(status):
+                self.differs(page, number, f"`{words}` has the status {status}")
+            missing = [it for it in texts if it not in fault]
+            if missing and not (at < len(texts) and texts[at] in fault):
+                self.differs(page, number, f"`{words}` says {fault.strip()}")
+
+    def play_change(self, page, number, row):
+        """A row of a line that is changed in the page's last history, and what `check` says then."""
+        self.counts["rows"] += 1
+        lines = self.history.split("\n")
+        lines[int(row[0]) - 1] = row[1].strip("`")
+        _, _, fault = self.run("ring_tool check -", self.tree, "\n".join(lines))
+        if fault.strip() != row[2].strip("`"):
+            self.differs(page, number, f"check says {fault.strip()}")
+
+
+def cells(line):
+    return [it.strip() for it in line.strip().strip("|").split("|")]
+
+
+def is_of_words(table):
+    return cells(table[0][1]) == ["Words", "Text", "Status"]
+
+
+def main(top, tool):
+    trial = Trial(top, tool)
+    kept = [it for it in ("README.md", "CHANGELOG.md") if os.path.exists(f"{top}/{it}")]
+    pages = kept + sorted(os.path.relpath(it, top) for it in glob.glob(f"{top}/docs/*.md") + glob.glob(f"{top}/crates/*/README.md"))
+    try:
+        for path in pages:
+            trial.try_page(Page(top, path))
+    finally:
+        shutil.rmtree(trial.room)
+    counted = ", ".join(f"{count} {what}" for what, count in trial.counts.items())
+    print(f"{counted}; {trial.faults} differ")
+    return 1 if trial.faults else 0
+
+
+if __name__ == "__main__":
+    sys.exit(main(sys.argv[1], sys.argv[2]))
