@@ -6,6 +6,7 @@ Of each page (README, CHANGELOG, docs/, each crate's README):
 - a name in backticks stands in the sources, a path is a file: NAME in capitals stands for any;
 - a block of commands (rt, ring_tool, bench/..) is run as far as it is the program's, in a copy of the tree's data, and the
   next block of the section is what it printed; words in capitals or brackets are no run: then only the options are looked up;
+- behind `$ ` in a block stands a command, and behind it what it prints;
 - `<!-- run: COMMAND -->` before a block says what prints it, `<!-- file: PATH -->` where its lines stand, in order;
 - a block that begins with `ringfarm 1` or `ringfarm 2` is a legal history, one that begins with `legal rings` what `check`
   says of the last one; one of settings is run;
@@ -21,7 +22,7 @@ import subprocess
 import sys
 import tempfile
 
-FIRST_WORDS = re.compile(r"(rt|ring_tool|out/ring_tool|cd|git|bench/\S+|\.ci/run)( |$)")
+FIRST_WORDS = re.compile(r"\(?(rt|ring_tool|out/ring_tool|cd|git|bench/\S+|\.ci/run)( |$)")
 PLACEHOLDER = re.compile(r"\b[A-Z][A-Z_]+\b|[][|]|\.\.\.|\b[A-Z]\b")
 IDENTIFIER = re.compile(r"[A-Za-z_][A-Za-z0-9_]*(?:(?:::|\.)(?:[A-Za-z_][A-Za-z0-9_]*|\*))*(?:\(\))?!?$")
 FILE_ENDS = (".rt", ".antt", ".md", ".sh", ".py", ".c", ".rs", ".json", ".txt", ".svg", ".png", ".edit")
@@ -42,6 +43,11 @@ class Block:
 
     def text(self):
         return "\n".join(self.lines).strip("\n") + "\n"
+
+    def sessions(self):
+        """What stands before the first command behind `$ `, and each of those with what it prints."""
+        first, *others = re.split(r"^\$ ", self.text(), flags=re.M)
+        return first, [it.partition("\n")[::2] for it in others]
 
     def is_commands(self):
         return bool(self.lines) and bool(FIRST_WORDS.match(self.lines[0]))
@@ -118,6 +124,8 @@ class Sources:
     def has_path(self, page, path):
         pattern = re.sub(r"\b[A-Z][A-Z_]*\b(?!\.(?:md|py))", "*", path) if "README" not in path else path.replace("NAME", "*")
         pattern = pattern.replace("...", "**").rstrip("/")
+        if "/" not in path and any(it.endswith(f"/{path}") for it in self.files):
+            return True
         below = ("", "/crates", "/crates/*", "/crates/*/src", "/bench", "/docs", "/examples")
         roots = (page.folder, KIT, *(f"{self.top}{it}" for it in below))
         return any(glob.glob(f"{root}/{it}", recursive=True) for root in roots for it in (path.rstrip("/"), pattern))
@@ -203,7 +211,7 @@ class Trial:
         word = name.split(" ")[0]
         if word.startswith("bench/") or (" " not in name and ("/" in name or name.endswith(FILE_ENDS))):
             self.counts["names"] += 1
-            return name.startswith(MADE) or "first.json" in word or self.sources.has_path(page, word.partition(":")[0])
+            return name.startswith(MADE) or "/out/" in name or "first.json" in word or self.sources.has_path(page, word.partition(":")[0])
         if IDENTIFIER.match(name):
             self.counts["names"] += 1
             parts = re.findall(r"[A-Za-z_][A-Za-z0-9_]*", name)
@@ -222,16 +230,29 @@ class Trial:
             elif block.is_commands():
                 said = self.play_commands(page, block)
                 printed = (block.section, said) if said else None
+            elif "$ " in (it[:2] for it in block.lines):
+                self.play_sessions(page, block, printed[1] if printed else "")
+                printed = None
             elif printed:
                 self.compare(page, block, printed[1])
                 printed = None
             else:
                 self.play_text(page, block)
 
-    def compare(self, page, block, said):
+    def play_sessions(self, page, block, printed):
+        first, sessions = block.sessions()
+        if first.strip():
+            self.compare(page, block, printed, first)
+        for command, wanted in sessions:
+            self.counts["commands"] += 1
+            said, _, fault = self.run(re.sub(r"\S*out/ring_tool ", "ring_tool ", command), self.place)
+            self.compare(page, block, said + fault, wanted)
+
+    def compare(self, page, block, said, wanted=None):
+        wanted = (block.text() if wanted is None else wanted).strip("\n")
         self.counts["outputs"] += 1
-        if said != block.text():
-            self.differs(page, block.number, f"it prints\n{said}and not\n{block.text()}")
+        if said.strip("\n") != wanted:
+            self.differs(page, block.number, f"it prints\n{said}and not\n{wanted}")
 
     def play_mark(self, page, block):
         kind, _, word = block.mark.partition(": ")
@@ -268,7 +289,7 @@ class Trial:
         """Runs the commands of a block, and returns what those of the program printed."""
         said = []
         for number, line in enumerate(block.lines, block.number):
-            line = re.sub(r"\s+#.*", "", line).strip()
+            line = re.sub(r"\s+#.*", "", line).strip().strip("()")
             self.look_commands_up(page, number, line)
             if "../../" in line:
                 self.place = f"{self.tree}/crates/ring_tool"
