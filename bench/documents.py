@@ -10,6 +10,7 @@ Of each page (README, CHANGELOG, docs/, each crate's README):
 - `<!-- run: COMMAND -->` before a block says what prints it, `<!-- file: PATH -->` where its lines stand, in order;
 - a block that begins with `ringfarm 1` or `ringfarm 2` is a legal history, one that begins with `legal rings` what `check`
   says of the last one; one of settings is run;
+- `<!-- order: DEFINITION -->` before a table says that it is the one of reading_order.py;
 - a table headed Words, Text, Status is run row by row, one headed "`check` says" with the last history and a changed line.
 """
 
@@ -21,6 +22,8 @@ import shutil
 import subprocess
 import sys
 import tempfile
+
+import reading_order
 
 FIRST_WORDS = re.compile(r"\(?(rt|ring_tool|out/ring_tool|cd|git|bench/\S+|\.ci/run)( |$)")
 PLACEHOLDER = re.compile(r"\b[A-Z][A-Z_]+\b|[][|]|\.\.\.|\b[A-Z]\b")
@@ -61,7 +64,7 @@ class Page:
         self.folder = os.path.dirname(f"{top}/{path}")
         with open(f"{top}/{path}", encoding="utf-8") as file:
             self.lines = file.read().split("\n")
-        self.blocks, self.tables, self.prose, self.headings = [], [], [], []
+        self.blocks, self.tables, self.prose, self.headings, self.orders = [], [], [], [], []
         self.read()
 
     def read(self):
@@ -86,7 +89,9 @@ class Page:
                 block.lines.append("")
             else:
                 block = None
-                found = re.match(r"<!-- ((?:run|file): .*) -->$", line)
+                found = re.match(r"<!-- ((?:run|file|order): .*) -->$", line)
+                if mark and mark.startswith("order: ") and line.startswith("|"):
+                    self.orders.append((number, mark[len("order: "):]))
                 mark = found[1] if found else mark if not line.strip() else None
                 if line.startswith("#"):
                     section = line
@@ -184,6 +189,8 @@ class Trial:
         self.play_blocks(page)
         for table in page.tables:
             self.play_table(page, table)
+        for number, word in page.orders:
+            self.compare_order(page, number, word)
 
     def follow_links(self, page):
         for number, line in page.prose:
@@ -327,6 +334,14 @@ class Trial:
         for option in re.findall(r"--[a-z]+", words):
             if option not in told:
                 self.differs(page, number, f"{command} has no {option}")
+
+    def compare_order(self, page, number, word):
+        """A table of reading_order.py: which files, how many definitions and lines."""
+        self.counts["outputs"] += 1
+        wanted = reading_order.table(self.top, word)
+        there = page.lines[number - 1:number - 1 + len(wanted)]
+        if [cells(it)[:3] for it in there] != [cells(it)[:3] for it in wanted]:
+            self.differs(page, number, "the reading order is\n" + "\n".join(wanted))
 
     def play_table(self, page, table):
         if is_of_words(table):

@@ -1,0 +1,97 @@
+"""Prints which definitions a reader has to believe who reads one of them: file by file, lowest first, as a table. Words: the
+definition, as crate.File.Name, and the top of the tree. For docs/THEORY.md and bench/documents.py.
+
+A definition stands on each that its text names, in its own file or by an import from another crate's specs/; what std and the
+types of the sources (`declared`) say is not counted. A line counts if it is a definition's, without its comment."""
+
+import os
+import re
+import sys
+
+HEAD = re.compile(r"^(?:(?:abbrev|unfoldable|opaque) )*pub (?:(?:record|data) )?([^\s:(]+)")
+USE = re.compile(r"^use Rattle\.(\w+)\.specs\.([\w.]+)\.\{(.*)\}")
+
+
+class File:
+    """A file of specs/: its definitions, and where the names that it imports are defined."""
+
+    def __init__(self, path):
+        self.lines_of, self.imports, self.says = {}, {}, []
+        name, begun = None, False
+        with open(path, encoding="utf-8") as file:
+            lines = file.read().split("\n")
+        for line in lines:
+            head, use = HEAD.match(line), USE.match(line)
+            begun = begun or bool(use)
+            if use:
+                for it in use[3].split(", "):
+                    self.imports[it] = (use[1], use[2], it)
+            elif line.startswith("--"):
+                name = None if not head else name
+                if not begun:
+                    self.says.append(line.lstrip("- "))
+            elif head:
+                name = head[1]
+                self.lines_of[name] = [line]
+            elif name and line.strip():
+                self.lines_of[name].append(line)
+
+    def below(self, name):
+        for word in re.findall(r"[\w◌]+", "\n".join(self.lines_of[name])):
+            if word in self.lines_of:
+                yield None, None, word
+            elif word in self.imports:
+                yield self.imports[word]
+
+
+def files_below(top, crate, module, name):
+    """Of each file the definitions that are needed; files by (crate, module)."""
+    files, needed, queue = {}, {}, [(crate, module, name)]
+    while queue:
+        crate, module, name = queue.pop()
+        path = f"{top}/crates/{crate}/specs/{module}.antt"
+        if not os.path.exists(path):
+            continue
+        file = files.setdefault((crate, module), None) or File(path)
+        files[crate, module] = file
+        names = needed.setdefault((crate, module), set())
+        if name in names or name not in file.lines_of:
+            continue
+        names.add(name)
+        queue += [(other or crate, where or module, it) for other, where, it in file.below(name)]
+    return files, {place: names for place, names in needed.items() if names}
+
+
+def in_order(top, files, needed):
+    """The files, each behind those that it imports from; crates in the order of crates.txt."""
+    with open(f"{top}/crates.txt", encoding="utf-8") as file:
+        crates = re.findall(r"^(\w+)", file.read(), re.M)
+    ordered = []
+
+    def visit(place):
+        if place not in ordered:
+            for other in sorted({it[:2] for it in files[place].imports.values()} & set(needed)):
+                if other != place:
+                    visit(other)
+            ordered.append(place)
+
+    for place in sorted(needed, key=lambda it: (crates.index(it[0]), it[1])):
+        visit(place)
+    return ordered
+
+
+def table(top, word):
+    crate, module, name = word.split(".")
+    files, needed = files_below(top, crate, module, name)
+    rows, sums = ["| File | Definitions | Lines | Says |", "|---|---|---|---|"], [0, 0]
+    for place in in_order(top, files, needed):
+        lines = sum(len(files[place].lines_of[it]) for it in needed[place])
+        sums = [sums[0] + len(needed[place]), sums[1] + lines]
+        says = re.split(r"\. | \(|\.$", " ".join(files[place].says))[0].replace("|", "\\|")
+        rows.append(f"| `{place[0]}/specs/{place[1]}.antt` | {len(needed[place])} | {lines} | {says} |")
+    rows.append(f"| {len(needed)} files | {sums[0]} | {sums[1]} | |")
+    return rows
+
+
+if __name__ == "__main__":
+    print("\n".join(table(sys.argv[2], sys.argv[1])))
