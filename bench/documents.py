@@ -2,7 +2,7 @@
 
 Of each page (README, CHANGELOG, docs/, each crate's README):
 
-- a link leads to a file, and to a heading of it;
+- a link leads to a file, and to a heading of it; the page of a crate tells each function that the crate hands out;
 - a name in backticks stands in the sources, a path is a file: NAME in capitals stands for any;
 - a block of commands (rt, ring_tool, bench/..) is run as far as it is the program's, in a copy of the tree's data, and the
   next block of the section is what it printed; words in capitals or brackets are no run: then only the options are looked up;
@@ -186,6 +186,8 @@ class Trial:
         self.begin(page)
         self.follow_links(page)
         self.look_names_up(page)
+        if page.path.startswith("crates/"):
+            self.look_calls_up(page)
         self.play_blocks(page)
         for table in page.tables:
             self.play_table(page, table)
@@ -213,6 +215,17 @@ class Trial:
             for name in re.findall(r"`([^`]+)`", line):
                 if not self.is_known(page, name):
                     self.differs(page, number, f"no `{name}`")
+
+    def look_calls_up(self, page):
+        """Each function that a crate hands out at its top stands on its page, and each twin on the page of its crate."""
+        crate = os.path.basename(page.folder)
+        sources = glob.glob(f"{page.folder}/src/**/*.rt", recursive=True) if crate.startswith("wrong_") else glob.glob(f"{page.folder}/src/lib.rt")
+        for path in sources:
+            with open(path, encoding="utf-8") as file:
+                text = file.read()
+            for name in re.findall(r"^pub fn (\w+)", text, re.M) + re.findall(r"\b([a-z]\w*)(?=[,;} \n])", " ".join(re.findall(r"^pub use ([^;]*;)", text, re.M))):
+                if not any(f"{name}`" in line for line in page.lines):
+                    self.differs(page, 1, f"`{name}` is not told")
 
     def is_known(self, page, name):
         word = name.split(" ")[0]
