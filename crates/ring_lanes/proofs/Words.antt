@@ -71,10 +71,11 @@ mask_from-shift p a m n b e =
     ap (λ x. x / 2 ^ m) (mask_from-append p a m n b e) ∙ add-mul-div_left (mask_from p a m) (mask_from p b n) (one-le-pow m 2 (omega arith))
     ∙ ap (λ x. x + mask_from p b n) (div-eq_of_lt (mask_from-lt p a m)) ∙ zero-add _
 
-pub mask_rest : (p : ℕ → Bool) (n i b : ℕ) → 33 ≤ n → i ≤ n → n < i + 32 → b ≡ mask_from p (n - 32) 32 → b / 2 ^ (32 - (n - i)) ≡ mask_from p i (n - i)
-mask_rest p n i b long high near e =
-    let f : 32 ≡ 32 - (n - i) + (n - i) = omega arith in
-    ap (λ x. x / 2 ^ (32 - (n - i))) (e ∙ ap (mask_from p (n - 32)) f) ∙ mask_from-shift p (n - 32) (32 - (n - i)) (n - i) i (omega arith)
+-- of the last w machines, those from i on
+pub mask_rest : (w : ℕ) (p : ℕ → Bool) (n i b : ℕ) → w + 1 ≤ n → i ≤ n → n < i + w → b ≡ mask_from p (n - w) w → b / 2 ^ (w - (n - i)) ≡ mask_from p i (n - i)
+mask_rest w p n i b long high near e =
+    let f : w ≡ w - (n - i) + (n - i) = omega arith in
+    ap (λ x. x / 2 ^ (w - (n - i))) (e ∙ ap (mask_from p (n - w)) f) ∙ mask_from-shift p (n - w) (w - (n - i)) (n - i) i (omega arith)
 
 -- the first half word, from the block that begins at machine 1
 pub first_half : (n : ℕ) (p : ℕ → Bool) (m f : ℕ) → 33 ≤ n → m ≡ mask_from p 1 32 → f ≡ cond (p 0) 1 0 → (m * 2 + f) % 4294967296 ≡ mask_from (within n p) 0 32

@@ -46,6 +46,13 @@ impl Probe for Privileged<'_> {
         let own = u8x32::from_slice(&self.0[i..]);
         left.simd_ne(own).to_bitmask()
     }
+
+    #[inline(always)]
+    fn few_hits(&self, i: usize) -> u64 {
+        let neighbours = u8x8::from_slice(&self.0[i - 1..]);
+        let own = u8x8::from_slice(&self.0[i..]);
+        neighbours.simd_ne(own).to_bitmask()
+    }
 }
 
 impl Probe for Holding<'_> {
@@ -67,6 +74,12 @@ impl Probe for Holding<'_> {
     fn hits(&self, i: usize) -> u64 {
         let own = u8x32::from_slice(&self.values[i..]);
         own.simd_eq(u8x32::splat(self.value)).to_bitmask()
+    }
+
+    #[inline(always)]
+    fn few_hits(&self, i: usize) -> u64 {
+        let own = u8x8::from_slice(&self.values[i..]);
+        own.simd_eq(u8x8::splat(self.value)).to_bitmask()
     }
 }
 
@@ -94,6 +107,14 @@ impl Probe for Returning<'_> {
         let first = u8x32::splat(self.0[0]);
         let neighbours = u8x32::from_slice(&self.0[i - 1..]);
         let own = u8x32::from_slice(&self.0[i..]);
+        (own.simd_eq(first) & neighbours.simd_ne(first)).to_bitmask()
+    }
+
+    #[inline(always)]
+    fn few_hits(&self, i: usize) -> u64 {
+        let first = u8x8::splat(self.0[0]);
+        let neighbours = u8x8::from_slice(&self.0[i - 1..]);
+        let own = u8x8::from_slice(&self.0[i..]);
         (own.simd_eq(first) & neighbours.simd_ne(first)).to_bitmask()
     }
 }

@@ -1,8 +1,8 @@
 // The kernels, over any test of the machines.
 //
 // Each takes machine 0 by itself, then blocks of 32 machines. What is left at the end, fewer than
-// 32 machines, comes from the block of the last 32; a ring of 32 machines or fewer is read one
-// machine at a time.
+// 32 machines, comes from the block of the last 32. To count and to find, a ring of 9 to 32 machines
+// is read by blocks of 8 in the same way; any other small ring is read one machine at a time.
 ghost use Rattle.std.specs.Prelude.{◌≡◌, ℕ, ◌+◌, ◌-◌, ◌*◌, ◌≤◌, ◌<◌, Bool, true, false, slice_index, length, if◌then◌else◌};
 ghost use Rattle.ring_lanes.specs.Hits.{mask_from, count_from, within, weight_from};
 
@@ -21,6 +21,18 @@ fn last_hits<P: Probe>(p: &P, i: usize) -> u64
     p.hits(n - 32) >> (32 - (n - i))
 }
 
+// The same with blocks of 8.
+#[inline(always)]
+fn last_few_hits<P: Probe>(p: &P, i: usize) -> u64
+    requires long { 9 ≤ P.size p.now }
+    requires high { i ≤ P.size p.now }
+    requires near { P.size p.now < i + 8 }
+    ensures { result ≡ mask_from (P.hit p.now) i (P.size p.now - i) }
+{
+    let n = p.len();
+    p.few_hits(n - 8) >> (8 - (n - i))
+}
+
 // How many machines pass.
 #[inline(always)]
 #[tactic(auto, using(crate::proofs::Blocks::counting))]
@@ -29,6 +41,9 @@ pub(crate) fn count_hits<P: Probe>(p: &P) -> usize
     ensures { result ≡ count_from (P.hit p.now) 0 (P.size p.now) }
 {
     let n = p.len();
+    if n <= 32 {
+        return count_few(p);
+    }
     let mut count: usize = 0;
     if p.is_hit(0) {
         count += 1;
@@ -38,9 +53,42 @@ pub(crate) fn count_hits<P: Probe>(p: &P) -> usize
         count += p.hits(i).count_ones() as usize;
         i += 32;
     }
-    if n > 32 {
-        return count + last_hits(p, i).count_ones() as usize;
+    count + last_hits(p, i).count_ones() as usize
+}
+
+// The same, by blocks of 8.
+#[inline(always)]
+#[tactic(auto, using(crate::proofs::Blocks::counting))]
+fn count_few<P: Probe>(p: &P) -> usize
+    requires { 1 ≤ P.size p.now }
+    ensures { result ≡ count_from (P.hit p.now) 0 (P.size p.now) }
+{
+    let n = p.len();
+    if n <= 8 {
+        return count_each(p);
     }
+    let mut count: usize = 0;
+    if p.is_hit(0) {
+        count += 1;
+    }
+    let mut i: usize = 1;
+    while n - i >= 8 {
+        count += p.few_hits(i).count_ones() as usize;
+        i += 8;
+    }
+    count + last_few_hits(p, i).count_ones() as usize
+}
+
+// The same, one machine at a time.
+#[inline(always)]
+#[tactic(auto, using(crate::proofs::Blocks::counting))]
+fn count_each<P: Probe>(p: &P) -> usize
+    requires { 1 ≤ P.size p.now }
+    ensures { result ≡ count_from (P.hit p.now) 0 (P.size p.now) }
+{
+    let n = p.len();
+    let mut count: usize = 0;
+    let mut i: usize = 0;
     while i < n {
         if p.is_hit(i) {
             count += 1;
@@ -62,6 +110,9 @@ pub(crate) fn first_hit<P: Probe>(p: &P, from: usize) -> usize
     ensures here { result < P.size p.now → P.hit p.now result ≡ true }
 {
     let n = p.len();
+    if n <= 32 {
+        return first_of_few(p, from);
+    }
     let mut i = from;
     while n - i >= 32 {
         let hits = p.hits(i);
@@ -70,14 +121,57 @@ pub(crate) fn first_hit<P: Probe>(p: &P, from: usize) -> usize
         }
         i += 32;
     }
-    if n > 32 {
-        let hits = last_hits(p, i);
-        return if hits != 0 {
-            i + hits.trailing_zeros() as usize
-        } else {
-            n
-        };
+    let hits = last_hits(p, i);
+    if hits != 0 {
+        i + hits.trailing_zeros() as usize
+    } else {
+        n
     }
+}
+
+// The same, by blocks of 8.
+#[inline(always)]
+#[tactic(auto, using(crate::proofs::Blocks::finding))]
+fn first_of_few<P: Probe>(p: &P, from: usize) -> usize
+    requires low { 1 ≤ from }
+    requires high { from ≤ P.size p.now }
+    ensures low { from ≤ result }
+    ensures high { result ≤ P.size p.now }
+    ensures before { (k : ℕ) → from ≤ k → k < result → P.hit p.now k ≡ false }
+    ensures here { result < P.size p.now → P.hit p.now result ≡ true }
+{
+    let n = p.len();
+    if n <= 8 {
+        return first_of_each(p, from);
+    }
+    let mut i = from;
+    while n - i >= 8 {
+        let hits = p.few_hits(i);
+        if hits != 0 {
+            return i + hits.trailing_zeros() as usize;
+        }
+        i += 8;
+    }
+    let hits = last_few_hits(p, i);
+    if hits != 0 {
+        i + hits.trailing_zeros() as usize
+    } else {
+        n
+    }
+}
+
+// The same, one machine at a time.
+#[inline(always)]
+fn first_of_each<P: Probe>(p: &P, from: usize) -> usize
+    requires low { 1 ≤ from }
+    requires high { from ≤ P.size p.now }
+    ensures low { from ≤ result }
+    ensures high { result ≤ P.size p.now }
+    ensures before { (k : ℕ) → from ≤ k → k < result → P.hit p.now k ≡ false }
+    ensures here { result < P.size p.now → P.hit p.now result ≡ true }
+{
+    let n = p.len();
+    let mut i = from;
     while i < n {
         if p.is_hit(i) {
             return i;

@@ -2,7 +2,7 @@
 ghost use Rattle.std.specs.Prelude.{◌≡◌, ℕ, ◌+◌, ◌≤◌, ◌<◌, Bool};
 ghost use Rattle.ring_lanes.specs.Hits.{mask_from};
 
-/// A test of the machines, one at a time or 32 at once.
+/// A test of the machines, one at a time, or 32 or 8 at once.
 ///
 /// The kernels are generic over it, so that a ring with wider values needs tests of its own and no
 /// kernel of its own.
@@ -29,4 +29,10 @@ pub(crate) trait Probe {
         requires low { 1 ≤ i }
         requires room { i + 32 ≤ size self.now }
         ensures { result ≡ mask_from (hit self.now) i 32 };
+
+    /// The same of 8 machines, `i` to `i + 7`.
+    fn few_hits(&self, i: usize) -> u64
+        requires low { 1 ≤ i }
+        requires room { i + 8 ≤ size self.now }
+        ensures { result ≡ mask_from (hit self.now) i 8 };
 }

@@ -49,6 +49,13 @@ impl Probe for WidePrivileged<'_> {
         let own = u16x32::from_slice(&self.0[i..]);
         left.simd_ne(own).to_bitmask()
     }
+
+    #[inline(always)]
+    fn few_hits(&self, i: usize) -> u64 {
+        let neighbours = u16x8::from_slice(&self.0[i - 1..]);
+        let own = u16x8::from_slice(&self.0[i..]);
+        neighbours.simd_ne(own).to_bitmask()
+    }
 }
 
 impl Probe for WideHolding<'_> {
@@ -71,6 +78,12 @@ impl Probe for WideHolding<'_> {
         let own = u16x32::from_slice(&self.values[i..]);
         own.simd_eq(u16x32::splat(self.value)).to_bitmask()
     }
+
+    #[inline(always)]
+    fn few_hits(&self, i: usize) -> u64 {
+        let own = u16x8::from_slice(&self.values[i..]);
+        own.simd_eq(u16x8::splat(self.value)).to_bitmask()
+    }
 }
 
 impl Probe for WideDiffering<'_> {
@@ -92,5 +105,11 @@ impl Probe for WideDiffering<'_> {
     fn hits(&self, i: usize) -> u64 {
         let own = u16x32::from_slice(&self.values[i..]);
         own.simd_ne(u16x32::splat(self.value)).to_bitmask()
+    }
+
+    #[inline(always)]
+    fn few_hits(&self, i: usize) -> u64 {
+        let own = u16x8::from_slice(&self.values[i..]);
+        own.simd_ne(u16x8::splat(self.value)).to_bitmask()
     }
 }

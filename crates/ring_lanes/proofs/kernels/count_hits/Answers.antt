@@ -3,8 +3,8 @@ use Rattle.ring_lanes.specs.Hits.{count_from}
 use Rattle.ring_lanes.proofs.Blocks.{count_from_block}
 use Rattle.ring_lanes.proofs.kernels.count_hits.Goals as goal
 
-pub returns-then-n-gt32 : goal.returns-then-n-gt32
-returns-then-n-gt32 g c =
+pub returns : goal.returns
+returns g c =
     let p = g.P.Probe.hit c.args.p.now in
     let n = g.P.Probe.size c.args.p.now in
     let i = c.loop-i.i in

@@ -7,9 +7,3 @@ invariant-loop-i g l = record { low : 1 ≤ l.i; high : l.i ≤ l.n; counted : l
 
 abbrev pub decreases-loop-i : goal.decreases-loop-i
 decreases-loop-i g l = l.n - l.i
-
-abbrev pub invariant-loop-i-2 : goal.invariant-loop-i-2
-invariant-loop-i-2 g l = record { low : 1 ≤ l.i; high : l.i ≤ l.n; counted : l.count ≡ count_from (g.P.Probe.hit l.p) 0 l.i }
-
-abbrev pub decreases-loop-i-2 : goal.decreases-loop-i-2
-decreases-loop-i-2 g l = l.n - l.i
