@@ -188,6 +188,8 @@ class Trial:
         self.look_names_up(page)
         if page.path.startswith("crates/"):
             self.look_calls_up(page)
+        if page.path in ("README.md", "docs/ARCHITECTURE.md"):
+            self.look_crates_up(page)
         self.play_blocks(page)
         for table in page.tables:
             self.play_table(page, table)
@@ -226,6 +228,12 @@ class Trial:
             for name in re.findall(r"^pub fn (\w+)", text, re.M) + re.findall(r"\b([a-z]\w*)(?=[,;} \n])", " ".join(re.findall(r"^pub use ([^;]*;)", text, re.M))):
                 if not any(f"{name}`" in line for line in page.lines):
                     self.differs(page, 1, f"`{name}` is not told")
+
+    def look_crates_up(self, page):
+        with open(f"{self.top}/crates.txt", encoding="utf-8") as file:
+            for crate in re.findall(r"^(\w+)", file.read(), re.M):
+                if not any(f"`{crate}`" in line for line in page.lines):
+                    self.differs(page, 1, f"the crate `{crate}` is not told")
 
     def is_known(self, page, name):
         word = name.split(" ")[0]
