@@ -1,5 +1,5 @@
 """A second checker of saved histories, small and slow, written from docs/FORMATS.md alone: it shares no code with the
-program, so that the two can be held against each other. `answer` gives the line that `ring_tool check` prints."""
+program, so that the two can be compared. `answer` gives the line that `ring_tool check` prints."""
 
 import sys
 

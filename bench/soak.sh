@@ -1,6 +1,6 @@
 #!/bin/sh
 # Runs drawn settings (rings of all sizes, scripts with extreme numbers, drawn plans, injectors), checks each history that
-# was saved, and holds it, and damaged copies of it, against a second checker written from docs/FORMATS.md alone
+# was saved, and compares it, and damaged copies of it, with a second checker written from docs/FORMATS.md alone
 # (small_checker.py): the program has to give the same answer to each. Prints how many were tried, or the first
 # difference and how to repeat it; then the status is 1. Words: the minutes (2), and the first seed (drawn).
 # Needs rt and python3.
