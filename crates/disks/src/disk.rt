@@ -1,0 +1,43 @@
+//! What is done with files.
+
+ghost use Rattle.std.specs.Prelude.{◌≡◌, ℕ, List, Option, None, IfOk, IfSome, OnOk, OnErr, false};
+ghost use Rattle.disks.specs.Held.{Held, IsOneFile, Opens, Starts, Replaces};
+
+use std::io::{self, Read, Write};
+
+/// Files that are read by their names, and replaced as a whole.
+///
+/// A file is made beside the one that it is to replace, which keeps what it holds until the new one is finished. A new
+/// file that is let go before that was never there. No call empties a file or changes one in place.
+pub trait Disk {
+    /// A file that is open for reading.
+    type Reader: Read + Drop;
+
+    /// A file that is being made.
+    type New: Write + Drop;
+
+    /// What the files hold, if that is known.
+    ghost holds: { Self → Option Held } = { λ _. None };
+
+    /// Opens the file of this name. The reader has the bytes that the file holds now.
+    fn open(&self, name: &str) -> io::Result<Self::Reader>
+        ensures { IfOk result (λ reader. Opens (holds self.now) name.now (Self.Reader.remaining reader)) };
+
+    /// Whether two names are those of one file. If it answers no, they are not; a yes may err.
+    fn is_one_file(&self, one: &str, other: &str) -> io::Result<bool>
+        ensures { IfOk result (λ same. IfSome (holds self.now) (λ held. same ≡ false → IsOneFile held one.now other.now → ⊥)) };
+
+    /// Makes a new file, empty, beside the one of this name. No file changes.
+    fn make(&mut self, name: &str) -> io::Result<Self::New>
+        ensures empty { IfOk result (λ made. Starts (holds self.old) (Self.New.contents made)) }
+        ensures kept { holds self.new ≡ holds self.old };
+
+    /// Puts a new file in the place of the one of this name, for which it was made.
+    ///
+    /// # Errors
+    ///
+    /// It could not be put there, or it was made for another name. Every file is as it was then.
+    fn finish(&mut self, made: Self::New, name: &str) -> io::Result<()>
+        ensures replaced { OnOk result (Replaces (holds self.old) (holds self.new) name.now (Self.New.contents made)) }
+        ensures kept { OnErr result (holds self.new ≡ holds self.old) };
+}

@@ -1,0 +1,14 @@
+//! Files by their names: what a program does with them, and what they then hold.
+#![tactic(auto)]
+
+mod descriptors;
+mod disk;
+mod memory;
+mod part;
+mod system;
+
+pub use descriptors::take_low;
+pub use disk::Disk;
+pub use memory::{Entry, MemoryDisk};
+pub use part::NewFile;
+pub use system::SystemDisk;

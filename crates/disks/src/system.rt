@@ -1,0 +1,44 @@
+//! The system's files.
+
+use crate::disk::Disk;
+use crate::part::{NewFile, made_for};
+use std::fs;
+use std::io::{self, ErrorKind};
+use std::os::unix::fs::MetadataExt;
+use std::rt::Files;
+
+/// The system's files. Nothing is said of what they hold.
+///
+/// A regular file is replaced as a whole: the new one lies beside it, as `NAME.part` (with a number behind if that is there),
+/// and is renamed. What is no regular file (a device, a pipe, a link that leads nowhere) is written as it stands.
+#[derive(Drop)]
+pub struct SystemDisk<'a, R> {
+    pub files: &'a R,
+}
+
+impl<'a, R: Files + AllocGlobal> Disk for SystemDisk<'a, R> {
+    type Reader = R::File;
+
+    type New = NewFile<'a, R>;
+
+    fn open(&self, name: &str) -> io::Result<R::File> {
+        fs::open(self.files, name)
+    }
+
+    fn is_one_file(&self, one: &str, other: &str) -> io::Result<bool> {
+        let one = fs::metadata(self.files, one)?;
+        match fs::metadata(self.files, other) {
+            Ok(other) => Ok(one.dev() == other.dev() && one.ino() == other.ino()),
+            Err(e) if e.kind() == ErrorKind::NotFound => Ok(false),
+            Err(e) => Err(e),
+        }
+    }
+
+    fn make(&mut self, name: &str) -> io::Result<NewFile<'a, R>> {
+        made_for(self.files, name)
+    }
+
+    fn finish(&mut self, made: NewFile<'a, R>, name: &str) -> io::Result<()> {
+        made.put(name)
+    }
+}
