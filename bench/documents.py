@@ -3,7 +3,8 @@
 Of each page (README, CHANGELOG, docs/, each crate's README):
 
 - a link leads to a file, and to a heading of it; the page of a crate tells each function that the crate hands out;
-- a name in backticks stands in the sources, a path is a file: NAME in capitals stands for any;
+- a name in backticks stands in the sources, a path is a file: NAME in capitals stands for any; in a table a clause is one
+  of the functions that its row names;
 - a block of commands (rt, ring_tool, bench/..) is run as far as it is the program's, in a copy of the tree's data, and the
   next block of the section is what it printed; words in capitals or brackets are no run: then only the options are looked up;
 - behind `$ ` in a block stands a command, and behind it what it prints;
@@ -23,6 +24,7 @@ import subprocess
 import sys
 import tempfile
 
+import clauses
 import reading_order
 
 FIRST_WORDS = re.compile(r"\(?(rt|ring_tool|out/ring_tool|cd|git|bench/\S+|\.ci/run)( |$)")
@@ -119,6 +121,7 @@ class Sources:
         listed = subprocess.run(["git", "-C", top, "ls-files", "-co", "--exclude-standard"], capture_output=True, text=True, check=True)
         self.files = [it for it in listed.stdout.split("\n") if it and os.path.exists(f"{top}/{it}")]
         self.words = set()
+        self.read_clauses()
         for path in self.files:
             if path.endswith((".md", ".png", ".svg")):
                 continue
@@ -134,6 +137,17 @@ class Sources:
         below = ("", "/crates", "/crates/*", "/crates/*/src", "/bench", "/docs", "/examples")
         roots = (page.folder, KIT, *(f"{self.top}{it}" for it in below))
         return any(glob.glob(f"{root}/{it}", recursive=True) for root in roots for it in (path.rstrip("/"), pattern))
+
+    def read_clauses(self):
+        """The names of each function's clauses, and all that specs/ define."""
+        self.clauses, self.defined = {}, set()
+        for path in self.files:
+            if path.startswith("crates/") and path.endswith(".rt"):
+                for name, clause in clauses.clauses_of(f"{self.top}/{path}"):
+                    found = re.match(r"(?:ensures|requires) (\w+) \{", clause)
+                    self.clauses.setdefault(re.split(r"::|\.", name)[-1], set()).update([found[1]] if found else [])
+            elif "/specs/" in path and path.endswith(".antt"):
+                self.defined |= set(reading_order.File(f"{self.top}/{path}").lines_of)
 
     def has_word(self, word):
         """Whether a word stands in the sources, or in those of the kit."""
@@ -186,6 +200,8 @@ class Trial:
         self.begin(page)
         self.follow_links(page)
         self.look_names_up(page)
+        if not page.path.startswith("crates/wrong_"):
+            self.look_clauses_up(page)
         if page.path.startswith("crates/"):
             self.look_calls_up(page)
         if page.path in ("README.md", "docs/ARCHITECTURE.md"):
@@ -228,6 +244,18 @@ class Trial:
             for name in re.findall(r"^pub fn (\w+)", text, re.M) + re.findall(r"\b([a-z]\w*)(?=[,;} \n])", " ".join(re.findall(r"^pub use ([^;]*;)", text, re.M))):
                 if not any(f"{name}`" in line for line in page.lines):
                     self.differs(page, 1, f"`{name}` is not told")
+
+    def look_clauses_up(self, page):
+        """In a row that names functions with clauses, each name in brackets or before a colon is a clause of one of them."""
+        known = self.sources
+        for number, line in (it for table in page.tables for it in table):
+            functions = [it.split("::")[-1] for it in re.findall(r"`([A-Za-z_:]+)`", line)]
+            own = set().union(*(known.clauses.get(it, ()) for it in functions))
+            told = re.findall(r"\(([^()]*)\)", line) + re.findall(r"(`[a-z_]+`): ", line)
+            for name in re.findall(r"`([a-z_]+)`", " ".join(told)) if own and "`Display`" not in line else ():
+                self.counts["names"] += 1
+                if name not in own and name not in known.clauses and name not in known.defined:
+                    self.differs(page, number, f"no clause `{name}` of these functions")
 
     def look_crates_up(self, page):
         with open(f"{self.top}/crates.txt", encoding="utf-8") as file:
