@@ -3,8 +3,8 @@
 Of each page (README, CHANGELOG, docs/, each crate's README):
 
 - a link leads to a file, and to a heading of it; the page of a crate tells each function that the crate hands out;
-- a name in backticks stands in the sources, a path is a file: NAME in capitals stands for any; in a table a clause is one
-  of the functions that its row names;
+- a name in backticks stands in the sources, a path is a file: NAME in capitals stands for any; in a table of promises a
+  clause is one of the functions that its row names;
 - a block of commands (rt, ring_tool, bench/..) is run as far as it is the program's, in a copy of the tree's data, and the
   next block of the section is what it printed; words in capitals or brackets are no run: then only the options are looked up;
 - behind `$ ` in a block stands a command, and behind it what it prints;
@@ -200,7 +200,7 @@ class Trial:
         self.begin(page)
         self.follow_links(page)
         self.look_names_up(page)
-        if not page.path.startswith("crates/wrong_"):
+        if page.path == "docs/PROMISES.md" or re.match("crates/(?!wrong_)", page.path):
             self.look_clauses_up(page)
         if page.path.startswith("crates/"):
             self.look_calls_up(page)
