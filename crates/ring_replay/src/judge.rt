@@ -11,7 +11,7 @@ ghost use Rattle.ring_replay.specs.Replays.{IsCallOf, called, calm_after};
 
 use ring_book::{Book, Resource};
 use ring_model::{Op, Reply, Survey};
-use ring_settle::rest;
+use ring_settle::rest_of_counted;
 use ring_state::RingState;
 use std::alloc::{AllocError, Global};
 
@@ -125,12 +125,13 @@ impl<'a, R: Resource + Drop> Replay<'a, R> {
     fn survey(&self) -> Survey
         ensures { result ≡ survey_at R.works (opening self.now.book.now.start R.first) self.now.book.now.history self.now.place }
     {
+        let privileged = self.ring.privileged();
         Survey {
             position: self.place as u64,
-            privileged: self.ring.privileged(),
+            privileged,
             first: self.ring.first(),
             calm: self.calm,
-            rest: rest(&self.ring),
+            rest: rest_of_counted(&self.ring, privileged),
         }
     }
 

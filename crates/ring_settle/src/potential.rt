@@ -1,5 +1,5 @@
 ghost use Rattle.std.specs.Prelude.{◌≡◌, ◌<◌, ◌≤◌, length};
-ghost use Rattle.ring_model.specs.Ring.{bound, is_settled, lead, rest};
+ghost use Rattle.ring_model.specs.Ring.{bound, is_settled, lead, privileged_count, rest};
 
 use ring_state::RingState;
 
@@ -44,8 +44,18 @@ pub fn rest(state: &RingState) -> u64
     ensures is { result ≡ rest state.now }
     ensures bounded { result ≤ bound (length state.now.values) }
 {
+    rest_of_counted(state, state.privileged())
+}
+
+/// The rest of a ring of which it is known how many machines are privileged, so that they are not counted again.
+#[inline(always)]
+pub fn rest_of_counted(state: &RingState, privileged: u32) -> u64
+    requires { privileged ≡ privileged_count state.now.values }
+    ensures is { result ≡ rest state.now }
+    ensures bounded { result ≤ bound (length state.now.values) }
+{
     let n = state.params().n();
-    if is_settled(state) {
+    if privileged == 1 {
         return 0;
     }
     state.weight() + n as u64 * lead(state) as u64

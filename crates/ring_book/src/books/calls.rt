@@ -22,6 +22,7 @@ impl<R: Resource + Drop> Book<R> {
     /// # Errors
     ///
     /// `HistoryFull` where the history has `EVENT_LIMIT` events, else `OutOfMemory`. Nothing has changed then.
+    #[inline(always)]
     pub fn pass(&mut self, seat: u32, machine: u32, order: u64) -> Result<Receipt, BookError>
         requires seat { seat < seat_limit }
         requires machine { machine < length self.old.now.ring.values }

@@ -3,7 +3,7 @@ ghost use Rattle.ring_model.specs.Ring.{bound};
 ghost use Rattle.ring_model.specs.History.{opening};
 ghost use Rattle.ring_model.specs.HistoryLaws.{Settlement};
 ghost use Rattle.ring_model.specs.Progress.{Progress};
-ghost use Rattle.ring_model.specs.Surveys.{survey_at};
+ghost use Rattle.ring_model.specs.Surveys.{survey_at, calm as calm_of};
 ghost use Rattle.ring_model.specs.Logs.{calls_of};
 ghost use Rattle.ring_model.specs.Limits.{seat_limit};
 ghost use Rattle.ring_book.specs.GrantsView.{IsGrantsOf};
@@ -13,7 +13,7 @@ use crate::books::Book;
 use crate::grants::GrantBook;
 use crate::resources::Resource;
 use ring_model::{Event, Survey};
-use ring_settle::rest;
+use ring_settle::rest_of_counted;
 use ring_state::RingState;
 
 // No reader takes memory.
@@ -60,13 +60,22 @@ impl<R: Resource + Drop> Book<R> {
         ensures progress { Progress R.works (opening self.now.start R.first) self.now.history }
         ensures calm { bound (length self.now.start.values) ≤ result.calm → (result.privileged ≡ 1) × (result.rest ≡ 0) }
     {
+        let privileged = self.ring.privileged();
         Survey {
             position: self.events.as_slice().len() as u64,
-            privileged: self.ring.privileged(),
+            privileged,
             first: self.ring.first(),
             calm: self.tally.calm(),
-            rest: rest(&self.ring),
+            rest: rest_of_counted(&self.ring, privileged),
         }
+    }
+
+    /// The calm: how many passes were granted since the last corruption, or since the start if there was none.
+    pub fn calm(&self) -> u64
+        ensures is { result ≡ calm_of self.now.history }
+        ensures book { IsBook R.works R.first self.now }
+    {
+        self.tally.calm()
     }
 
     /// The granted passes of the history.

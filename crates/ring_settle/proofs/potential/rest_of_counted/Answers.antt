@@ -2,7 +2,7 @@ use Rattle.std.proofs.Common.{◌≡◌, ◌≤◌, ◌+◌, ◌*◌, ◌<◌, �
 use Rattle.ring_model.specs.Ring.{bound}
 use Rattle.ring_model.proofs.Bound.{potential_bounded, bound_small}
 use Rattle.ring_state.specs.Sizes.{Size}
-use Rattle.ring_settle.proofs.potential.rest.Goals as goal
+use Rattle.ring_settle.proofs.potential.rest_of_counted.Goals as goal
 
 pub returns-clause-bounded : goal.returns-clause-bounded
 returns-clause-bounded c =
