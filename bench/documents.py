@@ -183,6 +183,7 @@ class Trial:
         shutil.copy(f"{self.top}/README.md", self.tree)
         os.makedirs(f"{self.tree}/crates/ring_tool")
         os.mkdir(f"{self.tree}/tmp")
+        os.symlink("../../examples", f"{self.tree}/crates/ring_tool/examples")
         for folder in (self.tree, f"{self.tree}/crates/ring_tool"):
             shutil.copy(f"{self.top}/examples/first.json", folder)
             self.run("ring_tool run first.json --history history.txt", folder)
@@ -206,6 +207,8 @@ class Trial:
             self.look_calls_up(page)
         if page.path in ("README.md", "docs/ARCHITECTURE.md"):
             self.look_crates_up(page)
+        if page.path == "docs/TESTING.md":
+            self.look_scripts_up(page)
         self.play_blocks(page)
         for table in page.tables:
             self.play_table(page, table)
@@ -256,6 +259,12 @@ class Trial:
                 self.counts["names"] += 1
                 if name not in own and name not in known.clauses and name not in known.defined:
                     self.differs(page, number, f"no clause `{name}` of these functions")
+
+    def look_scripts_up(self, page):
+        for path in glob.glob(f"{self.top}/bench/*.sh"):
+            name = f"bench/{os.path.basename(path)}"
+            if name != "bench/common.sh" and not any(f"`{name}" in line for line in page.lines):
+                self.differs(page, 1, f"the script `{name}` is not told")
 
     def look_crates_up(self, page):
         with open(f"{self.top}/crates.txt", encoding="utf-8") as file:
