@@ -10,12 +10,11 @@ use Rattle.ring_model.specs.declared.events.Op.TheVariants.{Pass, Member, Corrup
 use Rattle.ring_model.specs.declared.events.Event.{Event}
 use Rattle.ring_model.specs.declared.events.Survey.{Survey}
 use Rattle.ring_book.specs.BookView.{BookView, IsBook}
-use Rattle.ring_model.proofs.Histories.{calm-push}
 use Rattle.ring_model.proofs.HistoryLaws.{settlement}
-use Rattle.ring_replay.specs.Replays.{IsCallOf, machine_of, called, calm_after}
+use Rattle.ring_replay.specs.Replays.{IsCallOf, machine_of, called}
 use Rattle.ring_shared.specs.Folds.{ring_after, survey_from, survey_of, IsSummary, IsWritten}
 use Rattle.ring_shared.proofs.Prefixes.{prefix_take, take_before}
-use Rattle.ring_replay.proofs.Replaying.{next_ring, calm_same}
+use Rattle.ring_replay.proofs.Replaying.{next_ring}
 
 pub ring_after-push : (r : Ring) (h : List Event) (e : Event) → ring_after r (h ++ e ∷ []) ≡ called (ring_after r h) e.op
 ring_after-push r [] e = refl
@@ -89,7 +88,7 @@ ring_of_book {C = C} w first start b book begins =
 
 -- what the last event did, by the ring behind it
 pub effect_of_last : (start now : Ring) (xs h : List Event) (e : Event) (machine value c : ℕ) → h ≡ xs ++ e ∷ [] → now ≡ ring_after start h → IsCallOf start e.op →
-    machine ≡ machine_of e.op → value ≡ slice_index now.values machine → value < now.k → c ≡ calm_after (calm xs) e.reply → IsWritten start h machine value c
+    machine ≡ machine_of e.op → value ≡ slice_index now.values machine → value < now.k → c ≡ calm h → IsWritten start h machine value c
 effect_of_last start now xs h e machine value c is now_is call machine_is value_is below calm_is =
     let within : machine < length start.values = rw machine_is (machine_of_call start e.op call) in
     let behind : machine_of e.op < length (ring_after start xs).values = rw (ring_after_keeps start xs).1 (machine_of_call start e.op call) in
@@ -101,7 +100,7 @@ effect_of_last start now xs h e machine value c is now_is call machine_is value_
       machine_is = within;
       value_is = subst (λ (k : ℕ). value < k) (ap (λ (r : Ring). r.k) now_is ∙ (ring_after_keeps start h).0) below;
       ring_is = λ some. rw before wrote;
-      calm_is = calm_is ∙ (calm_same (calm xs) e.reply ∙ sym (ap calm is ∙ calm-push xs e));
+      calm_is = calm_is;
     }
 
 -- a summary goes on by one event

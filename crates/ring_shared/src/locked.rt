@@ -79,6 +79,7 @@ fn publish<N: Name, W: Wait>(rt: &W, writer: RingWriter<N>) -> (RingWriter<N>, (
 }
 
 /// Shows readers one event or one block more.
+#[inline(always)]
 #[tactic(auto, using(crate::proofs::Stepped::stepped_last))]
 pub(crate) fn show<N: Name, W: Wait>(rt: &W, writer: &mut RingWriter<N>, operation: Operation<N>)
     requires { stepped (fold stepped writer.old.desk.shown.value (drop writer.old.behind writer.old.log.items)) operation ≡ operation.list }
@@ -90,6 +91,7 @@ pub(crate) fn show<N: Name, W: Wait>(rt: &W, writer: &mut RingWriter<N>, operati
 }
 
 /// Shows readers the event that ends the book's history, the rest of which is shown.
+#[inline(always)]
 fn show_last<N: Name, R: Resource + Drop, W: Wait>(
     rt: &W,
     book: &Book<R>,
@@ -105,7 +107,7 @@ fn show_last<N: Name, R: Resource + Drop, W: Wait>(
     ensures shown { writer.new.desk.shown.value ≡ book.now.history }
     ensures pending { drop writer.new.behind writer.new.log.items ≡ [] }
 {
-    let operation = Operation::last(book, writer.published(), event, front.again());
+    let operation = Operation::last(book, event, front.again());
     show(rt, writer, operation);
 }
 
@@ -135,6 +137,7 @@ impl<N: Name, R: Resource + Drop> Locked<N, R> {
 
     /// One critical section: the seat's log and the history are grown, behind which nothing is refused; the
     /// book makes the call for the seat, its receipt is logged, what it did is shown, and the seat is told.
+    #[inline(always)]
     fn call<W: Wait>(&mut self, rt: &W, seat: &mut Seat<N>, op: Op) -> Result<Receipt, BookError>
         requires call { IsCallOf N.start op }
         requires alone { IsAlone op }
@@ -155,6 +158,7 @@ impl<N: Name, R: Resource + Drop> Locked<N, R> {
     ///
     /// `HistoryFull` where the history has `EVENT_LIMIT` events; want of memory for the log or the history.
     /// Nothing has changed then.
+    #[inline(always)]
     pub fn pass<W: Wait>(
         &mut self,
         rt: &W,
@@ -206,7 +210,8 @@ impl<N: Name, R: Resource + Drop> Locked<N, R> {
     }
 }
 
-/// Makes a seat's call of the book.
+/// Makes a seat's call of the book, which grows the history before it changes anything.
+#[inline(always)]
 fn make_call<R: Resource + Drop>(
     book: &mut Book<R>,
     seat: u32,
@@ -228,26 +233,9 @@ fn make_call<R: Resource + Drop>(
     }
 }
 
-/// Grows a book's history, behind which nothing is refused, and makes a seat's call of it.
-fn record_call<R: Resource + Drop>(
-    book: &mut Book<R>,
-    seat: u32,
-    op: Op,
-) -> Result<Receipt, BookError>
-    requires seat { seat < seat_limit }
-    requires call { IsCallOf book.old.now.ring op }
-    requires alone { IsAlone op }
-    ensures ok { IfOk result (λ r. IsRecorded R.works book.old book.new seat op r) }
-    ensures book { IsBook R.works R.first book.new }
-    ensures full { IsErrOf result BookError.HistoryFull ↔ (length book.old.history ≡ event_limit) }
-    ensures err { OnErr result (book.new ≡ book.old) }
-{
-    book.reserve(1)?;
-    make_call(book, seat, op)
-}
-
-/// Grows a seat's log and a book's history, behind which nothing is refused; makes the seat's call of the book, and
+/// Grows a seat's log, behind which the book alone can refuse; makes the seat's call of the book, and
 /// logs its receipt.
+#[inline(always)]
 fn log_call<N: Name, R: Resource + Drop>(
     book: &mut Book<R>,
     seat: &mut Seat<N>,
@@ -265,7 +253,7 @@ fn log_call<N: Name, R: Resource + Drop>(
     if seat.log.reserve(1).is_err() {
         return Err(BookError::OutOfMemory);
     }
-    let receipt = record_call(book, number, op)?;
+    let receipt = make_call(book, number, op)?;
     seat.log.push_reserved(Entry::Receipt(receipt));
     Ok(receipt)
 }

@@ -237,6 +237,7 @@ impl<N: Name> Seat<N> {
     }
 
     /// Sees what is shown, which begins with what was seen.
+    #[inline(always)]
     pub(crate) fn catch_up<W: Wait>(&mut self, rt: &W, shown: &Shown<N>)
         ensures is { self.new ≡ record { number = self.old.number; log = self.old.log; seen = shown.now } }
         ensures later { IsPrefix self.old.seen self.new.seen }

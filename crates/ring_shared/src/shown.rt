@@ -1,7 +1,7 @@
 //! The copy that readers see, and what brings it up to date.
-ghost use Rattle.std.specs.Prelude.{◌≡◌, ◌+◌, ◌<◌, ◌≤◌, ◌++◌, ◌∷◌, [], length, true, false};
-ghost use Rattle.ring_model.specs.Limits.{event_limit};
+ghost use Rattle.std.specs.Prelude.{◌≡◌, ◌+◌, ◌<◌, ◌≤◌, ◌++◌, ◌∷◌, [], List, length, true, false};
 ghost use Rattle.ring_model.specs.Surveys.{calm as calm_of};
+ghost use Rattle.ring_model.specs.declared.events.Event.{Event};
 ghost use Rattle.ring_shared.specs.Folds.{ring_after, survey_of, IsSummary, IsWritten};
 ghost use Rattle.ring_shared.specs.Holding.{IsHeld};
 ghost use Rattle.ring_replay.specs.Replays.{IsCallOf, machine_of};
@@ -13,7 +13,6 @@ use crate::summary::Summary;
 use left_right::Absorb;
 use ring_book::{Book, Resource};
 use ring_model::{Event, Op, Survey};
-use ring_replay::calm_behind;
 use ring_state::RingState;
 use std::alloc::AllocError;
 use std::marker::Model;
@@ -84,15 +83,6 @@ impl<N: Name> Shown<N> {
         ensures { result ≡ survey_of N.start self.now }
     {
         self.summary.survey()
-    }
-
-    /// The calm at the end of the list.
-    fn calm(&self) -> u64
-        ensures is { result ≡ calm_of self.now }
-        ensures few { result ≤ event_limit }
-    {
-        self.front.len();
-        self.summary.calm
     }
 
     /// Writes the summary of the list over another.
@@ -166,16 +156,15 @@ impl<N: Name> Operation<N> {
         }
     }
 
-    /// What the event that ends the book's history does to what is shown, which is that history without it.
+    /// What the event that ends the book's history does to a summary of that history without it.
     pub(crate) fn last<R: Resource + Drop>(
         book: &Book<R>,
-        shown: &Shown<N>,
         event: Event,
         front: Front<N>,
     ) -> Operation<N>
         requires held { IsHeld R.works R.first N.start N.seats N.legal book.now }
         requires call { IsCallOf N.start event.op }
-        requires one { book.now.history ≡ shown.now ++ event ∷ [] }
+        requires last { (before : List Event) × (book.now.history ≡ before ++ event ∷ []) }
         requires front { front ≡ book.now.history }
         ensures { result ≡ record { list = front; block = false } }
     {
@@ -185,7 +174,7 @@ impl<N: Name> Operation<N> {
                 machine,
                 value: book.state().get(machine),
             },
-            calm: calm_behind(shown.calm(), event.reply),
+            calm: book.calm(),
             front,
         }
     }
@@ -204,7 +193,7 @@ impl<N: Name> Operation<N> {
     {
         Operation {
             change: Change::Become(ring),
-            calm: book.survey().calm,
+            calm: book.calm(),
             front,
         }
     }

@@ -5,7 +5,7 @@ ghost use Rattle.ring_model.specs.Limits.{event_limit};
 ghost use Rattle.ring_shared.specs.Folds.{survey_from};
 
 use ring_model::Survey;
-use ring_settle::rest;
+use ring_settle::rest_of_counted;
 use ring_state::RingState;
 
 /// The ring behind so many events, and the calm there.
@@ -61,12 +61,13 @@ impl Summary {
     pub(crate) fn survey(&self) -> Survey
         ensures { result ≡ survey_from self.now.ring self.now.position self.now.calm }
     {
+        let privileged = self.ring.privileged();
         Survey {
             position: self.position,
-            privileged: self.ring.privileged(),
+            privileged,
             first: self.ring.first(),
             calm: self.calm,
-            rest: rest(&self.ring),
+            rest: rest_of_counted(&self.ring, privileged),
         }
     }
 }
