@@ -1,4 +1,5 @@
 pub mod Measuring
+pub mod Gauging
 pub mod Booleans
 pub mod GroupOrders
 pub mod OpenRuns

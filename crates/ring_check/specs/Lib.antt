@@ -7,3 +7,4 @@ pub mod Meaning
 pub mod Scan
 pub mod Replays
 pub mod Names
+pub mod Gauges

@@ -7,6 +7,7 @@
 mod answers;
 mod check;
 mod events;
+mod gauge;
 mod group_lines;
 mod laws;
 mod limits;
@@ -18,6 +19,7 @@ mod surveys;
 
 pub use answers::{CheckError, Kind, Summary};
 pub use check::check_saved;
+pub use gauge::Gauge;
 pub use laws::{answers_are_apart, legal_law, lines_law, members_law, upgrade_law};
 pub use limits::{
     FIRST_VERSION_MACHINE_LIMIT, FIRST_VERSION_VALUE_LIMIT, first_version_limits_as_defined,

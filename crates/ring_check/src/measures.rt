@@ -1,6 +1,7 @@
 //! What is told of a ring's values, by plain loops over them.
 
 ghost use Rattle.std.specs.Prelude.{◌≡◌, ℕ, ◌+◌, ◌%◌, ◌<◌, ◌≤◌, length, not, IfOk, vec_len, slice_index, slice_index_or, slice_set, true, false};
+ghost use Rattle.ring_model.specs.Limits.{value_limit};
 ghost use Rattle.ring_model.specs.Ring.{ring_with, IsRing, is_privileged, privileged_count, first_privileged, is_settled, weight, is_absent, first_value_is_prefix, lead, rest};
 
 use std::alloc::{AllocError, Global};
@@ -19,7 +20,6 @@ pub(crate) fn is_privileged(values: &[u32], i: usize) -> bool
 
 /// How many machines are privileged.
 pub(crate) fn privileged_count(values: &[u32]) -> usize
-    requires { 2 ≤ length values.now }
     ensures value { result ≡ privileged_count values.now }
     ensures within { result ≤ length values.now }
 {
@@ -47,9 +47,9 @@ pub(crate) fn first_privileged(values: &[u32]) -> usize
 }
 
 /// Each privileged machine but machine 0 counts with its distance to the end of the ring.
-fn weight(values: &[u32]) -> u64
-    requires two { 2 ≤ length values.now }
-    requires short { length values.now ≤ 65536 }
+pub(crate) fn weight(values: &[u32]) -> u64
+    requires one { 1 ≤ length values.now }
+    requires short { length values.now ≤ value_limit }
     ensures { result ≡ weight values.now }
 {
     let mut sum: u64 = 0;
@@ -62,8 +62,7 @@ fn weight(values: &[u32]) -> u64
 }
 
 /// Whether the machines with the value of machine 0 are a prefix of the ring.
-fn first_value_is_prefix(values: &[u32]) -> bool
-    requires { 2 ≤ length values.now }
+pub(crate) fn first_value_is_prefix(values: &[u32]) -> bool
     ensures { result ≡ first_value_is_prefix values.now }
 {
     for i in 1..values.len() {
@@ -76,7 +75,7 @@ fn first_value_is_prefix(values: &[u32]) -> bool
 
 /// How far the value `to` lies ahead of `from`, in steps round K.
 fn distance(from: u32, to: u32, k: u32) -> u32
-    requires small { k ≤ 65536 }
+    requires small { k ≤ value_limit }
     requires from { from < k }
     requires to { to < k }
     ensures below { result < k }
@@ -103,7 +102,7 @@ fn mark(flags: &mut Vec<bool>, place: usize)
 /// The lead is such a distance, so K flags are not needed.
 fn held_ahead(alloc: Global, values: &[u32], k: u32) -> Result<Vec<bool>, AllocError>
     requires ring { IsRing (ring_with k values.now) }
-    requires small { k ≤ 65536 }
+    requires small { k ≤ value_limit }
     ensures len { IfOk result (λ held. vec_len held ≡ length values.now) }
     ensures flags { IfOk result (λ held. (d : ℕ) → d < length values.now → is_absent values.now ((slice_index values.now 0 + d) % k) ≡ not (slice_index_or held.items d false)) }
 {
@@ -118,7 +117,7 @@ fn held_ahead(alloc: Global, values: &[u32], k: u32) -> Result<Vec<bool>, AllocE
 /// How far machine 0 has to step until no other machine has its value, and 0 where these values are a prefix.
 fn lead(alloc: Global, values: &[u32], k: u32) -> Result<u32, AllocError>
     requires ring { IsRing (ring_with k values.now) }
-    requires small { k ≤ 65536 }
+    requires small { k ≤ value_limit }
     ensures { IfOk result (λ l. l ≡ lead (ring_with k values.now)) }
 {
     if first_value_is_prefix(values) {
@@ -136,7 +135,7 @@ fn lead(alloc: Global, values: &[u32], k: u32) -> Result<u32, AllocError>
 /// An upper bound of the granted passes that are left until the ring is settled.
 pub(crate) fn rest(alloc: Global, values: &[u32], k: u32) -> Result<u64, AllocError>
     requires ring { IsRing (ring_with k values.now) }
-    requires small { k ≤ 65536 }
+    requires small { k ≤ value_limit }
     ensures { IfOk result (λ r. r ≡ rest (ring_with k values.now)) }
 {
     if privileged_count(values) == 1 {

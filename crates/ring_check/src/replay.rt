@@ -1,6 +1,7 @@
 //! A ring, replayed event by event.
 
 ghost use Rattle.std.specs.Prelude.{◌≡◌, ◌+◌, ◌<◌, ◌≤◌, ◌^◌, length, map, true, IfOk};
+ghost use Rattle.ring_model.specs.Limits.{value_limit};
 ghost use Rattle.ring_model.specs.Ring.{ring_with, IsRing};
 ghost use Rattle.ring_model.specs.History.{Step, next, IsLegal};
 ghost use Rattle.ring_model.specs.Resources.{till};
@@ -171,7 +172,7 @@ impl Replay {
     /// What a survey of the ring says at this point.
     pub(crate) fn survey(&self, alloc: Global, position: u64) -> Result<Survey, AllocError>
         requires ring { IsRing (state_of self.now).ring }
-        requires small { self.now.k ≤ 65536 }
+        requires small { self.now.k ≤ value_limit }
         ensures { IfOk result (λ s. s ≡ survey_where self.now position) }
     {
         let rest = rest(alloc, &self.values, self.k)?;
