@@ -3,10 +3,11 @@ use Rattle.std.proofs.Common.{◌≡◌, ℕ, zero, suc, ◌+◌, ◌-◌, ◌*�
 use Rattle.std.specs.Prelude.{◌&&◌}
 use Rattle.std.specs.Prelude.{replicate}
 use Rattle.std.proofs.Math.ListN.{get_or-eq_default}
-use Rattle.std.proofs.lemmas.List.{length-set, length-replicate, get_or-replicate}
+use Rattle.std.proofs.lemmas.List.{length-set, set-get_or, length-replicate, get_or-replicate}
+use Rattle.std.proofs.lemmas.Grind.{same_number_lists}
 use Rattle.std.proofs.lemmas.Bool.{cases_eq, cases_lt, cases_Bool, eq-eqb, eqb-true, ne_eqb, both_ways, cond-true, cond-false}
 use Rattle.ring_model.specs.Numbers.{every_below, sum_below, bit, count_below}
-use Rattle.ring_model.specs.Ring.{Ring, is_privileged, right_neighbour, weight_at, weight, privileged_count, is_absent}
+use Rattle.ring_model.specs.Ring.{Ring, ring_with, written, is_privileged, right_neighbour, weight_at, weight, privileged_count, is_absent}
 use Rattle.ring_model.proofs.Below.{sum_but_one, sum_but_two, sum_one_le, sum_two_le, bit_at, bit_le, count_le}
 use Rattle.ring_model.proofs.Moves.{next_is, same_value}
 use Rattle.ring_model.proofs.Weight.{pull_le, pull_same}
@@ -288,3 +289,32 @@ long_new k old new h low high long el eh =
 pub times_le : (a b c : ℕ) → a ≤ b → a * c ≤ b * c
 times_le a b zero l = omega arith
 times_le a b (suc c) l = let h = times_le a b c l in let x : a * suc c ≡ a * c + a = omega arith in let y : b * suc c ≡ b * c + b = omega arith in omega arith
+
+-- a write of the value that is there
+pub written_same : (r : Ring) (i v : ℕ) → get_or r.values i 0 ≡ v → r ≡ written r i v
+written_same r i v e = ap (ring_with r.k) (sym (ap (set r.values i) (sym e) ∙ set-get_or r.values i 0))
+
+-- the first so many values of a ring are these
+abbrev pub Agrees : ℕ → ℕ → Ring → List ℕ → Type 0
+Agrees k i r s = (r.k ≡ k) × (length r.values ≡ length s) × ((j : ℕ) → j < i → get_or r.values j 0 ≡ get_or s j 0)
+
+pub agrees_more : (k i : ℕ) (r t : Ring) (s : List ℕ) → i < length s → Agrees k i r s → t ≡ written r i (get_or s i 0) → Agrees k (i + 1) t s
+agrees_more k i r t s l a e =
+    let long = a.1 in
+    let values : t.values ≡ set r.values i (get_or s i 0) = ap (λ (x : Ring). x.values) e in (
+      ap (λ (x : Ring). x.k) e ∙ a.0,
+      ap (λ (x : List ℕ). length x) values ∙ length-set r.values i (get_or s i 0) ∙ a.1,
+      λ j lj. elim (cases_eq j i) [
+        | inl q ↦
+            ap (λ (x : List ℕ). get_or x j 0) values ∙ ap (λ x. get_or (set r.values i (get_or s i 0)) x 0) q
+            ∙ get_or-set_same r.values i (get_or s i 0) 0 (omega arith) ∙ ap (λ x. get_or s x 0) (sym q)
+        | inr ne ↦ ap (λ (x : List ℕ). get_or x j 0) values ∙ get_or-set_other r.values i j (get_or s i 0) 0 ne ∙ a.2 j (omega arith)
+      ],
+    )
+
+pub agrees_all : (k i : ℕ) (r : Ring) (s : List ℕ) → length s ≤ i → Agrees k i r s → r ≡ ring_with k s
+agrees_all k i r s l a =
+    let long = a.1 in
+    let same : r.values ≡ s = same_number_lists r.values s a.1 (λ j lj. a.2 j (omega arith)) in
+    let ek = a.0 in
+    rw (ek, same) refl

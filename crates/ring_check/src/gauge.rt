@@ -192,6 +192,30 @@ impl Gauge {
         }
     }
 
+    /// Writes a value into a machine that may have it already.
+    fn settle_on(&mut self, machine: usize, value: u32)
+        requires gauge { IsGauge self.old }
+        requires within { machine < vec_len self.old.values }
+        ensures gauge { IsGauge self.new }
+        ensures ring { ring_of self.new ≡ written (ring_of self.old) machine value }
+    {
+        if self.value(machine) != value {
+            self.write(machine, value);
+        }
+    }
+
+    /// Goes over to other values of as many machines: one write for each that differs.
+    pub fn follow(&mut self, values: &[u32])
+        requires gauge { IsGauge self.old }
+        requires same { length values.now ≡ length (ring_of self.old).values }
+        ensures gauge { IsGauge self.new }
+        ensures ring { ring_of self.new ≡ ring_with (ring_of self.old).k values.now }
+    {
+        for i in 0..values.len() {
+            self.settle_on(i, values[i]);
+        }
+    }
+
     /// How far machine 0 has to step until no other machine holds its value, and 0 if these values are a prefix.
     fn lead(&self) -> u64
         requires { IsGauge self.now }

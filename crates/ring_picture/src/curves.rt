@@ -1,15 +1,15 @@
 //! The curves of the rest and of the calm.
 
-ghost use Rattle.std.specs.Prelude.{◌≡◌, ◌+◌, ◌<◌, ◌≤◌, ◌^◌, vec_len};
+ghost use Rattle.std.specs.Prelude.{◌≡◌, ◌+◌, ◌<◌, ◌≤◌, ◌^◌, length, vec_len};
 ghost use Rattle.text_lines.specs.Writing.{Writes};
-ghost use Rattle.ring_model.specs.Limits.{machine_limit};
 ghost use Rattle.ring_model.specs.Ring.{ring_with};
 ghost use Rattle.ring_saved.specs.Content.{block_of};
+ghost use Rattle.ring_check.specs.Gauges.{ring_of, IsGauge};
 ghost use Rattle.ring_picture.specs.Picture.{ring_shown, point, rest_points, calm_points};
 
 use crate::columns::{calm_on, calm_to, go_on};
 use itoa::Buffer;
-use ring_model::plain::rest;
+use ring_check::Gauge;
 use ring_saved::SavedRing;
 use std::io::Write;
 use text_lines::{WriteFault, put_all};
@@ -31,17 +31,19 @@ pub(crate) fn put_rests<W: Write>(
     from: usize,
     columns: u32,
     values: &mut Vec<u32>,
+    gauge: &mut Gauge,
 ) -> Result<(), WriteFault>
     requires some { 0 < ring.now.k }
-    requires one { 1 ≤ vec_len values.old }
-    requires few { vec_len values.old ≤ machine_limit }
+    requires gauge { IsGauge gauge.old }
+    requires same { (ring_of gauge.old).k ≡ ring.now.k }
+    requires len { vec_len values.old ≡ length (ring_of gauge.old).values }
     requires ring { ring_with ring.now.k values.old.items ≡ ring_shown (block_of ring.now) from }
     requires room { from + columns < 2 ^ 63 }
     ensures { Writes (W.contents out.old) (W.contents out.new) result (rest_points (block_of ring.now) from columns) }
 {
     for column in 0..columns {
-        let rest = rest(ring.k, values);
-        match put_point(out, column, rest) {
+        gauge.follow(values);
+        match put_point(out, column, gauge.rest()) {
             Ok(()) => {}
             Err(fault) => return Err(fault),
         }

@@ -6,6 +6,7 @@ ghost use Rattle.text_lines.specs.Writing.{Wrote, Writes};
 ghost use Rattle.ring_model.specs.Limits.{machine_limit};
 ghost use Rattle.ring_model.specs.Ring.{ring_with, bound};
 ghost use Rattle.ring_saved.specs.Content.{block_of};
+ghost use Rattle.ring_check.specs.Gauges.{ring_of, IsGauge};
 ghost use Rattle.ring_picture.specs.Picture.{ring_shown, upper_part, marks_part, lower_part, picture};
 
 use crate::columns::{bring_back, values_at};
@@ -13,6 +14,7 @@ use crate::curves::{put_calms, put_rests};
 use crate::frame::{put_axes, put_curves_opening, put_rows_opening, put_title};
 use crate::marks::put_marks;
 use crate::rows::put_rows;
+use ring_check::Gauge;
 use ring_model::plain::bound;
 use ring_saved::SavedRing;
 use std::alloc::Global;
@@ -82,16 +84,19 @@ fn put_lower<W: Write>(
     from: usize,
     columns: u32,
     values: &mut Vec<u32>,
+    gauge: &mut Gauge,
 ) -> Result<(), WriteFault>
     requires some { 0 < ring.now.k }
     requires few { ring.now.n ≤ machine_limit }
-    requires len { vec_len values.old ≡ ring.now.n }
+    requires gauge { IsGauge gauge.old }
+    requires same { (ring_of gauge.old).k ≡ ring.now.k }
+    requires len { vec_len values.old ≡ length (ring_of gauge.old).values }
     requires ring { ring_with ring.now.k values.old.items ≡ ring_shown (block_of ring.now) from }
     requires room { from + columns < 2 ^ 63 }
     ensures { Writes (W.contents out.old) (W.contents out.new) result (lower_part (block_of ring.now) from columns) }
 {
     put_curves_opening(out, columns, bound(ring.n))?;
-    put_rests(out, ring, from, columns, values)?;
+    put_rests(out, ring, from, columns, values, gauge)?;
     put(
         out,
         b"\"/>\n<polyline stroke=\"#0a7d4f\" stroke-width=\"1.5\" stroke-dasharray=\"5 3\" points=\"",
@@ -111,12 +116,15 @@ fn put_picture<W: Write>(
     count: u32,
     base: &[u32],
     values: &mut Vec<u32>,
+    gauge: &mut Gauge,
 ) -> Result<(), WriteFault>
     requires some { 0 < ring.now.k }
     requires few { ring.now.n ≤ machine_limit }
     requires same { length base.now ≡ ring.now.n }
     requires len { vec_len values.old ≡ ring.now.n }
     requires ring { ring_with ring.now.k base.now ≡ ring_shown (block_of ring.now) from }
+    requires gauge { IsGauge gauge.old }
+    requires measured { ring_of gauge.old ≡ ring_with ring.now.k base.now }
     requires columns { count + 1 < 2 ^ 32 }
     requires room { from + count + 1 < 2 ^ 63 }
     ensures { Writes (W.contents out.old) (W.contents out.new) result (picture (block_of ring.now) from count) }
@@ -124,7 +132,7 @@ fn put_picture<W: Write>(
     put_upper(out, ring, from, count, base, values)?;
     put_both_marks(out, ring, from, count)?;
     bring_back(values, base);
-    put_lower(out, ring, from, count + 1, values)
+    put_lower(out, ring, from, count + 1, values, gauge)
 }
 
 /// Writes the picture of a ring from behind its first `from` events on, for `count` events: a column for each place from
@@ -132,7 +140,7 @@ fn put_picture<W: Write>(
 ///
 /// # Errors
 ///
-/// `OutOfMemory` where there is no room for the ring's values, and nothing is written then. `Write` at the first error of
+/// `OutOfMemory` if there is no room for the ring's values and a count of each of its K values, and nothing is written then. `Write` at the first error of
 /// the writer, an interruption too, or write of 0 bytes: the writer then holds a beginning of the picture, but not all of
 /// it, behind what it held.
 pub fn write_picture<W: Write>(
@@ -156,7 +164,10 @@ pub fn write_picture<W: Write>(
     let Ok(mut values) = Vec::from_slice(alloc, &base) else {
         return Err(PictureFault::OutOfMemory);
     };
-    match put_picture(out, ring, from, count, &base, &mut values) {
+    let Ok(mut gauge) = Gauge::new(alloc, ring.k, &base) else {
+        return Err(PictureFault::OutOfMemory);
+    };
+    match put_picture(out, ring, from, count, &base, &mut values, &mut gauge) {
         Ok(()) => Ok(()),
         Err(_) => Err(PictureFault::Write),
     }
