@@ -132,13 +132,19 @@ fn lead(alloc: Global, values: &[u32], k: u32) -> Result<u32, AllocError>
     Ok(k)
 }
 
-/// An upper bound of the granted passes that are left until the ring is settled.
-pub(crate) fn rest(alloc: Global, values: &[u32], k: u32) -> Result<u64, AllocError>
+/// An upper bound of the granted passes that are left until the ring is settled, of which so many machines are privileged.
+pub(crate) fn rest(
+    alloc: Global,
+    values: &[u32],
+    k: u32,
+    privileged: usize,
+) -> Result<u64, AllocError>
     requires ring { IsRing (ring_with k values.now) }
     requires small { k ≤ value_limit }
+    requires counted { privileged ≡ privileged_count values.now }
     ensures { IfOk result (λ r. r ≡ rest (ring_with k values.now)) }
 {
-    if privileged_count(values) == 1 {
+    if privileged == 1 {
         return Ok(0);
     }
     let lead = lead(alloc, values, k)?;

@@ -175,10 +175,11 @@ impl Replay {
         requires small { self.now.k ≤ value_limit }
         ensures { IfOk result (λ s. s ≡ survey_where self.now position) }
     {
-        let rest = rest(alloc, &self.values, self.k)?;
+        let privileged = privileged_count(&self.values);
+        let rest = rest(alloc, &self.values, self.k, privileged)?;
         Ok(Survey {
             position,
-            privileged: privileged_count(&self.values) as u32,
+            privileged: privileged as u32,
             first: first_privileged(&self.values) as u32,
             calm: self.calm,
             rest,
