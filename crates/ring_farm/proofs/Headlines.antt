@@ -1,19 +1,13 @@
 -- From what a run of one ring leaves to what is promised of it.
-use Rattle.std.proofs.Common.{◌≡◌, ℕ, ◌<◌, ◌≤◌, Bool, true, cond, List, [], ◌∷◌, length, map, Some, slice_get, get_or, ap, sym, ◌∙◌, refl, subst, arith, eqb, ⊎_elim}
-use Rattle.std.specs.Prelude.{◌==◌, All, false, filter, unwrap_or, IfOk, Option, None, Result, Ok}
-use Rattle.std.proofs.lemmas.Bool.{eq-eqb}
-use Rattle.std.proofs.lemmas.Bool.Decides.{nat_tests}
-use Rattle.std.proofs.lemmas.List.Elements.{All-nil, All-cons, All-head, All-tail}
+use Rattle.std.proofs.Common.{◌≡◌, ℕ, ◌<◌, ◌≤◌, Bool, true, cond, List, [], ◌∷◌, length, map, Some, slice_get, get_or, ap, sym, ◌∙◌, refl, subst, arith, ⊎_elim}
+use Rattle.std.specs.Prelude.{false, filter, unwrap_or, IfOk, Option, None, Result, Ok}
 use Rattle.std.proofs.lemmas.Option.{slice_get_within, get_or_from_slice_get, slice_get_cases}
 use Rattle.ring_model.specs.Ring.{Ring}
-use Rattle.ring_model.specs.History.{opening}
-use Rattle.ring_model.specs.Groups.{IsAlone, IsHistory}
-use Rattle.ring_model.specs.Surveys.{calm}
+use Rattle.ring_model.specs.History.{IsLegal, opening}
 use Rattle.ring_model.specs.Logs.{Fits, calls_of, receipts_of}
 use Rattle.ring_model.specs.Resources.{till}
 use Rattle.ring_model.specs.declared.events.Op.{Op}
 use Rattle.ring_model.specs.declared.events.Op.TheVariants as op
-use Rattle.ring_model.specs.declared.events.Event.{Event}
 use Rattle.ring_model.specs.declared.events.Entry.{Entry}
 use Rattle.ring_model.specs.declared.events.Entry.TheVariants as entry
 use Rattle.ring_settings.specs.declared.actions.Action.{Action}
@@ -29,14 +23,14 @@ use Rattle.ring_farm.specs.declared.faults.FarmError.{FarmError}
 use Rattle.ring_farm.proofs.Refusals.{ok_place}
 use Rattle.ring_farm.specs.Plans.{actions_of, part, planned, planned_calls, calls_read, action_of_op, is_call}
 use Rattle.ring_farm.specs.Runs.{IsRun, ring_of_data}
-use Rattle.ring_farm.specs.Headline.{EachRing, EachDone, IsFarmRing, IsFarmOf, IsOneHistory, HoldsCalls, HasLogs, AreRight, IsRepaired, TakesTurns, HasReceipts, HasNoMembers}
+use Rattle.ring_farm.specs.Headline.{EachRing, EachDone, IsFarmRing, IsFarmOf, IsOneHistory, HoldsCalls, HasLogs, AreRight}
 
 -- the run of a ring of the settings
 abbrev pub RunOf : List Plan → ℕ → RingData → RingOutcome → Type 0
 RunOf plans ring d r = IsRun plans ring (ring_of_data d) r.book r.logs.items
 
-one_history : (plans : List Plan) (ring : ℕ) (d : RingData) (r : RingOutcome) → RunOf plans ring d r → IsOneHistory ring d r
-one_history plans ring d r run = (run.begins, subst (λ (s : Ring). IsHistory till (opening s 0) r.book.history) run.begins (run.book.legal, run.book.whole))
+one_history : (plans : List Plan) (ring : ℕ) (d : RingData) (r : RingOutcome) → RunOf plans ring d r → IsOneHistory d r
+one_history plans ring d r run = (run.begins, subst (λ (s : Ring). IsLegal till (opening s 0) r.book.history) run.begins run.book.legal)
 
 -- what reads as a call, or as none
 abbrev is_read_call : Option Action → Bool
@@ -130,90 +124,36 @@ has_logs settings plans ring d r run are count = record {
 are_right : (plans : List Plan) (ring : ℕ) (d : RingData) (r : RingOutcome) → RunOf plans ring d r → AreRight d r
 are_right plans ring d r run = run.fits
 
-one_is : (n : ℕ) → eqb n 1 ≡ true → n ≡ 1
-one_is n e = grind (arith, nat_tests)
-
-is_repaired : (plans : List Plan) (ring : ℕ) (d : RingData) (r : RingOutcome) → RunOf plans ring d r → IsRepaired d r
-is_repaired plans ring d r run q within calm = one_is _ (run.settlement.calm_settles q within calm)
-
-takes_turns : (plans : List Plan) (ring : ℕ) (d : RingData) (r : RingOutcome) → RunOf plans ring d r → TakesTurns d r
-takes_turns plans ring d r run p q order within quiet calm =
-    (run.settlement.stays_round p q order within quiet (run.settlement.calm_settles p (omega arith) calm)).1
-
-has_receipts : (plans : List Plan) (ring : ℕ) (d : RingData) (r : RingOutcome) → RunOf plans ring d r → HasReceipts r
-has_receipts plans ring d r run seat l at =
-    let long = run.count in
-    let within = slice_get_within r.logs.items seat l at in
-    let found = log_at plans ring d r seat run (omega arith) in
-    sym (ap length (receipts_are plans ring d r seat found.0 l run found.2 at))
-
--- events that read as actions are no members'
-abbrev AreRead : ℕ → List Event → Type 0
-AreRead ring h = (xs : List Action) × (calls_read ring h ≡ map (λ (a : Action). Some a) xs)
-
-read_head : (ring : ℕ) (e : Event) (h : List Event) → AreRead ring (e ∷ h) → IsAlone e.op × AreRead ring h
-read_head ring e h ([], is) = absurd (cc is)
-read_head ring e h (a ∷ xs, is) = (go e.op (cc is), (xs, cc is))
-  where
-    go : (o : Op) → action_of_op ring o ≡ Some a → IsAlone o
-    go (op.Pass machine order) q = tt
-    go (op.Member machine order left) q = absurd (cc q)
-    go (op.Corrupt machine value) q = tt
-
-all_alone : (n ring : ℕ) (h : List Event) → AreOfSeats n h → ((seat : ℕ) → seat < n → AreRead ring (calls_of seat h)) → All (λ (e : Event). IsAlone e.op) h
-all_alone n ring [] seats read = All-nil (λ (e : Event). IsAlone e.op)
-all_alone n ring (e ∷ h) seats read =
-    let here : e.seat < n = All-head (λ (d : Event). d.seat < n) e h seats in
-    let mine : AreRead ring (e ∷ calls_of e.seat h) =
-    subst (λ (b : Bool). AreRead ring (cond b (e ∷ calls_of e.seat h) (calls_of e.seat h))) (eq-eqb e.seat e.seat refl) (read e.seat here) in
-    All-cons (λ (d : Event). IsAlone d.op) e h (read_head ring e (calls_of e.seat h) mine).0
-    (all_alone n ring h (All-tail (λ (d : Event). d.seat < n) e h seats) (λ seat within. later seat (e.seat == seat) refl (read seat within)))
-  where
-    later : (seat : ℕ) (b : Bool) → (e.seat == seat) ≡ b → AreRead ring (calls_of seat (e ∷ h)) → AreRead ring (calls_of seat h)
-    later seat true q r = (read_head ring e (calls_of seat h) (subst (λ (c : Bool). AreRead ring (cond c (e ∷ calls_of seat h) (calls_of seat h))) q r)).1
-    later seat false q r = subst (λ (c : Bool). AreRead ring (cond c (e ∷ calls_of seat h) (calls_of seat h))) q r
-
-has_no_members : (settings : SettingsData) (ring : ℕ) (d : RingData) (r : RingOutcome) → HoldsCalls settings ring d r → HasNoMembers r
-has_no_members settings ring d r holds =
-    all_alone (length settings.seats) ring r.book.history holds.0 (λ seat within. (filter is_call (part ring (plan_of settings seat)), holds.1 seat within))
-
 -- a run of a ring keeps all that is promised of it
 outcome_of : (settings : SettingsData) (plans : List Plan) (ring : ℕ) (d : RingData) (r : RingOutcome) → RunOf plans ring d r → ArePlansOf settings plans → length plans ≡ length settings.seats →
-    length d.start ≡ d.size.n → IsFarmRing settings ring d r
-outcome_of settings plans ring d r run are count size = record {
+    IsFarmRing settings ring d r
+outcome_of settings plans ring d r run are count = record {
   one_history = one_history plans ring d r run;
   calls = holds_calls settings plans ring d r run are count;
   logs = has_logs settings plans ring d r run are count;
   right = are_right plans ring d r run;
-  repaired = is_repaired plans ring d r run;
-  turns = takes_turns plans ring d r run;
-  size = size;
-  settlement = run.settlement;
-  receipts = has_receipts plans ring d r run;
-  alone = has_no_members settings ring d r (holds_calls settings plans ring d r run are count);
 }
 
 -- each ring that was not refused has its run
-pub each_done : (plans : List Plan) (settings : SettingsData) (results : List (Result RingOutcome FarmError)) → IsSettings settings → ArePlansOf settings plans → length plans ≡ length settings.seats →
+pub each_done : (plans : List Plan) (settings : SettingsData) (results : List (Result RingOutcome FarmError)) → ArePlansOf settings plans → length plans ≡ length settings.seats →
     ((i : ℕ) (d : Result RingOutcome FarmError) → i < length settings.rings → IfOk (get_or results i d) (λ (r : RingOutcome). IsRun plans i (ring_of_data (ring_at settings i)) r.book r.logs.items)) →
-    EachDone settings results
-each_done plans settings results allowed are count each i d res at_d at_r r is =
+    EachDone (IsFarmRing settings) settings results
+each_done plans settings results are count each i d res at_d at_r r is =
     let within = slice_get_within settings.rings i d at_d in
     let there : slice_get results i ≡ Some (Ok r) = at_r ∙ ap (λ (x : Result RingOutcome FarmError). Some x) is in
     let run : IsRun plans i (ring_of_data (ring_at settings i)) r.book r.logs.items = subst (λ (x : Result RingOutcome FarmError). IfOk x (λ (r : RingOutcome). IsRun plans i (ring_of_data (ring_at settings i)) r.book r.logs.items))
     (get_or_from_slice_get results i (Ok r) (Ok r) there) (each i (Ok r) within) in
     let same : ring_at settings i ≡ d = ap (λ (x : Option RingData). unwrap_or x (record { size = record { n = 0; k = 0 }; start = [] })) at_d in
     outcome_of settings plans i d r (subst (λ (x : RingData). IsRun plans i (ring_of_data x) r.book r.logs.items) same run) are count
-    (subst (λ (x : RingData). length x.start ≡ x.size.n) (get_or_from_slice_get settings.rings i d d at_d) (allowed.rings i d within).one_each)
 
 -- where no ring was refused, each has its outcome
-pub each_ring : (settings : SettingsData) (results : List (Result RingOutcome FarmError)) (o : Outcome) → EachDone settings results → results ≡ map (λ r. Ok r) o.rings.items →
+pub each_ring : (settings : SettingsData) (results : List (Result RingOutcome FarmError)) (o : Outcome) → EachDone (IsFarmRing settings) settings results → results ≡ map (λ r. Ok r) o.rings.items →
     EachRing (IsFarmRing settings) settings o
 each_ring settings results o done is i d r at_d at_r = done i d (Ok r) at_d (ok_place results o.rings.items i r is at_r) r refl
 
 -- and all of them are what the farm hands out
 pub farm_of : (settings : SettingsData) (results : List (Result RingOutcome FarmError)) (o : Outcome) → IsSettings settings → length results ≡ length settings.rings →
-    EachDone settings results → results ≡ map (λ r. Ok r) o.rings.items → IsFarmOf settings o
+    EachDone (IsFarmRing settings) settings results → results ≡ map (λ r. Ok r) o.rings.items → IsFarmOf settings o
 farm_of settings results o allowed long done is =
     let as_result : RingOutcome → Result RingOutcome FarmError = λ r. Ok r in
     record {

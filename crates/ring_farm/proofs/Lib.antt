@@ -2,4 +2,5 @@ pub mod Pairing
 pub mod Refusals
 pub mod Possible
 pub mod Headlines
+pub mod Lawful
 pub mod OneOutcome

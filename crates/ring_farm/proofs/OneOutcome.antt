@@ -1,5 +1,5 @@
 -- What a farm's logs follow from.
-use Rattle.std.proofs.Common.{◌≡◌, ℕ, ◌+◌, ◌<◌, List, [], ◌∷◌, length, get_or, Some, slice_get, refl, ap, sym, ◌∙◌, subst}
+use Rattle.std.proofs.Common.{◌≡◌, ℕ, ◌+◌, List, [], ◌∷◌, Some, slice_get, refl, ap, sym, ◌∙◌, subst}
 use Rattle.std.proofs.lemmas.Option.{same_Some, slice_get_within, get_or_from_slice_get}
 use Rattle.std.proofs.lemmas.List.Elements.{All-get_or}
 use Rattle.ring_model.specs.History.{Works, State, opening}
@@ -53,7 +53,7 @@ logs_alike w a h ring front back (entry.Survey s ∷ ls) (entry.Survey t ∷ ms)
     ap (λ (x : Survey). entry.Survey x ∷ ls) one ∙ ap (λ (xs : List Entry). entry.Survey t ∷ xs) rest
 
 -- the log of a seat is right
-right_at : (d : RingData) (r : RingOutcome) (seat : ℕ) (l : Log) → AreRight d r → slice_get r.logs.items seat ≡ Some l →
+pub right_at : (d : RingData) (r : RingOutcome) (seat : ℕ) (l : Log) → AreRight d r → slice_get r.logs.items seat ≡ Some l →
     Fits till (opening (ring_of_data d) 0) r.book.history l.seat l.entries.items
 right_at d r seat l right at =
     let FitsThere : Log → Type 0 = λ (x : Log). Fits till (opening (ring_of_data d) 0) r.book.history x.seat x.entries.items in

@@ -8,7 +8,8 @@ ghost use Rattle.ring_settings.specs.Contents.{ring_at, sizes_of, plan_of, plans
 ghost use Rattle.ring_settings.specs.Views.{plan_actions};
 ghost use Rattle.ring_farm.specs.Plans.{IsShort, IsPlanFor};
 ghost use Rattle.ring_farm.specs.Runs.{IsRun, ring_of_data, first_refusal};
-ghost use Rattle.ring_farm.specs.Headline.{EachDone, IsFarmOf};
+ghost use Rattle.ring_farm.specs.Headline.{EachDone, IsFarmRing, IsFarmOf};
+ghost use Rattle.ring_farm.specs.Consequences.{IsLawfulAt, IsLawfulFarm};
 
 use crate::faults::FarmError;
 use crate::gates::Gate;
@@ -119,7 +120,8 @@ pub fn run_rings<G: Gate + Sync, W: Threads + Wait + Sync>(
     gate: &G,
 ) -> Result<Vec<Result<RingOutcome, FarmError>>, AllocError>
     ensures count { IfOk result (λ v. vec_len v ≡ length settings.now.rings) }
-    ensures each { IfOk result (λ v. EachDone settings.now v.items) }
+    ensures each { IfOk result (λ v. EachDone (IsFarmRing settings.now) settings.now v.items) }
+    ensures lawful { IfOk result (λ v. EachDone IsLawfulAt settings.now v.items) }
 {
     let plans = plans(alloc, settings)?;
     run_each(rt, alloc, gate, settings, &plans)
@@ -132,8 +134,9 @@ pub fn run_rings<G: Gate + Sync, W: Threads + Wait + Sync>(
 /// every reply and survey is that ring's at its point; and wherever 3n(n-1)/2 granted passes have followed
 /// the last corruption, exactly one machine is privileged, and grants go round the ring until the next one.
 /// The record `IsFarmOf` says it part by part: that there is one outcome for each ring of the settings (`count`), and
-/// of each (`IsFarmRing`): `one_history`, `calls` and `logs` by the plans, `right` receipts and surveys, `repaired`,
-/// `turns`, the `size` of the settings, the laws of `settlement` from every place, as many `receipts` as calls, and every call `alone`, no member of a group.
+/// of each (`IsFarmRing`): `one_history`, `calls` and `logs` by the plans, and `right` receipts and surveys. What follows from it stands
+/// in `IsLawfulFarm`, of each ring: `repaired`, `turns`, the laws of `settlement` and `progress` from every place, the `size` of
+/// the settings, a `whole` history with every call `alone`, and as many `receipts` as calls.
 ///
 /// # Errors
 ///
@@ -149,6 +152,7 @@ pub fn run_farm<G: Gate + Sync, W: Threads + Wait + Sync>(
     gate: &G,
 ) -> Result<Outcome, FarmError>
     ensures headline { IfOk result (IsFarmOf settings.now) }
+    ensures lawful { IfOk result (IsLawfulFarm settings.now) }
 {
     let Ok(rings) = Vec::with_capacity(alloc, settings.ring_count()) else {
         return Err(FarmError::OutOfMemory);

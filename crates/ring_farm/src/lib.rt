@@ -14,6 +14,6 @@ mod workers;
 pub use farms::{run_farm, run_rings};
 pub use faults::FarmError;
 pub use gates::{Gate, Open};
-pub use laws::logs_follow;
+pub use laws::{farms_are_lawful, logs_follow};
 pub use outcomes::{Outcome, RingOutcome};
 pub use ring_shared::Log;

@@ -16,6 +16,7 @@ use Rattle.ring_farm.specs.declared.outcomes.Outcome.{Outcome}
 use Rattle.ring_farm.specs.declared.outcomes.RingOutcome.{RingOutcome}
 use Rattle.ring_farm.specs.Runs.{ring_of_data}
 use Rattle.ring_farm.specs.Headline.{IsFarmRing, IsFarmOf}
+use Rattle.ring_farm.proofs.Lawful.{is_whole}
 use Rattle.ring_text.specs.Written.{IsRightRun, OutcomeIsLegal, OutcomeIsRight}
 use Rattle.ring_text.proofs.WrittenTexts.{written_is_legal, written_is_right}
 
@@ -38,7 +39,7 @@ promised_run settings ring d r is most farm =
       ring = allowed.ring;
       most_machines = allowed.most_machines;
       most = allowed.most;
-      legal = subst (λ (s : Ring). IsHistory till (opening s 0) r.book.history) start farm.one_history.1;
+      legal = subst (λ (s : Ring). IsHistory till (opening s 0) r.book.history) start (farm.one_history.1, is_whole settings ring d r farm);
       few = omega arith;
       by_number = λ seat l at. (farm.logs.each seat l at).0;
       seats = subst (λ (k : ℕ). AreOfSeats k r.book.history) (sym count) farm.calls.0;
