@@ -17,7 +17,9 @@ but only where the history is legal. Then it prints the sums over all rings, as 
 
 Example:
   $ ring_tool picture saved.txt ring.svg
-  legal rings 1 events 3 granted 2 corrupted 0 surveys 1";
+  legal rings 1 events 3 granted 2 corrupted 0 surveys 1
+
+Exit status: 0 where PICTURE was written, 1 where FILE is not legal or a file fails, 2 where the words cannot be read.";
 
 /// A number behind a word with two dashes, which may be left out.
 fn number_word<'a>(alloc: Global, name: &'a str, value: &'a str, help: &'a str) -> Arg<'a> {
