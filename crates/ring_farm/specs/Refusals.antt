@@ -2,6 +2,8 @@
 use Rattle.std.specs.Prelude.{◌≡◌, ◌⊎◌, Option, Some, None}
 use Rattle.ring_book.specs.declared.events.BookError.{BookError}
 use Rattle.ring_book.specs.declared.events.BookError.TheVariants as book
+use Rattle.ring_shared.specs.declared.closing.CloseReason.{CloseReason}
+use Rattle.ring_shared.specs.declared.closing.CloseReason.TheVariants as closing
 use Rattle.ring_shared.specs.declared.rings.OpenReason.{OpenReason}
 use Rattle.ring_shared.specs.declared.rings.OpenReason.TheVariants as reason
 use Rattle.ring_farm.specs.declared.faults.FarmError.{FarmError}
@@ -21,6 +23,12 @@ told_as book.OutOfMemory = farm.OutOfMemory
 abbrev pub told_of : OpenReason → FarmError
 told_of reason.OutOfMemory = farm.OutOfMemory
 told_of reason.NoSeat = farm.NoSeat
+
+-- why a ring was not closed well, as a farm tells it
+abbrev pub told_of_close : CloseReason → FarmError
+told_of_close closing.SeatsMissing = farm.Mismatch
+told_of_close closing.Mismatch = farm.Mismatch
+told_of_close closing.OutOfMemory = farm.OutOfMemory
 
 -- what a call of a ring is refused for
 abbrev pub IsCallFault : FarmError → Type 0

@@ -11,7 +11,7 @@ ghost use Rattle.ring_farm.specs.Runs.{IsRun, ring_of_data, first_refusal};
 ghost use Rattle.ring_farm.specs.Headline.{EachDone, IsFarmRing, IsFarmOf};
 ghost use Rattle.ring_farm.specs.Consequences.{IsLawfulAt, IsLawfulFarm};
 
-use crate::faults::FarmError;
+use crate::faults::{FarmError, want_of_memory};
 use crate::gates::Gate;
 use crate::outcomes::{Outcome, RingOutcome};
 use crate::rings::run_ring;
@@ -155,10 +155,10 @@ pub fn run_farm<G: Gate + Sync, W: Threads + Wait + Sync>(
     ensures lawful { IfOk result (IsLawfulFarm settings.now) }
 {
     let Ok(rings) = Vec::with_capacity(alloc, settings.ring_count()) else {
-        return Err(FarmError::OutOfMemory);
+        return Err(want_of_memory());
     };
     let Ok(results) = run_rings(rt, alloc, settings, gate) else {
-        return Err(FarmError::OutOfMemory);
+        return Err(want_of_memory());
     };
     collect(results, rings)
 }

@@ -27,6 +27,13 @@ pub enum FarmError {
     OutOfMemory,
 }
 
+/// The refusal for want of memory.
+pub(crate) fn want_of_memory() -> FarmError
+    ensures { result ≡ FarmError.OutOfMemory }
+{
+    FarmError::OutOfMemory
+}
+
 /// The first of two faults.
 pub(crate) fn first_fault(fault: Option<FarmError>, found: Option<FarmError>) -> Option<FarmError>
     ensures is { result ≡ first_of fault found }

@@ -4,7 +4,7 @@ ghost use Rattle.ring_model.specs.Limits.{seat_limit};
 ghost use Rattle.ring_model.specs.History.{opening};
 ghost use Rattle.ring_shared.specs.Holding.{MeansLegal};
 ghost use Rattle.ring_farm.specs.Plans.{IsShort, IsPlanOn};
-ghost use Rattle.ring_farm.specs.Refusals.{told_of};
+ghost use Rattle.ring_farm.specs.Refusals.{told_of, told_of_close};
 ghost use Rattle.ring_farm.specs.Runs.{IsRun};
 
 use crate::faults::FarmError;
@@ -60,10 +60,7 @@ fn run_named<N: Name + Send + Sync, G: Gate + Sync, W: Threads + Wait + Sync>(
     };
     match ring.close(rt, alloc, seats) {
         Ok(Closed { book, logs }) => Ok(RingOutcome { book, logs }),
-        Err(fault) => Err(match fault.reason {
-            CloseReason::OutOfMemory => FarmError::OutOfMemory,
-            CloseReason::SeatsMissing | CloseReason::Mismatch => FarmError::Mismatch,
-        }),
+        Err(fault) => Err(refusal_of_close(fault.reason)),
     }
 }
 
@@ -74,6 +71,16 @@ fn refusal_of(reason: OpenReason) -> FarmError
     match reason {
         OpenReason::OutOfMemory => FarmError::OutOfMemory,
         OpenReason::NoSeat => FarmError::NoSeat,
+    }
+}
+
+/// What a farm is refused for where a ring was not closed well.
+fn refusal_of_close(reason: CloseReason) -> FarmError
+    ensures { result ≡ told_of_close reason }
+{
+    match reason {
+        CloseReason::OutOfMemory => FarmError::OutOfMemory,
+        CloseReason::SeatsMissing | CloseReason::Mismatch => FarmError::Mismatch,
     }
 }
 

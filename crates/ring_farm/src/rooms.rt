@@ -78,7 +78,8 @@ fn add_plan(rooms: &mut Rooms, seat: usize, plan: &Plan) {
     }
 }
 
-/// The room that each ring needs for these plans, one for each seat.
+/// The room that each ring needs for these plans, one for each seat. Nothing is promised of these counts: a call with no room
+/// left asks for memory itself.
 pub(crate) fn rooms_for(plans: &[Plan]) -> Rooms {
     let none = Room {
         events: 0,
