@@ -63,13 +63,13 @@ try_largest() {
 }
 
 # a test of a crate, proved and built before, by its full name: it makes a request of just MARK bytes, calls that take no memory,
-# and a request of a byte more; it has to pass with each request between the two refused
+# and a request of a byte more; it has to pass with each request between the two refused, and there may be none
 try_mark() {
-    rm -f "$mark"
+    rm -f "$mark" "$mark-between"
     status=0
-    REFUSED_FROM=1234567 REFUSED_MARK=$mark LD_PRELOAD=$out/refuse_memory.so "$top/crates/$1/out/$1_tests" "$2" >"$out/refused.txt" 2>&1 || status=$?
-    if [ "$status" != 0 ] || [ ! -e "$mark" ]; then
-        echo "$1 $2: not passed with each request from its mark on refused, or no mark"
+    REFUSED_FROM=1234567 REFUSED_MARK=$mark REFUSED_BETWEEN=$mark-between LD_PRELOAD=$out/refuse_memory.so "$top/crates/$1/out/$1_tests" "$2" >"$out/refused.txt" 2>&1 || status=$?
+    if [ "$status" != 0 ] || [ ! -e "$mark" ] || [ -e "$mark-between" ]; then
+        echo "$1 $2: not passed with each request from its mark on refused, or no mark, or a request between its marks"
         tail -1 "$out/refused.txt"
         row "each request from a mark on refused: $1 $2" 1 1
         failed=1

@@ -117,6 +117,10 @@ impl<N: Name, R: Resource + Drop> OpenFault<N, R> {
 ///
 /// A pass, a group pass or a corruption waits for the lock; what it then does is one critical section. A survey and a
 /// glance wait for nobody.
+///
+/// What a pass, a group pass, a corruption and `close` promise holds if they return. Each returns once it has the lock and
+/// those that look have left the copy that is not shown: its loops end at their first turn, since whoever holds the lock
+/// has seen the whole list of events, and since the places for what is shown are taken when the ring is opened.
 pub struct Ring<N: Name, R: Resource + Drop> {
     pub(crate) shared: Mutex<Locked<N, R>>,
     pub(crate) seats: u32,
@@ -273,7 +277,7 @@ impl<N: Name, R: Resource + Drop> Ring<N, R> {
             seats: count,
             opened,
         } = draft;
-        book.history();
+        book.history(); // says: the book is one
         let (head, front) = opened.named::<N>();
         match seated(alloc, &front, book.start(), count) {
             Ok((writer, seats)) => {
@@ -396,7 +400,7 @@ impl<N: Name, R: Resource + Drop> Ring<N, R> {
         ensures calm { IfOk result (λ s. bound (length N.start.values) ≤ s.calm → (s.privileged ≡ 1) × (s.rest ≡ 0)) }
         ensures err { OnErr result (seat.new ≡ seat.old) }
     {
-        let _ = &self.shared;
+        let _ = &self.shared; // says: what the ring's name calls legal is a history of the one-thread ring
         let survey = seat.survey()?;
         Ok(survey)
     }
@@ -412,7 +416,7 @@ impl<N: Name, R: Resource + Drop> Ring<N, R> {
         ensures later { IsPrefix seat.old.seen seat.new.seen }
         ensures calm { bound (length N.start.values) ≤ result.calm → (result.privileged ≡ 1) × (result.rest ≡ 0) }
     {
-        let _ = &self.shared;
+        let _ = &self.shared; // says: what the ring's name calls legal is a history of the one-thread ring
         seat.glance()
     }
 }

@@ -159,6 +159,15 @@ impl<N: Name> Seat<N> {
         self.number
     }
 
+    /// Of what two seats of one ring's name have seen the shorter begins the longer. It changes neither: it is called
+    /// for its clauses.
+    pub fn compare(&self, other: &Seat<N>)
+        ensures shorter { length self.now.seen ≤ length other.now.seen → IsPrefix self.now.seen other.now.seen }
+        ensures longer { length other.now.seen ≤ length self.now.seen → IsPrefix other.now.seen self.now.seen }
+    {
+        self.front.compare(&other.front);
+    }
+
     /// A copy of what the seat has seen, for those who compare what they know of the history.
     pub fn seen(&self) -> Front<N>
         ensures { result ≡ self.now.seen }
