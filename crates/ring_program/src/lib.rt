@@ -1,6 +1,6 @@
 //! The whole program: the command line, as `ring_words` reads it, and the command of `ring_commands` that it asks for.
 //!
-//! It passes on what else a caller of the program's parts names, so that `ring_tool` stands on this crate alone.
+//! It passes on what else a caller of the program's parts names, so that `ring_tool` needs this crate and `disks` alone.
 #![tactic(auto)]
 
 mod program;

@@ -1,6 +1,7 @@
 //! The program: it reads its words, does a command and prints what the command answers.
 #![tactic(auto)]
 
+use disks::take_low;
 use ring_program::tell;
 pub use ring_program::{ToolError, read_limited, run_tool, step_lines};
 use std::io::{self, BufWriter, ErrorKind, Input, Write};
@@ -41,6 +42,9 @@ fn run<R: AllocGlobal + Env + Files + Input + Print + Threads + Wait + Sync, E: 
 }
 
 fn main(rt: HostRuntime) -> ExitCode {
+    // Before any file is opened, so that none gets a standard descriptor that was closed and is printed into. If it
+    // fails, no device can be opened, and things are as they were.
+    let _ = take_low(&rt);
     let mut err = rt.stderr();
     let status = match run(&rt, &mut err) {
         Ok(status) => status,
