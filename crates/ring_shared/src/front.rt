@@ -242,7 +242,7 @@ impl<N: Name> Front<N> {
     pub(crate) fn surely_begins<W: Wait>(&self, rt: &W, other: &Front<N>)
         ensures { IsPrefix self.now other.now }
     {
-        self.compare(other);
+        self.compare(other); // says: of the two the shorter begins the longer
         for _ in rt.forever() {
             if self.len() <= other.len() {
                 return;

@@ -80,14 +80,14 @@ fn refresh<N: Name>(reader: &mut RingReader<N>, front: &mut Front<N>) -> Option<
 {
     let found = replace_with(reader, (), |reader, _| look(reader));
     if let Some((survey, shown)) = found {
-        front.compare(&shown);
+        front.compare(&shown); // says: of the two the shorter begins the longer
         if front.len() <= shown.len() {
             *front = shown;
-            front.len();
+            front.len(); // says: it is legal, of the ring's seats
             return Some(survey);
         }
     }
-    front.len();
+    front.len(); // says: it is legal, of the ring's seats
     None
 }
 
@@ -233,7 +233,7 @@ impl<N: Name> Seat<N> {
         ensures later { IsPrefix self.old.seen self.new.seen }
         ensures err { OnErr result (self.new ≡ self.old) }
     {
-        self.front.len();
+        self.front.len(); // says: it is legal, of the ring's seats
         self.log.reserve(1)?;
         let survey = renew(
             &mut self.reader,

@@ -108,7 +108,7 @@ impl<N: Name> Shown<N> {
         requires { IsWritten N.start front.now machine value calm }
         ensures { self.new ≡ stepped self.old (record { list = front.now; block = false }) }
     {
-        self.front.compare(front);
+        self.front.compare(front); // says: of the two the shorter begins the longer
         if front.len() == self.front.len() + 1 {
             self.summary.go_on(machine, value, calm);
             self.front = front.again();
