@@ -1,0 +1,15 @@
+use Rattle.std.proofs.Common.{◌+◌, List, ◌++◌, ◌∷◌, [], sym, ap, ◌∙◌, subst, arith}
+use Rattle.ring_replay.specs.Told.{Told}
+use Rattle.ring_desk.specs.Rings.{AreFresh}
+use Rattle.ring_desk.proofs.Kept.{fresh_more}
+use Rattle.ring_desk.proofs.rings.fresh_clients.Goals as goal
+
+pub loop-number-preserved : goal.loop-number-preserved
+loop-number-preserved c =
+    let n = c.loop-number.number in
+    let items = c.push_reserved.ensures.items ∙ ap (λ (s : Told). c.loop-number.clients.items ++ s ∷ []) c.new.ensures in
+    let cap = c.push_reserved.ensures.capacity in
+    let room = c.loop-number.invariant.room in record {
+      fresh = subst (λ (cs : List Told). AreFresh (n + 1) cs) (sym items) (fresh_more n c.loop-number.clients.items c.loop-number.invariant.fresh);
+      room = omega arith;
+    }

@@ -1,0 +1,119 @@
+-- What contracts see of a ring that is called by numbers, on one thread (this project's own).
+use Rattle.std.specs.Prelude.{◌≡◌, ◌≢◌, ℕ, ◌+◌, ◌<◌, ◌≤◌, ◌↔◌, ◌⊎◌, List, [], ◌∷◌, ◌++◌, length, slice_set, slice_index_or, Result, IsErrOf, OnErr}
+use Rattle.ring_model.specs.Limits.{event_limit, machine_limit, seat_limit, value_limit}
+use Rattle.ring_state.specs.Sizes.{Size, IsSize}
+use Rattle.ring_state.specs.StateFault.{IsFaultOf}
+use Rattle.ring_state.specs.declared.sizes.ParamsError.{ParamsError}
+use Rattle.ring_state.specs.declared.sizes.ParamsError.TheVariants as params
+use Rattle.ring_state.specs.declared.states.StateError.{StateError}
+use Rattle.ring_state.specs.declared.states.StateError.TheVariants as state
+use Rattle.ring_model.specs.History.{Works, opening}
+use Rattle.ring_model.specs.Groups.{Rises}
+use Rattle.ring_model.specs.GroupLaws.{CanMove}
+use Rattle.ring_model.specs.Logs.{Fits}
+use Rattle.ring_model.specs.declared.events.Entry.{Entry}
+use Rattle.ring_model.specs.declared.events.Receipt.{Receipt}
+use Rattle.ring_replay.specs.Told.{Told}
+use Rattle.ring_book.specs.BookView.{BookView, IsBook}
+use Rattle.ring_book.specs.GroupView.{IsLeastWithout}
+use Rattle.ring_book.specs.declared.events.BookError.{BookError}
+use Rattle.ring_book.specs.declared.events.BookError.TheVariants as book
+use Rattle.ring_book.specs.declared.books.groups.GroupError.{GroupError}
+use Rattle.ring_book.specs.declared.books.groups.GroupError.TheVariants as group
+use Rattle.ring_book.specs.declared.books.groups.GroupReceipt.{GroupReceipt}
+use Rattle.ring_shared.specs.Holding.{AreOfSeats}
+use Rattle.ring_shared.specs.declared.seats.Log.{Log}
+use Rattle.ring_desk.specs.declared.errors.CallError.{CallError}
+use Rattle.ring_desk.specs.declared.errors.CallError.TheVariants as call
+use Rattle.ring_desk.specs.declared.errors.OpenError.{OpenError}
+use Rattle.ring_desk.specs.declared.errors.OpenError.TheVariants as opens
+
+-- the book, and what each client was told
+pub record RingView (C : Type 0) : Type 0 where
+  pub book : BookView C
+  pub clients : List Told
+
+-- the client has its place as its number, and its log fits the history
+pub record IsClient {C : Type 0} (w : Works C) (first : C) (b : BookView C) (place : ℕ) (c : Told) : Type 0 where
+  pub number : c.number ≡ place
+  pub fits : Fits w (opening b.start first) b.history place c.log
+
+-- What is true of such a ring at every moment: its history is a legal and whole one of the one-thread ring over the resource, each event's seat
+-- is a client's, and each client's log fits it.
+pub record IsOneThreadRing {C : Type 0} (w : Works C) (first : C) (d : RingView C) : Type 0 where
+  pub book : IsBook w first d.book
+  pub few : length d.clients ≤ seat_limit
+  pub of_seats : AreOfSeats (length d.clients) d.book.history
+  pub each : (i : ℕ) (c : Told) → i < length d.clients → IsClient w first d.book i (slice_index_or d.clients i c)
+
+-- a client that was told this besides
+abbrev pub grown : Told → List Entry → Told
+grown c es = record { number = c.number; log = c.log ++ es }
+
+-- the client of this number was told this besides, and no other anything
+abbrev pub told_more : List Told → ℕ → List Entry → List Told
+told_more cs seat es = slice_set cs seat (grown (slice_index_or cs seat (record { number = seat; log = [] })) es)
+
+-- the refusal of a book, by the ring
+abbrev pub refusal_of : BookError → CallError
+refusal_of book.HistoryFull = call.HistoryFull
+refusal_of book.OutOfMemory = call.OutOfMemory
+
+abbrev pub group_refusal_of : GroupError → CallError
+group_refusal_of group.WholeRing = call.WholeRing
+group_refusal_of (group.NotPrivileged m) = call.NotPrivileged m
+group_refusal_of group.HistoryFull = call.HistoryFull
+group_refusal_of group.OutOfMemory = call.OutOfMemory
+
+-- a refused call leaves book and client as they were; it is refused for a full history exactly where there is one
+abbrev pub IsCallRefused : {C : Type 0} → BookView C → BookView C → Told → Told → Result Receipt BookError → Type 0
+IsCallRefused old new before after result =
+    OnErr result ((new ≡ old) × (after ≡ before)) × (IsErrOf result book.HistoryFull ↔ (length old.history ≡ event_limit))
+
+-- the machines of a group: at least one, rising, and each below n
+abbrev pub IsRisingGroup : ℕ → List ℕ → Type 0
+IsRisingGroup n machines = Rises 0 n machines × (1 ≤ length machines)
+
+-- a refused group likewise, each refusal with its cause
+abbrev pub IsGroupRefused : {C : Type 0} → BookView C → BookView C → Told → Told → List ℕ → Result GroupReceipt GroupError → Type 0
+IsGroupRefused old new before after machines result =
+    OnErr result ((new ≡ old) × (after ≡ before))
+    × (IsErrOf result group.WholeRing → length machines ≡ length old.now.ring.values)
+    × ((m : ℕ) → IsErrOf result (group.NotPrivileged m) → (length machines ≢ length old.now.ring.values) × IsLeastWithout old.now.ring.values machines m)
+    × (IsErrOf result group.HistoryFull → CanMove old.now.ring.values machines × (event_limit < length old.history + length machines))
+
+-- so many clients, each with its place as its number, that were told nothing
+abbrev pub AreFresh : ℕ → List Told → Type 0
+AreFresh count cs = (length cs ≡ count) × ((i : ℕ) (c : Told) → i < count → slice_index_or cs i c ≡ record { number = i; log = [] })
+
+-- the logs are those of the clients, in their order
+abbrev pub AreLogsOf : List Told → List Log → Type 0
+AreLogsOf [] ls = ls ≡ []
+AreLogsOf (c ∷ cs) [] = ⊥
+AreLogsOf (c ∷ cs) (l ∷ ls) = ((l.seat ≡ c.number) × (l.entries.items ≡ c.log)) × AreLogsOf cs ls
+
+-- the refusal of start values, by the ring
+abbrev pub open_refusal_of : StateError → OpenError
+open_refusal_of state.Length = opens.Length
+open_refusal_of (state.Value i) = opens.Value i
+open_refusal_of state.OutOfMemory = opens.OutOfMemory
+
+-- the number of seats is one that a ring may have
+abbrev pub IsSeatCount : ℕ → Type 0
+IsSeatCount seats = (1 ≤ seats) × (seats ≤ seat_limit)
+
+-- why a size is none that a ring may have
+abbrev pub IsSizeFault : Size → ParamsError → Type 0
+IsSizeFault size params.TooFew = size.n < 2
+IsSizeFault size params.TooMany = machine_limit < size.n
+IsSizeFault size params.FewValues = (2 ≤ size.n) × (size.n ≤ machine_limit) × (size.k < size.n)
+IsSizeFault size params.ManyValues = (2 ≤ size.n) × (size.n ≤ machine_limit) × (value_limit < size.k)
+
+-- Each refusal to open a ring says which fault is the first: the seats, the size, the number of start values, the least of them that is not below K;
+-- want of memory only where there is none of these.
+abbrev pub IsOpenFault : Size → List ℕ → ℕ → OpenError → Type 0
+IsOpenFault size start seats opens.Seats = (seats ≡ 0) ⊎ (seat_limit < seats)
+IsOpenFault size start seats (opens.Size e) = IsSeatCount seats × IsSizeFault size e
+IsOpenFault size start seats opens.Length = IsSeatCount seats × IsSize size × IsFaultOf size start state.Length
+IsOpenFault size start seats (opens.Value i) = IsSeatCount seats × IsSize size × IsFaultOf size start (state.Value i)
+IsOpenFault size start seats opens.OutOfMemory = IsSeatCount seats × IsSize size × IsFaultOf size start state.OutOfMemory

@@ -1,0 +1,14 @@
+//! A ring on one thread with its clients' logs, called by numbers: for callers whom no type keeps right, as a program
+//! in another language or a line of text. Each number is looked at, and what is saved of the ring is legal at every
+//! moment.
+#![tactic(auto)]
+
+mod clients;
+mod errors;
+mod resuming;
+mod rings;
+
+pub use clients::Client;
+pub use errors::{CallError, OpenError};
+pub use resuming::{ResumeError, from_saved};
+pub use rings::{OneThreadRing, save};

@@ -1,0 +1,315 @@
+//! A ring with its clients, called by numbers.
+ghost use Rattle.std.specs.Prelude.{◌≡◌, ◌≢◌, ℕ, ◌<◌, ◌≤◌, ◌+◌, ◌↔◌, ◌∷◌, [], length, drop, slice_index_or, IsTrue, IfOk, IfErr, OnOk, OnErr, IsErrOf, IfSome, IsNone, vec_len, vec_capacity};
+ghost use Rattle.ring_model.specs.History.{opening};
+ghost use Rattle.ring_model.specs.HistoryLaws.{Settlement};
+ghost use Rattle.ring_model.specs.Limits.{event_limit, seat_limit};
+ghost use Rattle.ring_model.specs.GroupLaws.{CanMove};
+ghost use Rattle.ring_model.specs.Surveys.{survey_at};
+ghost use Rattle.ring_state.specs.Sizes.{IsSize};
+ghost use Rattle.ring_book.specs.BookView.{IsBook, IsFresh, IsRecorded};
+ghost use Rattle.ring_model.specs.Groups.{IsAlone, Rises};
+ghost use Rattle.ring_book.specs.GroupView.{IsGroupRecorded, IsLeastWithout};
+ghost use Rattle.ring_replay.specs.Replays.{IsCallOf};
+ghost use Rattle.ring_shared.specs.Groups.{receipts_from};
+ghost use Rattle.ring_desk.specs.Rings.{IsOneThreadRing, IsRisingGroup, IsOpenFault, IsSeatCount, AreFresh, told_more};
+
+mod closing;
+
+use crate::clients::{Client, log_call, log_group};
+use crate::errors::{CallError, OpenError};
+pub use closing::save;
+use ring_book::{Book, BookError, GroupError, GroupReceipt, Resource};
+use ring_model::limits::SEAT_LIMIT;
+use ring_model::{Entry, Event, Op, Receipt, Survey};
+use ring_state::{Params, RingState};
+use std::alloc::{AllocError, Global};
+use std::marker::Model;
+
+/// A ring over a resource with its clients, on one thread, which is called by numbers.
+///
+/// Contracts see the book and what each client was told. At every moment the history is a legal and whole one of the
+/// one-thread ring, each of its events is a client's, and each client's log fits it.
+#[derive(Drop)]
+pub struct OneThreadRing<R: Resource + Drop> {
+    book: Book<R>,
+    clients: Vec<Client>,
+}
+
+impl<R: Resource + Drop> Model for OneThreadRing<R> {
+    ghost use Rattle.ring_desk.specs.Rings.{RingView, IsOneThreadRing};
+
+    ghost Value = { RingView R };
+
+    ghost view = { λ d. record { book = d.book; clients = d.clients.items } };
+
+    ghost invariant = { λ d. IsOneThreadRing R.works R.first (record { book = d.book; clients = d.clients.items }) };
+}
+
+/// This many clients that were told nothing.
+fn fresh_clients(alloc: Global, count: u32) -> Result<Vec<Client>, AllocError>
+    requires { count ≤ seat_limit }
+    ensures { IfOk result (λ v. AreFresh count v.items) }
+{
+    let mut clients = Vec::with_capacity(alloc, count as usize)?;
+    for number in 0..count {
+        clients.push_reserved(Client::new(alloc, number));
+    }
+    Ok(clients)
+}
+
+/// A call of the book by the client of this number, which is told of it.
+fn call_at<R: Resource + Drop>(
+    book: &mut Book<R>,
+    clients: &mut Vec<Client>,
+    seat: u32,
+    op: Op,
+) -> Result<Receipt, BookError>
+    requires seat { seat < length clients.old.items }
+    requires number { (slice_index_or clients.old.items seat (record { number = seat; log = [] })).number ≡ seat }
+    requires call { IsCallOf book.old.now.ring op }
+    requires alone { IsAlone op }
+    ensures ok { IfOk result (λ r. IsRecorded R.works book.old book.new seat op r) }
+    ensures book { IsBook R.works R.first book.new }
+    ensures told { IfOk result (λ r. clients.new.items ≡ told_more clients.old.items seat (Entry.Receipt r ∷ [])) }
+    ensures full { IsErrOf result BookError.HistoryFull ↔ (length book.old.history ≡ event_limit) }
+    ensures err { OnErr result ((book.new ≡ book.old) × (clients.new.items ≡ clients.old.items)) }
+{
+    log_call(book, &mut clients[seat as usize], op)
+}
+
+/// A group pass of the book by the client of this number, which is told of each member.
+fn group_at<R: Resource + Drop>(
+    book: &mut Book<R>,
+    clients: &mut Vec<Client>,
+    seat: u32,
+    machines: &[u32],
+    order: u64,
+) -> Result<GroupReceipt, GroupError>
+    requires seat { seat < length clients.old.items }
+    requires number { (slice_index_or clients.old.items seat (record { number = seat; log = [] })).number ≡ seat }
+    requires rising { Rises 0 (length book.old.now.ring.values) machines.now }
+    requires some { 1 ≤ length machines.now }
+    ensures ok { IfOk result (λ r. IsGroupRecorded R.works book.old book.new seat order machines.now r) }
+    ensures book { IsBook R.works R.first book.new }
+    ensures told { IfOk result (λ r. clients.new.items ≡ told_more clients.old.items seat (receipts_from r.first (drop r.first book.new.history))) }
+    ensures whole { IsErrOf result GroupError.WholeRing → length machines.now ≡ length book.old.now.ring.values }
+    ensures unprivileged { (m : ℕ) → IsErrOf result (GroupError.NotPrivileged m) → (length machines.now ≢ length book.old.now.ring.values) × IsLeastWithout book.old.now.ring.values machines.now m }
+    ensures full { IsErrOf result GroupError.HistoryFull → CanMove book.old.now.ring.values machines.now × (event_limit < length book.old.history + length machines.now) }
+    ensures err { OnErr result ((book.new ≡ book.old) × (clients.new.items ≡ clients.old.items)) }
+{
+    log_group(book, &mut clients[seat as usize], machines, order)
+}
+
+/// The client of this number is told a survey.
+fn tell_at(clients: &mut Vec<Client>, seat: u32, survey: Survey) -> Result<(), BookError>
+    requires seat { seat < length clients.old.items }
+    ensures told { OnOk result (clients.new.items ≡ told_more clients.old.items seat (Entry.Survey survey ∷ [])) }
+    ensures err { OnErr result (clients.new.items ≡ clients.old.items) }
+{
+    match clients[seat as usize].tell(survey) {
+        Ok(()) => Ok(()),
+        Err(_) => Err(BookError::OutOfMemory),
+    }
+}
+
+/// Whether the numbers rise, each below `n`.
+fn rise(machines: &[u32], n: u32) -> bool
+    ensures { IsTrue result ↔ Rises 0 n machines.now }
+{
+    let mut low = 0;
+    for machine in machines {
+        if *machine < low || *machine >= n {
+            return false;
+        }
+        low = *machine + 1;
+    }
+    true
+}
+
+impl<R: Resource + Drop> OneThreadRing<R> {
+    /// A ring of `n` machines and `k` values that starts so, over a resource with its first content, and so many seats,
+    /// whose numbers begin at 0.
+    ///
+    /// # Errors
+    ///
+    /// The first that applies: `Seats` where they are not 1 to `SEAT_LIMIT`; `Size` for a size that no ring has; `Length`
+    /// where there are not n start values; `Value` with the least index of one that is not below K; `OutOfMemory`.
+    pub fn open(
+        alloc: Global,
+        n: u32,
+        k: u32,
+        start: &[u32],
+        seats: u32,
+        resource: R,
+    ) -> Result<OneThreadRing<R>, OpenError>
+        requires { resource ≡ R.first }
+        ensures ring { IfOk result (λ d. IsOneThreadRing R.works R.first d) }
+        ensures fresh { IfOk result (λ d. IsFresh (record { k = k; values = start.now }) R.first d.book × AreFresh seats d.clients) }
+        ensures sizes { IfOk result (λ _. IsSeatCount seats × IsSize (record { n = n; k = k }) × (length start.now ≡ n)) }
+        ensures err { IfErr result (λ e. IsOpenFault (record { n = n; k = k }) start.now seats e) }
+    {
+        if seats == 0 || seats as usize > SEAT_LIMIT {
+            return Err(OpenError::Seats);
+        }
+        let params = Params::new(n, k)?;
+        let state = RingState::from_values(alloc, &params, start)?;
+        let clients = fresh_clients(alloc, seats)?;
+        match Book::new(alloc, state, resource) {
+            Ok(book) => Ok(OneThreadRing { book, clients }),
+            Err(_) => Err(OpenError::OutOfMemory),
+        }
+    }
+
+    /// The number of machines.
+    pub fn machines(&self) -> u32
+        ensures { result ≡ length self.now.book.now.ring.values }
+    {
+        self.book.state().params().n()
+    }
+
+    /// The number of values.
+    pub fn values(&self) -> u32
+        ensures { result ≡ self.now.book.now.ring.k }
+    {
+        self.book.state().params().k()
+    }
+
+    /// The history.
+    pub fn history(&self) -> &[Event]
+        ensures { result.now ≡ self.now.book.history }
+    {
+        self.book.history()
+    }
+
+    /// How many events the history has.
+    pub fn history_length(&self) -> u64
+        ensures { result ≡ length self.now.book.history }
+    {
+        self.book.history().len() as u64
+    }
+
+    /// What the client of a seat was told, in order; nothing if there is no such seat.
+    pub fn log(&self, seat: u32) -> Option<&[Entry]>
+        ensures some { IfSome result (λ log. log.now ≡ (slice_index_or self.now.clients seat (record { number = seat; log = [] })).log) }
+        ensures none { IsNone result ↔ length self.now.clients ≤ seat }
+    {
+        if seat as usize >= self.clients.len() {
+            return None;
+        }
+        Some(self.clients[seat as usize].log())
+    }
+
+    /// A pass by a machine, for a seat.
+    ///
+    /// # Errors
+    ///
+    /// The first that applies: `NoSeat`, `NoMachine`; `HistoryFull`, `OutOfMemory`. Nothing has changed then.
+    pub fn pass(&mut self, seat: u32, machine: u32, order: u64) -> Result<Receipt, CallError>
+        ensures ok { IfOk result (λ r. IsRecorded R.works self.old.book self.new.book seat (Op.Pass machine order) r) }
+        ensures told { IfOk result (λ r. self.new.clients ≡ told_more self.old.clients seat (Entry.Receipt r ∷ [])) }
+        ensures ring { IsOneThreadRing R.works R.first self.new }
+        ensures settlement { Settlement R.works (opening self.new.book.start R.first) self.new.book.history }
+        ensures err { OnErr result (self.new ≡ self.old) }
+        ensures seat { IsErrOf result CallError.NoSeat ↔ length self.old.clients ≤ seat }
+        ensures machine { IsErrOf result CallError.NoMachine ↔ (seat < length self.old.clients) × (length self.old.book.now.ring.values ≤ machine) }
+        ensures full { IsErrOf result CallError.HistoryFull ↔ (seat < length self.old.clients) × (machine < length self.old.book.now.ring.values) × (length self.old.book.history ≡ event_limit) }
+    {
+        if seat as usize >= self.clients.len() {
+            return Err(CallError::NoSeat);
+        }
+        if machine >= self.machines() {
+            return Err(CallError::NoMachine);
+        }
+        let op = Op::Pass { machine, order };
+        let receipt = call_at(&mut self.book, &mut self.clients, seat, op)?;
+        Ok(receipt)
+    }
+
+    /// A fault, for a seat: a value is written into a machine.
+    ///
+    /// # Errors
+    ///
+    /// The first that applies: `NoSeat`, `NoMachine`, `NoValue`; `HistoryFull`, `OutOfMemory`. Nothing has changed then.
+    pub fn corrupt(&mut self, seat: u32, machine: u32, value: u32) -> Result<Receipt, CallError>
+        ensures ok { IfOk result (λ r. IsRecorded R.works self.old.book self.new.book seat (Op.Corrupt machine value) r) }
+        ensures told { IfOk result (λ r. self.new.clients ≡ told_more self.old.clients seat (Entry.Receipt r ∷ [])) }
+        ensures ring { IsOneThreadRing R.works R.first self.new }
+        ensures seat { IsErrOf result CallError.NoSeat ↔ length self.old.clients ≤ seat }
+        ensures machine { IsErrOf result CallError.NoMachine ↔ (seat < length self.old.clients) × (length self.old.book.now.ring.values ≤ machine) }
+        ensures value { IsErrOf result CallError.NoValue ↔ (seat < length self.old.clients) × (machine < length self.old.book.now.ring.values) × (self.old.book.now.ring.k ≤ value) }
+        ensures full { IsErrOf result CallError.HistoryFull ↔ (seat < length self.old.clients) × (machine < length self.old.book.now.ring.values) × (value < self.old.book.now.ring.k) × (length self.old.book.history ≡ event_limit) }
+        ensures err { OnErr result (self.new ≡ self.old) }
+    {
+        if seat as usize >= self.clients.len() {
+            return Err(CallError::NoSeat);
+        }
+        if machine >= self.machines() {
+            return Err(CallError::NoMachine);
+        }
+        if value >= self.values() {
+            return Err(CallError::NoValue);
+        }
+        let op = Op::Corrupt { machine, value };
+        let receipt = call_at(&mut self.book, &mut self.clients, seat, op)?;
+        Ok(receipt)
+    }
+
+    /// A pass by a group of machines at once, for a seat.
+    ///
+    /// # Errors
+    ///
+    /// The first that applies: `NoSeat`; `NotRising` where the machines do not rise below n, or there are none;
+    /// `WholeRing`, `NotPrivileged`, `HistoryFull`, `OutOfMemory`. Nothing has changed then.
+    pub fn pass_group(
+        &mut self,
+        seat: u32,
+        machines: &[u32],
+        order: u64,
+    ) -> Result<GroupReceipt, CallError>
+        ensures ok { IfOk result (λ r. IsGroupRecorded R.works self.old.book self.new.book seat order machines.now r) }
+        ensures told { IfOk result (λ r. self.new.clients ≡ told_more self.old.clients seat (receipts_from r.first (drop r.first self.new.book.history))) }
+        ensures ring { IsOneThreadRing R.works R.first self.new }
+        ensures seat { IsErrOf result CallError.NoSeat ↔ length self.old.clients ≤ seat }
+        ensures rising { IsErrOf result CallError.NotRising ↔ (seat < length self.old.clients) × (IsRisingGroup (length self.old.book.now.ring.values) machines.now → ⊥) }
+        ensures whole { IsErrOf result CallError.WholeRing → length machines.now ≡ length self.old.book.now.ring.values }
+        ensures full { IsErrOf result CallError.HistoryFull → CanMove self.old.book.now.ring.values machines.now × (event_limit < length self.old.book.history + length machines.now) }
+        ensures err { OnErr result (self.new ≡ self.old) }
+    {
+        if seat as usize >= self.clients.len() {
+            return Err(CallError::NoSeat);
+        }
+        if machines.is_empty() || !rise(machines, self.machines()) {
+            return Err(CallError::NotRising);
+        }
+        let receipt = group_at(&mut self.book, &mut self.clients, seat, machines, order)?;
+        Ok(receipt)
+    }
+
+    /// What is privileged now, how long the ring has been calm, and what is left until it is settled. Nothing is logged.
+    pub fn glance(&self) -> Survey
+        ensures { result ≡ survey_at R.works (opening self.now.book.start R.first) self.now.book.history (length self.now.book.history) }
+    {
+        self.book.survey()
+    }
+
+    /// The same, which the seat's log keeps.
+    ///
+    /// # Errors
+    ///
+    /// `NoSeat`, `OutOfMemory`. Nothing has changed then.
+    pub fn survey(&mut self, seat: u32) -> Result<Survey, CallError>
+        ensures ok { IfOk result (λ s. s ≡ survey_at R.works (opening self.old.book.start R.first) self.old.book.history (length self.old.book.history)) }
+        ensures told { IfOk result (λ s. self.new.clients ≡ told_more self.old.clients seat (Entry.Survey s ∷ [])) }
+        ensures book { self.new.book ≡ self.old.book }
+        ensures ring { IsOneThreadRing R.works R.first self.new }
+        ensures seat { IsErrOf result CallError.NoSeat ↔ length self.old.clients ≤ seat }
+        ensures err { OnErr result (self.new ≡ self.old) }
+    {
+        if seat as usize >= self.clients.len() {
+            return Err(CallError::NoSeat);
+        }
+        let survey = self.book.survey();
+        tell_at(&mut self.clients, seat, survey)?;
+        Ok(survey)
+    }
+}
