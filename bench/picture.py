@@ -5,7 +5,7 @@ python3 bench/picture.py [FOLDER]; with a folder, it writes them there.
 `python3 bench/picture.py FILE PICTURE RING FROM EVENTS` draws one of a saved history, and compares it with the file PICTURE."""
 import sys, xml.dom.minidom
 
-BLUE, RED, BRIGHT, GREEN, GREY = "#15489f", "#b3261e", "#d00", "#0a7d4f", "#888"
+BLUE, BLACK, ORANGE, GREEN, GREY = "#15489f", "#111", "#e69f00", "#0a7d4f", "#888"
 
 
 def priv(v, i):
@@ -61,11 +61,12 @@ def draw(index, k, start, events, frm, count, surveys=0):
 <style>rect,path,polyline{{vector-effect:non-scaling-stroke}}</style>
 <rect width="1000" height="640" rx="8" fill="#fff"/>
 <text x="70" y="36" font-size="22">ring {index}: n {n}, K {k}</text>
-<text x="70" y="62">events {len(events)}, granted {granted}, corrupted {corrupted}, surveys {surveys}</text>
+<text x="70" y="62">events {frm} to {frm + count} of {len(events)}, granted {granted}, corrupted {corrupted}, surveys {surveys}</text>
+<text x="24" y="230" text-anchor="middle" transform="rotate(-90 24 230)">machine</text>
 <text x="62" y="94" text-anchor="end">0</text>
 <text x="62" y="380" text-anchor="end">{n - 1}</text>
 <text x="70" y="402">{frm}</text>
-<text x="520" y="402" text-anchor="middle">events so far</text>
+<text x="520" y="402" text-anchor="middle">granted passes and other events</text>
 <text x="970" y="402" text-anchor="end">{frm + count}</text>
 <text x="62" y="436" text-anchor="end">{bound}</text>
 <text x="62" y="590" text-anchor="end">0</text>
@@ -78,14 +79,14 @@ def draw(index, k, start, events, frm, count, surveys=0):
     drawn = [(c + 1, frm + c) for c in range(count) if frm + c < len(events)]
     s += f'<path stroke="{GREY}" stroke-width="1.5" stroke-linecap="square" d="'
     s += "".join(f"M{x} {4 * events[p][1] + 1}v1" for x, p in drawn if events[p][0] == "p" and not passed[p])
-    s += f'"/>\n<path stroke="{BRIGHT}" stroke-width="3" stroke-linecap="round" d="'
+    s += f'"/>\n<path stroke="{ORANGE}" stroke-width="5" stroke-linecap="round" d="'
     s += "".join(f"M{x} {4 * events[p][1]}v3" for x, p in drawn if events[p][0] == "c")
     s += f'''"/>
 </svg>
 <rect x="70" y="430" width="900" height="160" fill="#f3f3f3"/>
 <svg x="70" y="430" width="900" height="160" viewBox="0 0 {columns} {bound}" preserveAspectRatio="none" fill="none">
 <g transform="translate(.5 {bound}) scale(1 -1)">
-<polyline stroke="{RED}" stroke-width="2.5" points="'''
+<polyline stroke="{BLACK}" stroke-width="2.5" points="'''
     s += "".join(f"{c},{rest(at(c)[0], k)} " for c in range(columns))
     s += f'"/>\n<polyline stroke="{GREEN}" stroke-width="1.5" stroke-dasharray="5 3" points="'
     s += "".join(f"{c},{at(c)[1]} " for c in range(columns))
@@ -96,11 +97,11 @@ def draw(index, k, start, events, frm, count, surveys=0):
 <g font-size="14">
 <rect x="70" y="608" width="16" height="10" fill="{BLUE}"/>
 <text x="92" y="618">privileged</text>
-<path d="M200 606v14" stroke="{BRIGHT}" stroke-width="3" stroke-linecap="round"/>
+<path d="M200 606v14" stroke="{ORANGE}" stroke-width="5" stroke-linecap="round"/>
 <text x="212" y="618">corruption</text>
 <path d="M322 610v6" stroke="{GREY}" stroke-width="1.5" stroke-linecap="square"/>
 <text x="332" y="618">refused pass</text>
-<path d="M456 613h24" stroke="{RED}" stroke-width="2.5"/>
+<path d="M456 613h24" stroke="{BLACK}" stroke-width="2.5"/>
 <text x="488" y="618">rest</text>
 <path d="M556 613h24" stroke="{GREEN}" stroke-width="1.5" stroke-dasharray="5 3"/>
 <text x="588" y="618">calm, up to the bound</text>

@@ -116,19 +116,19 @@ calm_points b from columns = pieces (λ c. point c (calm_in b from c)) columns
 
 -- ---- what stands around them
 
--- the head, a white page, and the title: the ring's place, n and K, and the sums of its block
-abbrev pub title_text : Block → List ℕ
-title_text b =
+-- the head, a white page, and the title: the ring's place, n and K, which events are shown of how many, and the sums of its block
+abbrev pub title_text : Block → ℕ → ℕ → List ℕ
+title_text b from count =
     codes "<svg xmlns=\"http://www.w3.org/2000/svg\" viewBox=\"0 0 1000 640\" font-family=\"sans-serif\" font-size=\"15\">\n<style>rect,path,polyline{vector-effect:non-scaling-stroke}</style>\n<rect width=\"1000\" height=\"640\" rx=\"8\" fill=\"#fff\"/>\n<text x=\"70\" y=\"36\" font-size=\"22\">ring "
     ++ (decimal b.index ++ (codes ": n " ++ (decimal b.n ++ (codes ", K " ++ (decimal b.k ++ (codes "</text>\n<text x=\"70\" y=\"62\">events "
-    ++ (decimal (length b.events) ++ (codes ", granted " ++ (decimal (granted_count (history b)) ++ (codes ", corrupted " ++ (decimal (corrupted_count (history b))
-    ++ (codes ", surveys " ++ (decimal (length b.surveys) ++ codes "</text>\n")))))))))))))
+    ++ (decimal from ++ (codes " to " ++ (decimal (from + count) ++ (codes " of " ++ (decimal (length b.events) ++ (codes ", granted " ++ (decimal (granted_count (history b))
+    ++ (codes ", corrupted " ++ (decimal (corrupted_count (history b)) ++ (codes ", surveys " ++ (decimal (length b.surveys) ++ codes "</text>\n")))))))))))))))))
 
 -- the numbers at the axes: the first and the last machine, the first and the last place, and the bound and 0
 abbrev pub axes_text : ℕ → ℕ → ℕ → ℕ → List ℕ
 axes_text n from count limit =
-    codes "<text x=\"62\" y=\"94\" text-anchor=\"end\">0</text>\n<text x=\"62\" y=\"380\" text-anchor=\"end\">"
-    ++ (decimal (n - 1) ++ (codes "</text>\n<text x=\"70\" y=\"402\">" ++ (decimal from ++ (codes "</text>\n<text x=\"520\" y=\"402\" text-anchor=\"middle\">events so far</text>\n<text x=\"970\" y=\"402\" text-anchor=\"end\">"
+    codes "<text x=\"24\" y=\"230\" text-anchor=\"middle\" transform=\"rotate(-90 24 230)\">machine</text>\n<text x=\"62\" y=\"94\" text-anchor=\"end\">0</text>\n<text x=\"62\" y=\"380\" text-anchor=\"end\">"
+    ++ (decimal (n - 1) ++ (codes "</text>\n<text x=\"70\" y=\"402\">" ++ (decimal from ++ (codes "</text>\n<text x=\"520\" y=\"402\" text-anchor=\"middle\">granted passes and other events</text>\n<text x=\"970\" y=\"402\" text-anchor=\"end\">"
     ++ (decimal (from + count) ++ (codes "</text>\n<text x=\"62\" y=\"436\" text-anchor=\"end\">" ++ (decimal limit ++ codes "</text>\n<text x=\"62\" y=\"590\" text-anchor=\"end\">0</text>\n")))))))
 
 -- the beginning of the rows, of which the columns and the units are stretched over their part of the page
@@ -142,13 +142,13 @@ abbrev pub refusals_opening : List ℕ
 refusals_opening = codes "<path stroke=\"#888\" stroke-width=\"1.5\" stroke-linecap=\"square\" d=\""
 
 abbrev pub corruptions_opening : List ℕ
-corruptions_opening = codes "\"/>\n<path stroke=\"#d00\" stroke-width=\"3\" stroke-linecap=\"round\" d=\""
+corruptions_opening = codes "\"/>\n<path stroke=\"#e69f00\" stroke-width=\"5\" stroke-linecap=\"round\" d=\""
 
 -- the end of the rows, and the beginning of the curves, whose points are the columns and the rests and the calms themselves
 abbrev pub curves_opening : ℕ → ℕ → List ℕ
 curves_opening columns limit =
     codes "\"/>\n</svg>\n<rect x=\"70\" y=\"430\" width=\"900\" height=\"160\" fill=\"#f3f3f3\"/>\n<svg x=\"70\" y=\"430\" width=\"900\" height=\"160\" viewBox=\"0 0 "
-    ++ (decimal columns ++ (codes " " ++ (decimal limit ++ (codes "\" preserveAspectRatio=\"none\" fill=\"none\">\n<g transform=\"translate(.5 " ++ (decimal limit ++ codes ") scale(1 -1)\">\n<polyline stroke=\"#b3261e\" stroke-width=\"2.5\" points=\"")))))
+    ++ (decimal columns ++ (codes " " ++ (decimal limit ++ (codes "\" preserveAspectRatio=\"none\" fill=\"none\">\n<g transform=\"translate(.5 " ++ (decimal limit ++ codes ") scale(1 -1)\">\n<polyline stroke=\"#111\" stroke-width=\"2.5\" points=\"")))))
 
 abbrev pub calm_opening : List ℕ
 calm_opening = codes "\"/>\n<polyline stroke=\"#0a7d4f\" stroke-width=\"1.5\" stroke-dasharray=\"5 3\" points=\""
@@ -156,12 +156,12 @@ calm_opening = codes "\"/>\n<polyline stroke=\"#0a7d4f\" stroke-width=\"1.5\" st
 -- the end of the curves, the line of the bound, and what the colours mean
 abbrev pub ending_text : List ℕ
 ending_text =
-    codes "\"/>\n</g>\n</svg>\n<path d=\"M70 430h900\" stroke=\"#555\" stroke-width=\"1.5\" stroke-dasharray=\"2 3\"/>\n<g font-size=\"14\">\n<rect x=\"70\" y=\"608\" width=\"16\" height=\"10\" fill=\"#15489f\"/>\n<text x=\"92\" y=\"618\">privileged</text>\n<path d=\"M200 606v14\" stroke=\"#d00\" stroke-width=\"3\" stroke-linecap=\"round\"/>\n<text x=\"212\" y=\"618\">corruption</text>\n<path d=\"M322 610v6\" stroke=\"#888\" stroke-width=\"1.5\" stroke-linecap=\"square\"/>\n<text x=\"332\" y=\"618\">refused pass</text>\n<path d=\"M456 613h24\" stroke=\"#b3261e\" stroke-width=\"2.5\"/>\n<text x=\"488\" y=\"618\">rest</text>\n<path d=\"M556 613h24\" stroke=\"#0a7d4f\" stroke-width=\"1.5\" stroke-dasharray=\"5 3\"/>\n<text x=\"588\" y=\"618\">calm, up to the bound</text>\n<path d=\"M776 613h24\" stroke=\"#555\" stroke-width=\"1.5\" stroke-dasharray=\"2 3\"/>\n<text x=\"808\" y=\"618\">bound</text>\n</g>\n</svg>\n"
+    codes "\"/>\n</g>\n</svg>\n<path d=\"M70 430h900\" stroke=\"#555\" stroke-width=\"1.5\" stroke-dasharray=\"2 3\"/>\n<g font-size=\"14\">\n<rect x=\"70\" y=\"608\" width=\"16\" height=\"10\" fill=\"#15489f\"/>\n<text x=\"92\" y=\"618\">privileged</text>\n<path d=\"M200 606v14\" stroke=\"#e69f00\" stroke-width=\"5\" stroke-linecap=\"round\"/>\n<text x=\"212\" y=\"618\">corruption</text>\n<path d=\"M322 610v6\" stroke=\"#888\" stroke-width=\"1.5\" stroke-linecap=\"square\"/>\n<text x=\"332\" y=\"618\">refused pass</text>\n<path d=\"M456 613h24\" stroke=\"#111\" stroke-width=\"2.5\"/>\n<text x=\"488\" y=\"618\">rest</text>\n<path d=\"M556 613h24\" stroke=\"#0a7d4f\" stroke-width=\"1.5\" stroke-dasharray=\"5 3\"/>\n<text x=\"588\" y=\"618\">calm, up to the bound</text>\n<path d=\"M776 613h24\" stroke=\"#555\" stroke-width=\"1.5\" stroke-dasharray=\"2 3\"/>\n<text x=\"808\" y=\"618\">bound</text>\n</g>\n</svg>\n"
 
 -- ---- the picture: the upper part, the marks over its rows, and the lower part
 
 abbrev pub upper_part : Block → ℕ → ℕ → List ℕ
-upper_part b from count = title_text b ++ (axes_text b.n from count (bound b.n) ++ (rows_opening b.n (count + 1) ++ rows_text b from (count + 1)))
+upper_part b from count = title_text b from count ++ (axes_text b.n from count (bound b.n) ++ (rows_opening b.n (count + 1) ++ rows_text b from (count + 1)))
 
 abbrev pub marks_part : Block → ℕ → ℕ → List ℕ
 marks_part b from count = refusals_opening ++ (marks_text b false from count ++ (corruptions_opening ++ marks_text b true from count))

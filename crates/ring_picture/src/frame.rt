@@ -13,8 +13,14 @@ use std::io::Write;
 use text_lines::{WriteFault, put_all};
 
 /// The head and the title.
-pub(crate) fn put_title<W: Write>(out: &mut W, ring: &SavedRing) -> Result<(), WriteFault>
-    ensures { Writes (W.contents out.old) (W.contents out.new) result (title_text (block_of ring.now)) }
+pub(crate) fn put_title<W: Write>(
+    out: &mut W,
+    ring: &SavedRing,
+    from: usize,
+    count: u32,
+) -> Result<(), WriteFault>
+    requires { from + count < 2 ^ 63 }
+    ensures { Writes (W.contents out.old) (W.contents out.new) result (title_text (block_of ring.now) from count) }
 {
     let tally = count_events(&ring.events);
     let mut sizes = (Buffer::new(), Buffer::new(), Buffer::new());
@@ -26,6 +32,9 @@ pub(crate) fn put_title<W: Write>(out: &mut W, ring: &SavedRing) -> Result<(), W
     let granted = sums.1.format(tally.granted).as_bytes();
     let corrupted = sums.2.format(tally.corrupted).as_bytes();
     let surveys = sums.3.format(ring.surveys.len()).as_bytes();
+    let mut shown = (Buffer::new(), Buffer::new());
+    let first = shown.0.format(from).as_bytes();
+    let end = shown.1.format(from + count as usize).as_bytes();
     put_all(
         out,
         &[
@@ -36,6 +45,10 @@ pub(crate) fn put_title<W: Write>(out: &mut W, ring: &SavedRing) -> Result<(), W
             b", K ",
             k,
             b"</text>\n<text x=\"70\" y=\"62\">events ",
+            first,
+            b" to ",
+            end,
+            b" of ",
             events,
             b", granted ",
             granted,
@@ -68,11 +81,11 @@ pub(crate) fn put_axes<W: Write>(
     put_all(
         out,
         &[
-            b"<text x=\"62\" y=\"94\" text-anchor=\"end\">0</text>\n<text x=\"62\" y=\"380\" text-anchor=\"end\">",
+            b"<text x=\"24\" y=\"230\" text-anchor=\"middle\" transform=\"rotate(-90 24 230)\">machine</text>\n<text x=\"62\" y=\"94\" text-anchor=\"end\">0</text>\n<text x=\"62\" y=\"380\" text-anchor=\"end\">",
             last,
             b"</text>\n<text x=\"70\" y=\"402\">",
             first,
-            b"</text>\n<text x=\"520\" y=\"402\" text-anchor=\"middle\">events so far</text>\n<text x=\"970\" y=\"402\" text-anchor=\"end\">",
+            b"</text>\n<text x=\"520\" y=\"402\" text-anchor=\"middle\">granted passes and other events</text>\n<text x=\"970\" y=\"402\" text-anchor=\"end\">",
             end,
             b"</text>\n<text x=\"62\" y=\"436\" text-anchor=\"end\">",
             high,
@@ -125,7 +138,7 @@ pub(crate) fn put_curves_opening<W: Write>(
             high,
             b"\" preserveAspectRatio=\"none\" fill=\"none\">\n<g transform=\"translate(.5 ",
             high,
-            b") scale(1 -1)\">\n<polyline stroke=\"#b3261e\" stroke-width=\"2.5\" points=\"",
+            b") scale(1 -1)\">\n<polyline stroke=\"#111\" stroke-width=\"2.5\" points=\"",
         ],
     )
 }

@@ -48,7 +48,7 @@ fn put_upper<W: Write>(
     ensures text { Writes (W.contents out.old) (W.contents out.new) result (upper_part (block_of ring.now) from count) }
     ensures len { vec_len values.new ≡ ring.now.n }
 {
-    put_title(out, ring)?;
+    put_title(out, ring, from, count)?;
     put_axes(out, ring.n, from, count, bound(ring.n))?;
     put_rows_opening(out, ring.n, count + 1)?;
     put_rows(out, ring, from, count + 1, base, values)
@@ -72,7 +72,7 @@ fn put_both_marks<W: Write>(
     put_marks(out, ring, false, from, count)?;
     put(
         out,
-        b"\"/>\n<path stroke=\"#d00\" stroke-width=\"3\" stroke-linecap=\"round\" d=\"",
+        b"\"/>\n<path stroke=\"#e69f00\" stroke-width=\"5\" stroke-linecap=\"round\" d=\"",
     )?;
     put_marks(out, ring, true, from, count)
 }
@@ -104,7 +104,7 @@ fn put_lower<W: Write>(
     put_calms(out, ring, from, columns)?;
     put(
         out,
-        b"\"/>\n</g>\n</svg>\n<path d=\"M70 430h900\" stroke=\"#555\" stroke-width=\"1.5\" stroke-dasharray=\"2 3\"/>\n<g font-size=\"14\">\n<rect x=\"70\" y=\"608\" width=\"16\" height=\"10\" fill=\"#15489f\"/>\n<text x=\"92\" y=\"618\">privileged</text>\n<path d=\"M200 606v14\" stroke=\"#d00\" stroke-width=\"3\" stroke-linecap=\"round\"/>\n<text x=\"212\" y=\"618\">corruption</text>\n<path d=\"M322 610v6\" stroke=\"#888\" stroke-width=\"1.5\" stroke-linecap=\"square\"/>\n<text x=\"332\" y=\"618\">refused pass</text>\n<path d=\"M456 613h24\" stroke=\"#b3261e\" stroke-width=\"2.5\"/>\n<text x=\"488\" y=\"618\">rest</text>\n<path d=\"M556 613h24\" stroke=\"#0a7d4f\" stroke-width=\"1.5\" stroke-dasharray=\"5 3\"/>\n<text x=\"588\" y=\"618\">calm, up to the bound</text>\n<path d=\"M776 613h24\" stroke=\"#555\" stroke-width=\"1.5\" stroke-dasharray=\"2 3\"/>\n<text x=\"808\" y=\"618\">bound</text>\n</g>\n</svg>\n",
+        b"\"/>\n</g>\n</svg>\n<path d=\"M70 430h900\" stroke=\"#555\" stroke-width=\"1.5\" stroke-dasharray=\"2 3\"/>\n<g font-size=\"14\">\n<rect x=\"70\" y=\"608\" width=\"16\" height=\"10\" fill=\"#15489f\"/>\n<text x=\"92\" y=\"618\">privileged</text>\n<path d=\"M200 606v14\" stroke=\"#e69f00\" stroke-width=\"5\" stroke-linecap=\"round\"/>\n<text x=\"212\" y=\"618\">corruption</text>\n<path d=\"M322 610v6\" stroke=\"#888\" stroke-width=\"1.5\" stroke-linecap=\"square\"/>\n<text x=\"332\" y=\"618\">refused pass</text>\n<path d=\"M456 613h24\" stroke=\"#111\" stroke-width=\"2.5\"/>\n<text x=\"488\" y=\"618\">rest</text>\n<path d=\"M556 613h24\" stroke=\"#0a7d4f\" stroke-width=\"1.5\" stroke-dasharray=\"5 3\"/>\n<text x=\"588\" y=\"618\">calm, up to the bound</text>\n<path d=\"M776 613h24\" stroke=\"#555\" stroke-width=\"1.5\" stroke-dasharray=\"2 3\"/>\n<text x=\"808\" y=\"618\">bound</text>\n</g>\n</svg>\n",
     )
 }
 

@@ -26,5 +26,9 @@ returns g c =
       ← granted,
       ← corrupted,
       ← surveys,
+      ← c.format-8.ensures.text,
+      ← c.format-9.ensures.text,
+      ← c.as_bytes-first.ensures.value,
+      ← c.as_bytes-end.ensures.value,
     )
     c.put_all.ensures

@@ -14,7 +14,7 @@ returns-in_err-put_title-clause-text g c =
     let opening = rows_opening b.n (c.args.count + 1) in
     let rows = rows_text b c.args.from (c.args.count + 1) in
     rw (err_from_is_err_and c.from_residual.result c.from_residual.ensures.1).1
-    (writes_err _ _ c.in_err-put_title.field-0.0 (title_text b) (axes ++ (opening ++ rows)) c.in_err-put_title.ensures)
+    (writes_err _ _ c.in_err-put_title.field-0.0 (title_text b c.args.from c.args.count) (axes ++ (opening ++ rows)) c.in_err-put_title.ensures)
 
 pub returns-in_err-put_axes-clause-text : goal.returns-in_err-put_axes-clause-text
 returns-in_err-put_axes-clause-text g c =
@@ -25,7 +25,7 @@ returns-in_err-put_axes-clause-text g c =
     let fault = c.in_err-put_axes.field-0.0 in
     let here = writes_same _ _ (Err fault) (axes_text b.n c.args.from c.args.count c.bound.result) axes (ap (axes_text b.n c.args.from c.args.count) c.bound.ensures) c.in_err-put_axes.ensures in
     rw (err_from_is_err_and c.from_residual-in_err-put_axes.result c.from_residual-in_err-put_axes.ensures.1).1
-    (writes_second _ _ _ fault (title_text b) axes (opening ++ rows) c.in_ok-put_title.ensures here)
+    (writes_second _ _ _ fault (title_text b c.args.from c.args.count) axes (opening ++ rows) c.in_ok-put_title.ensures here)
 
 pub returns-in_err-put_rows_opening-clause-text : goal.returns-in_err-put_rows_opening-clause-text
 returns-in_err-put_rows_opening-clause-text g c =
@@ -36,7 +36,7 @@ returns-in_err-put_rows_opening-clause-text g c =
     let fault = c.in_err-put_rows_opening.field-0.0 in
     let here = writes_same _ _ (Ok c.in_ok-put_axes.field-0) (axes_text b.n c.args.from c.args.count c.bound.result) axes (ap (axes_text b.n c.args.from c.args.count) c.bound.ensures) c.in_ok-put_axes.ensures in
     rw (err_from_is_err_and c.from_residual-in_err-put_rows_opening.result c.from_residual-in_err-put_rows_opening.ensures.1).1
-    (writes_then _ _ _ (Err fault) (title_text b) (axes ++ (opening ++ rows)) c.in_ok-put_title.ensures
+    (writes_then _ _ _ (Err fault) (title_text b c.args.from c.args.count) (axes ++ (opening ++ rows)) c.in_ok-put_title.ensures
     (writes_second _ _ _ fault axes opening rows here c.in_err-put_rows_opening.ensures))
 
 pub returns-clause-text : goal.returns-clause-text
@@ -47,6 +47,6 @@ returns-clause-text g c =
     let rows = rows_text b c.args.from (c.args.count + 1) in
     let here = writes_same _ _ (Ok c.in_ok-put_axes.field-0) (axes_text b.n c.args.from c.args.count c.bound.result) axes (ap (axes_text b.n c.args.from c.args.count) c.bound.ensures) c.in_ok-put_axes.ensures in
     let r = c.put_rows.result in
-    writes_then _ _ _ r (title_text b) (axes ++ (opening ++ rows)) c.in_ok-put_title.ensures
+    writes_then _ _ _ r (title_text b c.args.from c.args.count) (axes ++ (opening ++ rows)) c.in_ok-put_title.ensures
     (writes_then _ _ _ r axes (opening ++ rows) here
     (writes_then _ _ _ r opening rows c.in_ok-put_rows_opening.ensures c.put_rows.ensures.text))
