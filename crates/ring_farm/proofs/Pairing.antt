@@ -8,13 +8,16 @@ use Rattle.std.specs.Prelude.{Result, Ok, Err, IfOk}
 use Rattle.std.specs.List.{IsDistinct, AllByRecursion}
 use Rattle.std.proofs.Common.{eqb, false}
 use Rattle.std.proofs.lemmas.Bool.{ne_eqb}
-use Rattle.ring_shared.specs.Client.{Client}
+use Rattle.ring_shared.specs.Client.{Client, IsFreshClient, IsUnchanged}
 use Rattle.ring_shared.specs.declared.seats.Log.{Log}
 use Rattle.ring_shared.specs.Closing.{HasLog}
+use Rattle.ring_shared.specs.Opening.{AreFresh}
+use Rattle.ring_model.specs.declared.events.Entry.{Entry}
+use Rattle.ring_model.specs.declared.events.Event.{Event}
 use Rattle.ring_settings.specs.declared.actions.Plan.{Plan}
 use Rattle.ring_farm.specs.declared.threads.Does.{Does}
 use Rattle.ring_farm.specs.Plans.{actions_of, planned, action_of, Pairs}
-use Rattle.ring_farm.specs.Promises.{IsPromised, IsKept, IsDone}
+use Rattle.ring_farm.specs.Promises.{IsPromised, IsKept, IsDone, AreUnchanged}
 use Rattle.ring_farm.specs.Runs.{IsLogged}
 
 -- what is at a place of a list with one more
@@ -107,3 +110,26 @@ distinct_of ring ps ss n done = distinct 0 ss (λ i s at.
     (λ (t : (p : Plan) × (i < length ps) × (slice_get ps i ≡ Some p) × (get_or ps i p ≡ p)). let e = (done i t.0 s t.2 at).0 in omega arith)
     (λ (t : (length ps ≤ i) × (slice_get ps i ≡ None)). let u = t.0 in absurd (omega arith))
     (slice_get_cases ps i).1)
+
+abbrev client_with : ℕ → List Entry → List Event → ℕ → Client
+client_with i log seen room = record { number = i; log = log; seen = seen; room = room }
+
+-- a fresh client that is unchanged is one still
+still_fresh : (i : ℕ) (s t : Client) → IsFreshClient i s → IsUnchanged s t → IsFreshClient i t
+still_fresh i s t is k =
+    ap (λ (x : ℕ). client_with x t.log t.seen t.room) (k.number ∙ ap (λ (c : Client). c.number) is)
+    ∙ (ap (λ (x : List Entry). client_with i x t.seen t.room) (k.log ∙ ap (λ (c : Client). c.log) is)
+    ∙ ap (λ (x : List Event). client_with i [] x t.room) (k.seen ∙ ap (λ (c : Client). c.seen) is))
+
+pub still_all_fresh : (n : ℕ) (ss ts : List Client) → AreFresh n ss → AreUnchanged ss ts → AreFresh n ts
+still_all_fresh n ss ts f u = record {
+  count = u.0 ∙ f.count;
+  each = λ i within.
+      let h = f.each i within in
+      let count = f.count in
+      let same = u.0 in
+      ⊎_elim
+      (λ (t : (t : Client) × (i < length ts) × (slice_get ts i ≡ Some t) × (get_or ts i t ≡ t)). (t.0, t.2, still_fresh i h.0 t.0 h.2 (u.1 i h.0 t.0 h.1 t.2)))
+      (λ (t : (length ts ≤ i) × (slice_get ts i ≡ None)). let past = t.0 in absurd (omega arith))
+      (slice_get_cases ts i).1;
+}

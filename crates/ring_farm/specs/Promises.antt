@@ -2,10 +2,10 @@
 use Rattle.std.specs.Prelude.{◌≡◌, ℕ, List, All, length}
 use Rattle.ring_model.specs.Ring.{Ring}
 use Rattle.ring_settings.specs.declared.actions.Plan.{Plan}
-use Rattle.ring_shared.specs.Client.{Client}
+use Rattle.ring_shared.specs.Client.{Client, IsUnchanged}
 use Rattle.ring_shared.specs.Opening.{AreFresh}
 use Rattle.ring_farm.specs.declared.threads.Does.{Does}
-use Rattle.ring_farm.specs.Plans.{actions_of, planned, IsShort, IsPlanOn}
+use Rattle.ring_farm.specs.Plans.{Pairs, actions_of, planned, IsShort, IsPlanOn}
 
 -- the promise is that of the seat with this number, for this plan
 abbrev pub IsPromised : ℕ → ℕ → Plan → Does → Type 0
@@ -25,3 +25,7 @@ AreReady ring start plans seats =
     All IsShort plans
     × All (IsPlanOn ring start) plans
     × AreFresh (length plans) seats
+
+-- the seats are as they were, with no less room in their logs
+abbrev pub AreUnchanged : List Client → List Client → Type 0
+AreUnchanged before after = (length after ≡ length before) × Pairs (λ i s t. IsUnchanged s t) before after

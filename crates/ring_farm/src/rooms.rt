@@ -1,6 +1,7 @@
 //! How much room the plans need on each ring, which is asked for before any thread starts.
 ghost use Rattle.std.specs.Prelude.{◌≡◌, ◌≤◌, [], IfErr, OnOk};
 ghost use Rattle.ring_model.specs.Limits.{event_limit};
+ghost use Rattle.ring_farm.specs.Promises.{AreUnchanged};
 
 use crate::faults::FarmError;
 use crate::workers::fault_of;
@@ -44,7 +45,7 @@ impl Room {
             .map_err(fault_of)
     }
 
-    /// Takes memory for the entries that are to come in each seat's log. The seats stay as they are.
+    /// Takes memory for the entries that are to come in each seat's log. But for that the seats stay as they are.
     ///
     /// # Errors
     ///
@@ -53,7 +54,7 @@ impl Room {
         &self,
         seats: &mut Vec<Seat<N>>,
     ) -> Result<(), AllocError>
-        ensures { seats.new.items ≡ seats.old.items }
+        ensures { AreUnchanged seats.old.items seats.new.items }
     {
         for i in 0..seats.len() {
             let seat = &mut seats[i];

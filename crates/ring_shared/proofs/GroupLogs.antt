@@ -1,5 +1,5 @@
 -- What a group leaves in a ring that is held, and what its seat is told of it.
-use Rattle.std.proofs.Common.{rules, ◌≡◌, ℕ, ◌+◌, ◌-◌, ◌<◌, ◌≤◌, List, [], ◌∷◌, ◌++◌, length, take, drop, length-append, length-drop, sym, ◌∙◌, ap, subst, arith}
+use Rattle.std.proofs.Common.{rules, ◌≡◌, refl, ℕ, suc, ◌+◌, ◌-◌, ◌<◌, ◌≤◌, List, [], ◌∷◌, ◌++◌, length, take, drop, length-append, length-drop, sym, ◌∙◌, ap, subst, arith}
 use Rattle.std.proofs.lemmas.List.{length-take-le, take_all}
 use Rattle.std.proofs.lemmas.List.Elements.{All-append}
 use Rattle.std.proofs.Math.Seq.{drop-append_seam}
@@ -63,10 +63,10 @@ group_receipts w old new seat order machines r g =
     omega arith
 
 -- a seat that saw the whole history then was told of the group
-pub group_logged : {C : Type 0} (w : Works C) (n : ℕ) (old new : BookView C) (a b : Client) (order : ℕ) (machines : List ℕ) (r : GroupReceipt) →
+pub group_logged : {C : Type 0} (w : Works C) (n room : ℕ) (old new : BookView C) (a b : Client) (order : ℕ) (machines : List ℕ) (r : GroupReceipt) →
     length old.now.ring.values ≡ n → IsGroupRecorded w old new a.number order machines r →
-    b ≡ record { number = a.number; log = a.log ++ receipts_from r.first (drop r.first new.history); seen = new.history } → IsGroupLogged n a b order machines r
-group_logged w n old new a b order machines r size g is =
+    b ≡ record { number = a.number; log = a.log ++ receipts_from r.first (drop r.first new.history); seen = new.history; room = room } → a.room ≤ room + length machines → IsGroupLogged n a b order machines r
+group_logged w n room old new a b order machines r size g is takes =
     let cut : drop r.first new.history ≡ g.moved.events = group_events w old new a.number order machines r g in
     record {
       events = g.moved.events;
@@ -74,10 +74,16 @@ group_logged w n old new a b order machines r size g is =
       count = g.count;
       number = ap (λ (c : Client). c.number) is;
       logged = ap (λ (c : Client). c.log) is ∙ ap (λ (es : List Event). a.log ++ receipts_from r.first es) cut;
+      room = (let kept : b.room ≡ room = ap (λ (c : Client). c.room) is in omega arith);
       past = old.history;
       seen = ap (λ (c : Client). c.seen) is ∙ g.moved.grown;
       first = sym g.first;
     }
+
+-- a receipt for each event
+pub receipts_length : (position : ℕ) (es : List Event) → length (receipts_from position es) ≡ length es
+receipts_length position [] = refl
+receipts_length position (e ∷ es) = ap suc (receipts_length (position + 1) es)
 
 -- the history has grown by what stands from the group's first position on
 pub group_grown : {C : Type 0} (w : Works C) (old new : BookView C) (seat order : ℕ) (machines : List ℕ) (r : GroupReceipt) (front read : List Event) → IsGroupRecorded w old new seat order machines r →

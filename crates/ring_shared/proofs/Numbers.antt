@@ -8,7 +8,7 @@ use Rattle.std.proofs.lemmas.Bool.{eqb-false, eqb-true, eq-eqb, ne_eqb, cases_Bo
 use Rattle.std.proofs.Common.{⊎_elim}
 use Rattle.std.proofs.lemmas.Option.{slice_get_within}
 use Rattle.std.proofs.lemmas.Bool.Decides.{nat_tests}
-use Rattle.ring_shared.specs.Client.{Client, fresh_client}
+use Rattle.ring_shared.specs.Client.{Client, IsFreshClient}
 use Rattle.ring_shared.specs.Opening.{AreFresh}
 use Rattle.ring_shared.proofs.Orders.{IsInOrder}
 
@@ -95,9 +95,10 @@ pub fresh_distinct : (n : ℕ) (ss : List Client) → AreFresh n ss → IsDistin
 fresh_distinct n ss f = in_order_distinct ss (λ i s at.
     let within : i < length ss = slice_get_within ss i s at in
     let count = f.count in
-    let is = sym (f.each i (omega arith)) ∙ at in
-    let same : fresh_client i ≡ s = cc in
-    sym (ap (λ (t : Client). t.number) same))
+    let h = f.each i (omega arith) in
+    let is = sym h.1 ∙ at in
+    let same : h.0 ≡ s = cc in
+    sym (ap (λ (t : Client). t.number) same) ∙ ap (λ (t : Client). t.number) h.2)
 
 get_before : (ss : List Client) (s : Client) (i : ℕ) → i < length ss → slice_get (ss ++ s ∷ []) i ≡ slice_get ss i
 get_before [] s i l = absurd (omega arith)
@@ -108,20 +109,22 @@ get_end : (ss : List Client) (s : Client) → slice_get (ss ++ s ∷ []) (length
 get_end [] s = refl
 get_end (t ∷ ss) s = get_end ss s
 
-each_more : (n : ℕ) (ss : List Client) → AreFresh n ss → (i : ℕ) → i < n + 1 → (b : Bool) → (i == n) ≡ b → slice_get (ss ++ fresh_client n ∷ []) i ≡ Some (fresh_client i)
-each_more n ss f i within true e =
+each_more : (n : ℕ) (ss : List Client) (s : Client) → AreFresh n ss → IsFreshClient n s → (i : ℕ) → i < n + 1 → (b : Bool) → (i == n) ≡ b →
+    (t : Client) × (slice_get (ss ++ s ∷ []) i ≡ Some t) × IsFreshClient i t
+each_more n ss s f is i within true e =
     let same : i ≡ n = eqb-true i n e in
-    let here : slice_get (ss ++ fresh_client n ∷ []) n ≡ Some (fresh_client n) = subst (λ (k : ℕ). slice_get (ss ++ fresh_client n ∷ []) k ≡ Some (fresh_client n)) f.count (get_end ss (fresh_client n)) in
-    subst (λ (k : ℕ). slice_get (ss ++ fresh_client n ∷ []) k ≡ Some (fresh_client k)) (sym same) here
-each_more n ss f i within false e =
+    let here : slice_get (ss ++ s ∷ []) n ≡ Some s = subst (λ (k : ℕ). slice_get (ss ++ s ∷ []) k ≡ Some s) f.count (get_end ss s) in
+    subst (λ (k : ℕ). (t : Client) × (slice_get (ss ++ s ∷ []) k ≡ Some t) × IsFreshClient k t) (sym same) (s, here, is)
+each_more n ss s f is i within false e =
     let other = eqb-false i n e in
     let count = f.count in
     let below : i < n = grind (arith, nat_tests) in
-    get_before ss (fresh_client n) i (omega arith) ∙ f.each i below
+    let h = f.each i below in
+    (h.0, get_before ss s i (omega arith) ∙ h.1, h.2)
 
 -- one fresh client more
-pub fresh_more : (n : ℕ) (ss : List Client) → AreFresh n ss → AreFresh (n + 1) (ss ++ fresh_client n ∷ [])
-fresh_more n ss f = record {
-  count = (let count = f.count in omega (arith, length-append ss (fresh_client n ∷ [])));
-  each = λ i within. each_more n ss f i within (i == n) refl;
+pub fresh_more : (n : ℕ) (ss : List Client) (s : Client) → AreFresh n ss → IsFreshClient n s → AreFresh (n + 1) (ss ++ s ∷ [])
+fresh_more n ss s f is = record {
+  count = (let count = f.count in omega (arith, length-append ss (s ∷ [])));
+  each = λ i within. each_more n ss s f is i within (i == n) refl;
 }

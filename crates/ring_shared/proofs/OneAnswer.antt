@@ -11,7 +11,7 @@ use Rattle.ring_model.specs.declared.events.Entry.TheVariants as entry
 use Rattle.ring_model.proofs.Histories.{StepOf-reply, IsLegal-back, legal_step}
 use Rattle.ring_book.specs.declared.books.groups.GroupReceipt.{GroupReceipt}
 use Rattle.ring_book.proofs.OneAnswer.{one_answer}
-use Rattle.ring_shared.specs.Client.{Client}
+use Rattle.ring_shared.specs.Client.{Client, AreAlike}
 use Rattle.ring_shared.specs.Groups.{receipts_from}
 use Rattle.ring_shared.specs.OneAnswer.{CallsAreToldAlike, GroupsAreToldAlike, CallsHaveOneOutcome, GroupsHaveOneOutcome}
 use Rattle.ring_shared.proofs.Prefixes.{prefix_take}
@@ -53,13 +53,6 @@ block_with first count = record { first = first; count = count }
 same_block : (r s : GroupReceipt) → r.first ≡ s.first → r.count ≡ s.count → r ≡ s
 same_block r s f c = ap (λ (x : ℕ). block_with x r.count) f ∙ ap (λ (x : ℕ). block_with s.first x) c
 
-abbrev client_with : ℕ → List Entry → List Event → Client
-client_with n l h = record { number = n; log = l; seen = h }
-
-same_client : (a b : Client) → a.number ≡ b.number → a.log ≡ b.log → a.seen ≡ b.seen → a ≡ b
-same_client a b n l h =
-    ap (λ (x : ℕ). client_with x a.log a.seen) n ∙ (ap (λ (x : List Entry). client_with b.number x a.seen) l ∙ ap (λ (x : List Event). client_with b.number b.log x) h)
-
 -- the members of a group, from one state on, are determined
 members_alike : {C : Type 0} (w : Works C) (a : State C) (seat order : ℕ) (ms : List ℕ) (ds es : List Event) →
     AreMembers seat order ms ds → AreMembers seat order ms es → IsLegal w a ds → IsLegal w a es → ds ≡ es
@@ -78,8 +71,8 @@ pub calls_are_told_alike : {C : Type 0} → CallsAreToldAlike C
 calls_are_told_alike {C} w a before one other op r s h k same =
     let one_is : one.seen ≡ take r.position one.seen ++ r.event ∷ [] = last_at one.seen r.position r.event h.last h.event in
     let other_is : other.seen ≡ take s.position other.seen ++ s.event ∷ [] = last_at other.seen s.position s.event k.last k.event in
-    let one_legal : IsLegal w a (take r.position one.seen ++ r.event ∷ []) = subst (λ (x : List Event). IsLegal w a x) one_is h.legal.0 in
-    let other_legal : IsLegal w a (take s.position other.seen ++ s.event ∷ []) = subst (λ (x : List Event). IsLegal w a x) other_is k.legal.0 in
+    let one_legal : IsLegal w a (take r.position one.seen ++ r.event ∷ []) = subst (λ (x : List Event). IsLegal w a x) one_is h.legal_and_whole.0 in
+    let other_legal : IsLegal w a (take s.position other.seen ++ s.event ∷ []) = subst (λ (x : List Event). IsLegal w a x) other_is k.legal_and_whole.0 in
     let one_says : r.event.reply ≡ reply w (after w a (take r.position one.seen)) r.event.op =
     StepOf-reply w (after w a (take r.position one.seen)) r.event.op r.event.reply (next w (after w a (take r.position one.seen)) r.event.op) (legal_step w a (take r.position one.seen) r.event [] one_legal) in
     let other_says : s.event.reply ≡ reply w (after w a (take s.position other.seen)) s.event.op =
@@ -93,15 +86,15 @@ calls_are_told_alike {C} w a before one other op r s h k same =
     let receipt : r ≡ s = same_receipt r s position event in
     let log : one.log ≡ other.log = h.logged ∙ (ap (λ (x : Receipt). before.log ++ entry.Receipt x ∷ []) receipt ∙ sym k.logged) in
     let seen : one.seen ≡ other.seen = one_is ∙ (ap (λ (x : List Event). x ++ r.event ∷ []) same ∙ (ap (λ (x : Event). take s.position other.seen ++ x ∷ []) event ∙ sym other_is)) in
-    (receipt, same_client one other (h.number ∙ sym k.number) log seen)
+    (receipt, record { number = h.number ∙ sym k.number; log = log; seen = seen })
 
 pub groups_are_told_alike : {C : Type 0} → GroupsAreToldAlike C
 groups_are_told_alike {C} w a n before one other order machines r s h k same =
     let mine : take r.first one.seen ≡ h.told.past = subst (λ (i : ℕ). take i one.seen ≡ h.told.past) h.told.first (prefix_take h.told.past one.seen (h.told.events, sym h.told.seen)) in
     let yours : take s.first other.seen ≡ k.told.past = subst (λ (i : ℕ). take i other.seen ≡ k.told.past) k.told.first (prefix_take k.told.past other.seen (k.told.events, sym k.told.seen)) in
     let pasts : h.told.past ≡ k.told.past = sym mine ∙ (same ∙ yours) in
-    let one_legal : IsLegal w (after w a h.told.past) h.told.events = IsLegal-back w a h.told.past h.told.events (subst (λ (x : List Event). IsLegal w a x) h.told.seen h.legal.0) in
-    let other_legal : IsLegal w (after w a k.told.past) k.told.events = IsLegal-back w a k.told.past k.told.events (subst (λ (x : List Event). IsLegal w a x) k.told.seen k.legal.0) in
+    let one_legal : IsLegal w (after w a h.told.past) h.told.events = IsLegal-back w a h.told.past h.told.events (subst (λ (x : List Event). IsLegal w a x) h.told.seen h.legal_and_whole.0) in
+    let other_legal : IsLegal w (after w a k.told.past) k.told.events = IsLegal-back w a k.told.past k.told.events (subst (λ (x : List Event). IsLegal w a x) k.told.seen k.legal_and_whole.0) in
     let events : h.told.events ≡ k.told.events =
     members_alike w (after w a h.told.past) before.number order (move_order machines) h.told.events k.told.events h.told.block.members k.told.block.members
     one_legal (subst (λ (x : List Event). IsLegal w (after w a x) k.told.events) (sym pasts) other_legal) in
@@ -112,7 +105,7 @@ groups_are_told_alike {C} w a n before one other order machines r s h k same =
     let log : one.log ≡ other.log = h.told.logged ∙ (ap (λ (x : List Entry). before.log ++ x) receipts ∙ sym k.told.logged) in
     let seen : one.seen ≡ other.seen =
     h.told.seen ∙ (ap (λ (x : List Event). x ++ h.told.events) pasts ∙ (ap (λ (x : List Event). k.told.past ++ x) events ∙ sym k.told.seen)) in
-    (block, same_client one other (h.told.number ∙ sym k.told.number) log seen)
+    (block, record { number = h.told.number ∙ sym k.told.number; log = log; seen = seen })
 
 pub calls_have_one_outcome : {C : Type 0} {legal : List Event → Type 0} → CallsHaveOneOutcome C legal
 calls_have_one_outcome {C} {legal} w first start seats old one other before after then op r s h k =
@@ -120,10 +113,11 @@ calls_have_one_outcome {C} {legal} w first start seats old one other before afte
     let event : r.event ≡ s.event = same_event r.event s.event both.seat both.op both.reply in
     let receipt : r ≡ s = same_receipt r s both.position event in
     let history : one.history ≡ other.history = h.recorded.grown ∙ (ap (λ (x : Event). old.history ++ x ∷ []) event ∙ sym k.recorded.grown) in
-    let told : client_with before.number (before.log ++ entry.Receipt r ∷ []) one.history ≡ client_with before.number (before.log ++ entry.Receipt s ∷ []) other.history =
-    ap (λ (x : Receipt). client_with before.number (before.log ++ entry.Receipt x ∷ []) one.history) receipt
-    ∙ ap (λ (x : List Event). client_with before.number (before.log ++ entry.Receipt s ∷ []) x) history in
-    (receipt, record { start = both.start; now = both.now; history = history }, h.logged ∙ (told ∙ sym k.logged))
+    let log : after.log ≡ then.log =
+    ap (λ (c : Client). c.log) h.logged ∙ (ap (λ (x : Receipt). before.log ++ entry.Receipt x ∷ []) receipt ∙ sym (ap (λ (c : Client). c.log) k.logged)) in
+    let seen : after.seen ≡ then.seen = ap (λ (c : Client). c.seen) h.logged ∙ (history ∙ sym (ap (λ (c : Client). c.seen) k.logged)) in
+    let number : after.number ≡ then.number = ap (λ (c : Client). c.number) h.logged ∙ sym (ap (λ (c : Client). c.number) k.logged) in
+    (receipt, record { start = both.start; now = both.now; history = history }, record { number = number; log = log; seen = seen })
 
 pub groups_have_one_outcome : {C : Type 0} {legal : List Event → Type 0} → GroupsHaveOneOutcome C legal
 groups_have_one_outcome {C} {legal} w first start seats old one other before then last order machines r s h k =
@@ -144,4 +138,4 @@ groups_have_one_outcome {C} {legal} w first start seats old one other before the
     ap (λ (i : ℕ). receipts_from i h.told.events) place ∙ ap (λ (x : List Event). receipts_from s.first x) told in
     let log : then.log ≡ last.log = h.told.logged ∙ (ap (λ (x : List Entry). before.log ++ x) receipts ∙ sym k.told.logged) in
     let seen : then.seen ≡ last.seen = h.all ∙ (history ∙ sym k.all) in
-    (block, record { start = m.same_start ∙ sym n.same_start; now = now; history = history }, same_client then last (h.told.number ∙ sym k.told.number) log seen)
+    (block, record { start = m.same_start ∙ sym n.same_start; now = now; history = history }, record { number = h.told.number ∙ sym k.told.number; log = log; seen = seen })

@@ -1,5 +1,5 @@
 -- What a group pass does to the book and to the seat of a ring, and what a client is told of it (this project's own).
-use Rattle.std.specs.Prelude.{◌≡◌, ◌≢◌, ◌⊎◌, ℕ, ◌+◌, ◌<◌, List, [], ◌∷◌, ◌++◌, length, Result, IsErrOf, OnErr}
+use Rattle.std.specs.Prelude.{◌≡◌, ◌≢◌, ◌⊎◌, ℕ, ◌+◌, ◌<◌, ◌≤◌, List, [], ◌∷◌, ◌++◌, length, Result, IsErrOf, OnErr}
 use mathlib.Core.List.{IsPrefix}
 use Rattle.ring_model.specs.Ring.{Ring}
 use Rattle.ring_model.specs.Groups.{move_order, IsBlockOf}
@@ -14,7 +14,7 @@ use Rattle.ring_book.specs.GroupView.{IsLeastWithout, IsGroupRecorded}
 use Rattle.ring_book.specs.declared.books.groups.GroupError.{GroupError}
 use Rattle.ring_book.specs.declared.books.groups.GroupError.TheVariants.{WholeRing, NotPrivileged, HistoryFull, OutOfMemory}
 use Rattle.ring_book.specs.declared.books.groups.GroupReceipt.{GroupReceipt}
-use Rattle.ring_shared.specs.Client.{Client}
+use Rattle.ring_shared.specs.Client.{Client, IsUnchanged}
 use Rattle.ring_shared.specs.Holding.{IsHeld}
 
 -- the receipts of events that stand one behind the other in a history, from this position on
@@ -22,14 +22,15 @@ abbrev pub receipts_from : ℕ → List Event → List Entry
 receipts_from position [] = []
 receipts_from position (e ∷ es) = entry.Receipt (record { position = position; event = e }) ∷ receipts_from (position + 1) es
 
--- A client was told of a group: its log has the receipt of each member besides, from the answer's first position on, and what it has
--- seen ends with the block, which begins there.
+-- A client was told of a group: its log has the receipt of each member besides, from the answer's first position on, for which it took at
+-- most a place each of its room, and what it has seen ends with the block, which begins there.
 pub record IsGroupLogged (n : ℕ) (before after : Client) (order : ℕ) (machines : List ℕ) (r : GroupReceipt) : Type 0 where
   pub events : List Event
   pub block : IsBlockOf n before.number order (move_order machines) events
   pub count : r.count ≡ length machines
   pub number : after.number ≡ before.number
   pub logged : after.log ≡ before.log ++ receipts_from r.first events
+  pub room : before.room ≤ after.room + length machines
   pub past : List Event
   pub seen : after.seen ≡ past ++ events
   pub first : length past ≡ r.first
@@ -56,4 +57,4 @@ pub record IsGroupRefused {C : Type 0} (old new : BookView C) (before after : Cl
   pub unprivileged_only : (m : ℕ) → IsErrOf result (NotPrivileged m) → (length machines ≢ length old.now.ring.values) × IsLeastWithout old.now.ring.values machines m
   pub full : CanMove old.now.ring.values machines → event_limit < length old.history + length machines → IsRefusedFor HistoryFull result
   pub full_only : IsErrOf result HistoryFull → CanMove old.now.ring.values machines × (event_limit < length old.history + length machines)
-  pub unchanged : OnErr result ((new ≡ old) × (after ≡ before))
+  pub unchanged : OnErr result ((new ≡ old) × IsUnchanged before after)

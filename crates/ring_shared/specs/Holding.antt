@@ -1,11 +1,9 @@
 -- What is true of a ring's book whenever its lock is free (this project's own).
-use Rattle.std.specs.Prelude.{◌≡◌, ℕ, ◌<◌, ◌↔◌, List, All, length}
+use Rattle.std.specs.Prelude.{◌≡◌, ℕ, ◌<◌, ◌↔◌, List, All}
 use Rattle.ring_model.specs.Ring.{Ring}
 use Rattle.ring_model.specs.History.{Works, opening}
 use Rattle.ring_model.specs.Groups.{IsHistory}
-use Rattle.ring_model.specs.Surveys.{survey_at}
 use Rattle.ring_model.specs.declared.events.Event.{Event}
-use Rattle.ring_model.specs.declared.events.Survey.{Survey}
 use Rattle.ring_book.specs.BookView.{BookView, IsBook}
 
 -- each event's seat is below this number
@@ -22,7 +20,3 @@ pub record IsHeld {C : Type 0} (w : Works C) (first : C) (start : Ring) (seats :
   pub begins : b.start ≡ start
   pub of_seats : AreOfSeats seats b.history
   pub means_legal : MeansLegal w first start legal
-
--- the survey is that of the end of some history of the one-thread ring whose events are of the ring's seats
-abbrev pub IsSurveyOfSome : {C : Type 0} → Works C → C → Ring → ℕ → Survey → Type 0
-IsSurveyOfSome w first start seats s = (h : List Event) × IsHistory w (opening start first) h × AreOfSeats seats h × (s ≡ survey_at w (opening start first) h (length h))

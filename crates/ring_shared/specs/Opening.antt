@@ -7,7 +7,7 @@ use Rattle.ring_model.specs.History.{Works}
 use Rattle.ring_model.specs.Limits.{seat_limit}
 use Rattle.ring_model.specs.declared.events.Event.{Event}
 use Rattle.ring_state.specs.Sizes.{IsRingState}
-use Rattle.ring_shared.specs.Client.{Client, fresh_client}
+use Rattle.ring_shared.specs.Client.{Client, IsFreshClient}
 use Rattle.ring_shared.specs.Holding.{MeansLegal}
 
 -- a book, for how many seats it is, and the log of events that the ring will have
@@ -25,7 +25,7 @@ pub record IsDraft {C : Type 0} (d : Drafted C) : Type 0 where
 -- this many seats, numbered in their order, that have called nothing and seen nothing
 pub record AreFresh (number_of_seats : ℕ) (seats : List Client) : Type 0 where
   pub count : length seats ≡ number_of_seats
-  pub each : (i : ℕ) → i < number_of_seats → slice_get seats i ≡ Some (fresh_client i)
+  pub each : (i : ℕ) → i < number_of_seats → (s : Client) × (slice_get seats i ≡ Some s) × IsFreshClient i s
 
 -- what a ring keeps beside its lock: how many seats it has, that its start is a ring, and what legal means
 pub record IsRingOf {C : Type 0} (w : Works C) (first : C) (start : Ring) (seats : ℕ) (legal : List Event → Type 0) (counted : ℕ) : Type 0 where

@@ -81,7 +81,7 @@ impl<N: Name, R: Resource + Drop> Ring<N, R> {
         // The history is one of the one-thread ring, which settles as the laws say, and serves those who ask.
         ensures start { IfOk result (λ c. c.book.start ≡ N.start) }
         ensures book { IfOk result (λ c. IsBook R.works R.first c.book) }
-        ensures legal { IfOk result (λ c. IsHistory R.works (opening N.start R.first) c.book.history) }
+        ensures legal_and_whole { IfOk result (λ c. IsHistory R.works (opening N.start R.first) c.book.history) }
         ensures settlement { IfOk result (λ c. Settlement R.works (opening N.start R.first) c.book.history) }
         ensures progress { IfOk result (λ c. Progress R.works (opening N.start R.first) c.book.history) }
 

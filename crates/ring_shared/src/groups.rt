@@ -41,7 +41,8 @@ fn show_block<N: Name, R: Resource + Drop, W: Wait>(
 fn log_events(log: &mut Vec<Entry>, events: &[Event], first: u64)
     requires room { length log.old.items + length events.now ≤ vec_capacity log.old }
     requires few { first + length events.now < 2 ^ 64 }
-    ensures { log.new.items ≡ log.old.items ++ receipts_from first events.now }
+    ensures items { log.new.items ≡ log.old.items ++ receipts_from first events.now }
+    ensures capacity { vec_capacity log.new ≡ vec_capacity log.old }
 {
     let mut position = first;
     for event in events {
@@ -66,7 +67,8 @@ fn log_group<N: Name, R: Resource + Drop>(
     ensures ok { IfOk result (λ r. IsGroupRecorded R.works book.old book.new seat.old.number order machines.now r) }
     ensures book { IfOk result (λ _. IsBook R.works R.first book.new) }
     ensures within { seat.old.number < N.seats }
-    ensures logged { IfOk result (λ r. seat.new ≡ record { number = seat.old.number; log = seat.old.log ++ receipts_from r.first (drop r.first book.new.history); seen = seat.old.seen }) }
+    ensures logged { IfOk result (λ r. seat.new ≡ record { number = seat.old.number; log = seat.old.log ++ receipts_from r.first (drop r.first book.new.history); seen = seat.old.seen; room = seat.new.room }) }
+    ensures room { IfOk result (λ _. seat.old.room ≤ seat.new.room + length machines.now) }
     ensures refused { IsGroupRefused book.old book.new seat.old seat.new machines.now result }
 {
     let number = seat.number();

@@ -1,5 +1,5 @@
 //! What lies under the lock of a ring, and the critical sections.
-ghost use Rattle.std.specs.Prelude.{◌≡◌, ◌<◌, ◌++◌, ◌∷◌, ◌≤◌, ◌↔◌, [], length, drop, fold, IsOk, IfOk, OnErr, IsErrOf};
+ghost use Rattle.std.specs.Prelude.{◌≡◌, ◌<◌, ◌++◌, ◌∷◌, ◌+◌, ◌≤◌, ◌↔◌, [], length, drop, fold, IsOk, IfOk, OnErr, IsErrOf};
 ghost use Rattle.ring_book.specs.BookView.{IsBook, IsRecorded};
 ghost use Rattle.ring_model.specs.Groups.{IsAlone};
 ghost use Rattle.ring_model.specs.Limits.{event_limit, seat_limit};
@@ -55,6 +55,7 @@ where
 }
 
 /// Returns only where the operation is pending.
+#[inline(always)]
 fn surely_append<N: Name, W: Wait>(rt: &W, writer: &mut RingWriter<N>, operation: Operation<N>)
     ensures desk { writer.new.desk ≡ writer.old.desk }
     ensures pending { drop writer.new.behind writer.new.log.items ≡ drop writer.old.behind writer.old.log.items ++ operation ∷ [] }
@@ -70,12 +71,22 @@ fn surely_append<N: Name, W: Wait>(rt: &W, writer: &mut RingWriter<N>, operation
 }
 
 /// Shows readers what is pending.
+#[inline(always)]
 fn publish<N: Name, W: Wait>(rt: &W, writer: RingWriter<N>) -> (RingWriter<N>, ())
     ensures shown { result.0.desk.shown.value ≡ fold stepped writer.desk.shown.value (drop writer.behind writer.log.items) }
     ensures pending { drop result.0.behind result.0.log.items ≡ [] }
 {
     let (writer, _result) = writer.publish_as::<Unruled, W>(rt);
     (writer, ())
+}
+
+/// Shows readers what is pending, in the place of the copy that they see.
+#[inline(always)]
+pub(crate) fn turn<N: Name, W: Wait>(rt: &W, writer: &mut RingWriter<N>)
+    ensures shown { writer.new.desk.shown.value ≡ fold stepped writer.old.desk.shown.value (drop writer.old.behind writer.old.log.items) }
+    ensures pending { drop writer.new.behind writer.new.log.items ≡ [] }
+{
+    replace_with(writer, rt, |writer, rt| publish(rt, writer));
 }
 
 /// Shows readers one event or one block more.
@@ -87,7 +98,7 @@ pub(crate) fn show<N: Name, W: Wait>(rt: &W, writer: &mut RingWriter<N>, operati
     ensures pending { drop writer.new.behind writer.new.log.items ≡ [] }
 {
     surely_append(rt, writer, operation);
-    replace_with(writer, rt, |writer, rt| publish(rt, writer));
+    turn(rt, writer);
 }
 
 /// Shows readers the event that ends the book's history, the rest of which is shown.
@@ -246,7 +257,8 @@ fn log_call<N: Name, R: Resource + Drop>(
     ensures ok { IfOk result (λ r. IsRecorded R.works book.old book.new seat.old.number op r) }
     ensures book { IfOk result (λ _. IsBook R.works R.first book.new) }
     ensures within { seat.old.number < N.seats }
-    ensures logged { IfOk result (λ r. seat.new ≡ record { number = seat.old.number; log = seat.old.log ++ Entry.Receipt r ∷ []; seen = seat.old.seen }) }
+    ensures logged { IfOk result (λ r. seat.new ≡ record { number = seat.old.number; log = seat.old.log ++ Entry.Receipt r ∷ []; seen = seat.old.seen; room = seat.new.room }) }
+    ensures room { IfOk result (λ _. seat.old.room ≤ seat.new.room + 1) }
     ensures refused { IsRefusedUnderLock book.old book.new seat.old seat.new result }
 {
     let number = seat.number();

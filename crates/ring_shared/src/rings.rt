@@ -1,5 +1,5 @@
 //! Rings that threads share: how they are opened, and the calls of their seats.
-ghost use Rattle.std.specs.Prelude.{◌≡◌, ◌<◌, ◌≤◌, ◌+◌, ◌++◌, ◌∷◌, ◌↔◌, [], ℕ, List, Some, slice_get, length, map, eqb, drop, fold, IsOk, IfOk, IfErr, OnErr, IsErrOf};
+ghost use Rattle.std.specs.Prelude.{◌≡◌, ◌<◌, ◌≤◌, ◌+◌, ◌++◌, ◌∷◌, [], length, map, eqb, drop, IsTrue, IsOk, IfOk, IfErr, OnErr, IsErrOf};
 ghost use Rattle.std.specs.List.{IsDistinct};
 ghost use mathlib.Core.List.{IsPrefix};
 ghost use Rattle.ring_model.specs.Ring.{bound};
@@ -8,14 +8,14 @@ ghost use Rattle.ring_model.specs.Groups.{IsHistory, Rises};
 ghost use Rattle.ring_model.specs.History.{opening};
 ghost use Rattle.ring_model.specs.Surveys.{survey_at};
 ghost use Rattle.ring_state.specs.Sizes.{IsRingState};
-ghost use Rattle.ring_shared.specs.Client.{fresh_client};
+ghost use Rattle.ring_shared.specs.Calls.{IsToldCall};
+ghost use Rattle.ring_shared.specs.Client.{IsFreshClient, IsUnchanged};
 ghost use Rattle.ring_shared.specs.Groups.{IsGroupLogged, IsRefusedFor};
-ghost use Rattle.ring_shared.specs.Holding.{MeansLegal, AreOfSeats, IsSurveyOfSome};
+ghost use Rattle.ring_shared.specs.Holding.{MeansLegal, AreOfSeats};
 ghost use Rattle.ring_shared.specs.Opening.{AreFresh};
-ghost use Rattle.ring_shared.specs.Stepping.{stepped};
 
 use crate::front::{Front, Opened};
-use crate::locked::Locked;
+use crate::locked::{Locked, turn};
 use crate::names::Name;
 use crate::seats::{RingWriter, Seat};
 use crate::shown::{Operation, Shown};
@@ -147,7 +147,7 @@ fn seat_of<N: Name>(
     requires number { (number < N.seats) × (number < seat_limit) }
     requires front { front.now ≡ [] }
     requires start { start.now ≡ N.start }
-    ensures { IfOk result (λ s. s ≡ fresh_client number) }
+    ensures { IfOk result (IsFreshClient number) }
 {
     let Ok(reader) = writer.factory().reader() else {
         return Err(OpenReason::NoSeat);
@@ -182,23 +182,26 @@ fn seats_of<N: Name>(
     Ok(seats)
 }
 
-/// Makes room for operations, so that a pass needs no memory for its own.
+/// Makes eight places for operations, and empties them by a turn of each copy. A call has at most two: its own, and
+/// that of the last one, which one copy lacks. So no call asks for memory for what it shows.
 #[tactic(auto, using(crate::proofs::Stepped::stepped_still))]
-fn warm<N: Name>(writer: &mut RingWriter<N>, front: &Front<N>) -> bool
+fn warm<N: Name, W: Wait>(rt: &W, writer: &mut RingWriter<N>, front: &Front<N>) -> bool
     requires machine { 0 < length N.start.values }
     requires value { 0 < N.start.k }
     requires front { front.now ≡ [] }
     requires shown { writer.old.desk.shown.value ≡ [] }
     requires pending { drop writer.old.behind writer.old.log.items ≡ [] }
-    ensures shown { writer.new.desk.shown.value ≡ [] }
-    ensures pending { fold stepped [] (drop writer.new.behind writer.new.log.items) ≡ [] }
+    ensures shown { IsTrue result → writer.new.desk.shown.value ≡ [] }
+    ensures pending { IsTrue result → drop writer.new.behind writer.new.log.items ≡ [] }
 {
-    for _ in 0..5u32 {
+    for _ in 0..8u32 {
         let operation = Operation::nothing(front.again());
         if writer.append(operation).is_err() {
             return false;
         }
     }
+    turn(rt, writer);
+    turn(rt, writer);
     true
 }
 
@@ -222,7 +225,8 @@ fn writer_of<N: Name>(
 
 /// A writer that shows the start, with room for operations, and this many seats. Where a seat is refused there may
 /// be a writer, which has to be ended.
-fn seated<N: Name>(
+fn seated<N: Name, W: Wait>(
+    rt: &W,
     alloc: Global,
     front: &Front<N>,
     start: &RingState,
@@ -235,13 +239,13 @@ fn seated<N: Name>(
     requires start { start.now ≡ N.start }
     requires front { front.now ≡ [] }
     ensures shown { IfOk result (λ t. t.0.desk.shown.value ≡ []) }
-    ensures pending { IfOk result (λ t. fold stepped [] (drop t.0.behind t.0.log.items) ≡ []) }
+    ensures pending { IfOk result (λ t. drop t.0.behind t.0.log.items ≡ []) }
     ensures fresh { IfOk result (λ t. AreFresh N.seats t.1.items) }
 {
     let Ok(mut writer) = writer_of(alloc, start, front, count) else {
         return Err((OpenReason::OutOfMemory, None));
     };
-    if !warm(&mut writer, front) {
+    if !warm(rt, &mut writer, front) {
         return Err((OpenReason::OutOfMemory, Some(writer)));
     }
     match seats_of(alloc, &writer, front, start, count) {
@@ -254,13 +258,15 @@ impl<N: Name, R: Resource + Drop> Ring<N, R> {
     /// A ring over the draft's book, and its seats with the numbers 0, 1 and so on, which have called
     /// nothing and seen nothing.
     ///
-    /// The name says the draft's start, its number of seats, its list of events, and which histories are legal.
+    /// The name says the draft's start, its number of seats, its list of events, and which histories are legal. It may
+    /// wait, for nobody: no seat looks before it is handed out.
     ///
     /// # Errors
     ///
     /// Want of memory; `NoSeat`, where there is no place for a seat to look from. The book is handed back as
     /// it was.
-    pub fn open(
+    pub fn open<W: Wait>(
+        rt: &W,
         alloc: Global,
         draft: Draft<R>,
     ) -> Result<(Ring<N, R>, Vec<Seat<N>>), OpenFault<N, R>>
@@ -279,7 +285,7 @@ impl<N: Name, R: Resource + Drop> Ring<N, R> {
         } = draft;
         book.history(); // says: the book is one
         let (head, front) = opened.named::<N>();
-        match seated(alloc, &front, book.start(), count) {
+        match seated(rt, alloc, &front, book.start(), count) {
             Ok((writer, seats)) => {
                 let ring = Ring {
                     shared: Mutex::new(Locked::new(alloc, book, head, front, writer)),
@@ -309,13 +315,10 @@ impl<N: Name, R: Resource + Drop> Ring<N, R> {
         order: u64,
     ) -> Result<Receipt, BookError>
         requires { machine < length N.start.values }
-        ensures call { IfOk result (λ r. (r.event.seat ≡ seat.old.number) × (r.event.op ≡ Op.Pass machine order)) }
+        ensures told { IfOk result (λ r. IsToldCall R.works (opening N.start R.first) seat.old seat.new (Op.Pass machine order) r) }
         ensures number { seat.new.number ≡ seat.old.number }
-        ensures logged { IfOk result (λ r. seat.new.log ≡ seat.old.log ++ Entry.Receipt r ∷ []) }
-        ensures told { IfOk result (λ r. (length seat.new.seen ≡ r.position + 1) × (slice_get seat.new.seen r.position ≡ Some r.event)) }
-        ensures legal { IfOk result (λ r. IsHistory R.works (opening N.start R.first) seat.new.seen) }
         ensures later { IsPrefix seat.old.seen seat.new.seen }
-        ensures err { OnErr result (seat.new ≡ seat.old) }
+        ensures err { OnErr result (IsUnchanged seat.old seat.new) }
     {
         let mut locked = self.shared.lock(rt);
         let result = locked.pass(rt, seat, machine, order);
@@ -338,13 +341,10 @@ impl<N: Name, R: Resource + Drop> Ring<N, R> {
     ) -> Result<Receipt, BookError>
         requires machine { machine < length N.start.values }
         requires value { value < N.start.k }
-        ensures call { IfOk result (λ r. (r.event.seat ≡ seat.old.number) × (r.event.op ≡ Op.Corrupt machine value)) }
+        ensures told { IfOk result (λ r. IsToldCall R.works (opening N.start R.first) seat.old seat.new (Op.Corrupt machine value) r) }
         ensures number { seat.new.number ≡ seat.old.number }
-        ensures logged { IfOk result (λ r. seat.new.log ≡ seat.old.log ++ Entry.Receipt r ∷ []) }
-        ensures told { IfOk result (λ r. (length seat.new.seen ≡ r.position + 1) × (slice_get seat.new.seen r.position ≡ Some r.event)) }
-        ensures legal { IfOk result (λ r. IsHistory R.works (opening N.start R.first) seat.new.seen) }
         ensures later { IsPrefix seat.old.seen seat.new.seen }
-        ensures err { OnErr result (seat.new ≡ seat.old) }
+        ensures err { OnErr result (IsUnchanged seat.old seat.new) }
     {
         let mut locked = self.shared.lock(rt);
         let result = locked.corrupt(rt, seat, machine, value);
@@ -371,11 +371,11 @@ impl<N: Name, R: Resource + Drop> Ring<N, R> {
         requires rising { Rises 0 (length N.start.values) machines.now }
         requires some { 1 ≤ length machines.now }
         ensures told { IfOk result (λ r. IsGroupLogged (length N.start.values) seat.old seat.new order machines.now r) }
-        ensures legal { IfOk result (λ r. IsHistory R.works (opening N.start R.first) seat.new.seen) }
+        ensures legal_and_whole { IfOk result (λ r. IsHistory R.works (opening N.start R.first) seat.new.seen) }
         ensures later { IsPrefix seat.old.seen seat.new.seen }
         ensures whole { length machines.now ≡ length N.start.values → IsRefusedFor GroupError.WholeRing result }
         ensures whole_only { IsErrOf result GroupError.WholeRing → length machines.now ≡ length N.start.values }
-        ensures err { OnErr result (seat.new ≡ seat.old) }
+        ensures err { OnErr result (IsUnchanged seat.old seat.new) }
     {
         let mut locked = self.shared.lock(rt);
         let result = locked.pass_group(rt, seat, machines, order);
@@ -388,13 +388,14 @@ impl<N: Name, R: Resource + Drop> Ring<N, R> {
     ///
     /// # Errors
     ///
-    /// Want of memory for the log alone. Nothing has changed then.
+    /// Want of memory for the log alone, where it has no room. Nothing has changed then.
     pub fn survey(&self, seat: &mut Seat<N>) -> Result<Survey, AllocError>
-        ensures right { IfOk result (λ s. IsSurveyOfSome R.works R.first N.start N.seats s) }
         ensures number { seat.new.number ≡ seat.old.number }
         ensures logged { IfOk result (λ s. seat.new.log ≡ seat.old.log ++ Entry.Survey s ∷ []) }
+        ensures room { IfOk result (λ s. seat.old.room ≤ seat.new.room + 1) }
+        ensures with_room { 1 ≤ seat.old.room → IsOk result }
         ensures told { IfOk result (λ s. s ≡ survey_at R.works (opening N.start R.first) seat.new.seen (length seat.new.seen)) }
-        ensures legal { IsHistory R.works (opening N.start R.first) seat.new.seen }
+        ensures legal_and_whole { IsHistory R.works (opening N.start R.first) seat.new.seen }
         ensures of_seats { AreOfSeats N.seats seat.new.seen }
         ensures later { IsPrefix seat.old.seen seat.new.seen }
         ensures calm { IfOk result (λ s. bound (length N.start.values) ≤ s.calm → (s.privileged ≡ 1) × (s.rest ≡ 0)) }
@@ -410,8 +411,9 @@ impl<N: Name, R: Resource + Drop> Ring<N, R> {
     pub fn glance(&self, seat: &mut Seat<N>) -> Survey
         ensures number { seat.new.number ≡ seat.old.number }
         ensures log { seat.new.log ≡ seat.old.log }
+        ensures room { seat.new.room ≡ seat.old.room }
         ensures told { result ≡ survey_at R.works (opening N.start R.first) seat.new.seen (length seat.new.seen) }
-        ensures legal { IsHistory R.works (opening N.start R.first) seat.new.seen }
+        ensures legal_and_whole { IsHistory R.works (opening N.start R.first) seat.new.seen }
         ensures of_seats { AreOfSeats N.seats seat.new.seen }
         ensures later { IsPrefix seat.old.seen seat.new.seen }
         ensures calm { bound (length N.start.values) ≤ result.calm → (result.privileged ≡ 1) × (result.rest ≡ 0) }

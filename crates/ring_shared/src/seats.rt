@@ -1,8 +1,8 @@
 //! The seats of a ring, one for each client: their logs, and what they have seen.
-ghost use Rattle.std.specs.Prelude.{◌≡◌, ◌<◌, ◌≤◌, ◌+◌, ◌++◌, ◌∷◌, [], length, IfOk, IfSome, IfNone, OnErr, vec_len, vec_capacity};
+ghost use Rattle.std.specs.Prelude.{◌≡◌, ◌<◌, ◌≤◌, ◌+◌, ◌++◌, ◌∷◌, [], length, IsOk, IfOk, IfSome, IfNone, OnErr, vec_len, vec_capacity};
 ghost use mathlib.Core.List.{IsPrefix};
 ghost use Rattle.ring_model.specs.Limits.{seat_limit};
-ghost use Rattle.ring_shared.specs.Client.{fresh_client, told_of};
+ghost use Rattle.ring_shared.specs.Client.{fresh_client, told_of, IsUnchanged};
 ghost use Rattle.ring_shared.specs.Closing.{IsLogOf};
 ghost use Rattle.ring_shared.specs.Folds.{survey_of, AnswersFor};
 ghost use Rattle.ring_shared.specs.Holding.{AreOfSeats};
@@ -30,8 +30,8 @@ pub type RingWriter<N> = Writer<Shown<N>, Operation<N>, (), Unruled>;
 
 /// One client's place at a ring, with what the client was told.
 ///
-/// Contracts see its number, its log, and the events that it has seen. It carries the ring's name `N`, so it
-/// serves at rings of that name alone.
+/// Contracts see its number, its log, the events that it has seen, and its room: how many entries more its log takes
+/// without asking for memory. It carries the ring's name `N`, so it serves at rings of that name alone.
 #[derive(Drop)]
 pub struct Seat<N: Name> {
     number: u32,
@@ -43,14 +43,14 @@ pub struct Seat<N: Name> {
 }
 
 impl<N: Name> Model for Seat<N> {
-    ghost use Rattle.std.specs.Prelude.{◌≡◌, ◌<◌, ◌≤◌, length};
+    ghost use Rattle.std.specs.Prelude.{◌≡◌, ◌<◌, ◌≤◌, ◌-◌, length, vec_capacity};
     ghost use Rattle.ring_model.specs.Limits.{seat_limit};
     ghost use Rattle.ring_shared.specs.Client.{Client};
     ghost use Rattle.ring_shared.specs.Folds.{AnswersFor};
 
     ghost Value = { Client };
 
-    ghost view = { λ s. record { number = s.number; log = s.log.items; seen = s.front } };
+    ghost view = { λ s. record { number = s.number; log = s.log.items; seen = s.front; room = vec_capacity s.log - length s.log.items } };
 
     ghost invariant = { λ s. (s.number < N.seats) × (s.number < seat_limit) × (length s.summary.ring.values ≡ length N.start.values) × (s.summary.ring.k ≡ N.start.k) × AnswersFor N.start s.front s.last s.summary.ring s.summary.position s.summary.calm };
 }
@@ -138,7 +138,7 @@ impl<N: Name> Seat<N> {
         requires most { number < seat_limit }
         requires front { front ≡ [] }
         requires start { start ≡ N.start }
-        ensures { result ≡ fresh_client number }
+        ensures { result ≡ fresh_client number 0 }
     {
         Seat {
             number,
@@ -192,15 +192,15 @@ impl<N: Name> Seat<N> {
         }
     }
 
-    /// Takes memory for `more` entries of the log, and answers how many it then has room for: as many calls and
-    /// surveys ask for no memory for the log, where a group counts once for each machine. The number, the log and what was seen stay, also after a refusal.
+    /// Takes memory for `more` entries of the log, and answers how many it then has room for: a call or a survey takes one
+    /// place of it, a group one for each machine. The number, the log and what was seen stay, also after a refusal.
     ///
     /// # Errors
     ///
     /// Want of memory alone.
     pub fn reserve(&mut self, more: usize) -> Result<usize, AllocError>
-        ensures room { IfOk result (λ room. more ≤ room) }
-        ensures same { self.new ≡ self.old }
+        ensures room { IfOk result (λ room. (more ≤ room) × (self.new.room ≡ room)) }
+        ensures same { IsUnchanged self.old self.new }
     {
         reserve_entries(&mut self.log, more)
     }
@@ -209,6 +209,7 @@ impl<N: Name> Seat<N> {
     pub(crate) fn glance(&mut self) -> Survey
         ensures number { self.new.number ≡ self.old.number }
         ensures log { self.new.log ≡ self.old.log }
+        ensures room { self.new.room ≡ self.old.room }
         ensures legal { N.legal self.new.seen }
         ensures of_seats { AreOfSeats N.seats self.new.seen }
         ensures survey { result ≡ survey_of N.start self.new.seen }
@@ -227,6 +228,8 @@ impl<N: Name> Seat<N> {
     pub(crate) fn survey(&mut self) -> Result<Survey, AllocError>
         ensures number { self.new.number ≡ self.old.number }
         ensures logged { IfOk result (λ s. self.new.log ≡ self.old.log ++ Entry.Survey s ∷ []) }
+        ensures room { IfOk result (λ _. self.old.room ≤ self.new.room + 1) }
+        ensures with_room { 1 ≤ self.old.room → IsOk result }
         ensures legal { N.legal self.new.seen }
         ensures of_seats { AreOfSeats N.seats self.new.seen }
         ensures survey { IfOk result (λ s. s ≡ survey_of N.start self.new.seen) }
@@ -248,7 +251,7 @@ impl<N: Name> Seat<N> {
     /// Sees what is shown, which begins with what was seen.
     #[inline(always)]
     pub(crate) fn catch_up<W: Wait>(&mut self, rt: &W, shown: &Shown<N>)
-        ensures is { self.new ≡ record { number = self.old.number; log = self.old.log; seen = shown.now } }
+        ensures is { self.new ≡ record { number = self.old.number; log = self.old.log; seen = shown.now; room = self.old.room } }
         ensures later { IsPrefix self.old.seen self.new.seen }
     {
         let front = shown.front();
@@ -287,6 +290,7 @@ impl<N: Name> Seat<N> {
 /// Takes memory for `more` entries, and answers how many a log then has room for.
 fn reserve_entries(log: &mut Vec<Entry>, more: usize) -> Result<usize, AllocError>
     ensures room { IfOk result (λ room. (more ≤ room) × (vec_len log.new + room ≡ vec_capacity log.new)) }
+    ensures grows { vec_capacity log.old ≤ vec_capacity log.new }
     ensures same { log.new.items ≡ log.old.items }
 {
     log.reserve_exact(more)?;

@@ -9,7 +9,7 @@ use Rattle.ring_model.specs.declared.events.Entry.{Entry}
 use Rattle.ring_model.proofs.Orders.{move_order_law}
 use Rattle.ring_model.proofs.Wholes.{members_length, left_rest, whole_left}
 use Rattle.ring_book.specs.declared.books.groups.GroupReceipt.{GroupReceipt}
-use Rattle.ring_shared.specs.Client.{Client}
+use Rattle.ring_shared.specs.Client.{Client, IsUnchanged}
 use Rattle.ring_shared.specs.Groups.{receipts_from, IsGroupLogged}
 use Rattle.wrong_shared_bodies.proofs.Ends.{behind}
 
@@ -61,11 +61,11 @@ receipts_some first [] some = absurd (omega arith)
 receipts_some first (e ∷ es) some = omega arith
 
 -- it lengthens the log
-pub log_grown : (n : ℕ) (before after : Client) (order : ℕ) (machines : List ℕ) (r : GroupReceipt) → IsGroupLogged n before after order machines r → after ≡ before → ⊥
+pub log_grown : (n : ℕ) (before after : Client) (order : ℕ) (machines : List ℕ) (r : GroupReceipt) → IsGroupLogged n before after order machines r → IsUnchanged before after → ⊥
 log_grown n before after order machines r a same =
     let some : 1 ≤ length a.events = omega (arith, a.block.in_order.some, members_length before.number order (move_order machines) a.events a.block.members) in
     let logged : 1 ≤ length (receipts_from r.first a.events) = receipts_some r.first a.events some in
-    omega (arith, ap (λ (x : List Entry). length x) a.logged, length-append before.log (receipts_from r.first a.events), ap (λ (x : Client). length x.log) same)
+    omega (arith, ap (λ (x : List Entry). length x) a.logged, length-append before.log (receipts_from r.first a.events), ap (λ (x : List Entry). length x) same.log)
 
 -- a front of a block that lacks a member leaves some
 open_front : (seat order : ℕ) (ms : List ℕ) (es : List Event) (k : ℕ) → AreMembers seat order ms es → 1 ≤ k → k ≤ length ms → left_after (take k es) + k ≡ length ms

@@ -2,6 +2,7 @@
 
 ghost use Rattle.std.specs.Prelude.{◌≡◌, ◌≢◌, ◌<◌, ◌≤◌, ◌+◌, ◌++◌, ◌∷◌, [], Some, slice_get, length, IfOk, IfSome, OnErr};
 ghost use mathlib.Core.List.{IsPrefix};
+ghost use Rattle.ring_shared.specs.Client.{IsUnchanged};
 
 use ring_book::{BookError, Resource};
 use ring_model::{Entry, Event, Op, Receipt, Reply};
@@ -149,7 +150,7 @@ pub fn pass_refused_after_its_event<N: Name, R: Resource + Drop, W: Wait>(
     order: u64,
 ) -> Option<Result<Receipt, BookError>>
     requires machine { machine < length N.start.values }
-    ensures wrong { IfSome result (λ answer. OnErr answer (seat.new ≡ seat.old) → ⊥) }
+    ensures wrong { IfSome result (λ answer. OnErr answer (IsUnchanged seat.old seat.new) → ⊥) }
 {
     if ring.pass(rt, seat, machine, order).is_err() {
         return None;

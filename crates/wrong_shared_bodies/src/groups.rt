@@ -3,6 +3,7 @@
 ghost use Rattle.std.specs.Prelude.{◌≡◌, ◌≢◌, ◌<◌, ◌≤◌, ◌-◌, length, take, IfOk, IfSome, OnErr, IsErrOf};
 ghost use Rattle.ring_model.specs.Groups.{Rises, IsHistory};
 ghost use Rattle.ring_model.specs.History.{opening};
+ghost use Rattle.ring_shared.specs.Client.{IsUnchanged};
 ghost use Rattle.ring_shared.specs.Groups.{IsGroupLogged, IsRefusedFor};
 
 use ring_book::{GroupError, GroupReceipt, Resource};
@@ -149,7 +150,7 @@ pub fn group_refused_after_its_block<N: Name, R: Resource + Drop, W: Wait>(
 ) -> Option<Result<GroupReceipt, GroupError>>
     requires rising { Rises 0 (length N.start.values) machines.now }
     requires some { 1 ≤ length machines.now }
-    ensures wrong { IfSome result (λ answer. OnErr answer (seat.new ≡ seat.old) → ⊥) }
+    ensures wrong { IfSome result (λ answer. OnErr answer (IsUnchanged seat.old seat.new) → ⊥) }
 {
     let Ok(_) = ring.pass_group(rt, seat, machines, order) else {
         return None;

@@ -1,9 +1,10 @@
 //! What a seat answers of itself, each broken.
 
-ghost use Rattle.std.specs.Prelude.{◌≡◌, ◌≤◌, length, IfOk, OnOk};
+ghost use Rattle.std.specs.Prelude.{◌≡◌, ◌<◌, ◌≤◌, length, IsOk, IfOk, OnOk};
+ghost use Rattle.ring_shared.specs.Client.{IsUnchanged};
 
 use ring_book::Resource;
-use ring_model::Entry;
+use ring_model::{Entry, Survey};
 use ring_shared::{Name, Ring, Seat};
 use std::alloc::AllocError;
 
@@ -13,7 +14,7 @@ pub fn reserve_adds_an_entry<N: Name, R: Resource + Drop>(
     seat: &mut Seat<N>,
     more: usize,
 ) -> Result<usize, AllocError>
-    ensures wrong { OnOk result (seat.new ≡ seat.old → ⊥) }
+    ensures wrong { OnOk result (IsUnchanged seat.old seat.new → ⊥) }
 {
     let room = seat.reserve(more)?;
     ring.survey(seat)?;
@@ -30,6 +31,30 @@ pub fn reserve_answers_too_little<N: Name>(
 {
     seat.reserve(more)?;
     Ok(more - 1)
+}
+
+/// There is the room that is answered: nothing is reserved, though the log has less.
+pub fn reserve_that_takes_nothing<N: Name>(
+    seat: &mut Seat<N>,
+    more: usize,
+) -> Result<usize, AllocError>
+    requires less { seat.old.room < more }
+    ensures wrong { IfOk result (λ room. (more ≤ room) × (seat.new.room ≡ room) → ⊥) }
+{
+    seat.number();
+    Ok(more)
+}
+
+/// With room in its log no survey is refused: one is.
+pub fn survey_refused_with_room<N: Name, R: Resource + Drop>(
+    ring: &Ring<N, R>,
+    seat: &mut Seat<N>,
+) -> Result<Survey, AllocError>
+    requires room { 1 ≤ seat.old.room }
+    ensures wrong { (1 ≤ seat.old.room → IsOk result) → ⊥ }
+{
+    ring.glance(seat);
+    Err(AllocError)
 }
 
 /// A seat shows its whole log: the first entry is left out.

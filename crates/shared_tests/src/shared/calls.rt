@@ -1,6 +1,7 @@
 //! Calls of two seats, one after another, and what comes of them.
 
 ghost use Rattle.std.specs.Prelude.{◌≡◌, ◌≢◌, ◌<◌, ◌≤◌, length};
+ghost use Rattle.ring_shared.specs.Client.{IsUnchanged};
 
 use super::both;
 use crate::events::told;
@@ -196,7 +197,7 @@ pub(super) fn play<N: Name, W: Wait + Abort>(
 
 /// Takes room for three entries more in the seat's log, and then for one, which is there: what the log has stays.
 pub(super) fn with_room<N: Name>(rt: &impl Abort, seat: Seat<N>, scarce: bool) -> Seat<N>
-    ensures { result ≡ seat }
+    ensures { IsUnchanged seat result }
 {
     let mut seat = seat;
     let first = seat.reserve(3);

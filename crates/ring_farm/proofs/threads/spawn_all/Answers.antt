@@ -31,8 +31,8 @@ loop-seat-preserved g c =
                 let at = ap (slice_get c.args.plans.now.items) n ∙ slice_get_read c.args.plans.now.items (length c.args.plans.now.items) c.loop-seat.i c.index-plan.result.now refl within c.index-plan.ensures in
                 let below : length c.loop-seat.yielded < length c.args.plans.now.items = omega arith in
                 let this = c.requires.fresh.each (length c.loop-seat.yielded) below in
-                let seat = t.1 ∙ get_or_from_slice_get c.args.seats.items (length c.loop-seat.yielded) _ c.in-Some.seat this in
-                let number = ap (λ (s : Client). s.number) seat in (
+                let seat = t.1 ∙ get_or_from_slice_get c.args.seats.items (length c.loop-seat.yielded) _ c.in-Some.seat this.1 in
+                let number = ap (λ (s : Client). s.number) seat ∙ ap (λ (s : Client). s.number) this.2 in (
                   omega arith,
                   rw p.items (Pairs-map-next (λ h. h.promise) (IsPromised c.args.number) c.args.plans.now.items c.loop-seat.handles.items c.index-plan.result.now w.in-Some-spawn_one.handle at k.1
                       (m.0, m.1 ∙ (number ∙ (sym i0 ∙ sym n)), m.2)),
@@ -52,5 +52,5 @@ spawn_one-requires-clause-new g c κs within =
     let count = c.requires.fresh.count in
     let below : length c.loop-seat.yielded < length c.args.plans.now.items = (let t0 = t.0 in omega arith) in
     let this = c.requires.fresh.each (length c.loop-seat.yielded) below in
-    let seat = t.1 ∙ get_or_from_slice_get c.args.seats.items (length c.loop-seat.yielded) _ c.in-Some.seat this in
-    ap (λ (s : Client). s.log) seat
+    let seat = t.1 ∙ get_or_from_slice_get c.args.seats.items (length c.loop-seat.yielded) _ c.in-Some.seat this.1 in
+    ap (λ (s : Client). s.log) seat ∙ ap (λ (s : Client). s.log) this.2

@@ -53,10 +53,11 @@ returns-clause-ok g c =
     c.self.invariant.0 c.in_ok-receipt.ensures.book ok c.in_ok-receipt.ensures.within in
     let seen = c.published.ensures ∙ c.show_last.ensures.shown in
     let logged = c.catch_up.ensures.is
-    ∙ (ap (λ (s : Client). record { number = s.number; log = s.log; seen = c.published.result.now }) c.in_ok-receipt.ensures.logged
-    ∙ ap (λ (h : List Event). record { number = c.args.seat.now.number; log = c.args.seat.now.log ++ entry.Receipt c.in_ok-receipt.receipt ∷ []; seen = h }) seen) in record {
+    ∙ (ap (λ (s : Client). record { number = s.number; log = s.log; seen = c.published.result.now; room = s.room }) c.in_ok-receipt.ensures.logged
+    ∙ ap (λ (h : List Event). record { number = c.args.seat.now.number; log = c.args.seat.now.log ++ entry.Receipt c.in_ok-receipt.receipt ∷ []; seen = h; room = c.log_call.new.seat.room }) seen) in record {
       recorded = search rules;
-      logged = logged;
+      logged = search rules;
+      room = search rules;
       later = subst (λ (s : Client). IsPrefix s.seen c.catch_up.new.self.seen) c.in_ok-receipt.ensures.logged c.catch_up.ensures.later;
       held = held;
     }

@@ -48,14 +48,14 @@ returns-clause-ok g c =
     let ok = c.in_ok-receipt.ensures.ok in
     let seen = c.published.ensures ∙ c.show_block.ensures.shown in
     let logged = c.catch_up.ensures.is
-    ∙ (ap (λ (s : Client). record { number = s.number; log = s.log; seen = c.published.result.now }) c.in_ok-receipt.ensures.logged
-    ∙ ap (λ (h : List Event). record { number = c.args.seat.now.number; log = c.args.seat.now.log ++ receipts_from c.in_ok-receipt.receipt.first (drop c.in_ok-receipt.receipt.first c.log_group.new.book.history); seen = h }) seen) in
+    ∙ (ap (λ (s : Client). record { number = s.number; log = s.log; seen = c.published.result.now; room = s.room }) c.in_ok-receipt.ensures.logged
+    ∙ ap (λ (h : List Event). record { number = c.args.seat.now.number; log = c.args.seat.now.log ++ receipts_from c.in_ok-receipt.receipt.first (drop c.in_ok-receipt.receipt.first c.log_group.new.book.history); seen = h; room = c.log_group.new.seat.room }) seen) in
     let held = group_held g.R.Resource.works g.R.Resource.first g.N.Name.start g.N.Name.seats g.N.Name.legal c.self.inside.book c.log_group.new.book c.args.seat.now.number c.args.order c.args.machines.now
     c.self.invariant.0 c.in_ok-receipt.ensures.book c.in_ok-receipt.ensures.within ok.moved in
     let size = held_size g.R.Resource.works g.R.Resource.first g.N.Name.start g.N.Name.seats g.N.Name.legal c.self.inside.book c.self.invariant.0 in
     rw (← c.self.view_is) (record {
       recorded = ok;
-      told = group_logged g.R.Resource.works _ c.self.inside.book c.log_group.new.book c.args.seat.now c.catch_up.new.self c.args.order c.args.machines.now c.in_ok-receipt.receipt size ok logged;
+      told = group_logged g.R.Resource.works _ c.log_group.new.seat.room c.self.inside.book c.log_group.new.book c.args.seat.now c.catch_up.new.self c.args.order c.args.machines.now c.in_ok-receipt.receipt size ok logged c.in_ok-receipt.ensures.room;
       all = ap (λ (s : Client). s.seen) logged;
       later = subst (λ (s : Client). IsPrefix s.seen c.catch_up.new.self.seen) c.in_ok-receipt.ensures.logged c.catch_up.ensures.later;
       held = held;

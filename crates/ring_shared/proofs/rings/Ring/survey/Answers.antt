@@ -9,11 +9,3 @@ pub returns-clause-calm : goal.returns-clause-calm
 returns-clause-calm g c =
     calm_tells g.R.Resource.works g.N.Name.start g.R.Resource.first c.survey.new.self.seen c.in_ok-survey.survey c.self.invariant.start_ring.ring
     ((c.self.invariant.means_legal c.survey.new.self.seen).0 c.survey.ensures.legal).0 c.in_ok-survey.ensures.survey
-
-pub returns-clause-right : goal.returns-clause-right
-returns-clause-right g c = (
-  c.survey.new.self.seen,
-  (c.self.invariant.means_legal c.survey.new.self.seen).0 c.survey.ensures.legal,
-  c.survey.ensures.of_seats,
-  c.in_ok-survey.ensures.survey ∙ survey_of_is g.R.Resource.works g.N.Name.start g.R.Resource.first c.survey.new.self.seen,
-)
