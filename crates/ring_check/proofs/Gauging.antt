@@ -1,13 +1,18 @@
 -- Running counts of a ring's values: what the write of one value does to them.
 use Rattle.std.proofs.Common.{◌≡◌, ℕ, zero, suc, ◌+◌, ◌-◌, ◌*◌, ◌%◌, ◌<◌, ◌≤◌, ◌≢◌, Bool, true, false, not, cond, List, length, get_or, set, refl, sym, ◌∙◌, ap, inl, inr, arith, eqb, get_or-set_same, get_or-set_other, [], ◌∷◌}
-use Rattle.std.specs.Prelude.{◌&&◌}
 use Rattle.std.specs.Prelude.{replicate}
 use Rattle.std.proofs.Math.ListN.{get_or-eq_default}
-use Rattle.std.proofs.lemmas.List.{length-set, set-get_or, length-replicate, get_or-replicate}
+use Rattle.std.proofs.lemmas.List.{length-set, set-get_or, set_past, length-replicate, get_or-replicate}
 use Rattle.std.proofs.lemmas.Grind.{same_number_lists}
-use Rattle.std.proofs.lemmas.Bool.{cases_eq, cases_lt, cases_Bool, eq-eqb, eqb-true, ne_eqb, both_ways, cond-true, cond-false}
+use Rattle.std.proofs.lemmas.Bool.{cases_eq, cases_lt, cases_Bool, eq-eqb, ne_eqb, cond-true, cond-false}
 use Rattle.ring_model.specs.Numbers.{every_below, sum_below, bit, count_below}
-use Rattle.ring_model.specs.Ring.{Ring, ring_with, written, is_privileged, right_neighbour, weight_at, weight, privileged_count, is_absent}
+use Rattle.ring_model.specs.Ring.{Ring, ring_with, written, moved_value, is_privileged, right_neighbour, weight_at, weight, privileged_count, first_privileged, is_absent}
+use Rattle.ring_model.specs.declared.events.Op.{Op}
+use Rattle.ring_model.specs.declared.events.Op.TheVariants.{Pass, Member, Corrupt}
+use Rattle.ring_model.specs.History.{State, granted_state, next}
+use Rattle.ring_model.specs.Replay.{machine_of}
+use Rattle.ring_model.specs.Resources.{till}
+use Rattle.ring_model.proofs.Settled.{first_is, only_one}
 use Rattle.ring_model.proofs.Below.{sum_but_one, sum_but_two, sum_one_le, sum_two_le, bit_at, bit_le, count_le}
 use Rattle.ring_model.proofs.Moves.{next_is, same_value}
 use Rattle.ring_model.proofs.Weight.{pull_le, pull_same}
@@ -318,3 +323,40 @@ agrees_all k i r s l a =
     let same : r.values ≡ s = same_number_lists r.values s a.1 (λ j lj. a.2 j (omega arith)) in
     let ek = a.0 in
     rw (ek, same) refl
+
+-- a call changes the value of its machine alone, to the one that it has afterwards
+written_back : (r : Ring) (i : ℕ) → written r i (get_or r.values i 0) ≡ r
+written_back r i = ap (ring_with r.k) (set-get_or r.values i 0)
+
+set_again : (s : List ℕ) (i v : ℕ) → set s i (get_or (set s i v) i 0) ≡ set s i v
+set_again s i v = elim (cases_lt i (length s)) [
+  | inl l ↦ ap (set s i) (get_or-set_same s i v 0 l)
+  | inr g ↦ set_past s i (get_or (set s i v) i 0) g ∙ sym (set_past s i v g)
+]
+
+written_again : (r : Ring) (i v : ℕ) → written r i (get_or (written r i v).values i 0) ≡ written r i v
+written_again r i v = ap (ring_with r.k) (set_again r.values i v)
+
+passed_again : (a : State ℕ) (i order : ℕ) (p : Bool) → written a.ring i (get_or (cond p (granted_state till a i order) a).ring.values i 0) ≡ (cond p (granted_state till a i order) a).ring
+passed_again a i order true = written_again a.ring i (moved_value a.ring i)
+passed_again a i order false = written_back a.ring i
+
+pub called_again : (a : State ℕ) (o : Op) → written a.ring (machine_of o) (get_or (next till a o).ring.values (machine_of o) 0) ≡ (next till a o).ring
+called_again a (Pass i order) = passed_again a i order (is_privileged a.ring.values i)
+called_again a (Member i order left) = passed_again a i order (is_privileged a.ring.values i)
+called_again a (Corrupt i v) = written_again a.ring i v
+
+-- a call of none of the machines changes no value
+pub called_past : (a : State ℕ) (o : Op) → length (next till a o).ring.values ≤ machine_of o → a.ring ≡ (next till a o).ring
+called_past a o g =
+    let v = get_or (next till a o).ring.values (machine_of o) 0 in
+    let again = called_again a o in
+    let n : length (set a.ring.values (machine_of o) v) ≡ length (next till a o).ring.values = ap (λ (r : Ring). length r.values) again in
+    let m : length (set a.ring.values (machine_of o) v) ≡ length a.ring.values = length-set a.ring.values (machine_of o) v in
+    ap (ring_with a.ring.k) (sym (set_past a.ring.values (machine_of o) v (omega arith))) ∙ again
+
+-- where one machine is privileged, it is the first
+pub one_first : (s : List ℕ) (i : ℕ) → privileged_count s ≡ 1 → i < length s → is_privileged s i ≡ true → i ≡ first_privileged s
+one_first s i one l e =
+    let f = first_is s (omega arith) in
+    only_one s i (first_privileged s) (eq-eqb (privileged_count s) 1 one) l f.0 e f.1

@@ -10,7 +10,9 @@ use Rattle.ring_model.proofs.Histories.{calm_next, after-push, legal_step, calm-
 use Rattle.ring_saved.specs.declared.saved.SavedEvent.{SavedEvent}
 use Rattle.ring_check.specs.declared.replay.Replay.{Replay}
 use Rattle.ring_check.specs.Table.{event_of, first_state}
-use Rattle.ring_check.specs.Replays.{state_of, survey_where, Stands, StandsAt}
+use Rattle.ring_model.specs.declared.events.Survey.{Survey}
+use Rattle.ring_check.specs.declared.surveys.Reading.{Reading}
+use Rattle.ring_check.specs.Replays.{state_of, survey_where, Stands, StandsAt, Tells}
 use Rattle.ring_check.proofs.Steps.{step_keeps, calm_next_le}
 
 -- a replay is one event further than another
@@ -91,3 +93,7 @@ survey_is k start es p r at =
     ap (λ (u : List Event). after till (first_state (ring_with k start)) u) front ∙ at.stands.state in
     let calm_is : calm (take p (map event_of es)) ≡ r.calm = ap (λ (u : List Event). calm u) front ∙ sym at.stands.calm in
     rw (state, calm_is) refl
+
+-- a reading whose survey is right tells the measures of its ring
+pub tells_right : (r : Reading) (position : ℕ) → r.survey ≡ survey_where r.replay position → Tells r.survey (state_of r.replay).ring
+tells_right r position e = record { privileged = ap (λ (s : Survey). s.privileged) e; first = ap (λ (s : Survey). s.first) e; rest = ap (λ (s : Survey). s.rest) e }

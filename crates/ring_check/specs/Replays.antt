@@ -1,5 +1,5 @@
 -- Where a replay stands.
-use Rattle.std.specs.Prelude.{◌≡◌, ℕ, ◌≤◌, List, length, map, take}
+use Rattle.std.specs.Prelude.{◌≡◌, true, ℕ, ◌≤◌, List, length, map, take}
 use Rattle.ring_model.specs.declared.events.Event.{Event}
 use Rattle.ring_model.specs.declared.events.Survey.{Survey}
 use Rattle.ring_model.specs.Ring.{Ring, ring_with, IsRing, privileged_count, first_privileged, rest}
@@ -8,7 +8,9 @@ use Rattle.ring_model.specs.Resources.{till}
 use Rattle.ring_model.specs.Surveys.{calm}
 use Rattle.ring_saved.specs.declared.saved.SavedEvent.{SavedEvent}
 use Rattle.ring_check.specs.declared.replay.Replay.{Replay}
+use Rattle.ring_check.specs.declared.gauge.Gauge.{Gauge}
 use Rattle.ring_check.specs.declared.surveys.Reading.{Reading}
+use Rattle.ring_check.specs.Gauges.{ring_of, IsGauge}
 use Rattle.ring_check.specs.Table.{event_of, first_state}
 
 -- the state of the one-thread ring that a replay holds
@@ -38,8 +40,24 @@ pub record StandsAt (start : Ring) (events : List SavedEvent) (place : ℕ) (r :
   pub grants : r.grants ≤ place
   pub calm : r.calm ≤ place
 
--- a reading has the survey of the ring where its replay stands
+-- a gauge measures the ring that a replay holds
+pub record Measures (g : Gauge) (r : Replay) : Type 0 where
+  pub gauge : IsGauge g
+  pub same : ring_of g ≡ (state_of r).ring
+
+-- a survey tells the measures of a ring
+pub record Tells (s : Survey) (r : Ring) : Type 0 where
+  pub privileged : s.privileged ≡ privileged_count r.values
+  pub first : s.first ≡ first_privileged r.values
+  pub rest : s.rest ≡ rest r
+
+-- the survey of a reading tells the measures of its ring still, if it says that they are unchanged
+abbrev pub TellsStill : Reading → Type 0
+TellsStill r = r.unchanged ≡ true → Tells r.survey (state_of r.replay).ring
+
+-- a reading has the survey of the ring where its replay stands, and a gauge of it
 pub record IsReading (start : Ring) (events : List SavedEvent) (r : Reading) : Type 0 where
   pub stands : StandsAt start events r.survey.position r.replay
   pub within : r.survey.position ≤ length events
   pub right : r.survey ≡ survey_where r.replay r.survey.position
+  pub measured : Measures r.gauge r.replay

@@ -1,11 +1,11 @@
 //! What is told of a ring's values, kept while they change one by one.
 
-ghost use Rattle.std.specs.Prelude.{◌≡◌, ℕ, ◌+◌, ◌-◌, ◌*◌, ◌<◌, ◌≤◌, ◌^◌, length, IfOk, vec_len, slice_index, slice_set};
+ghost use Rattle.std.specs.Prelude.{◌≡◌, ℕ, ◌+◌, ◌-◌, ◌*◌, ◌<◌, ◌≤◌, ◌^◌, length, IfOk, IfSome, vec_len, slice_index, slice_set};
 ghost use Rattle.ring_model.specs.Limits.{machine_limit};
-ghost use Rattle.ring_model.specs.Ring.{ring_with, is_privileged, right_neighbour, weight_at, is_absent, written, lead, rest};
+ghost use Rattle.ring_model.specs.Ring.{ring_with, IsRing, is_privileged, privileged_count, first_privileged, right_neighbour, weight_at, is_absent, written, lead, rest};
 ghost use Rattle.ring_check.specs.Gauges.{bit_of, both_of, ring_of, holders, IsGauge};
 
-use crate::measures::{first_value_is_prefix, is_privileged, privileged_count, weight};
+use crate::measures::{first_privileged, first_value_is_prefix, is_privileged, privileged_count, weight};
 use std::alloc::{AllocError, Global};
 
 /// A ring's values, and how many machines are privileged, the weight, and how many machines hold each value. A write
@@ -193,7 +193,7 @@ impl Gauge {
     }
 
     /// Writes a value into a machine that may have it already.
-    fn settle_on(&mut self, machine: usize, value: u32)
+    pub(crate) fn settle_on(&mut self, machine: usize, value: u32)
         requires gauge { IsGauge self.old }
         requires within { machine < vec_len self.old.values }
         ensures gauge { IsGauge self.new }
@@ -213,6 +213,46 @@ impl Gauge {
     {
         for i in 0..values.len() {
             self.settle_on(i, values[i]);
+        }
+    }
+
+    /// How many machines are privileged.
+    pub(crate) fn privileged_count(&self) -> u32
+        requires { IsGauge self.now }
+        ensures { result ≡ privileged_count (ring_of self.now).values }
+    {
+        self.privileged as u32
+    }
+
+    /// The only machine that is privileged, if one is: the weight tells which.
+    fn only_privileged(&self) -> Option<usize>
+        requires gauge { IsGauge self.now }
+        requires ring { IsRing (ring_of self.now) }
+        ensures is { IfSome result (λ machine. machine ≡ first_privileged (ring_of self.now).values) }
+        ensures within { IfSome result (λ machine. machine < vec_len self.now.values) }
+    {
+        let n = self.values.len();
+        let machine = if self.weight == 0 {
+            0
+        } else {
+            n.saturating_sub(self.weight as usize)
+        };
+        if self.privileged == 1 && machine < n && is_privileged(&self.values, machine) {
+            Some(machine)
+        } else {
+            None
+        }
+    }
+
+    /// The least privileged machine.
+    pub(crate) fn first_privileged(&self) -> u32
+        requires gauge { IsGauge self.now }
+        requires ring { IsRing (ring_of self.now) }
+        ensures { result ≡ first_privileged (ring_of self.now).values }
+    {
+        match self.only_privileged() {
+            Some(machine) => machine as u32,
+            None => first_privileged(&self.values) as u32,
         }
     }
 

@@ -1,17 +1,18 @@
 //! A ring, replayed event by event.
 
 ghost use Rattle.std.specs.Prelude.{◌≡◌, ◌+◌, ◌<◌, ◌≤◌, ◌^◌, length, map, true, IfOk};
-ghost use Rattle.ring_model.specs.Limits.{value_limit};
+ghost use Rattle.ring_model.specs.declared.events.Reply.TheVariants.{NotPrivileged};
 ghost use Rattle.ring_model.specs.Ring.{ring_with, IsRing};
-ghost use Rattle.ring_model.specs.History.{Step, next, IsLegal};
+ghost use Rattle.ring_model.specs.History.{Step, next};
 ghost use Rattle.ring_model.specs.Resources.{till};
 ghost use Rattle.ring_model.proofs.Histories.{calm_next};
-ghost use Rattle.ring_check.specs.Table.{event_of, in_range, is_replied, event_fault, first_state};
-ghost use Rattle.ring_check.specs.Replays.{state_of, survey_where, StandsAt};
+ghost use Rattle.ring_check.specs.Table.{event_of, in_range, is_replied, event_fault};
+ghost use Rattle.ring_check.specs.Replays.{state_of, survey_where, Measures};
 
 use crate::answers::Kind;
+use crate::gauge::Gauge;
 use crate::group_lines::may_come;
-use crate::measures::{first_privileged, is_privileged, privileged_count, rest};
+use crate::measures::is_privileged;
 use ring_model::Survey;
 use ring_model::limits::SEAT_LIMIT;
 use ring_saved::SavedEvent;
@@ -118,6 +119,7 @@ impl Replay {
         requires room { (self.old.grants + 1 < 2 ^ 64) × (self.old.calm + 1 < 2 ^ 64) }
         ensures state { state_of self.new ≡ next till (state_of self.old) (event_of event.now).op }
         ensures calm { self.new.calm ≡ calm_next self.old.calm (event_of event.now).reply }
+        ensures stays { (event_of event.now).reply ≡ NotPrivileged → self.new ≡ self.old }
     {
         match *event {
             SavedEvent::Granted { machine, order, .. }
@@ -140,49 +142,18 @@ impl Replay {
         }
     }
 
-    /// Goes from behind the first `from` events of a block to behind its first `to` events,
-    /// and where that is no way forward, from the start again.
-    pub(crate) fn go_to(
-        &mut self,
-        alloc: Global,
-        start: &[u32],
-        events: &[SavedEvent],
-        from: usize,
-        to: usize,
-    ) -> Result<(), AllocError>
-        requires ring { IsRing (ring_with self.old.k start.now) }
-        requires stands { StandsAt (ring_with self.old.k start.now) events.now from self.old }
-        requires within { to ≤ length events.now }
-        requires room { length events.now + 1 < 2 ^ 64 }
-        requires legal { IsLegal till (first_state (ring_with self.old.k start.now)) (map event_of events.now) }
-        ensures { IfOk result (λ u. StandsAt (ring_with self.old.k start.now) events.now to self.new) }
-    {
-        let first = if to < from {
-            *self = Replay::begin(alloc, self.k, start)?;
-            0
-        } else {
-            from
-        };
-        for i in first..to {
-            self.apply(&events[i]);
-        }
-        Ok(())
-    }
-
-    /// What a survey of the ring says at this point.
-    pub(crate) fn survey(&self, alloc: Global, position: u64) -> Result<Survey, AllocError>
+    /// What a survey of the ring says at this point, of which a gauge has the measures.
+    pub(crate) fn survey(&self, gauge: &Gauge, position: u64) -> Survey
         requires ring { IsRing (state_of self.now).ring }
-        requires small { self.now.k ≤ value_limit }
-        ensures { IfOk result (λ s. s ≡ survey_where self.now position) }
+        requires measured { Measures gauge.now self.now }
+        ensures { result ≡ survey_where self.now position }
     {
-        let privileged = privileged_count(&self.values);
-        let rest = rest(alloc, &self.values, self.k, privileged)?;
-        Ok(Survey {
+        Survey {
             position,
-            privileged: privileged as u32,
-            first: first_privileged(&self.values) as u32,
+            privileged: gauge.privileged_count(),
+            first: gauge.first_privileged(),
             calm: self.calm,
-            rest,
-        })
+            rest: gauge.rest(),
+        }
     }
 }

@@ -1,18 +1,22 @@
 //! The survey lines of a block.
 
-ghost use Rattle.std.specs.Prelude.{◌≡◌, ◌&&◌, ◌==◌, ℕ, ◌+◌, ◌<◌, ◌≤◌, ◌^◌, List, length, map, take, IfOk};
+ghost use Rattle.std.specs.Prelude.{◌≡◌, ◌&&◌, ◌==◌, ℕ, ◌+◌, ◌<◌, ◌≤◌, ◌^◌, List, length, map, take, IfOk, IfSome, IsNone};
 ghost use Rattle.ring_model.specs.Groups.{left_after};
-ghost use Rattle.ring_model.specs.Limits.{value_limit};
+ghost use Rattle.ring_model.specs.Limits.{machine_limit};
 ghost use Rattle.ring_model.specs.Ring.{ring_with, IsRing};
-ghost use Rattle.ring_model.specs.History.{IsLegal};
+ghost use Rattle.ring_model.specs.History.{Step, next, IsLegal};
+ghost use Rattle.ring_model.specs.declared.events.Reply.TheVariants.{NotPrivileged};
+ghost use Rattle.ring_model.specs.Replay.{machine_of};
+ghost use Rattle.ring_model.proofs.Histories.{calm_next};
 ghost use Rattle.ring_model.specs.Resources.{till};
 ghost use Rattle.ring_saved.specs.declared.saved.SavedEvent.{SavedEvent};
 ghost use Rattle.ring_check.specs.Lines.{SurveyLine};
 ghost use Rattle.ring_check.specs.Table.{event_of, first_state, same_survey, is_onward};
 ghost use Rattle.ring_check.specs.Scan.{first_fault, Finds, in_block};
-ghost use Rattle.ring_check.specs.Replays.{IsReading};
+ghost use Rattle.ring_check.specs.Replays.{state_of, survey_where, Measures, TellsStill, StandsAt, IsReading};
 
 use crate::answers::{CheckError, Kind};
+use crate::gauge::Gauge;
 use crate::group_lines::left_after;
 use crate::replay::Replay;
 use ring_model::Survey;
@@ -20,26 +24,107 @@ use ring_model::limits::SEAT_LIMIT;
 use ring_saved::{SavedEvent, SavedSurvey};
 use std::alloc::{AllocError, Global};
 
-/// The survey of a ring at some place of its history, and the replay that stands there.
+/// The survey of a ring at some place of its history, the replay that stands there, and a gauge of its ring.
 #[derive(Drop)]
 pub(crate) struct Reading {
     pub(crate) replay: Replay,
+    pub(crate) gauge: Gauge,
     pub(crate) survey: Survey,
+    /// Whether the values are those of the survey still, since none but refused passes came.
+    pub(crate) unchanged: bool,
+}
+
+/// The machine whose value an event without a fault may change.
+#[inline(always)]
+fn changed_by(event: &SavedEvent) -> Option<usize>
+    ensures some { IfSome result (λ machine. machine ≡ machine_of (event_of event.now).op) }
+    ensures none { IsNone result → (event_of event.now).reply ≡ NotPrivileged }
+{
+    match *event {
+        SavedEvent::Refused { .. } => None,
+        SavedEvent::Granted { machine, .. }
+        | SavedEvent::Member { machine, .. }
+        | SavedEvent::Corrupted { machine, .. } => Some(machine as usize),
+    }
 }
 
 impl Reading {
     /// The ring before any event.
     fn begin(alloc: Global, k: u32, start: &[u32]) -> Result<Reading, AllocError>
         requires ring { IsRing (ring_with k start.now) }
-        requires small { k ≤ value_limit }
+        requires few { length start.now ≤ machine_limit }
         ensures { IfOk result (λ r. (r.survey.position ≡ 0) × ((events : List SavedEvent) → IsReading (ring_with k start.now) events r)) }
     {
         let replay = Replay::begin(alloc, k, start)?;
-        let survey = replay.survey(alloc, 0)?;
-        Ok(Reading { replay, survey })
+        let gauge = Gauge::new(alloc, k, start)?;
+        let survey = replay.survey(&gauge, 0);
+        Ok(Reading {
+            replay,
+            gauge,
+            survey,
+            unchanged: true,
+        })
     }
 
-    /// Goes to a place of the history. The survey of the place where it is already is not computed again.
+    /// Does what an event without a fault says; the survey stays.
+    fn apply(&mut self, event: &SavedEvent)
+        requires ring { IsRing (state_of self.old.replay).ring }
+        requires step { Step till (state_of self.old.replay) (event_of event.now) (next till (state_of self.old.replay) (event_of event.now).op) }
+        requires room { (self.old.replay.grants + 1 < 2 ^ 64) × (self.old.replay.calm + 1 < 2 ^ 64) }
+        requires measured { Measures self.old.gauge self.old.replay }
+        ensures state { state_of self.new.replay ≡ next till (state_of self.old.replay) (event_of event.now).op }
+        ensures calm { self.new.replay.calm ≡ calm_next self.old.replay.calm (event_of event.now).reply }
+        ensures measured { Measures self.new.gauge self.new.replay }
+        ensures tells { TellsStill self.old → TellsStill self.new }
+    {
+        self.replay.apply(event);
+        if let Some(machine) = changed_by(event) {
+            self.unchanged = false;
+            if machine < self.replay.values.len() {
+                self.gauge.settle_on(machine, self.replay.values[machine]);
+            }
+        }
+    }
+
+    /// What a survey of the ring says at this point. That of the same values is not counted again.
+    fn survey_at(&self, position: u64) -> Survey
+        requires ring { IsRing (state_of self.now.replay).ring }
+        requires measured { Measures self.now.gauge self.now.replay }
+        requires tells { TellsStill self.now }
+        ensures { result ≡ survey_where self.now.replay position }
+    {
+        if self.unchanged {
+            Survey {
+                position,
+                calm: self.replay.calm,
+                ..self.survey
+            }
+        } else {
+            self.replay.survey(&self.gauge, position)
+        }
+    }
+
+    /// Goes from behind the first `from` events of a block on to behind its first `to` events; the survey stays.
+    fn follow(&mut self, start: &[u32], events: &[SavedEvent], from: usize, to: usize)
+        requires ring { IsRing (ring_with self.old.replay.k start.now) }
+        requires stands { StandsAt (ring_with self.old.replay.k start.now) events.now from self.old.replay }
+        requires measured { Measures self.old.gauge self.old.replay }
+        requires tells { TellsStill self.old }
+        requires onward { from ≤ to }
+        requires within { to ≤ length events.now }
+        requires room { length events.now + 1 < 2 ^ 64 }
+        requires legal { IsLegal till (first_state (ring_with self.old.replay.k start.now)) (map event_of events.now) }
+        ensures stands { StandsAt (ring_with self.old.replay.k start.now) events.now to self.new.replay }
+        ensures measured { Measures self.new.gauge self.new.replay }
+        ensures tells { TellsStill self.new }
+    {
+        for i in from..to {
+            self.apply(&events[i]);
+        }
+    }
+
+    /// Goes to a place of the history, and to one before this one from the start. The survey of the place where it is
+    /// already is not computed again.
     fn go_to(
         &mut self,
         alloc: Global,
@@ -48,20 +133,23 @@ impl Reading {
         position: u64,
     ) -> Result<(), AllocError>
         requires ring { IsRing (ring_with self.old.replay.k start.now) }
-        requires small { self.old.replay.k ≤ value_limit }
+        requires few { length start.now ≤ machine_limit }
         requires reading { IsReading (ring_with self.old.replay.k start.now) events.now self.old }
         requires within { position ≤ length events.now }
         requires room { length events.now + 1 < 2 ^ 64 }
         requires legal { IsLegal till (first_state (ring_with self.old.replay.k start.now)) (map event_of events.now) }
         ensures { IfOk result (λ u. IsReading (ring_with self.old.replay.k start.now) events.now self.new × (self.new.survey.position ≡ position)) }
     {
-        let from = self.survey.position;
-        if position == from {
+        if position == self.survey.position {
             return Ok(());
         }
-        self.replay
-            .go_to(alloc, start, events, from as usize, position as usize)?;
-        self.survey = self.replay.survey(alloc, position)?;
+        if position < self.survey.position {
+            *self = Reading::begin(alloc, self.replay.k, start)?;
+        }
+        let from = self.survey.position as usize;
+        self.follow(start, events, from, position as usize);
+        self.survey = self.survey_at(position);
+        self.unchanged = true;
         Ok(())
     }
 }
@@ -102,7 +190,7 @@ pub(crate) fn check_surveys(
     line: u64,
 ) -> Result<(), CheckError>
     requires ring { IsRing (ring_with k start.now) }
-    requires small { k ≤ value_limit }
+    requires few { length start.now ≤ machine_limit }
     requires legal { IsLegal till (first_state (ring_with k start.now)) (map event_of events.now) }
     requires room { (length events.now + 1 < 2 ^ 64) × (line + length surveys.now + 1 < 2 ^ 64) }
     ensures { (version rings : ℕ) → Finds (first_fault (in_block version line rings (length start.now) k start.now (map event_of events.now)) (map SurveyLine surveys.now)) result }

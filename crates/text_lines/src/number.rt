@@ -1,13 +1,13 @@
 //! Canonical decimals: `0`, or digits of which the first is not 0.
 
-ghost use Rattle.std.specs.Prelude.{◌≡◌, ◌+◌, ◌<◌, ◌≤◌, ◌^◌, length, IfOk};
-ghost use Rattle.text_lines.specs.Reading.{Gives, number_at, positive_at, digits_at};
+ghost use Rattle.std.specs.Prelude.{◌≡◌, ℕ, ◌+◌, ◌<◌, ◌≤◌, ◌^◌, true, false, length, drop, slice_index, IfOk, IfSome};
+ghost use Rattle.text_lines.specs.Reading.{Gives, number_at, positive_at, digits_at, is_digit};
 
 use crate::fault::{Fault, Stop};
 
 /// The rest of a number of which `first` was read, and what stands behind the byte that ends it.
 fn digits(first: u64, max: u64, stop: u8, bytes: &[u8]) -> Result<(u64, &[u8]), Stop>
-    requires { (9 ≤ max) × (first ≤ 9) }
+    requires { (9 ≤ max) × (first ≤ max) }
     ensures gives { Gives (λ x. (x.0, x.1.now)) result (digits_at (max + 1) stop first bytes.now) }
     ensures below { IfOk result (λ x. x.0 ≤ max) }
 {
@@ -29,6 +29,61 @@ fn digits(first: u64, max: u64, stop: u8, bytes: &[u8]) -> Result<(u64, &[u8]), 
     Err(Stop::Fault(Fault::Short))
 }
 
+/// Whether a byte is a digit.
+fn is_digit(b: u8) -> bool
+    ensures { result ≡ is_digit b }
+{
+    b'0' <= b && b <= b'9'
+}
+
+/// Whether the first eight bytes are digits: looked at all together, as the processor can.
+#[inline(always)]
+fn are_eight_digits(bytes: &[u8]) -> bool
+    requires { 8 ≤ length bytes.now }
+    ensures { result ≡ true → (place : ℕ) → place < 8 → is_digit (slice_index bytes.now place) ≡ true }
+{
+    let mut all = true;
+    for i in 0..8 {
+        all = all & is_digit(bytes[i]);
+    }
+    all
+}
+
+/// The number of a first digit and eight more, if there are eight. It is below every limit of 64 bits, so the digits need
+/// not be compared with one, and a loop of a fixed length keeps it in a register.
+#[inline(always)]
+fn eight_more(first: u64, bytes: &[u8]) -> Option<u64>
+    requires { (1 ≤ first) × (first ≤ 9) }
+    ensures goes_on { IfSome result (λ value. (limit stop : ℕ) → 1_000_000_000 ≤ limit → is_digit stop ≡ false → digits_at limit stop value (drop 8 bytes.now) ≡ digits_at limit stop first bytes.now) }
+    ensures below { IfSome result (λ value. value < 1_000_000_000) }
+    ensures long { IfSome result (λ value. 8 ≤ length bytes.now) }
+{
+    if bytes.len() < 8 || !are_eight_digits(bytes) {
+        return None;
+    }
+    let mut value = first;
+    for i in 0..8 {
+        value = value * 10 + (bytes[i] - b'0') as u64;
+    }
+    Some(value)
+}
+
+/// The beginning of a number whose first digit was read, and the bytes behind it: of a long one nine digits.
+#[inline(always)]
+fn begin(first: u64, max: u64, stop: u8, bytes: &[u8]) -> (u64, &[u8])
+    requires { (9 ≤ max) × (first ≤ 9) }
+    ensures goes_on { digits_at (max + 1) stop result.0 result.1.now ≡ digits_at (max + 1) stop first bytes.now }
+    ensures below { result.0 ≤ max }
+{
+    if first == 0 || max <= u32::MAX as u64 || is_digit(stop) {
+        return (first, bytes);
+    }
+    match eight_more(first, bytes) {
+        Some(value) => (value, &bytes[8..]),
+        None => (first, bytes),
+    }
+}
+
 /// A number of at most `max`, and what stands behind the byte that ends it.
 #[tactic(auto, unfolding(crate::specs::Reading::number_at))]
 fn number(bytes: &[u8], max: u64, stop: u8) -> Result<(u64, &[u8]), Stop>
@@ -38,7 +93,10 @@ fn number(bytes: &[u8], max: u64, stop: u8) -> Result<(u64, &[u8]), Stop>
 {
     match bytes {
         [] => Err(Stop::Fault(Fault::Short)),
-        [b @ b'0'..=b'9', after @ ..] => digits((*b - b'0') as u64, max, stop, after),
+        [b @ b'0'..=b'9', after @ ..] => {
+            let (value, rest) = begin((*b - b'0') as u64, max, stop, after);
+            digits(value, max, stop, rest)
+        }
         [_, ..] => Err(Stop::Fault(Fault::Bad(bytes.len()))),
     }
 }

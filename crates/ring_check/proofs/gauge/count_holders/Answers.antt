@@ -1,4 +1,4 @@
-use Rattle.std.proofs.Common.{◌≡◌, ◌≤◌, ◌-◌, get_or, ap, sym, ◌∙◌, length, arith}
+use Rattle.std.proofs.Common.{get_or, arith}
 use Rattle.ring_check.proofs.Gauging.{counted_few, counted_more}
 use Rattle.ring_check.proofs.gauge.count_holders.Goals as goal
 

@@ -1,4 +1,4 @@
-use Rattle.std.proofs.Common.{refl, sym, ◌∙◌, arith}
+use Rattle.std.proofs.Common.{refl, sym, arith}
 use Rattle.ring_check.specs.Gauges.{ring_of}
 use Rattle.ring_check.proofs.Gauging.{agrees_more, agrees_all}
 use Rattle.ring_check.proofs.gauge.Gauge.follow.Goals as goal

@@ -1,4 +1,4 @@
-use Rattle.std.proofs.Common.{◌≡◌, get_or, length, sym, arith}
+use Rattle.std.proofs.Common.{◌≡◌, get_or, length, sym}
 use Rattle.std.proofs.lemmas.List.{get_or_read_under}
 use Rattle.ring_check.proofs.Gauging.{absent_told}
 use Rattle.ring_check.proofs.gauge.Gauge.is_absent.Goals as goal

@@ -1,4 +1,4 @@
-use Rattle.std.proofs.Common.{◌≡◌, ◌≤◌, List, length, sym, ◌∙◌, ap, arith}
+use Rattle.std.proofs.Common.{◌≡◌, List, length, sym, ◌∙◌, ap, arith}
 use Rattle.ring_model.specs.Ring.{privileged_count, weight}
 use Rattle.ring_check.specs.Gauges.{holders}
 use Rattle.ring_check.proofs.gauge.Gauge.new.Goals as goal

@@ -1,4 +1,4 @@
-use Rattle.std.proofs.Common.{◌≡◌, ◌≤◌, ◌*◌, length, arith}
+use Rattle.std.proofs.Common.{◌≤◌, arith}
 use Rattle.ring_check.proofs.Gauging.{weight_few, times_le}
 use Rattle.ring_check.proofs.gauge.Gauge.rest.Goals as goal
 
