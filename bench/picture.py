@@ -57,18 +57,21 @@ def draw(index, k, start, events, frm, count, surveys=0):
     at = lambda c: places[min(frm + c, len(events))]
     granted = sum(passed)
     corrupted = sum(e[0] == "c" for e in events)
+    highest = max(rest(at(c)[0], k) for c in range(columns))
+    height = highest if 0 < highest < bound // 4 else bound
     s = f'''<svg xmlns="http://www.w3.org/2000/svg" viewBox="0 0 1000 640" font-family="sans-serif" font-size="15">
 <style>rect,path,polyline{{vector-effect:non-scaling-stroke}}</style>
 <rect width="1000" height="640" rx="8" fill="#fff"/>
 <text x="70" y="36" font-size="22">ring {index}: n {n}, K {k}</text>
 <text x="70" y="62">events {frm} to {frm + count} of {len(events)}, granted {granted}, corrupted {corrupted}, surveys {surveys}</text>
+<path d="M70 380v5M295 380v5M520 380v5M745 380v5M970 380v5" stroke="#555"/>
 <text x="24" y="230" text-anchor="middle" transform="rotate(-90 24 230)">machine</text>
 <text x="62" y="94" text-anchor="end">0</text>
 <text x="62" y="380" text-anchor="end">{n - 1}</text>
 <text x="70" y="402">{frm}</text>
 <text x="520" y="402" text-anchor="middle">granted passes and other events</text>
 <text x="970" y="402" text-anchor="end">{frm + count}</text>
-<text x="62" y="436" text-anchor="end">{bound}</text>
+<text x="62" y="436" text-anchor="end">{height}</text>
 <text x="62" y="590" text-anchor="end">0</text>
 <rect x="70" y="80" width="900" height="300" fill="#f3f3f3"/>
 <svg x="70" y="80" width="900" height="300" viewBox="0 0 {columns} {4 * n}" preserveAspectRatio="none" fill="{BLUE}" stroke="{BLUE}">
@@ -84,8 +87,10 @@ def draw(index, k, start, events, frm, count, surveys=0):
     s += f'''"/>
 </svg>
 <rect x="70" y="430" width="900" height="160" fill="#f3f3f3"/>
-<svg x="70" y="430" width="900" height="160" viewBox="0 0 {columns} {bound}" preserveAspectRatio="none" fill="none">
-<g transform="translate(.5 {bound}) scale(1 -1)">
+<text x="970" y="424" text-anchor="end">bound {bound}</text>
+<svg x="70" y="430" width="900" height="160" viewBox="0 0 {columns} {height}" preserveAspectRatio="none" fill="none">
+<g transform="translate(.5 {height}) scale(1 -1)">
+<path d="M0 {bound}h{columns}" stroke="#555" stroke-width="1.5" stroke-dasharray="2 3"/>
 <polyline stroke="{BLACK}" stroke-width="2.5" points="'''
     s += "".join(f"{c},{rest(at(c)[0], k)} " for c in range(columns))
     s += f'"/>\n<polyline stroke="{GREEN}" stroke-width="1.5" stroke-dasharray="5 3" points="'
@@ -93,7 +98,6 @@ def draw(index, k, start, events, frm, count, surveys=0):
     return s + f'''"/>
 </g>
 </svg>
-<path d="M70 430h900" stroke="#555" stroke-width="1.5" stroke-dasharray="2 3"/>
 <g font-size="14">
 <rect x="70" y="608" width="16" height="10" fill="{BLUE}"/>
 <text x="92" y="618">privileged</text>
@@ -104,7 +108,7 @@ def draw(index, k, start, events, frm, count, surveys=0):
 <path d="M456 613h24" stroke="{BLACK}" stroke-width="2.5"/>
 <text x="488" y="618">rest</text>
 <path d="M556 613h24" stroke="{GREEN}" stroke-width="1.5" stroke-dasharray="5 3"/>
-<text x="588" y="618">calm, up to the bound</text>
+<text x="588" y="618">calm, cut off at the top</text>
 <path d="M776 613h24" stroke="#555" stroke-width="1.5" stroke-dasharray="2 3"/>
 <text x="808" y="618">bound</text>
 </g>

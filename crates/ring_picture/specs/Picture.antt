@@ -1,5 +1,5 @@
 -- The picture of a ring's history, as a plain function of a block (this project's own).
-use Rattle.std.specs.Prelude.{ℕ, zero, suc, ◌+◌, ◌-◌, ◌*◌, nat_lt, Bool, true, false, cond, List, [], ◌++◌, Option, Some, None, map, take, length, slice_get, codes, decimal}
+use Rattle.std.specs.Prelude.{ℕ, zero, suc, ◌+◌, ◌-◌, ◌*◌, ◌/◌, max, nat_lt, ◌&&◌, Bool, true, false, cond, List, [], ◌++◌, Option, Some, None, map, take, length, slice_get, codes, decimal}
 use Rattle.std.specs.List.{flat_map}
 use Rattle.ring_model.specs.Ring.{Ring, ring_with, is_privileged, moved, written, rest, bound}
 use Rattle.ring_model.specs.declared.events.Op.{Op}
@@ -114,6 +114,20 @@ rest_points b from columns = pieces (λ c. point c (rest_in b from c)) columns
 abbrev pub calm_points : Block → ℕ → ℕ → List ℕ
 calm_points b from columns = pieces (λ c. point c (calm_in b from c)) columns
 
+-- ---- the scale of the curves
+
+-- the highest rest of so many columns
+abbrev pub highest_rest : Block → ℕ → ℕ → ℕ
+highest_rest b from zero = 0
+highest_rest b from (suc c) = max (highest_rest b from c) (rest_in b from c)
+
+-- the number at the top of the curves: the bound, or the highest rest, if that is less than a quarter of it
+abbrev pub height_of : ℕ → ℕ → ℕ
+height_of high limit = cond (nat_lt 0 high && nat_lt high (limit / 4)) high limit
+
+abbrev pub curve_height : Block → ℕ → ℕ → ℕ
+curve_height b from columns = height_of (highest_rest b from columns) (bound b.n)
+
 -- ---- what stands around them
 
 -- the head, a white page, and the title: the ring's place, n and K, which events are shown of how many, and the sums of its block
@@ -124,12 +138,12 @@ title_text b from count =
     ++ (decimal from ++ (codes " to " ++ (decimal (from + count) ++ (codes " of " ++ (decimal (length b.events) ++ (codes ", granted " ++ (decimal (granted_count (history b))
     ++ (codes ", corrupted " ++ (decimal (corrupted_count (history b)) ++ (codes ", surveys " ++ (decimal (length b.surveys) ++ codes "</text>\n")))))))))))))))))
 
--- the numbers at the axes: the first and the last machine, the first and the last place, and the bound and 0
+-- the axes: five ticks of equal distance, the first and the last machine, the first and the last place, and the number at the top of the curves and 0
 abbrev pub axes_text : ℕ → ℕ → ℕ → ℕ → List ℕ
-axes_text n from count limit =
-    codes "<text x=\"24\" y=\"230\" text-anchor=\"middle\" transform=\"rotate(-90 24 230)\">machine</text>\n<text x=\"62\" y=\"94\" text-anchor=\"end\">0</text>\n<text x=\"62\" y=\"380\" text-anchor=\"end\">"
+axes_text n from count height =
+    codes "<path d=\"M70 380v5M295 380v5M520 380v5M745 380v5M970 380v5\" stroke=\"#555\"/>\n<text x=\"24\" y=\"230\" text-anchor=\"middle\" transform=\"rotate(-90 24 230)\">machine</text>\n<text x=\"62\" y=\"94\" text-anchor=\"end\">0</text>\n<text x=\"62\" y=\"380\" text-anchor=\"end\">"
     ++ (decimal (n - 1) ++ (codes "</text>\n<text x=\"70\" y=\"402\">" ++ (decimal from ++ (codes "</text>\n<text x=\"520\" y=\"402\" text-anchor=\"middle\">granted passes and other events</text>\n<text x=\"970\" y=\"402\" text-anchor=\"end\">"
-    ++ (decimal (from + count) ++ (codes "</text>\n<text x=\"62\" y=\"436\" text-anchor=\"end\">" ++ (decimal limit ++ codes "</text>\n<text x=\"62\" y=\"590\" text-anchor=\"end\">0</text>\n")))))))
+    ++ (decimal (from + count) ++ (codes "</text>\n<text x=\"62\" y=\"436\" text-anchor=\"end\">" ++ (decimal height ++ codes "</text>\n<text x=\"62\" y=\"590\" text-anchor=\"end\">0</text>\n")))))))
 
 -- the beginning of the rows, of which the columns and the units are stretched over their part of the page
 abbrev pub rows_opening : ℕ → ℕ → List ℕ
@@ -144,11 +158,13 @@ refusals_opening = codes "<path stroke=\"#888\" stroke-width=\"1.5\" stroke-line
 abbrev pub corruptions_opening : List ℕ
 corruptions_opening = codes "\"/>\n<path stroke=\"#e69f00\" stroke-width=\"5\" stroke-linecap=\"round\" d=\""
 
--- the end of the rows, and the beginning of the curves, whose points are the columns and the rests and the calms themselves
-abbrev pub curves_opening : ℕ → ℕ → List ℕ
-curves_opening columns limit =
-    codes "\"/>\n</svg>\n<rect x=\"70\" y=\"430\" width=\"900\" height=\"160\" fill=\"#f3f3f3\"/>\n<svg x=\"70\" y=\"430\" width=\"900\" height=\"160\" viewBox=\"0 0 "
-    ++ (decimal columns ++ (codes " " ++ (decimal limit ++ (codes "\" preserveAspectRatio=\"none\" fill=\"none\">\n<g transform=\"translate(.5 " ++ (decimal limit ++ codes ") scale(1 -1)\">\n<polyline stroke=\"#111\" stroke-width=\"2.5\" points=\"")))))
+-- the end of the rows, the bound by its name, and the beginning of the curves, whose points are the columns and the rests and the calms themselves, over the line of the bound; what is above the height is cut off
+abbrev pub curves_opening : ℕ → ℕ → ℕ → List ℕ
+curves_opening columns height limit =
+    codes "\"/>\n</svg>\n<rect x=\"70\" y=\"430\" width=\"900\" height=\"160\" fill=\"#f3f3f3\"/>\n<text x=\"970\" y=\"424\" text-anchor=\"end\">bound "
+    ++ (decimal limit ++ (codes "</text>\n<svg x=\"70\" y=\"430\" width=\"900\" height=\"160\" viewBox=\"0 0 " ++ (decimal columns ++ (codes " " ++ (decimal height
+    ++ (codes "\" preserveAspectRatio=\"none\" fill=\"none\">\n<g transform=\"translate(.5 " ++ (decimal height ++ (codes ") scale(1 -1)\">\n<path d=\"M0 " ++ (decimal limit ++ (codes "h" ++ (decimal columns
+    ++ codes "\" stroke=\"#555\" stroke-width=\"1.5\" stroke-dasharray=\"2 3\"/>\n<polyline stroke=\"#111\" stroke-width=\"2.5\" points=\"")))))))))))
 
 abbrev pub calm_opening : List ℕ
 calm_opening = codes "\"/>\n<polyline stroke=\"#0a7d4f\" stroke-width=\"1.5\" stroke-dasharray=\"5 3\" points=\""
@@ -156,18 +172,18 @@ calm_opening = codes "\"/>\n<polyline stroke=\"#0a7d4f\" stroke-width=\"1.5\" st
 -- the end of the curves, the line of the bound, and what the colours mean
 abbrev pub ending_text : List ℕ
 ending_text =
-    codes "\"/>\n</g>\n</svg>\n<path d=\"M70 430h900\" stroke=\"#555\" stroke-width=\"1.5\" stroke-dasharray=\"2 3\"/>\n<g font-size=\"14\">\n<rect x=\"70\" y=\"608\" width=\"16\" height=\"10\" fill=\"#15489f\"/>\n<text x=\"92\" y=\"618\">privileged</text>\n<path d=\"M200 606v14\" stroke=\"#e69f00\" stroke-width=\"5\" stroke-linecap=\"round\"/>\n<text x=\"212\" y=\"618\">corruption</text>\n<path d=\"M322 610v6\" stroke=\"#888\" stroke-width=\"1.5\" stroke-linecap=\"square\"/>\n<text x=\"332\" y=\"618\">refused pass</text>\n<path d=\"M456 613h24\" stroke=\"#111\" stroke-width=\"2.5\"/>\n<text x=\"488\" y=\"618\">rest</text>\n<path d=\"M556 613h24\" stroke=\"#0a7d4f\" stroke-width=\"1.5\" stroke-dasharray=\"5 3\"/>\n<text x=\"588\" y=\"618\">calm, up to the bound</text>\n<path d=\"M776 613h24\" stroke=\"#555\" stroke-width=\"1.5\" stroke-dasharray=\"2 3\"/>\n<text x=\"808\" y=\"618\">bound</text>\n</g>\n</svg>\n"
+    codes "\"/>\n</g>\n</svg>\n<g font-size=\"14\">\n<rect x=\"70\" y=\"608\" width=\"16\" height=\"10\" fill=\"#15489f\"/>\n<text x=\"92\" y=\"618\">privileged</text>\n<path d=\"M200 606v14\" stroke=\"#e69f00\" stroke-width=\"5\" stroke-linecap=\"round\"/>\n<text x=\"212\" y=\"618\">corruption</text>\n<path d=\"M322 610v6\" stroke=\"#888\" stroke-width=\"1.5\" stroke-linecap=\"square\"/>\n<text x=\"332\" y=\"618\">refused pass</text>\n<path d=\"M456 613h24\" stroke=\"#111\" stroke-width=\"2.5\"/>\n<text x=\"488\" y=\"618\">rest</text>\n<path d=\"M556 613h24\" stroke=\"#0a7d4f\" stroke-width=\"1.5\" stroke-dasharray=\"5 3\"/>\n<text x=\"588\" y=\"618\">calm, cut off at the top</text>\n<path d=\"M776 613h24\" stroke=\"#555\" stroke-width=\"1.5\" stroke-dasharray=\"2 3\"/>\n<text x=\"808\" y=\"618\">bound</text>\n</g>\n</svg>\n"
 
 -- ---- the picture: the upper part, the marks over its rows, and the lower part
 
 abbrev pub upper_part : Block → ℕ → ℕ → List ℕ
-upper_part b from count = title_text b from count ++ (axes_text b.n from count (bound b.n) ++ (rows_opening b.n (count + 1) ++ rows_text b from (count + 1)))
+upper_part b from count = title_text b from count ++ (axes_text b.n from count (curve_height b from (count + 1)) ++ (rows_opening b.n (count + 1) ++ rows_text b from (count + 1)))
 
 abbrev pub marks_part : Block → ℕ → ℕ → List ℕ
 marks_part b from count = refusals_opening ++ (marks_text b false from count ++ (corruptions_opening ++ marks_text b true from count))
 
 abbrev pub lower_part : Block → ℕ → ℕ → List ℕ
-lower_part b from columns = curves_opening columns (bound b.n) ++ (rest_points b from columns ++ (calm_opening ++ (calm_points b from columns ++ ending_text)))
+lower_part b from columns = curves_opening columns (curve_height b from columns) (bound b.n) ++ (rest_points b from columns ++ (calm_opening ++ (calm_points b from columns ++ ending_text)))
 
 -- for so many events: a column before the first of them and one behind each
 abbrev pub picture : Block → ℕ → ℕ → List ℕ

@@ -61,27 +61,27 @@ pub(crate) fn put_title<W: Write>(
     )
 }
 
-/// The numbers at the axes.
+/// The ticks and the numbers at the axes.
 pub(crate) fn put_axes<W: Write>(
     out: &mut W,
     n: u32,
     from: usize,
     count: u32,
-    limit: u64,
+    height: u64,
 ) -> Result<(), WriteFault>
     requires some { 1 ≤ n }
     requires room { from + count < 2 ^ 63 }
-    ensures { Writes (W.contents out.old) (W.contents out.new) result (axes_text n from count limit) }
+    ensures { Writes (W.contents out.old) (W.contents out.new) result (axes_text n from count height) }
 {
     let mut buffers = (Buffer::new(), Buffer::new(), Buffer::new(), Buffer::new());
     let last = buffers.0.format(n - 1).as_bytes();
     let first = buffers.1.format(from).as_bytes();
     let end = buffers.2.format(from + count as usize).as_bytes();
-    let high = buffers.3.format(limit).as_bytes();
+    let high = buffers.3.format(height).as_bytes();
     put_all(
         out,
         &[
-            b"<text x=\"24\" y=\"230\" text-anchor=\"middle\" transform=\"rotate(-90 24 230)\">machine</text>\n<text x=\"62\" y=\"94\" text-anchor=\"end\">0</text>\n<text x=\"62\" y=\"380\" text-anchor=\"end\">",
+            b"<path d=\"M70 380v5M295 380v5M520 380v5M745 380v5M970 380v5\" stroke=\"#555\"/>\n<text x=\"24\" y=\"230\" text-anchor=\"middle\" transform=\"rotate(-90 24 230)\">machine</text>\n<text x=\"62\" y=\"94\" text-anchor=\"end\">0</text>\n<text x=\"62\" y=\"380\" text-anchor=\"end\">",
             last,
             b"</text>\n<text x=\"70\" y=\"402\">",
             first,
@@ -122,23 +122,31 @@ pub(crate) fn put_rows_opening<W: Write>(
 pub(crate) fn put_curves_opening<W: Write>(
     out: &mut W,
     columns: u32,
+    height: u64,
     limit: u64,
 ) -> Result<(), WriteFault>
-    ensures { Writes (W.contents out.old) (W.contents out.new) result (curves_opening columns limit) }
+    ensures { Writes (W.contents out.old) (W.contents out.new) result (curves_opening columns height limit) }
 {
-    let mut buffers = (Buffer::new(), Buffer::new());
+    let mut buffers = (Buffer::new(), Buffer::new(), Buffer::new());
     let wide = buffers.0.format(columns).as_bytes();
-    let high = buffers.1.format(limit).as_bytes();
+    let high = buffers.1.format(height).as_bytes();
+    let far = buffers.2.format(limit).as_bytes();
     put_all(
         out,
         &[
-            b"\"/>\n</svg>\n<rect x=\"70\" y=\"430\" width=\"900\" height=\"160\" fill=\"#f3f3f3\"/>\n<svg x=\"70\" y=\"430\" width=\"900\" height=\"160\" viewBox=\"0 0 ",
+            b"\"/>\n</svg>\n<rect x=\"70\" y=\"430\" width=\"900\" height=\"160\" fill=\"#f3f3f3\"/>\n<text x=\"970\" y=\"424\" text-anchor=\"end\">bound ",
+            far,
+            b"</text>\n<svg x=\"70\" y=\"430\" width=\"900\" height=\"160\" viewBox=\"0 0 ",
             wide,
             b" ",
             high,
             b"\" preserveAspectRatio=\"none\" fill=\"none\">\n<g transform=\"translate(.5 ",
             high,
-            b") scale(1 -1)\">\n<polyline stroke=\"#111\" stroke-width=\"2.5\" points=\"",
+            b") scale(1 -1)\">\n<path d=\"M0 ",
+            far,
+            b"h",
+            wide,
+            b"\" stroke=\"#555\" stroke-width=\"1.5\" stroke-dasharray=\"2 3\"/>\n<polyline stroke=\"#111\" stroke-width=\"2.5\" points=\"",
         ],
     )
 }

@@ -7,10 +7,10 @@ ghost use Rattle.ring_model.specs.Limits.{machine_limit};
 ghost use Rattle.ring_model.specs.Ring.{ring_with, bound};
 ghost use Rattle.ring_saved.specs.Content.{block_of};
 ghost use Rattle.ring_check.specs.Gauges.{ring_of, IsGauge};
-ghost use Rattle.ring_picture.specs.Picture.{ring_shown, upper_part, marks_part, lower_part, picture};
+ghost use Rattle.ring_picture.specs.Picture.{ring_shown, curve_height, upper_part, marks_part, lower_part, picture};
 
 use crate::columns::{bring_back, values_at};
-use crate::curves::{put_calms, put_rests};
+use crate::curves::{curve_height, put_calms, put_rests};
 use crate::frame::{put_axes, put_curves_opening, put_rows_opening, put_title};
 use crate::marks::put_marks;
 use crate::rows::put_rows;
@@ -35,6 +35,7 @@ fn put_upper<W: Write>(
     ring: &SavedRing,
     from: usize,
     count: u32,
+    height: u64,
     base: &[u32],
     values: &mut Vec<u32>,
 ) -> Result<(), WriteFault>
@@ -43,13 +44,14 @@ fn put_upper<W: Write>(
     requires same { length base.now ≡ ring.now.n }
     requires len { vec_len values.old ≡ ring.now.n }
     requires ring { ring_with ring.now.k base.now ≡ ring_shown (block_of ring.now) from }
+    requires height { height ≡ curve_height (block_of ring.now) from (count + 1) }
     requires columns { count + 1 < 2 ^ 32 }
     requires room { from + count + 1 < 2 ^ 63 }
     ensures text { Writes (W.contents out.old) (W.contents out.new) result (upper_part (block_of ring.now) from count) }
     ensures len { vec_len values.new ≡ ring.now.n }
 {
     put_title(out, ring, from, count)?;
-    put_axes(out, ring.n, from, count, bound(ring.n))?;
+    put_axes(out, ring.n, from, count, height)?;
     put_rows_opening(out, ring.n, count + 1)?;
     put_rows(out, ring, from, count + 1, base, values)
 }
@@ -83,11 +85,13 @@ fn put_lower<W: Write>(
     ring: &SavedRing,
     from: usize,
     columns: u32,
+    height: u64,
     values: &mut Vec<u32>,
     gauge: &mut Gauge,
 ) -> Result<(), WriteFault>
     requires some { 0 < ring.now.k }
     requires few { ring.now.n ≤ machine_limit }
+    requires height { height ≡ curve_height (block_of ring.now) from columns }
     requires gauge { IsGauge gauge.old }
     requires same { (ring_of gauge.old).k ≡ ring.now.k }
     requires len { vec_len values.old ≡ length (ring_of gauge.old).values }
@@ -95,7 +99,7 @@ fn put_lower<W: Write>(
     requires room { from + columns < 2 ^ 63 }
     ensures { Writes (W.contents out.old) (W.contents out.new) result (lower_part (block_of ring.now) from columns) }
 {
-    put_curves_opening(out, columns, bound(ring.n))?;
+    put_curves_opening(out, columns, height, bound(ring.n))?;
     put_rests(out, ring, from, columns, values, gauge)?;
     put(
         out,
@@ -104,7 +108,7 @@ fn put_lower<W: Write>(
     put_calms(out, ring, from, columns)?;
     put(
         out,
-        b"\"/>\n</g>\n</svg>\n<path d=\"M70 430h900\" stroke=\"#555\" stroke-width=\"1.5\" stroke-dasharray=\"2 3\"/>\n<g font-size=\"14\">\n<rect x=\"70\" y=\"608\" width=\"16\" height=\"10\" fill=\"#15489f\"/>\n<text x=\"92\" y=\"618\">privileged</text>\n<path d=\"M200 606v14\" stroke=\"#e69f00\" stroke-width=\"5\" stroke-linecap=\"round\"/>\n<text x=\"212\" y=\"618\">corruption</text>\n<path d=\"M322 610v6\" stroke=\"#888\" stroke-width=\"1.5\" stroke-linecap=\"square\"/>\n<text x=\"332\" y=\"618\">refused pass</text>\n<path d=\"M456 613h24\" stroke=\"#111\" stroke-width=\"2.5\"/>\n<text x=\"488\" y=\"618\">rest</text>\n<path d=\"M556 613h24\" stroke=\"#0a7d4f\" stroke-width=\"1.5\" stroke-dasharray=\"5 3\"/>\n<text x=\"588\" y=\"618\">calm, up to the bound</text>\n<path d=\"M776 613h24\" stroke=\"#555\" stroke-width=\"1.5\" stroke-dasharray=\"2 3\"/>\n<text x=\"808\" y=\"618\">bound</text>\n</g>\n</svg>\n",
+        b"\"/>\n</g>\n</svg>\n<g font-size=\"14\">\n<rect x=\"70\" y=\"608\" width=\"16\" height=\"10\" fill=\"#15489f\"/>\n<text x=\"92\" y=\"618\">privileged</text>\n<path d=\"M200 606v14\" stroke=\"#e69f00\" stroke-width=\"5\" stroke-linecap=\"round\"/>\n<text x=\"212\" y=\"618\">corruption</text>\n<path d=\"M322 610v6\" stroke=\"#888\" stroke-width=\"1.5\" stroke-linecap=\"square\"/>\n<text x=\"332\" y=\"618\">refused pass</text>\n<path d=\"M456 613h24\" stroke=\"#111\" stroke-width=\"2.5\"/>\n<text x=\"488\" y=\"618\">rest</text>\n<path d=\"M556 613h24\" stroke=\"#0a7d4f\" stroke-width=\"1.5\" stroke-dasharray=\"5 3\"/>\n<text x=\"588\" y=\"618\">calm, cut off at the top</text>\n<path d=\"M776 613h24\" stroke=\"#555\" stroke-width=\"1.5\" stroke-dasharray=\"2 3\"/>\n<text x=\"808\" y=\"618\">bound</text>\n</g>\n</svg>\n",
     )
 }
 
@@ -129,10 +133,12 @@ fn put_picture<W: Write>(
     requires room { from + count + 1 < 2 ^ 63 }
     ensures { Writes (W.contents out.old) (W.contents out.new) result (picture (block_of ring.now) from count) }
 {
-    put_upper(out, ring, from, count, base, values)?;
+    bring_back(values, base);
+    let height = curve_height(ring, from, count + 1, values, gauge);
+    put_upper(out, ring, from, count, height, base, values)?;
     put_both_marks(out, ring, from, count)?;
     bring_back(values, base);
-    put_lower(out, ring, from, count + 1, values, gauge)
+    put_lower(out, ring, from, count + 1, height, values, gauge)
 }
 
 /// Writes the picture of a ring from behind its first `from` events on, for `count` events: a column for each place from

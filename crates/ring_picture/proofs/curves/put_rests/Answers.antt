@@ -1,4 +1,4 @@
-use Rattle.std.proofs.Common.{◌≡◌, ◌+◌, ◌∙◌, List, ℕ, Ok, Err, length, sym, ap, arith}
+use Rattle.std.proofs.Common.{◌≡◌, ◌+◌, ◌∙◌, List, ℕ, Ok, Err, length, ap, arith}
 use Rattle.text_lines.proofs.Writing.{writes_same}
 use Rattle.ring_model.specs.Ring.{Ring, ring_with, rest}
 use Rattle.ring_saved.specs.Content.{block_of}

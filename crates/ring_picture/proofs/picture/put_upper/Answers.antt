@@ -1,16 +1,15 @@
 use Rattle.std.proofs.Common.{◌+◌, ◌++◌, Ok, Err, ap}
 use Rattle.std.proofs.lemmas.Result.{err_from_is_err_and}
 use Rattle.text_lines.proofs.Writing.{writes_then, writes_err, writes_same}
-use Rattle.ring_model.specs.Ring.{bound}
 use Rattle.ring_saved.specs.Content.{block_of}
-use Rattle.ring_picture.specs.Picture.{title_text, axes_text, rows_opening, rows_text}
+use Rattle.ring_picture.specs.Picture.{curve_height, title_text, axes_text, rows_opening, rows_text}
 use Rattle.ring_picture.proofs.Texts.{writes_second}
 use Rattle.ring_picture.proofs.picture.put_upper.Goals as goal
 
 pub returns-in_err-put_title-clause-text : goal.returns-in_err-put_title-clause-text
 returns-in_err-put_title-clause-text g c =
     let b = block_of c.args.ring.now in
-    let axes = axes_text b.n c.args.from c.args.count (bound b.n) in
+    let axes = axes_text b.n c.args.from c.args.count (curve_height b c.args.from (c.args.count + 1)) in
     let opening = rows_opening b.n (c.args.count + 1) in
     let rows = rows_text b c.args.from (c.args.count + 1) in
     rw (err_from_is_err_and c.from_residual.result c.from_residual.ensures.1).1
@@ -19,22 +18,22 @@ returns-in_err-put_title-clause-text g c =
 pub returns-in_err-put_axes-clause-text : goal.returns-in_err-put_axes-clause-text
 returns-in_err-put_axes-clause-text g c =
     let b = block_of c.args.ring.now in
-    let axes = axes_text b.n c.args.from c.args.count (bound b.n) in
+    let axes = axes_text b.n c.args.from c.args.count (curve_height b c.args.from (c.args.count + 1)) in
     let opening = rows_opening b.n (c.args.count + 1) in
     let rows = rows_text b c.args.from (c.args.count + 1) in
     let fault = c.in_err-put_axes.field-0.0 in
-    let here = writes_same _ _ (Err fault) (axes_text b.n c.args.from c.args.count c.bound.result) axes (ap (axes_text b.n c.args.from c.args.count) c.bound.ensures) c.in_err-put_axes.ensures in
+    let here = writes_same _ _ (Err fault) (axes_text b.n c.args.from c.args.count c.args.height) axes (ap (axes_text b.n c.args.from c.args.count) c.requires.height) c.in_err-put_axes.ensures in
     rw (err_from_is_err_and c.from_residual-in_err-put_axes.result c.from_residual-in_err-put_axes.ensures.1).1
     (writes_second _ _ _ fault (title_text b c.args.from c.args.count) axes (opening ++ rows) c.in_ok-put_title.ensures here)
 
 pub returns-in_err-put_rows_opening-clause-text : goal.returns-in_err-put_rows_opening-clause-text
 returns-in_err-put_rows_opening-clause-text g c =
     let b = block_of c.args.ring.now in
-    let axes = axes_text b.n c.args.from c.args.count (bound b.n) in
+    let axes = axes_text b.n c.args.from c.args.count (curve_height b c.args.from (c.args.count + 1)) in
     let opening = rows_opening b.n (c.args.count + 1) in
     let rows = rows_text b c.args.from (c.args.count + 1) in
     let fault = c.in_err-put_rows_opening.field-0.0 in
-    let here = writes_same _ _ (Ok c.in_ok-put_axes.field-0) (axes_text b.n c.args.from c.args.count c.bound.result) axes (ap (axes_text b.n c.args.from c.args.count) c.bound.ensures) c.in_ok-put_axes.ensures in
+    let here = writes_same _ _ (Ok c.in_ok-put_axes.field-0) (axes_text b.n c.args.from c.args.count c.args.height) axes (ap (axes_text b.n c.args.from c.args.count) c.requires.height) c.in_ok-put_axes.ensures in
     rw (err_from_is_err_and c.from_residual-in_err-put_rows_opening.result c.from_residual-in_err-put_rows_opening.ensures.1).1
     (writes_then _ _ _ (Err fault) (title_text b c.args.from c.args.count) (axes ++ (opening ++ rows)) c.in_ok-put_title.ensures
     (writes_second _ _ _ fault axes opening rows here c.in_err-put_rows_opening.ensures))
@@ -42,10 +41,10 @@ returns-in_err-put_rows_opening-clause-text g c =
 pub returns-clause-text : goal.returns-clause-text
 returns-clause-text g c =
     let b = block_of c.args.ring.now in
-    let axes = axes_text b.n c.args.from c.args.count (bound b.n) in
+    let axes = axes_text b.n c.args.from c.args.count (curve_height b c.args.from (c.args.count + 1)) in
     let opening = rows_opening b.n (c.args.count + 1) in
     let rows = rows_text b c.args.from (c.args.count + 1) in
-    let here = writes_same _ _ (Ok c.in_ok-put_axes.field-0) (axes_text b.n c.args.from c.args.count c.bound.result) axes (ap (axes_text b.n c.args.from c.args.count) c.bound.ensures) c.in_ok-put_axes.ensures in
+    let here = writes_same _ _ (Ok c.in_ok-put_axes.field-0) (axes_text b.n c.args.from c.args.count c.args.height) axes (ap (axes_text b.n c.args.from c.args.count) c.requires.height) c.in_ok-put_axes.ensures in
     let r = c.put_rows.result in
     writes_then _ _ _ r (title_text b c.args.from c.args.count) (axes ++ (opening ++ rows)) c.in_ok-put_title.ensures
     (writes_then _ _ _ r axes (opening ++ rows) here
