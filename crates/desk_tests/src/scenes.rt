@@ -23,6 +23,11 @@ pub(crate) fn opened(
 
 /// The saved text of the ring is this one.
 fn saves(rt: &impl Abort, alloc: Global, ring: OneThreadRing<Till>, text: &[u8]) {
+    let (ring, whole) = ring.text(alloc);
+    let Ok(whole) = whole else {
+        panic!(rt; "there is memory");
+    };
+    assert!(rt; whole.as_slice() == text);
     let Ok(run) = ring.close(alloc) else {
         panic!(rt; "the ring is closed");
     };

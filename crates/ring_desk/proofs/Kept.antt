@@ -33,6 +33,8 @@ use Rattle.ring_farm.specs.declared.outcomes.RingOutcome.{RingOutcome}
 use Rattle.ring_text.specs.Written.{IsRightRun}
 use Rattle.ring_book.specs.BookView.{IsFresh}
 use Rattle.ring_desk.specs.Rings.{IsClient, IsOneThreadRing, grown, told_more, AreFresh, AreLogsOf}
+use Rattle.std.proofs.Common.{Result, Ok, Err, IfOk}
+use Rattle.ring_desk.specs.Texts.{IsTextOf, IsTextOfRun}
 use Rattle.ring_desk.proofs.Growing.{AreOf, own_fits, other_fits, survey_fits}
 
 of_seats_all : (n seat : ℕ) (es : List Event) → seat < n → AreOf seat es → AreOfSeats n es
@@ -176,7 +178,8 @@ AreLogsOf-push [] (x ∷ ls) c l h is = cc
 AreLogsOf-push (d ∷ cs) [] c l h is = absurd h
 AreLogsOf-push (d ∷ cs) (x ∷ ls) c l h is = (h.0, AreLogsOf-push cs ls c l h.1 is)
 
-logs_long : (cs : List Told) (ls : List Log) → AreLogsOf cs ls → length ls ≡ length cs
+-- as many logs as clients
+pub logs_long : (cs : List Told) (ls : List Log) → AreLogsOf cs ls → length ls ≡ length cs
 logs_long [] ls h = ap length h
 logs_long (c ∷ cs) [] h = absurd h
 logs_long (c ∷ cs) (l ∷ ls) h = ap suc (logs_long cs ls h.1)
@@ -211,3 +214,33 @@ right_run r cs d of =
           let one = client k l lt in
           subst (λ (n : ℕ). Fits till (opening r.book.start 0) r.book.history n (get_or r.logs.items k l).entries.items) (sym one.0) one.1;
     }
+
+-- the seats of the logs are seats
+pub logs_seats : (b : BookView ℕ) (cs : List Told) (ls : List Log) → IsOneThreadRing till 0 (record { book = b; clients = cs }) → AreLogsOf cs ls → (k : ℕ) (x : Log) → k < length ls → (get_or ls k x).seat < seat_limit
+logs_seats b cs ls d of k x lt =
+    let long : length ls ≡ length cs = logs_long cs ls of in
+    let c : Told = record { number = k; log = [] } in
+    let same : (get_or ls k x).seat ≡ (get_or cs k c).number = (log_at cs ls k c x of (omega (arith, long))).0 in
+    let is : (get_or cs k c).number ≡ k = (d.each k c (omega (arith, long))).number in
+    let few : length cs ≤ seat_limit = d.few in
+    omega (arith, same, is, few, long)
+
+-- clients are known by their logs
+pub same_clients : (cs ds : List Told) (ls : List Log) → AreLogsOf cs ls → AreLogsOf ds ls → ds ≡ cs
+same_clients [] [] ls h k = refl
+same_clients [] (d ∷ ds) [] h k = absurd k
+same_clients [] (d ∷ ds) (l ∷ ls) h k = cc
+same_clients (c ∷ cs) [] [] h k = absurd h
+same_clients (c ∷ cs) [] (l ∷ ls) h k = cc
+same_clients (c ∷ cs) (d ∷ ds) [] h k = absurd h
+same_clients (c ∷ cs) (d ∷ ds) (l ∷ ls) h k =
+    let number : d.number ≡ c.number = sym k.0.0 ∙ h.0.0 in
+    let log : d.log ≡ c.log = sym k.0.1 ∙ h.0.1 in
+    let more : ds ≡ cs = same_clients cs ds ls h.1 k.1 in
+    λ i. record { number = number i; log = log i } ∷ more i
+
+-- the text of what a ring hands out is its text
+pub text_of_ring : {T E : Type 0} (answer : Result T E) (bytes : T → List ℕ) (run : RingOutcome) (b : BookView ℕ) (cs : List Told) → run.book ≡ b → AreLogsOf cs run.logs.items →
+    IfOk answer (λ t. IsTextOfRun run (bytes t)) → IfOk answer (λ t. IsTextOf (record { book = b; clients = cs }) (bytes t))
+text_of_ring (Ok t) bytes run b cs book logs is = record { run = run; book = book; logs = logs; text = is }
+text_of_ring (Err e) bytes run b cs book logs is = is

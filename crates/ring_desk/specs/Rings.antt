@@ -1,5 +1,5 @@
 -- What contracts see of a ring that is called by numbers, on one thread (this project's own).
-use Rattle.std.specs.Prelude.{◌≡◌, ◌≢◌, ℕ, ◌+◌, ◌<◌, ◌≤◌, ◌↔◌, ◌⊎◌, List, [], ◌∷◌, ◌++◌, length, slice_set, slice_index_or, Result, IsErrOf, OnErr}
+use Rattle.std.specs.Prelude.{◌≡◌, ◌≢◌, ℕ, ◌+◌, ◌<◌, ◌≤◌, ◌↔◌, ◌⊎◌, List, [], ◌∷◌, ◌++◌, length, slice_set, slice_index_or, Option, Some, None, Result, IsErrOf, OnErr}
 use Rattle.ring_model.specs.Limits.{event_limit, machine_limit, seat_limit, value_limit}
 use Rattle.ring_state.specs.Sizes.{Size, IsSize}
 use Rattle.ring_state.specs.StateFault.{IsFaultOf}
@@ -18,9 +18,6 @@ use Rattle.ring_book.specs.BookView.{BookView, IsBook}
 use Rattle.ring_book.specs.GroupView.{IsLeastWithout}
 use Rattle.ring_book.specs.declared.events.BookError.{BookError}
 use Rattle.ring_book.specs.declared.events.BookError.TheVariants as book
-use Rattle.ring_book.specs.declared.books.groups.GroupError.{GroupError}
-use Rattle.ring_book.specs.declared.books.groups.GroupError.TheVariants as group
-use Rattle.ring_book.specs.declared.books.groups.GroupReceipt.{GroupReceipt}
 use Rattle.ring_shared.specs.Holding.{AreOfSeats}
 use Rattle.ring_shared.specs.declared.seats.Log.{Log}
 use Rattle.ring_desk.specs.declared.errors.CallError.{CallError}
@@ -59,12 +56,6 @@ abbrev pub refusal_of : BookError → CallError
 refusal_of book.HistoryFull = call.HistoryFull
 refusal_of book.OutOfMemory = call.OutOfMemory
 
-abbrev pub group_refusal_of : GroupError → CallError
-group_refusal_of group.WholeRing = call.WholeRing
-group_refusal_of (group.NotPrivileged m) = call.NotPrivileged m
-group_refusal_of group.HistoryFull = call.HistoryFull
-group_refusal_of group.OutOfMemory = call.OutOfMemory
-
 -- a refused call leaves book and client as they were; it is refused for a full history exactly where there is one
 abbrev pub IsCallRefused : {C : Type 0} → BookView C → BookView C → Told → Told → Result Receipt BookError → Type 0
 IsCallRefused old new before after result =
@@ -74,13 +65,14 @@ IsCallRefused old new before after result =
 abbrev pub IsRisingGroup : ℕ → List ℕ → Type 0
 IsRisingGroup n machines = Rises 0 n machines × (1 ≤ length machines)
 
--- a refused group likewise, each refusal with its cause
-abbrev pub IsGroupRefused : {C : Type 0} → BookView C → BookView C → Told → Told → List ℕ → Result GroupReceipt GroupError → Type 0
-IsGroupRefused old new before after machines result =
-    OnErr result ((new ≡ old) × (after ≡ before))
-    × (IsErrOf result group.WholeRing → length machines ≡ length old.now.ring.values)
-    × ((m : ℕ) → IsErrOf result (group.NotPrivileged m) → (length machines ≢ length old.now.ring.values) × IsLeastWithout old.now.ring.values machines m)
-    × (IsErrOf result group.HistoryFull → CanMove old.now.ring.values machines × (event_limit < length old.history + length machines))
+-- why a rising group that has a machine cannot move, memory aside: it is the whole ring; else this is its least machine that is not privileged; else the
+-- history would have too many events
+abbrev pub IsGroupFault : List ℕ → ℕ → List ℕ → Option CallError → Type 0
+IsGroupFault s events machines None = CanMove s machines × (events + length machines ≤ event_limit)
+IsGroupFault s events machines (Some call.WholeRing) = length machines ≡ length s
+IsGroupFault s events machines (Some (call.NotPrivileged m)) = (length machines ≢ length s) × IsLeastWithout s machines m
+IsGroupFault s events machines (Some call.HistoryFull) = CanMove s machines × (event_limit < events + length machines)
+IsGroupFault s events machines (Some _) = ⊥
 
 -- so many clients, each with its place as its number, that were told nothing
 abbrev pub AreFresh : ℕ → List Told → Type 0

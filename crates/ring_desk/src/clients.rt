@@ -1,14 +1,14 @@
 //! The clients of a ring: their numbers, and what each was told.
 ghost use Rattle.std.specs.Prelude.{◌≡◌, ◌<◌, ◌≤◌, ◌+◌, ◌^◌, ◌++◌, ◌∷◌, ◌↔◌, [], length, drop, IsOk, IfOk, OnErr, IsErrOf, vec_capacity};
 ghost use Rattle.ring_model.specs.Limits.{event_limit, seat_limit};
-ghost use Rattle.ring_model.specs.Groups.{IsAlone, Rises};
+ghost use Rattle.ring_model.specs.Groups.{IsAlone};
 ghost use Rattle.ring_book.specs.BookView.{IsBook, IsRecorded};
 ghost use Rattle.ring_book.specs.GroupView.{IsGroupRecorded};
 ghost use Rattle.ring_replay.specs.Replays.{IsCallOf};
 ghost use Rattle.ring_shared.specs.Groups.{receipts_from};
-ghost use Rattle.ring_desk.specs.Rings.{grown, IsCallRefused, IsGroupRefused};
+ghost use Rattle.ring_desk.specs.Rings.{grown, IsCallRefused, IsRisingGroup};
 
-use ring_book::{Book, BookError, GroupError, GroupReceipt, Resource};
+use ring_book::{Book, BookError, GroupReceipt, Resource};
 use ring_model::limits::EVENT_LIMIT;
 use ring_model::{Entry, Event, Op, Receipt, Survey};
 use ring_shared::Log;
@@ -69,6 +69,18 @@ impl Client {
         self.log.reserve(1)?;
         self.log.push_reserved(Entry::Survey(survey));
         Ok(())
+    }
+
+    /// The client of a log, with the log's seat as its number.
+    pub(crate) fn from_log(log: Log) -> Client
+        requires { log.seat < seat_limit }
+        ensures { result ≡ record { number = log.seat; log = log.entries.items } }
+    {
+        let Log { seat, entries } = log;
+        Client {
+            number: seat,
+            log: entries,
+        }
     }
 
     /// The client's log, with its number.
@@ -151,22 +163,19 @@ pub(crate) fn log_group<R: Resource + Drop>(
     client: &mut Client,
     machines: &[u32],
     order: u64,
-) -> Result<GroupReceipt, GroupError>
-    requires rising { Rises 0 (length book.old.now.ring.values) machines.now }
-    requires some { 1 ≤ length machines.now }
+) -> Result<GroupReceipt, AllocError>
+    requires rising { IsRisingGroup (length book.old.now.ring.values) machines.now }
     ensures ok { IfOk result (λ r. IsGroupRecorded R.works book.old book.new client.old.number order machines.now r) }
     ensures book { IsBook R.works R.first book.new }
     ensures logged { IfOk result (λ r. client.new ≡ grown client.old (receipts_from r.first (drop r.first book.new.history))) }
-    ensures refused { IsGroupRefused book.old book.new client.old client.new machines.now result }
+    ensures refused { OnErr result ((book.new ≡ book.old) × (client.new ≡ client.old)) }
 {
     book.history();
     let number = client.number();
-    if client.log.reserve(machines.len()).is_err() {
-        return Err(GroupError::OutOfMemory);
-    }
+    client.log.reserve(machines.len())?;
     let receipt = match book.pass_group(number, machines, order) {
         Ok(receipt) => receipt,
-        Err(error) => return Err(error),
+        Err(_) => return Err(AllocError),
     };
     let members = &book.history()[receipt.first as usize..];
     log_events(&mut client.log, members, receipt.first);

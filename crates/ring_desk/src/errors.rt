@@ -1,6 +1,6 @@
 //! Why a call is refused.
 
-use ring_book::{BookError, GroupError};
+use ring_book::BookError;
 use ring_state::{ParamsError, StateError};
 use std::alloc::{AllocError, AllocFailed};
 
@@ -51,19 +51,14 @@ impl From<BookError> for CallError {
     }
 }
 
-impl From<GroupError> for CallError {
+impl From<AllocError> for CallError {
     ghost use Rattle.std.specs.Prelude.{◌≡◌};
-    ghost use Rattle.ring_desk.specs.Rings.{group_refusal_of};
+    ghost use Rattle.ring_desk.specs.declared.errors.CallError.TheVariants as call;
 
-    ghost from_gives = { λ b e. e ≡ group_refusal_of b };
+    ghost from_gives = { λ b e. e ≡ call.OutOfMemory };
 
-    fn from(error: GroupError) -> CallError {
-        match error {
-            GroupError::WholeRing => CallError::WholeRing,
-            GroupError::NotPrivileged(machine) => CallError::NotPrivileged(machine),
-            GroupError::HistoryFull => CallError::HistoryFull,
-            GroupError::OutOfMemory => CallError::OutOfMemory,
-        }
+    fn from(_error: AllocError) -> CallError {
+        CallError::OutOfMemory
     }
 }
 

@@ -3,7 +3,7 @@ ghost use Rattle.std.specs.Prelude.{◌≡◌, ◌≢◌, ℕ, ◌<◌, ◌≤�
 ghost use Rattle.ring_model.specs.History.{opening};
 ghost use Rattle.ring_model.specs.HistoryLaws.{Settlement};
 ghost use Rattle.ring_model.specs.Limits.{event_limit, seat_limit};
-ghost use Rattle.ring_model.specs.GroupLaws.{CanMove};
+ghost use Rattle.ring_model.specs.GroupLaws.{AreAllPrivileged, CanMove};
 ghost use Rattle.ring_model.specs.Surveys.{survey_at};
 ghost use Rattle.ring_state.specs.Sizes.{IsSize};
 ghost use Rattle.ring_book.specs.BookView.{IsBook, IsFresh, IsRecorded};
@@ -11,15 +11,15 @@ ghost use Rattle.ring_model.specs.Groups.{IsAlone, Rises};
 ghost use Rattle.ring_book.specs.GroupView.{IsGroupRecorded, IsLeastWithout};
 ghost use Rattle.ring_replay.specs.Replays.{IsCallOf};
 ghost use Rattle.ring_shared.specs.Groups.{receipts_from};
-ghost use Rattle.ring_desk.specs.Rings.{IsOneThreadRing, IsRisingGroup, IsOpenFault, IsSeatCount, AreFresh, told_more};
+ghost use Rattle.ring_desk.specs.Rings.{IsOneThreadRing, IsRisingGroup, IsGroupFault, IsOpenFault, IsSeatCount, AreFresh, told_more};
 
 mod closing;
 
 use crate::clients::{Client, log_call, log_group};
 use crate::errors::{CallError, OpenError};
 pub use closing::save;
-use ring_book::{Book, BookError, GroupError, GroupReceipt, Resource};
-use ring_model::limits::SEAT_LIMIT;
+use ring_book::{Book, BookError, GroupReceipt, Resource};
+use ring_model::limits::{EVENT_LIMIT, SEAT_LIMIT};
 use ring_model::{Entry, Event, Op, Receipt, Survey};
 use ring_state::{Params, RingState};
 use std::alloc::{AllocError, Global};
@@ -77,6 +77,37 @@ fn call_at<R: Resource + Drop>(
     log_call(book, &mut clients[seat as usize], op)
 }
 
+/// The least machine of a rising group that is not privileged.
+fn first_unprivileged(state: &RingState, machines: &[u32]) -> Option<u32>
+    requires { Rises 0 (length state.now.values) machines.now }
+    ensures some { IfSome result (λ m. IsLeastWithout state.now.values machines.now m) }
+    ensures none { IsNone result → AreAllPrivileged state.now.values machines.now }
+{
+    for machine in machines {
+        if !state.is_privileged(*machine) {
+            return Some(*machine);
+        }
+    }
+    None
+}
+
+/// Why a rising group that has a machine cannot move, memory aside.
+fn group_fault<R: Resource + Drop>(book: &Book<R>, machines: &[u32]) -> Option<CallError>
+    requires { IsRisingGroup (length book.now.now.ring.values) machines.now }
+    ensures { IsGroupFault book.now.now.ring.values (length book.now.history) machines.now result }
+{
+    if machines.len() == book.state().params().n() as usize {
+        return Some(CallError::WholeRing);
+    }
+    if let Some(machine) = first_unprivileged(book.state(), machines) {
+        return Some(CallError::NotPrivileged(machine));
+    }
+    if book.history().len() + machines.len() > EVENT_LIMIT {
+        return Some(CallError::HistoryFull);
+    }
+    None
+}
+
 /// A group pass of the book by the client of this number, which is told of each member.
 fn group_at<R: Resource + Drop>(
     book: &mut Book<R>,
@@ -84,17 +115,13 @@ fn group_at<R: Resource + Drop>(
     seat: u32,
     machines: &[u32],
     order: u64,
-) -> Result<GroupReceipt, GroupError>
+) -> Result<GroupReceipt, AllocError>
     requires seat { seat < length clients.old.items }
     requires number { (slice_index_or clients.old.items seat (record { number = seat; log = [] })).number ≡ seat }
-    requires rising { Rises 0 (length book.old.now.ring.values) machines.now }
-    requires some { 1 ≤ length machines.now }
+    requires rising { IsRisingGroup (length book.old.now.ring.values) machines.now }
     ensures ok { IfOk result (λ r. IsGroupRecorded R.works book.old book.new seat order machines.now r) }
     ensures book { IsBook R.works R.first book.new }
     ensures told { IfOk result (λ r. clients.new.items ≡ told_more clients.old.items seat (receipts_from r.first (drop r.first book.new.history))) }
-    ensures whole { IsErrOf result GroupError.WholeRing → length machines.now ≡ length book.old.now.ring.values }
-    ensures unprivileged { (m : ℕ) → IsErrOf result (GroupError.NotPrivileged m) → (length machines.now ≢ length book.old.now.ring.values) × IsLeastWithout book.old.now.ring.values machines.now m }
-    ensures full { IsErrOf result GroupError.HistoryFull → CanMove book.old.now.ring.values machines.now × (event_limit < length book.old.history + length machines.now) }
     ensures err { OnErr result ((book.new ≡ book.old) × (clients.new.items ≡ clients.old.items)) }
 {
     log_group(book, &mut clients[seat as usize], machines, order)
@@ -271,8 +298,9 @@ impl<R: Resource + Drop> OneThreadRing<R> {
         ensures ring { IsOneThreadRing R.works R.first self.new }
         ensures seat { IsErrOf result CallError.NoSeat ↔ length self.old.clients ≤ seat }
         ensures rising { IsErrOf result CallError.NotRising ↔ (seat < length self.old.clients) × (IsRisingGroup (length self.old.book.now.ring.values) machines.now → ⊥) }
-        ensures whole { IsErrOf result CallError.WholeRing → length machines.now ≡ length self.old.book.now.ring.values }
-        ensures full { IsErrOf result CallError.HistoryFull → CanMove self.old.book.now.ring.values machines.now × (event_limit < length self.old.book.history + length machines.now) }
+        ensures whole { IsErrOf result CallError.WholeRing ↔ (seat < length self.old.clients) × IsRisingGroup (length self.old.book.now.ring.values) machines.now × (length machines.now ≡ length self.old.book.now.ring.values) }
+        ensures unprivileged { (m : ℕ) → IsErrOf result (CallError.NotPrivileged m) ↔ (seat < length self.old.clients) × IsRisingGroup (length self.old.book.now.ring.values) machines.now × (length machines.now ≢ length self.old.book.now.ring.values) × IsLeastWithout self.old.book.now.ring.values machines.now m }
+        ensures full { IsErrOf result CallError.HistoryFull ↔ (seat < length self.old.clients) × CanMove self.old.book.now.ring.values machines.now × (event_limit < length self.old.book.history + length machines.now) }
         ensures err { OnErr result (self.new ≡ self.old) }
     {
         if seat as usize >= self.clients.len() {
@@ -280,6 +308,9 @@ impl<R: Resource + Drop> OneThreadRing<R> {
         }
         if machines.is_empty() || !rise(machines, self.machines()) {
             return Err(CallError::NotRising);
+        }
+        if let Some(fault) = group_fault(&self.book, machines) {
+            return Err(fault);
         }
         let receipt = group_at(&mut self.book, &mut self.clients, seat, machines, order)?;
         Ok(receipt)

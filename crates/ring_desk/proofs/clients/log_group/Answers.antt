@@ -2,11 +2,6 @@ use Rattle.std.proofs.Common.{rules, ◌≤◌, ◌+◌, length, vec_capacity, a
 use Rattle.ring_shared.proofs.GroupLogs.{group_receipts}
 use Rattle.ring_desk.proofs.clients.log_group.Goals as goal
 
-pub returns-in-Err-clause-refused : goal.returns-in-Err-clause-refused
-returns-in-Err-clause-refused g c =
-    let e = c.in-Err.ensures in
-    (search rules, λ q. e.whole.0 q, λ m q. (e.unprivileged m).0 q, λ q. e.full.0 q)
-
 pub log_events-requires-clause-room : goal.log_events-requires-clause-room
 log_events-requires-clause-room g c =
     let n = group_receipts g.R.Resource.works c.args.book.now c.pass_group.new.self c.number-number.result c.args.order c.args.machines.now c.in-Ok.receipt c.in-Ok.ensures.ok in
