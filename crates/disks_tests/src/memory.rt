@@ -1,0 +1,86 @@
+//! Files in memory.
+
+use disks::{Disk, MemoryDisk};
+use std::alloc::Global;
+use std::io::{self, ErrorKind, Read, Write};
+use std::test::Fail;
+
+/// Has the file of this name hold just these bytes.
+pub fn put<D: Disk>(disk: &mut D, name: &str, bytes: &[u8]) -> io::Result<()> {
+    let mut made = disk.make(name)?;
+    made.write_all(bytes)?;
+    made.flush()?;
+    disk.finish(made, name)
+}
+
+/// All bytes of the file of this name.
+pub fn bytes_of<D: Disk>(alloc: Global, disk: &D, name: &str) -> io::Result<Vec<u8>> {
+    let mut bytes = Vec::new(alloc);
+    disk.open(name)?.read_to_end(&mut bytes)?;
+    Ok(bytes)
+}
+
+/// No files.
+fn no_files(alloc: Global) -> MemoryDisk {
+    MemoryDisk {
+        alloc,
+        entries: Vec::new(alloc),
+    }
+}
+
+#[test]
+fn a_file_holds_what_was_finished_last(rt: HostRuntime) -> Result<(), Fail> {
+    let mut disk = no_files(rt.alloc());
+    for (name, bytes) in [("a", "one"), ("b", "two"), ("a", "three"), ("c", "")] {
+        put(&mut disk, name, bytes.as_bytes())?;
+    }
+    for (name, bytes) in [("a", "three"), ("b", "two"), ("c", "")] {
+        let held = bytes_of(rt.alloc(), &disk, name)?;
+        assert!(rt; held.as_slice() == bytes.as_bytes(), "at {name}");
+    }
+    Ok(())
+}
+
+#[test]
+fn a_file_that_is_not_there_is_refused(rt: HostRuntime) -> Result<(), Fail> {
+    let mut disk = no_files(rt.alloc());
+    put(&mut disk, "a", b"one")?;
+    let Err(fault) = disk.open("b") else {
+        panic!(rt; "opened");
+    };
+    assert!(rt; fault.kind() == ErrorKind::NotFound);
+    Ok(())
+}
+
+#[test]
+fn a_new_file_that_is_let_go_was_never_there(rt: HostRuntime) -> Result<(), Fail> {
+    let mut disk = no_files(rt.alloc());
+    put(&mut disk, "a", b"one")?;
+    let mut made = disk.make("a")?;
+    made.write_all(b"two")?;
+    drop(made);
+    let held = bytes_of(rt.alloc(), &disk, "a")?;
+    assert_eq!(rt; held.as_slice(), b"one".as_slice());
+    assert_eq!(rt; disk.entries.len(), 1);
+    Ok(())
+}
+
+#[test]
+fn a_reader_has_the_bytes_of_its_opening(rt: HostRuntime) -> Result<(), Fail> {
+    let mut disk = no_files(rt.alloc());
+    put(&mut disk, "a", b"one")?;
+    let mut reader = disk.open("a")?;
+    put(&mut disk, "a", b"two")?;
+    let mut bytes = Vec::new(rt.alloc());
+    reader.read_to_end(&mut bytes)?;
+    assert_eq!(rt; bytes.as_slice(), b"one".as_slice());
+    Ok(())
+}
+
+#[test]
+fn a_name_is_one_file_with_itself_alone(rt: HostRuntime) -> Result<(), Fail> {
+    let disk = no_files(rt.alloc());
+    assert!(rt; disk.is_one_file("a", "a")?);
+    assert!(rt; !disk.is_one_file("a", "./a")?);
+    Ok(())
+}

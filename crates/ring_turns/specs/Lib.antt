@@ -1,0 +1,4 @@
+pub mod Looking
+pub mod Spared
+pub mod Turning
+pub mod Waiting

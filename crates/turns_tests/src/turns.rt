@@ -1,0 +1,371 @@
+//! Two clients of a ring of two machines, by their calls and the close.
+
+ghost use Rattle.std.specs.Prelude.{◌≡◌, ◌≢◌, ◌<◌, ◌≤◌, [], eqb, length, map, vec_capacity};
+ghost use Rattle.std.specs.List.{IsDistinct};
+ghost use Rattle.ring_model.specs.Resources.{till};
+ghost use Rattle.ring_model.specs.Ring.{IsRing};
+ghost use Rattle.ring_shared.specs.Holding.{MeansLegal};
+ghost use Rattle.ring_turns.specs.Spared.{spared};
+
+use ring_book::{Book, Till};
+use ring_model::{Entry, Event, Op, Receipt, Reply};
+use ring_shared::{Draft, Name, Ring, Seat};
+use ring_state::{Params, RingState};
+use ring_turns::{PASS_ON, Spared, TooFewMachines, Turn, Turns};
+use std::alloc::Global;
+use std::marker::Brand;
+use std::process::Abort;
+use std::sync::Wait;
+use std::thread;
+use std::thread::{Promise, PromisedHandle, Scope, Threads};
+
+/// How many turns each client takes where both do at once.
+const TURNS: u32 = 100;
+
+/// What the two clients do.
+#[derive(Clone, Copy)]
+enum Scene {
+    /// The first takes two turns, and the other wants nothing.
+    OneAlone,
+    /// The first takes a turn behind a fault.
+    BehindAFault,
+    /// Both take turns at once, each on a thread of its own.
+    Both,
+    /// There are to be three clients of the two machines.
+    TooMany,
+}
+
+/// A ring of two machines that hold 0, over a till that spares, with two seats.
+fn draft(rt: &impl Abort, alloc: Global) -> Draft<Spared<Till>>
+    ensures machines { length result.book.start.values ≡ 2 }
+    ensures values { result.book.start.k ≡ 2 }
+    ensures ring { IsRing result.book.start }
+    ensures seats { result.seats ≡ 2 }
+{
+    let Ok(params) = Params::new(2, 2) else {
+        panic!(rt; "the size is allowed");
+    };
+    let state = RingState::from_values(alloc, &params, &[0, 0]).expect(rt, "the values are allowed");
+    let Ok(book) = Book::new(alloc, state, Spared::new(Till::new())) else {
+        panic!(rt; "there is memory");
+    };
+    let Ok(draft) = Draft::new(book, 2) else {
+        panic!(rt; "a draft takes no memory");
+    };
+    draft
+}
+
+/// The receipt of a granted pass.
+fn granted(
+    position: u64,
+    seat: u32,
+    machine: u32,
+    order: u64,
+    number: u64,
+    answer: u64,
+) -> Receipt {
+    Receipt {
+        position,
+        event: Event {
+            seat,
+            op: Op::Pass { machine, order },
+            reply: Reply::Granted {
+                number,
+                result: answer,
+            },
+        },
+    }
+}
+
+/// Room for two seats.
+fn room_for_two<N: Name>(rt: &impl Abort, alloc: Global) -> Vec<Seat<N>>
+    ensures room { 2 ≤ vec_capacity result }
+    ensures empty { result.items ≡ [] }
+{
+    match Vec::with_capacity(alloc, 2) {
+        Ok(seats) => seats,
+        Err(_) => panic!(rt; "there is memory"),
+    }
+}
+
+/// Two seats, to be given back.
+fn both<N: Name>(rt: &impl Abort, alloc: Global, one: Seat<N>, other: Seat<N>) -> Vec<Seat<N>>
+    requires { one.number ≢ other.number }
+    ensures { IsDistinct eqb (map (λ s. s.number) result.items) }
+{
+    let mut seats = room_for_two(rt, alloc);
+    seats.push_reserved(one);
+    seats.push_reserved(other);
+    seats
+}
+
+/// The first client alone: machine 0 is its own, and machine 1 is passed on for the other, who wants nothing.
+fn alone<N: Name, W: Wait + Abort>(rt: &W, turns: &Turns<N, Till>, seat: &mut Seat<N>)
+    requires clients { 2 ≤ turns.now }
+    requires first { seat.old.number ≡ 0 }
+    ensures { seat.new.number ≡ seat.old.number }
+{
+    let first = turns.take_turn(rt, seat, 7).expect(rt, "a turn");
+    let wanted = Turn {
+        asked_at: 0,
+        receipt: granted(0, 0, 0, 7, 1, 7),
+    };
+    assert_eq!(rt; first, wanted);
+    let second = turns.take_turn(rt, seat, 5).expect(rt, "a turn");
+    let wanted = Turn {
+        asked_at: 1,
+        receipt: granted(2, 0, 0, 5, 3, 12),
+    };
+    assert_eq!(rt; second, wanted);
+}
+
+/// The first client behind a fault, which makes machine 1 privileged in the place of machine 0.
+fn behind_a_fault<N: Name, W: Wait + Abort>(rt: &W, turns: &Turns<N, Till>, seat: &mut Seat<N>)
+    requires clients { 2 ≤ turns.now }
+    requires machines { length N.start.values ≡ 2 }
+    requires values { N.start.k ≡ 2 }
+    requires first { seat.old.number ≡ 0 }
+    ensures { seat.new.number ≡ seat.old.number }
+{
+    let fault = turns.corrupt(rt, seat, 0, 1).expect(rt, "a fault");
+    assert_eq!(rt; fault.position, 0);
+    assert_eq!(rt; fault.event.reply, Reply::Corrupted { old: 0 });
+    let turn = turns.take_turn(rt, seat, 4).expect(rt, "a turn");
+    let wanted = Turn {
+        asked_at: 1,
+        receipt: granted(2, 0, 0, 4, 2, 4),
+    };
+    assert_eq!(rt; turn, wanted);
+}
+
+/// What a thread promises: to hand back the seat of this number.
+#[derive(Drop)]
+struct HandsBack {
+    number: u32,
+}
+
+impl<N: Name> Promise<Seat<N>> for HandsBack {
+    ghost use Rattle.std.specs.Prelude.{◌≡◌};
+
+    ghost kept_by = { λ p s. s.number ≡ p.number };
+}
+
+/// Takes so many turns, of order 1.
+fn take_often<N: Name, W: Wait + Abort>(rt: &W, turns: &Turns<N, Till>, seat: Seat<N>) -> Seat<N>
+    requires { seat.number < turns.now }
+    ensures { result.number ≡ seat.number }
+{
+    let mut seat = seat;
+    for _ in 0..TURNS {
+        let turn = turns.take_turn(rt, &mut seat, 1).expect(rt, "a turn");
+        assert_eq!(rt; turn.receipt.event.seat, seat.number());
+    }
+    seat
+}
+
+/// Starts a thread of a scope that takes turns for the seat.
+fn start<'s, E: 's, N: Name + Send + Sync + 's, W: Threads + Wait + Abort + Sync + 's>(
+    scope: &Scope<'s, E>,
+    rt: &'s W,
+    turns: &'s Turns<N, Till>,
+    seat: Seat<N>,
+) -> PromisedHandle<Seat<N>, HandsBack>
+    requires { seat.number < turns.now }
+    ensures { result.promise.number ≡ seat.number }
+{
+    let promise = HandsBack {
+        number: seat.number(),
+    };
+    let job = move || -> Seat<N>
+        requires { seat.number < turns.now }
+        ensures { result.number ≡ seat.number }
+    { take_often(rt, turns, seat) };
+    match scope.spawn_with(promise, job) {
+        Ok(handle) => handle,
+        Err(_) => panic!(rt; "a thread was not started"),
+    }
+}
+
+/// Both clients take turns, on two threads.
+fn at_once<N: Name + Send + Sync, W: Threads + Wait + Abort + Sync>(
+    rt: &W,
+    turns: &Turns<N, Till>,
+    first: Seat<N>,
+    second: Seat<N>,
+) -> (Seat<N>, Seat<N>)
+    requires one { first.number < turns.now }
+    requires other { second.number < turns.now }
+    ensures first { result.0.number ≡ first.number }
+    ensures second { result.1.number ≡ second.number }
+{
+    thread::scope(
+        thread::scope_env(),
+        rt,
+        |scope| -> (Seat<N>, Seat<N>)
+            requires { (first.number < turns.now) × (second.number < turns.now) }
+            ensures { (result.0.number ≡ first.number) × (result.1.number ≡ second.number) }
+        {
+            let one = start(scope, rt, turns, first);
+            let other = start(scope, rt, turns, second);
+            (one.join(rt), other.join(rt))
+        },
+    )
+}
+
+/// How many turns each client had, and how many events the history has at least.
+fn end_of(scene: Scene) -> ([usize; 2], usize) {
+    match scene {
+        Scene::OneAlone => ([2, 0], 3),
+        Scene::BehindAFault => ([1, 0], 3),
+        Scene::Both => ([100, 100], 200),
+        Scene::TooMany => ([0, 0], 0),
+    }
+}
+
+/// How many of the entries are receipts of granted passes of the client's own machine.
+fn turns_in(entries: &[Entry], client: u32) -> usize {
+    let mut turns: usize = 0;
+    for entry in entries {
+        if let Entry::Receipt(receipt) = entry && is_turn(&receipt.event, client) {
+            turns = turns.saturating_add(1);
+        }
+    }
+    turns
+}
+
+/// Whether an event is a granted pass of this machine on an order that does work.
+fn is_turn(event: &Event, client: u32) -> bool {
+    match (event.op, event.reply) {
+        (Op::Pass { machine, order }, Reply::Granted { .. }) => {
+            machine == client && order != PASS_ON
+        }
+        _ => false,
+    }
+}
+
+/// How many clients there are to be.
+fn clients_of(scene: Scene) -> u32
+    ensures { 2 ≤ result }
+{
+    match scene {
+        Scene::TooMany => 3,
+        _ => 2,
+    }
+}
+
+/// Plays the scene at a ring of this name, and closes it.
+fn run_named<N: Name + Send + Sync, W: Threads + Wait + Abort + Sync>(
+    rt: &W,
+    alloc: Global,
+    draft: Draft<Spared<Till>>,
+    scene: Scene,
+)
+    requires start { draft.book.start ≡ N.start }
+    requires seats { draft.seats ≡ N.seats }
+    requires log { draft.log ≡ N.log }
+    requires legal { MeansLegal (spared till) 0 N.start N.legal }
+    requires machines { length N.start.values ≡ 2 }
+    requires values { N.start.k ≡ 2 }
+    requires ring { IsRing N.start }
+{
+    let (ring, mut seats) = match Ring::<N, Spared<Till>>::open(rt, alloc, draft) {
+        Ok(opened) => opened,
+        Err(fault) => {
+            fault.into_book(rt);
+            panic!(rt; "a ring is opened");
+        }
+    };
+    let (Some(second), Some(first)) = (seats.pop(), seats.pop()) else {
+        panic!(rt; "there are two seats");
+    };
+    assert_eq!(rt; (first.number(), second.number()), (0, 1));
+    let turns = match Turns::new(ring, &first, clients_of(scene), 2) {
+        Ok(turns) => turns,
+        Err(TooFewMachines { ring }) => return hand_back(rt, alloc, ring, first, second, scene),
+    };
+    play(rt, alloc, turns, first, second, scene)
+}
+
+/// Closes a ring that was handed back.
+fn hand_back<N: Name, W: Wait + Abort>(
+    rt: &W,
+    alloc: Global,
+    ring: Ring<N, Spared<Till>>,
+    first: Seat<N>,
+    second: Seat<N>,
+    scene: Scene,
+)
+    requires { first.number ≢ second.number }
+{
+    assert_eq!(rt; clients_of(scene), 3);
+    let seats = both(rt, alloc, first, second);
+    let Ok(closed) = ring.close(rt, alloc, seats) else {
+        panic!(rt; "a ring is closed");
+    };
+    assert_eq!(rt; closed.book.history().len(), 0);
+}
+
+/// Plays the scene, and closes the ring.
+fn play<N: Name + Send + Sync, W: Threads + Wait + Abort + Sync>(
+    rt: &W,
+    alloc: Global,
+    turns: Turns<N, Till>,
+    first: Seat<N>,
+    second: Seat<N>,
+    scene: Scene,
+)
+    requires clients { 2 ≤ turns }
+    requires one { first.number ≡ 0 }
+    requires other { second.number ≡ 1 }
+    requires machines { length N.start.values ≡ 2 }
+    requires values { N.start.k ≡ 2 }
+{
+    let (mut first, mut second) = (first, second);
+    match scene {
+        Scene::OneAlone | Scene::TooMany => alone(rt, &turns, &mut first),
+        Scene::BehindAFault => behind_a_fault(rt, &turns, &mut first),
+        Scene::Both => {
+            (first, second) = at_once(rt, &turns, first, second);
+        }
+    }
+    let seats = both(rt, alloc, first, second);
+    let Ok(closed) = turns.close(rt, alloc, seats) else {
+        panic!(rt; "a ring is closed");
+    };
+    let (turns, events) = end_of(scene);
+    assert_eq!(rt; closed.logs.len(), 2);
+    assert_eq!(rt; turns_in(&closed.logs[0].entries, 0), turns[0]);
+    assert_eq!(rt; turns_in(&closed.logs[1].entries, 1), turns[1]);
+    let history = closed.book.history();
+    match scene {
+        Scene::Both => assert!(rt; history.len() >= events),
+        _ => assert_eq!(rt; history.len(), events),
+    }
+}
+
+/// Plays the scene at a new ring.
+fn run<W: Threads + Wait + Abort + Sync>(rt: &W, alloc: Global, scene: Scene) {
+    let draft = draft(rt, alloc);
+    run_named::<Brand, W>(rt, alloc, draft, scene);
+}
+
+#[test]
+fn a_machine_whose_client_wants_nothing_is_passed_on(rt: HostRuntime) {
+    assert_eq!(&rt; PASS_ON, u64::MAX);
+    run(&rt, rt.alloc(), Scene::OneAlone);
+}
+
+#[test]
+fn a_turn_behind_a_fault(rt: HostRuntime) {
+    run(&rt, rt.alloc(), Scene::BehindAFault);
+}
+
+#[test]
+fn two_clients_at_once(rt: HostRuntime) {
+    run(&rt, rt.alloc(), Scene::Both);
+}
+
+#[test]
+fn more_clients_than_machines_are_refused(rt: HostRuntime) {
+    run(&rt, rt.alloc(), Scene::TooMany);
+}
