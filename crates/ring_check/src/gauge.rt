@@ -5,7 +5,9 @@ ghost use Rattle.ring_model.specs.Limits.{machine_limit};
 ghost use Rattle.ring_model.specs.Ring.{ring_with, IsRing, is_privileged, privileged_count, first_privileged, right_neighbour, weight_at, is_absent, written, lead, rest};
 ghost use Rattle.ring_check.specs.Gauges.{bit_of, both_of, ring_of, holders, IsGauge};
 
-use crate::measures::{first_privileged, first_value_is_prefix, is_privileged, privileged_count, weight};
+use crate::measures::{
+    first_privileged, first_value_is_prefix, is_privileged, privileged_count, weight,
+};
 use std::alloc::{AllocError, Global};
 
 /// A ring's values, and how many machines are privileged, the weight, and how many machines hold each value. A write

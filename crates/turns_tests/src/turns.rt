@@ -45,7 +45,10 @@ fn draft(rt: &impl Abort, alloc: Global) -> Draft<Spared<Till>>
     let Ok(params) = Params::new(2, 2) else {
         panic!(rt; "the size is allowed");
     };
-    let state = RingState::from_values(alloc, &params, &[0, 0]).expect(rt, "the values are allowed");
+    let state = RingState::from_values(alloc, &params, &[0, 0]).expect(
+        rt,
+        "the values are allowed",
+    );
     let Ok(book) = Book::new(alloc, state, Spared::new(Till::new())) else {
         panic!(rt; "there is memory");
     };
@@ -226,7 +229,9 @@ fn end_of(scene: Scene) -> ([usize; 2], usize) {
 fn turns_in(entries: &[Entry], client: u32) -> usize {
     let mut turns: usize = 0;
     for entry in entries {
-        if let Entry::Receipt(receipt) = entry && is_turn(&receipt.event, client) {
+        if let Entry::Receipt(receipt) = entry
+            && is_turn(&receipt.event, client)
+        {
             turns = turns.saturating_add(1);
         }
     }
