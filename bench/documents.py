@@ -346,6 +346,9 @@ class Trial:
                 self.differs(page, block.number, f"the settings are refused: {fault}")
         elif text.startswith("legal rings") and not PLACEHOLDER.search(text):
             self.compare(page, block, self.run("ring_tool check -", self.place, self.history)[0])
+        elif text.startswith("client 0 turns"):
+            with open(f"{self.top}/crates/turns_desk/stdout", encoding="utf-8") as file:
+                self.compare(page, block, file.read())
         elif text.startswith("tickets "):
             with open(f"{self.top}/crates/ticket_desk/stdout", encoding="utf-8") as file:
                 self.compare(page, block, file.read())

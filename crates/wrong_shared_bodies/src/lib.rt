@@ -11,3 +11,4 @@ pub mod looks;
 pub mod openings;
 pub mod seats;
 pub mod settings;
+pub mod turns;
