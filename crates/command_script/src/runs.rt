@@ -1,6 +1,7 @@
 //! One run of the program.
 
 use crate::paper::Paper;
+use disks::SystemDisk;
 use ring_program::run_tool_on;
 use std::alloc::{AllocError, Global};
 use std::io::{self, Read, Write};
@@ -36,7 +37,8 @@ pub fn run_over<R: AllocGlobal + Files + Threads + Wait + Sync, I: Read>(
     mut printed: Paper,
     mut told: Paper,
 ) -> Ended {
-    let status = run_tool_on(rt, words, input, &mut printed, &mut told);
+    let mut disk = SystemDisk { files: rt };
+    let status = run_tool_on(rt, &mut disk, words, input, &mut printed, &mut told);
     Ended {
         status,
         printed,

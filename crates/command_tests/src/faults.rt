@@ -58,6 +58,11 @@ fn each_fault_has_its_line(rt: HostRuntime) {
         (ToolError::Read("in.txt"), 1, "cannot read in.txt\n"),
         (ToolError::TooLarge("in.txt"), 1, "in.txt is too large\n"),
         (ToolError::Save("out.txt"), 1, "cannot write out.txt\n"),
+        (
+            ToolError::SameFile("out.txt"),
+            1,
+            "out.txt is the file that is read\n",
+        ),
         (ToolError::Write, 1, "cannot write\n"),
         (ToolError::OutOfMemory, 1, "out of memory\n"),
         (ToolError::NoRing(16), 1, "there is no ring 16\n"),

@@ -1,6 +1,7 @@
 //! The program on words: many choices, standard input that fails, and farms whose outcome the threads decide.
 
 use crate::reading::Giver;
+use disks::SystemDisk;
 use ring_program::run_tool_on;
 use std::alloc::AllocError;
 use std::fs;
@@ -55,7 +56,8 @@ fn printed_on<R: Abort + AllocGlobal + Files + Threads + Wait + Sync>(
     }
     let mut printed = Vec::new(rt.alloc());
     let mut told = Vec::new(rt.alloc());
-    let got = run_tool_on(rt, &words, input, &mut printed, &mut told);
+    let mut disk = SystemDisk { files: rt };
+    let got = run_tool_on(rt, &mut disk, &words, input, &mut printed, &mut told);
     let right = got == status && told.as_slice() == err.as_bytes();
     assert!(rt; right, "at {line:?}: status {got}");
     Ok(printed)

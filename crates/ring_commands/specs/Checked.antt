@@ -11,8 +11,8 @@ use Rattle.ring_check.specs.Lines.{lines}
 use Rattle.ring_check.specs.Legal.{IsFirstBad, summary_of}
 use Rattle.ring_check.specs.Meaning.{IsRightText}
 use Rattle.ring_commands.specs.CheckText.{legal_line}
-use Rattle.ring_commands.specs.Faults.{IsReadRefusal}
-use Rattle.ring_commands.specs.Reading.{most_bytes, IsAllOf, IsReadBy}
+use Rattle.disks.specs.Held.{Held}
+use Rattle.ring_commands.specs.Named.{IsNamed, IsNamedRefusal}
 use Rattle.ring_commands.specs.Written.{AppendsFront}
 use Rattle.ring_requests.specs.declared.requests.CheckWords.{CheckWords}
 use Rattle.ring_commands.specs.declared.faults.ToolError.{ToolError}
@@ -47,19 +47,13 @@ abbrev pub IsCheckRefusal : List ℕ → Option (List ℕ) → Option (List ℕ)
 IsCheckRefusal bytes old new tool.Write = (sums : Summary) × IsLegalSavedText bytes sums × AppendsFront old new (legal_line sums)
 IsCheckRefusal bytes old new e = IsSavedTextRefusal bytes e
 
--- All the bytes that a reader gave are legal, and the line of their sums is written.
-abbrev pub IsCheckFileAnswer : Option (List ℕ) → Option (List ℕ) → Option (List ℕ) → Option (List ℕ) → Type 0
-IsCheckFileAnswer from left old new = (bytes : List ℕ) × (sums : Summary) × IsAllOf most_bytes from left bytes × IsLegalSavedText bytes sums × Appends old new (legal_line sums)
+-- What the word names gave the bytes of a legal saved text, and the line of its sums is written; standard input had the first bytes left before, and the second
+-- after.
+abbrev pub IsCheckAnswer : CheckWords → Option Held → Option (List ℕ) → Option (List ℕ) → Option (List ℕ) → Option (List ℕ) → Type 0
+IsCheckAnswer words files was is old new =
+    (bytes : List ℕ) × (sums : Summary) × IsNamed words.file.now files was is bytes × IsLegalSavedText bytes sums × Appends old new (legal_line sums)
 
--- so with what the word names; standard input had the first bytes left before, and the second after
-abbrev pub IsCheckAnswer : CheckWords → Option (List ℕ) → Option (List ℕ) → Option (List ℕ) → Option (List ℕ) → Type 0
-IsCheckAnswer words was is old new = (from : Option (List ℕ)) × (left : Option (List ℕ)) × IsReadBy words.file.now was is from left × IsCheckFileAnswer from left old new
-
--- Which refusals the check of a file may meet, by what its reader had left before and has now: those of its reading, and those of all the bytes that it gave.
-abbrev pub IsCheckFileRefusal : List ℕ → Option (List ℕ) → Option (List ℕ) → Option (List ℕ) → Option (List ℕ) → ToolError → Type 0
-IsCheckFileRefusal file from left old new e = IsReadRefusal file from left e ⊎ ((bytes : List ℕ) × IsAllOf most_bytes from left bytes × IsCheckRefusal bytes old new e)
-
--- Which refusals `check` may meet: those of what its word names, of whatever bytes that gives.
-abbrev pub IsCheckRunRefusal : CheckWords → Option (List ℕ) → Option (List ℕ) → Option (List ℕ) → Option (List ℕ) → ToolError → Type 0
-IsCheckRunRefusal words was is old new e =
-    (from : Option (List ℕ)) × (left : Option (List ℕ)) × IsReadBy words.file.now was is from left × IsCheckFileRefusal words.file.now from left old new e
+-- Which refusals `check` may meet: those of reading what its word names, and those of the bytes that it gave.
+abbrev pub IsCheckRunRefusal : CheckWords → Option Held → Option (List ℕ) → Option (List ℕ) → Option (List ℕ) → Option (List ℕ) → ToolError → Type 0
+IsCheckRunRefusal words files was is old new e =
+    IsNamedRefusal words.file.now files was is e ⊎ ((bytes : List ℕ) × IsNamed words.file.now files was is bytes × IsCheckRefusal bytes old new e)

@@ -1,6 +1,5 @@
 -- What `picture` draws, what it answers to its words, and which refusals there are.
-use Rattle.std.specs.Prelude.{◌≡◌, ℕ, ◌-◌, ◌<◌, ◌≤◌, min, List, length, slice_get, Option, Some, ◌⊎◌}
-use Rattle.std.specs.Io.KnownBytes.{Appends}
+use Rattle.std.specs.Prelude.{◌≡◌, ℕ, ◌-◌, ◌<◌, ◌≤◌, min, List, length, slice_get, true, false, Option, Some, ◌⊎◌}
 use Rattle.ring_saved.specs.Content.{Content, Block, block_of}
 use Rattle.ring_saved.specs.Spelling.{Fits, text}
 use Rattle.ring_check.specs.declared.answers.Summary.{Summary}
@@ -9,9 +8,10 @@ use Rattle.ring_check.specs.Meaning.{IsRightText}
 use Rattle.ring_picture.specs.Picture.{picture}
 use Rattle.ring_commands.specs.CheckText.{legal_line}
 use Rattle.ring_commands.specs.Checked.{IsSavedTextRefusal}
-use Rattle.ring_commands.specs.Faults.{IsReadRefusal}
-use Rattle.ring_commands.specs.Reading.{most_bytes, IsAllOf}
-use Rattle.ring_commands.specs.Written.{AppendsFront}
+use Rattle.disks.specs.Held.{Held}
+use Rattle.ring_commands.specs.Handed.{IsHandOutRefusal, IsPrintRefusal, IsHanded}
+use Rattle.ring_commands.specs.Named.{IsNamed, IsNamedRefusal, IsApart, IsApartRefusal}
+use Rattle.ring_commands.specs.Reading.{is_dash}
 use Rattle.ring_requests.specs.declared.requests.PictureWords.{PictureWords}
 use Rattle.ring_commands.specs.declared.picture.Drawing.{Drawing}
 use Rattle.ring_commands.specs.declared.faults.ToolError.{ToolError}
@@ -54,25 +54,27 @@ IsDrawingRefusal words bytes (tool.NoPlace place) =
     (c : Content) × (b : Block) × IsLegalTextOf bytes c × (slice_get c.rings words.ring ≡ Some b) × (place ≡ words.from) × (length b.events < words.from)
 IsDrawingRefusal words bytes e = IsSavedTextRefusal bytes e
 
--- The same of a file, by what its reader had left before and has now: those of its reading, and those of all the bytes that it gave.
-abbrev pub IsDrawingFileRefusal : PictureWords → Option (List ℕ) → Option (List ℕ) → ToolError → Type 0
-IsDrawingFileRefusal words from left e = IsReadRefusal words.file.now from left e ⊎ ((bytes : List ℕ) × IsAllOf most_bytes from left bytes × IsDrawingRefusal words bytes e)
+-- What may keep the picture of a drawing, and the line of the sums, from where the word says: as with each text, and a file that is the one that was read.
+pub record IsPutRefusal (words : PictureWords) (d : Drawing) (before after : Option Held) (old new early late : Option (List ℕ)) (e : ToolError) : Type 0 where
+  pub to_file : is_dash words.picture.now ≡ false →
+      IsApartRefusal (Some words.picture.now) e ⊎ IsHandOutRefusal (Some words.picture.now) (picture_of words d) (legal_line d.sums) before after old new e
+  pub to_output : is_dash words.picture.now ≡ true → IsPrintRefusal (picture_of words d) (legal_line d.sums) old new early late e
 
--- What may keep a drawing from being handed out: the picture's file, want of memory, and a writer that got a beginning of the line of the sums.
-abbrev pub IsHandingRefusal : List ℕ → Summary → Option (List ℕ) → Option (List ℕ) → ToolError → Type 0
-IsHandingRefusal file sums old new (tool.Save named) = named.now ≡ file
-IsHandingRefusal file sums old new tool.OutOfMemory = Unit {0}
-IsHandingRefusal file sums old new tool.Write = AppendsFront old new (legal_line sums)
-IsHandingRefusal file sums old new _ = ⊥
+-- A file for the picture is not the one that is read.
+abbrev pub IsPictureApart : PictureWords → Option Held → Type 0
+IsPictureApart words files = is_dash words.picture.now ≡ false → IsApart files words.file.now (Some words.picture.now)
 
--- a ring of some bytes is drawn, and the line of their sums is written
-abbrev pub IsPictureAnswer : PictureWords → Option (List ℕ) → Option (List ℕ) → Type 0
-IsPictureAnswer words old new = (bytes : List ℕ) × (d : Drawing) × IsDrawing words bytes d × Appends old new (legal_line d.sums)
+-- What the word names gave bytes of which a ring is drawn, and the picture and the line of the sums went where the other word says.
+abbrev pub IsPictureAnswer : PictureWords → Option Held → Option Held → Option (List ℕ) → Option (List ℕ) → Option (List ℕ) → Option (List ℕ) → Option (List ℕ) → Option (List ℕ) → Type 0
+IsPictureAnswer words before after was is old new early late =
+    (bytes : List ℕ) × (d : Drawing) × IsNamed words.file.now before was is bytes × IsDrawing words bytes d × IsPictureApart words before
+    × IsHanded words.picture.now (picture_of words d) (legal_line d.sums) before after old new early late
 
--- Which refusals `picture` may meet: more events than a picture may have, those of the file that its word names, of whatever bytes that gives, and
--- those of a drawing.
-abbrev pub IsPictureRefusal : PictureWords → Option (List ℕ) → Option (List ℕ) → ToolError → Type 0
-IsPictureRefusal words old new e =
+-- Which refusals `picture` may meet: more events than a picture may have, those of reading what its word names, those of the bytes that it gave, and those of their
+-- drawing.
+abbrev pub IsPictureRefusal : PictureWords → Option Held → Option Held → Option (List ℕ) → Option (List ℕ) → Option (List ℕ) → Option (List ℕ) → Option (List ℕ) → Option (List ℕ) → ToolError → Type 0
+IsPictureRefusal words before after was is old new early late e =
     ((e ≡ tool.ManyDrawn) × (most_drawn < words.events))
-    ⊎ (((from : Option (List ℕ)) × (left : Option (List ℕ)) × IsDrawingFileRefusal words from left e)
-    ⊎ ((bytes : List ℕ) × (d : Drawing) × IsDrawing words bytes d × IsHandingRefusal words.picture.now d.sums old new e))
+    ⊎ (IsNamedRefusal words.file.now before was is e
+    ⊎ ((bytes : List ℕ) × IsNamed words.file.now before was is bytes
+    × (IsDrawingRefusal words bytes e ⊎ ((d : Drawing) × IsDrawing words bytes d × IsPutRefusal words d before after old new early late e))))

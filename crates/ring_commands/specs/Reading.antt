@@ -17,11 +17,6 @@ pub record IsAllOf (limit : ℕ) (old new : Option (List ℕ)) (bytes : List ℕ
 abbrev pub is_dash : List ℕ → Bool
 is_dash word = bytes_eq word (codes "-")
 
--- What a word names was read by a reader that had the bytes `from` left before and `left` after: where it is the dash, that reader is standard input, which had
--- `was` before and has `is` after. Of what a file gives nothing is said.
-abbrev pub IsReadBy : List ℕ → Option (List ℕ) → Option (List ℕ) → Option (List ℕ) → Option (List ℕ) → Type 0
-IsReadBy word was is from left = is_dash word ≡ true → (from ≡ was) × (left ≡ is)
-
 -- it gave one byte more than so many
 abbrev pub IsOver : ℕ → Option (List ℕ) → Option (List ℕ) → Type 0
 IsOver limit old new = (bytes : List ℕ) × (length bytes ≡ limit + 1) × Consumes old new bytes

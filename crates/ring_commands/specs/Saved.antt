@@ -11,7 +11,9 @@ use Rattle.ring_text.specs.SavedOf.{saved_of}
 use Rattle.ring_saved.specs.Spelling.{text}
 use Rattle.ring_check.specs.Legal.{IsLegalText, summary_of}
 use Rattle.ring_commands.specs.Checked.{IsLegalSavedText}
-use Rattle.ring_commands.specs.Ran.{printed, IsFarmNamed}
+use Rattle.disks.specs.Held.{Held}
+use Rattle.ring_commands.specs.Named.{IsStored}
+use Rattle.ring_commands.specs.Ran.{printed, history_file, IsFarmNamed}
 use Rattle.ring_requests.specs.declared.requests.RunWords.{RunWords}
 
 -- The saved text of an outcome is legal, in the subject's words with the outcome's sums, and by the table of what is refused; and the one right
@@ -25,7 +27,9 @@ pub record IsSavedLegal (o : Outcome) : Type 0 where
 abbrev pub IsLegalOfFarm : Outcome → Type 0
 IsLegalOfFarm o = (settings : SettingsData) → IsFarmOf settings o → IsSavedLegal o
 
--- An outcome of the farm of what the word names is printed as the words say, and where its history is asked for, what was saved of it is legal.
-abbrev pub IsRunAnswer : RunWords → Option (List ℕ) → Option (List ℕ) → Option (List ℕ) → Option (List ℕ) → Type 0
-IsRunAnswer words was is old new =
-    (outcome : Outcome) × IsFarmNamed words.settings.now was is outcome × Appends old new (printed words outcome) × (IsSome words.history → IsSavedLegal outcome)
+-- An outcome of the farm of what the word names is printed as the words say; where its history is asked for, what was saved of it is legal, and the file for it, if one
+-- is named, holds just that, and every other file is as it was.
+abbrev pub IsRunAnswer : RunWords → Option Held → Option Held → Option (List ℕ) → Option (List ℕ) → Option (List ℕ) → Option (List ℕ) → Type 0
+IsRunAnswer words before after was is old new =
+    (outcome : Outcome) × IsFarmNamed words before was is outcome × IsStored (history_file words) before after (text (saved_of outcome))
+    × Appends old new (printed words outcome) × (IsSome words.history → IsSavedLegal outcome)

@@ -7,19 +7,18 @@ ghost use Rattle.ring_check.specs.declared.answers.Summary.{Summary};
 ghost use Rattle.ring_check.specs.Legal.{IsLegalText};
 ghost use Rattle.ring_saved.specs.Content.{content};
 ghost use Rattle.ring_commands.specs.CheckText.{legal_line};
-ghost use Rattle.ring_commands.specs.Checked.{IsLegalSavedText, IsSavedTextRefusal, IsCheckFileAnswer, IsCheckAnswer, IsCheckRefusal, IsCheckFileRefusal, IsCheckRunRefusal};
+ghost use Rattle.ring_commands.specs.Checked.{IsLegalSavedText, IsSavedTextRefusal, IsCheckAnswer, IsCheckRefusal, IsCheckRunRefusal};
 ghost use Rattle.ring_commands.specs.Reading.{is_dash};
 
 use crate::faults::ToolError;
-use crate::reading::{names_stream, read_whole};
+use crate::reading::read_named;
+use disks::Disk;
 use itoa::Buffer;
 use ring_check::{Summary, check_saved};
 use ring_requests::CheckWords;
 use ring_saved::{Saved, read_saved};
 use std::alloc::Global;
-use std::fs;
 use std::io::{Read, Write};
-use std::rt::Files;
 use text_lines::{WriteFault, put_all};
 
 /// The line of a legal text: its sums.
@@ -93,47 +92,26 @@ pub fn check_bytes<W: Write>(
     Ok(())
 }
 
-/// Reads the file of this name, by its reader, and checks it as [`check_bytes`] does.
+/// `check`, from its words: reads standard input, or the file, and checks it. No file changes.
 ///
 /// # Errors
 ///
-/// `Read` and `TooLarge` for the file, and those of [`check_bytes`]. Nothing is written then, but for
-/// `Write`: a beginning of the line.
-pub fn check_file<'a, I: Read, W: Write>(
+/// Those of reading what the word names, and those of [`check_bytes`]. Where a file is named, standard input stays as it was.
+pub fn run<'a, D: Disk, I: Read, W: Write>(
     alloc: Global,
-    file: &'a str,
-    reader: &mut I,
-    out: &mut W,
-) -> Result<(), ToolError<'a>>
-    ensures ok { OnOk result (IsCheckFileAnswer (I.remaining reader.old) (I.remaining reader.new) (W.contents out.old) (W.contents out.new)) }
-    ensures err { IfErr result (λ e. IsCheckFileRefusal file.now (I.remaining reader.old) (I.remaining reader.new) (W.contents out.old) (W.contents out.new) e) }
-    ensures nothing { IfErr result (λ e. e ≢ ToolError.Write → out.new ≡ out.old) }
-{
-    let bytes = read_whole(alloc, file, reader)?;
-    check_bytes(alloc, bytes.as_slice(), out)
-}
-
-/// `check`, from its words: reads standard input, or opens the file, and checks it.
-///
-/// # Errors
-///
-/// `Read` where the file cannot be opened, and those of [`check_file`]. Where a file is named, standard input stays as it was.
-pub fn run<'a, R: AllocGlobal + Files, I: Read, W: Write>(
-    rt: &R,
+    disk: &D,
     words: &CheckWords<'a>,
     input: &mut I,
     out: &mut W,
 ) -> Result<(), ToolError<'a>>
-    ensures ok { OnOk result (IsCheckAnswer words.now (I.remaining input.old) (I.remaining input.new) (W.contents out.old) (W.contents out.new)) }
-    ensures err { IfErr result (λ e. IsCheckRunRefusal words.now (I.remaining input.old) (I.remaining input.new) (W.contents out.old) (W.contents out.new) e) }
+    ensures ok { OnOk result (IsCheckAnswer words.now (D.holds disk.now) (I.remaining input.old) (I.remaining input.new) (W.contents out.old) (W.contents out.new)) }
+    ensures err { IfErr result (λ e. IsCheckRunRefusal words.now (D.holds disk.now) (I.remaining input.old) (I.remaining input.new) (W.contents out.old) (W.contents out.new) e) }
     ensures nothing { IfErr result (λ e. e ≢ ToolError.Write → out.new ≡ out.old) }
     ensures unread { is_dash words.now.file.now ≡ false → input.new ≡ input.old }
 {
-    if names_stream(words.file) {
-        return check_file(rt.alloc(), words.file, input, out);
+    let bytes = read_named(alloc, disk, words.file, input)?;
+    match check_bytes(alloc, bytes.as_slice(), out) {
+        Ok(()) => Ok(()),
+        Err(fault) => Err(fault),
     }
-    let Ok(mut reader) = fs::open(rt, words.file) else {
-        return Err(ToolError::Read(words.file));
-    };
-    check_file(rt.alloc(), words.file, &mut reader, out)
 }

@@ -51,8 +51,10 @@ pub enum ToolError<'a> {
     Read(&'a str),
     /// A file has more bytes than are read.
     TooLarge(&'a str),
-    /// The file for the saved text cannot be made or written.
+    /// A file cannot be made, written or put in its place.
     Save(&'a str),
+    /// A file that is to be made is the one that is read.
+    SameFile(&'a str),
     /// Standard output failed, or took no byte.
     Write,
     OutOfMemory,
@@ -131,6 +133,7 @@ impl ToolError<'_> {
             ToolError::Read(name) => write!(f, "cannot read {name}"),
             ToolError::TooLarge(name) => write!(f, "{name} is too large"),
             ToolError::Save(name) => write!(f, "cannot write {name}"),
+            ToolError::SameFile(name) => write!(f, "{name} is the file that is read"),
             ToolError::NoRing(place) => write!(f, "there is no ring {place}"),
             ToolError::NoPlace(place) => write!(f, "the ring has fewer than {place} events"),
             _ => Ok(()),
@@ -147,7 +150,7 @@ impl fmt::Display for ToolError<'_> {
     }
 }
 
-/// The same line: a derived form would be proved for 29 variants and shown by tests alone.
+/// The same line: a derived form would be proved for 30 variants and shown by tests alone.
 impl fmt::Debug for ToolError<'_> {
     fn fmt<W: fmt::Write>(&self, f: &mut fmt::Formatter<W>) -> fmt::Result {
         fmt::Display::fmt(self, f)

@@ -1,24 +1,26 @@
 //! `picture`: whether a saved text is that of legal histories, and one of its rings as an SVG.
 
-ghost use Rattle.std.specs.Prelude.{◌≡◌, ◌≢◌, ℕ, ◌<◌, ◌≤◌, List, length, slice_get, Some, OnOk, IfOk, IfErr};
+ghost use Rattle.std.specs.Prelude.{◌≡◌, ◌≢◌, ◌⊎◌, ℕ, ◌<◌, ◌≤◌, List, length, slice_get, false, Some, OnOk, OnErr, IfOk, IfErr};
 ghost use Rattle.std.specs.Io.KnownBytes.{Appends};
 ghost use Rattle.ring_saved.specs.Content.{content, block_of};
 ghost use Rattle.ring_commands.specs.CheckText.{legal_line};
-ghost use Rattle.ring_commands.specs.Pictured.{most_drawn, drawn_count, picture_of, IsDrawing, IsDrawingRefusal, IsDrawingFileRefusal, IsHandingRefusal, IsPictureAnswer, IsPictureRefusal};
+ghost use Rattle.ring_commands.specs.Pictured.{most_drawn, drawn_count, picture_of, IsDrawing, IsDrawingRefusal, IsPictureApart, IsPutRefusal, IsPictureAnswer, IsPictureRefusal};
+ghost use Rattle.disks.specs.Held.{Replaces};
+ghost use Rattle.ring_commands.specs.Handed.{IsHandOutRefusal, IsPrintRefusal, IsHanded};
+ghost use Rattle.ring_commands.specs.Named.{IsApart, IsApartRefusal};
 ghost use Rattle.ring_commands.specs.Ran.{IsSaveRefusal};
-ghost use Rattle.ring_commands.specs.Reading.{most_bytes, IsAllOf};
+ghost use Rattle.ring_commands.specs.Reading.{is_dash};
 
 use crate::check::{legal_saved, write_sums};
 use crate::faults::ToolError;
-use crate::reading::read_whole;
+use crate::reading::{keep_apart, names_stream, read_named};
+use disks::Disk;
 use ring_check::Summary;
 use ring_picture::{PictureFault, write_picture};
 use ring_requests::PictureWords;
 use ring_saved::{Saved, SavedRing};
 use std::alloc::Global;
-use std::fs;
 use std::io::{BufWriter, Read, Write};
-use std::rt::Files;
 
 /// The most events of a picture.
 pub const MOST_DRAWN: u32 = 20_000;
@@ -74,26 +76,6 @@ fn drawing_of(
     Ok(Drawing { ring, count, sums })
 }
 
-/// Reads the file that the words name, by its reader, checks it, and answers what is drawn of it.
-///
-/// # Errors
-///
-/// `Read` and `TooLarge` for the file; `Syntax` or `Truncated` where its bytes are no saved text, `Bad` where they
-/// are one that is not legal; `NoRing` where that has no such ring, and `NoPlace` where the ring has fewer events than
-/// stand before the first to be drawn; `OutOfMemory`.
-pub fn drawing_of_file<'a, I: Read>(
-    alloc: Global,
-    words: &PictureWords<'a>,
-    reader: &mut I,
-) -> Result<Drawing, ToolError<'a>>
-    requires few { words.now.events ≤ most_drawn }
-    ensures ok { IfOk result (λ d. (bytes : List ℕ) × IsAllOf most_bytes (I.remaining reader.old) (I.remaining reader.new) bytes × IsDrawing words.now bytes d) }
-    ensures err { IfErr result (λ e. IsDrawingFileRefusal words.now (I.remaining reader.old) (I.remaining reader.new) e) }
-{
-    let bytes = read_whole(alloc, words.file, reader)?;
-    drawing_of(alloc, words, bytes.as_slice())
-}
-
 /// Writes the picture of a drawing.
 fn put_picture<'a, W: Write>(
     alloc: Global,
@@ -145,58 +127,157 @@ fn save_picture<'a, H: Write + Drop>(
     Ok(after)
 }
 
-/// Writes the picture to the file that the words name, by its writer, which is handed back, and then the line of the
-/// sums to `out`.
+/// Puts a file with the picture of a drawing in the place of the one that the words name, which is not the file that was read.
 ///
 /// # Errors
 ///
-/// `Save` with the picture's name where it cannot be written; what it then holds is not said. `OutOfMemory`. Nothing is
-/// written to `out` then. `Write` where that writer fails: what was written to it until then is a beginning of the line.
-pub fn draw_and_tell<'a, H: Write + Drop, W: Write>(
+/// `SameFile` where it is; `Save` with the picture's name where it cannot be made, written or put there; `OutOfMemory`. Every
+/// file is as it was then.
+fn put_drawing<'a, D: Disk>(
     alloc: Global,
+    disk: &mut D,
     drawing: &Drawing,
     words: &PictureWords<'a>,
-    made: H,
-    out: &mut W,
-) -> Result<H, ToolError<'a>>
+) -> Result<(), ToolError<'a>>
     requires drawn { (bytes : List ℕ) × IsDrawing words.now bytes drawing.now }
-    ensures written { IfOk result (λ after. Appends (H.contents made) (H.contents after) (picture_of words.now drawing.now)) }
-    ensures told { OnOk result (Appends (W.contents out.old) (W.contents out.new) (legal_line drawing.now.sums)) }
-    ensures err { IfErr result (λ e. IsHandingRefusal words.now.picture.now drawing.now.sums (W.contents out.old) (W.contents out.new) e) }
-    ensures nothing { IfErr result (λ e. e ≢ ToolError.Write → out.new ≡ out.old) }
+    ensures apart { OnOk result (IsApart (D.holds disk.old) words.now.file.now (Some words.now.picture.now)) }
+    ensures stored { OnOk result (Replaces (D.holds disk.old) (D.holds disk.new) words.now.picture.now (Some (picture_of words.now drawing.now))) }
+    ensures err { IfErr result (λ e. IsApartRefusal (Some words.now.picture.now) e ⊎ IsSaveRefusal words.now.picture.now e) }
+    ensures kept { OnErr result (D.holds disk.new ≡ D.holds disk.old) }
 {
+    keep_apart(disk, words.file, words.picture)?;
+    let Ok(made) = disk.make(words.picture) else {
+        return Err(ToolError::Save(words.picture));
+    };
     let after = save_picture(alloc, drawing, words, made)?;
-    write_sums(out, &drawing.sums)?;
-    Ok(after)
+    let Ok(()) = disk.finish(after, words.picture) else {
+        return Err(ToolError::Save(words.picture));
+    };
+    Ok(())
 }
 
-/// `picture`, from its words: opens the file, checks it, makes the file for the picture, of which one that is there is
-/// replaced, writes the picture, and then the line of the sums to `out`.
+/// Puts a file with the picture of a drawing in its place, and then writes the line of the sums to `out`.
 ///
 /// # Errors
 ///
-/// `ManyDrawn` where more events are asked for than a picture has. `Read` where the file cannot be opened, and those of
-/// [`drawing_of_file`]: the picture's file is not touched then. `Save` where that cannot be made, and those of
-/// [`draw_and_tell`].
-pub fn run<'a, R: AllocGlobal + Files, W: Write>(
-    rt: &R,
+/// Those of the file: every file is as it was then, and nothing is written to `out`. `Write` where that writer fails, when the file
+/// is in its place: what was written to it until then is a beginning of the line.
+fn draw_and_tell<'a, D: Disk, W: Write>(
+    alloc: Global,
+    disk: &mut D,
+    drawing: &Drawing,
     words: &PictureWords<'a>,
     out: &mut W,
 ) -> Result<(), ToolError<'a>>
-    ensures ok { OnOk result (IsPictureAnswer words.now (W.contents out.old) (W.contents out.new)) }
-    ensures err { IfErr result (λ e. IsPictureRefusal words.now (W.contents out.old) (W.contents out.new) e) }
+    requires drawn { (bytes : List ℕ) × IsDrawing words.now bytes drawing.now }
+    ensures apart { OnOk result (IsApart (D.holds disk.old) words.now.file.now (Some words.now.picture.now)) }
+    ensures stored { OnOk result (Replaces (D.holds disk.old) (D.holds disk.new) words.now.picture.now (Some (picture_of words.now drawing.now))) }
+    ensures told { OnOk result (Appends (W.contents out.old) (W.contents out.new) (legal_line drawing.now.sums)) }
+    ensures err { IfErr result (λ e. IsApartRefusal (Some words.now.picture.now) e ⊎ IsHandOutRefusal (Some words.now.picture.now) (picture_of words.now drawing.now) (legal_line drawing.now.sums) (D.holds disk.old) (D.holds disk.new) (W.contents out.old) (W.contents out.new) e) }
+    ensures kept { IfErr result (λ e. e ≢ ToolError.Write → D.holds disk.new ≡ D.holds disk.old) }
     ensures nothing { IfErr result (λ e. e ≢ ToolError.Write → out.new ≡ out.old) }
+{
+    put_drawing(alloc, disk, drawing, words)?;
+    write_sums(out, &drawing.sums)?;
+    Ok(())
+}
+
+/// Writes the picture of a drawing to `out`, has it leave, and then writes the line of the sums to `err`.
+///
+/// # Errors
+///
+/// `OutOfMemory`: nothing is written then. `Write` where a writer fails: what was written until then is a beginning.
+fn print_and_tell<W: Write, E: Write>(
+    alloc: Global,
+    drawing: &Drawing,
+    words: &PictureWords<'_>,
+    out: &mut W,
+    err: &mut E,
+) -> Result<(), ToolError<'static>>
+    requires drawn { (bytes : List ℕ) × IsDrawing words.now bytes drawing.now }
+    ensures text { OnOk result (Appends (W.contents out.old) (W.contents out.new) (picture_of words.now drawing.now)) }
+    ensures told { OnOk result (Appends (E.contents err.old) (E.contents err.new) (legal_line drawing.now.sums)) }
+    ensures err { IfErr result (λ e. IsPrintRefusal (picture_of words.now drawing.now) (legal_line drawing.now.sums) (W.contents out.old) (W.contents out.new) (E.contents err.old) (E.contents err.new) e) }
+    ensures nothing { IfErr result (λ e. e ≢ ToolError.Write → out.new ≡ out.old) }
+{
+    match write_picture(
+        alloc,
+        out,
+        &drawing.ring,
+        words.from as usize,
+        drawing.count,
+    ) {
+        Ok(()) => {}
+        Err(PictureFault::Write) => return Err(ToolError::Write),
+        Err(PictureFault::OutOfMemory) => return Err(ToolError::OutOfMemory),
+    }
+    let Ok(()) = out.flush() else {
+        return Err(ToolError::Write);
+    };
+    write_sums(err, &drawing.sums)?;
+    Ok(())
+}
+
+/// Hands out a drawing and its sums, as the word for the picture says: to a file and standard output, or to standard output and
+/// standard error.
+///
+/// # Errors
+///
+/// Those of [`draw_and_tell`] or [`print_and_tell`].
+pub fn hand_over<'a, D: Disk, W: Write, E: Write>(
+    alloc: Global,
+    disk: &mut D,
+    drawing: &Drawing,
+    words: &PictureWords<'a>,
+    out: &mut W,
+    err: &mut E,
+) -> Result<(), ToolError<'a>>
+    requires drawn { (bytes : List ℕ) × IsDrawing words.now bytes drawing.now }
+    ensures apart { OnOk result (IsPictureApart words.now (D.holds disk.old)) }
+    ensures ok { OnOk result (IsHanded words.now.picture.now (picture_of words.now drawing.now) (legal_line drawing.now.sums) (D.holds disk.old) (D.holds disk.new) (W.contents out.old) (W.contents out.new) (E.contents err.old) (E.contents err.new)) }
+    ensures err { IfErr result (λ e. IsPutRefusal words.now drawing.now (D.holds disk.old) (D.holds disk.new) (W.contents out.old) (W.contents out.new) (E.contents err.old) (E.contents err.new) e) }
+    ensures kept { IfErr result (λ e. e ≢ ToolError.Write → D.holds disk.new ≡ D.holds disk.old) }
+    ensures nothing { IfErr result (λ e. e ≢ ToolError.Write → out.new ≡ out.old) }
+    ensures silent { is_dash words.now.picture.now ≡ false → err.new ≡ err.old }
+{
+    if names_stream(words.picture) {
+        print_and_tell(alloc, drawing, words, out, err)
+    } else {
+        draw_and_tell(alloc, disk, drawing, words, out)
+    }
+}
+
+/// `picture`, from its words: reads and checks the one file, or standard input; puts the picture in the place of the other, and
+/// writes the line of the sums to `out`; where the other is `-`, the picture goes to `out` and the line to `err`.
+///
+/// # Errors
+///
+/// `ManyDrawn` where more events are asked for than a picture has; those of reading what the word names; `Syntax` or
+/// `Truncated` where its bytes are no saved text, `Bad` where they are one that is not legal; `NoRing` where that has no such
+/// ring, and `NoPlace` where the ring has fewer events than stand before the first to be drawn. No file is made then. And those
+/// of [`hand_over`].
+pub fn run<'a, D: Disk, I: Read, W: Write, E: Write>(
+    alloc: Global,
+    disk: &mut D,
+    words: &PictureWords<'a>,
+    input: &mut I,
+    out: &mut W,
+    err: &mut E,
+) -> Result<(), ToolError<'a>>
+    ensures ok { OnOk result (IsPictureAnswer words.now (D.holds disk.old) (D.holds disk.new) (I.remaining input.old) (I.remaining input.new) (W.contents out.old) (W.contents out.new) (E.contents err.old) (E.contents err.new)) }
+    ensures err { IfErr result (λ e. IsPictureRefusal words.now (D.holds disk.old) (D.holds disk.new) (I.remaining input.old) (I.remaining input.new) (W.contents out.old) (W.contents out.new) (E.contents err.old) (E.contents err.new) e) }
+    ensures kept { IfErr result (λ e. e ≢ ToolError.Write → D.holds disk.new ≡ D.holds disk.old) }
+    ensures nothing { IfErr result (λ e. e ≢ ToolError.Write → out.new ≡ out.old) }
+    ensures silent { is_dash words.now.picture.now ≡ false → err.new ≡ err.old }
+    ensures unread { is_dash words.now.file.now ≡ false → input.new ≡ input.old }
 {
     if words.events > MOST_DRAWN {
         return Err(ToolError::ManyDrawn);
     }
-    let Ok(mut reader) = fs::open(rt, words.file) else {
-        return Err(ToolError::Read(words.file));
-    };
-    let drawing = drawing_of_file(rt.alloc(), words, &mut reader)?;
-    let Ok(made) = fs::create(rt, words.picture) else {
-        return Err(ToolError::Save(words.picture));
-    };
-    draw_and_tell(rt.alloc(), &drawing, words, made, out)?;
-    Ok(())
+    let bytes = read_named(alloc, disk, words.file, input)?;
+    let drawing = drawing_of(alloc, words, bytes.as_slice())?;
+    match hand_over(alloc, disk, &drawing, words, out, err) {
+        Ok(()) => Ok(()),
+        Err(fault) => Err(fault),
+    }
 }

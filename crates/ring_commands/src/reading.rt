@@ -1,11 +1,13 @@
-//! Reading of whole files, up to a limit.
+//! Reading of whole files, up to a limit, by their names.
 
-ghost use Rattle.std.specs.Prelude.{◌≡◌, ◌≤◌, vec_len, IfOk, OnOk, IfErr, IsErrOf};
+ghost use Rattle.std.specs.Prelude.{◌≡◌, ◌≤◌, Some, false, vec_len, IfOk, OnOk, IfErr, IsErrOf};
 ghost use Rattle.std.specs.Io.KnownBytes.{Consumes, IsAtEnd};
 ghost use Rattle.ring_commands.specs.Faults.{IsReadRefusal};
+ghost use Rattle.ring_commands.specs.Named.{IsHeld, IsNamed, IsFileRefusal, IsNamedRefusal, IsApart, IsApartRefusal};
 ghost use Rattle.ring_commands.specs.Reading.{most_bytes, is_dash, IsAllOf, IsOver};
 
 use crate::faults::ToolError;
+use disks::Disk;
 use std::alloc::Global;
 use std::io::Read;
 
@@ -87,4 +89,67 @@ pub fn names_stream(word: &str) -> bool
     ensures { result ≡ is_dash word.now }
 {
     word == "-"
+}
+
+/// All bytes of the file of this name.
+///
+/// # Errors
+///
+/// `Read` if the file cannot be opened, and those of [`read_whole`].
+pub fn read_file<'a, D: Disk>(
+    alloc: Global,
+    disk: &D,
+    file: &'a str,
+) -> Result<Vec<u8>, ToolError<'a>>
+    ensures ok { IfOk result (λ bytes. IsHeld (D.holds disk.now) file.now bytes.items) }
+    ensures err { IfErr result (λ e. IsFileRefusal (D.holds disk.now) file.now e) }
+{
+    let Ok(mut reader) = disk.open(file) else {
+        return Err(ToolError::Read(file));
+    };
+    match read_whole(alloc, file, &mut reader) {
+        Ok(bytes) => Ok(bytes),
+        Err(fault) => Err(fault),
+    }
+}
+
+/// All bytes of what a word names: of standard input for `-`, else of the file of its name; standard input stays as it was then.
+///
+/// # Errors
+///
+/// Those of [`read_whole`] and [`read_file`].
+pub fn read_named<'a, D: Disk, I: Read>(
+    alloc: Global,
+    disk: &D,
+    word: &'a str,
+    input: &mut I,
+) -> Result<Vec<u8>, ToolError<'a>>
+    ensures ok { IfOk result (λ bytes. IsNamed word.now (D.holds disk.now) (I.remaining input.old) (I.remaining input.new) bytes.items) }
+    ensures err { IfErr result (λ e. IsNamedRefusal word.now (D.holds disk.now) (I.remaining input.old) (I.remaining input.new) e) }
+    ensures unread { is_dash word.now ≡ false → input.new ≡ input.old }
+{
+    if names_stream(word) {
+        read_whole(alloc, word, input)
+    } else {
+        read_file(alloc, disk, word)
+    }
+}
+
+/// Sees to it that a file that is to be made is not the one that was read. Standard input is none.
+///
+/// # Errors
+///
+/// `SameFile` with the name of the file to be made, and `Save` with it if it cannot be looked at.
+pub fn keep_apart<'a, D: Disk>(disk: &D, read: &str, made: &'a str) -> Result<(), ToolError<'a>>
+    ensures ok { OnOk result (IsApart (D.holds disk.now) read.now (Some made.now)) }
+    ensures err { IfErr result (λ e. IsApartRefusal (Some made.now) e) }
+{
+    if names_stream(read) {
+        return Ok(());
+    }
+    match disk.is_one_file(read, made) {
+        Ok(false) => Ok(()),
+        Ok(true) => Err(ToolError::SameFile(made)),
+        Err(_) => Err(ToolError::Save(made)),
+    }
 }

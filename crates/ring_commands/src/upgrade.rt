@@ -1,60 +1,40 @@
 //! `upgrade`: a legal saved text, carried over into the latest version.
 
-ghost use Rattle.std.specs.Prelude.{◌≡◌, ◌≢◌, ◌≤◌, ◌⊎◌, ℕ, length, Some, OnOk, IfOk, IfErr};
+ghost use Rattle.std.specs.Prelude.{◌≡◌, ◌≢◌, ◌⊎◌, ℕ, List, false, Some, OnOk, OnErr, IfOk, IfErr};
 ghost use Rattle.std.specs.Io.KnownBytes.{Appends};
+ghost use Rattle.disks.specs.Held.{Replaces};
 ghost use Rattle.ring_check.specs.declared.answers.Summary.{Summary};
 ghost use Rattle.ring_saved.specs.Content.{Content, content};
 ghost use Rattle.ring_saved.specs.Spelling.{Fits, text};
+ghost use Rattle.ring_commands.specs.Checked.{IsSavedTextRefusal};
 ghost use Rattle.ring_commands.specs.CheckText.{legal_line};
-ghost use Rattle.ring_commands.specs.Ran.{IsSaveRefusal, IsHandOutRefusal};
-ghost use Rattle.ring_commands.specs.Upgraded.{IsUpgradeOf, IsUpgradeTextRefusal, IsUpgradeAnswer, IsUpgradeRefusal, IsUpgradeRunAnswer, IsUpgradeRunRefusal};
+ghost use Rattle.ring_commands.specs.Named.{IsNamed};
+ghost use Rattle.ring_commands.specs.Handed.{IsHandOutRefusal, IsPrintRefusal, IsHanded, IsHandRefusal};
+ghost use Rattle.ring_commands.specs.Ran.{IsSaveRefusal};
+ghost use Rattle.ring_commands.specs.Reading.{is_dash};
+ghost use Rattle.ring_commands.specs.Upgraded.{IsUpgradeOf, IsUpgradeAnswer, IsUpgradeRefusal};
 
 use crate::check::{legal_saved, write_sums};
 use crate::faults::ToolError;
-use crate::reading::read_whole;
+use crate::reading::{names_stream, read_named};
+use disks::Disk;
 use ring_check::{Summary, upgrade_law};
 use ring_requests::UpgradeWords;
 use ring_saved::{Saved, upgrade, write_saved};
 use std::alloc::Global;
-use std::fs;
-use std::io::{self, BufWriter, Read, Write};
-use std::rt::Files;
+use std::io::{BufWriter, Read, Write};
 
-/// Where a file is made.
-pub trait Place<F> {
-    /// Makes the file, empty; one that is there is replaced.
-    fn make(&mut self) -> io::Result<F>;
-}
-
-/// The place of a file's name.
-#[derive(Drop)]
-struct Named<'a, R> {
-    files: &'a R,
-    name: &'a str,
-}
-
-impl<R: Files> Place<R::File> for Named<'_, R> {
-    fn make(&mut self) -> io::Result<R::File> {
-        fs::create(self.files, self.name)
-    }
-}
-
-/// The value of the saved text of the file of this name, by its reader, in the latest version, and its sums.
+/// The value of the saved text that the bytes are, in the latest version, and its sums.
 ///
 /// # Errors
 ///
-/// `Read` and `TooLarge` for the file, what `check` says of a text that is not legal, and `OutOfMemory`.
-fn upgraded<'a, I: Read>(
-    alloc: Global,
-    file: &'a str,
-    reader: &mut I,
-) -> Result<(Saved, Summary), ToolError<'a>>
-    ensures ok { IfOk result (λ x. IsUpgradeOf (I.remaining reader.old) (I.remaining reader.new) (content x.0) x.1) }
-    ensures err { IfErr result (λ e. IsUpgradeTextRefusal file.now (I.remaining reader.old) (I.remaining reader.new) e) }
+/// What `check` says of a text that is not legal, and `OutOfMemory`.
+fn upgraded(alloc: Global, bytes: &[u8]) -> Result<(Saved, Summary), ToolError<'static>>
+    ensures ok { IfOk result (λ x. IsUpgradeOf bytes.now (content x.0) x.1) }
+    ensures err { IfErr result (λ e. IsSavedTextRefusal bytes.now e) }
 {
     upgrade_law();
-    let bytes = read_whole(alloc, file, reader)?;
-    let (saved, sums) = legal_saved(alloc, bytes.as_slice())?;
+    let (saved, sums) = legal_saved(alloc, bytes)?;
     Ok((upgrade(saved), sums))
 }
 
@@ -89,57 +69,136 @@ fn save_value<'a, F: Write + Drop>(
     Ok(after)
 }
 
-/// Reads and checks the file that the words name, by its reader; makes the other file only where the text is legal,
-/// and writes the upgrade of its value there; then writes the line of `check` to `out`. Hands the new file's writer
-/// back.
+/// Puts a file with the saved text of a value in the place of the one of this name.
 ///
 /// # Errors
 ///
-/// `Read` and `TooLarge` for the file, what `check` says of a text that is not legal: no file is made then. `Save` with
-/// the other name where that cannot be made or written; what it then holds is not said. `OutOfMemory`. Nothing is
-/// written to `out` then. `Write` where that writer fails: what was written to it until then is a beginning of the line.
-pub fn upgrade_file<'a, I: Read, F: Write + Drop, P: Place<F>, W: Write>(
+/// `Save` with the name where it cannot be made, written or put there, and `OutOfMemory`. Every file is as it was then.
+fn put_value<'a, D: Disk>(
     alloc: Global,
-    words: &UpgradeWords<'a>,
-    reader: &mut I,
-    place: &mut P,
-    out: &mut W,
-) -> Result<F, ToolError<'a>>
-    ensures ok { IfOk result (λ after. IsUpgradeAnswer (I.remaining reader.old) (I.remaining reader.new) (F.contents after) (W.contents out.old) (W.contents out.new)) }
-    ensures err { IfErr result (λ e. IsUpgradeRefusal words.now (I.remaining reader.old) (I.remaining reader.new) (W.contents out.old) (W.contents out.new) e) }
-    ensures nothing { IfErr result (λ e. e ≢ ToolError.Write → out.new ≡ out.old) }
-    ensures unmade { (place.new ≡ place.old) ⊎ ((c : Content) × (sums : Summary) × IsUpgradeOf (I.remaining reader.old) (I.remaining reader.new) c sums) }
+    disk: &mut D,
+    saved: &Saved,
+    file: &'a str,
+) -> Result<(), ToolError<'a>>
+    requires { Fits (content saved.now) }
+    ensures stored { OnOk result (Replaces (D.holds disk.old) (D.holds disk.new) file.now (Some (text (content saved.now)))) }
+    ensures err { IfErr result (λ e. IsSaveRefusal file.now e) }
+    ensures kept { OnErr result (D.holds disk.new ≡ D.holds disk.old) }
 {
-    let (saved, sums) = upgraded(alloc, words.file, reader)?;
-    let Ok(made) = place.make() else {
-        return Err(ToolError::Save(words.new));
+    let Ok(made) = disk.make(file) else {
+        return Err(ToolError::Save(file));
     };
-    let after = save_value(alloc, &saved, words.new, made)?;
-    write_sums(out, &sums)?;
-    Ok(after)
+    let after = save_value(alloc, saved, file, made)?;
+    let Ok(()) = disk.finish(after, file) else {
+        return Err(ToolError::Save(file));
+    };
+    Ok(())
 }
 
-/// `upgrade`, from its words: opens the one file, and makes the other.
+/// Puts a file with the saved text of a value in the place of the one of this name, and then writes the line of its sums.
 ///
 /// # Errors
 ///
-/// `Read` where the file cannot be opened, and those of [`upgrade_file`].
-pub fn run<'a, R: AllocGlobal + Files, W: Write>(
-    rt: &R,
-    words: &UpgradeWords<'a>,
+/// Those of [`put_value`]: nothing is written then. `Write` where the writer fails, when the file is in its place.
+fn put_and_tell<'a, D: Disk, W: Write>(
+    alloc: Global,
+    disk: &mut D,
+    value: &(Saved, Summary),
+    file: &'a str,
     out: &mut W,
 ) -> Result<(), ToolError<'a>>
-    ensures ok { OnOk result (IsUpgradeRunAnswer (W.contents out.old) (W.contents out.new)) }
-    ensures err { IfErr result (λ e. IsUpgradeRunRefusal words.now (W.contents out.old) (W.contents out.new) e) }
+    requires { Fits (content value.now.0) }
+    ensures stored { OnOk result (Replaces (D.holds disk.old) (D.holds disk.new) file.now (Some (text (content value.now.0)))) }
+    ensures told { OnOk result (Appends (W.contents out.old) (W.contents out.new) (legal_line value.now.1)) }
+    ensures err { IfErr result (λ e. IsHandOutRefusal (Some file.now) (text (content value.now.0)) (legal_line value.now.1) (D.holds disk.old) (D.holds disk.new) (W.contents out.old) (W.contents out.new) e) }
+    ensures kept { IfErr result (λ e. e ≢ ToolError.Write → D.holds disk.new ≡ D.holds disk.old) }
     ensures nothing { IfErr result (λ e. e ≢ ToolError.Write → out.new ≡ out.old) }
 {
-    let Ok(mut reader) = fs::open(rt, words.file) else {
-        return Err(ToolError::Read(words.file));
-    };
-    let mut place = Named {
-        files: rt,
-        name: words.new,
-    };
-    upgrade_file(rt.alloc(), words, &mut reader, &mut place, out)?;
+    put_value(alloc, disk, &value.0, file)?;
+    write_sums(out, &value.1)?;
     Ok(())
+}
+
+/// Writes the saved text of a value to `out`, has it leave, and then writes the line of its sums to `err`.
+///
+/// # Errors
+///
+/// `Write` where a writer fails: what was written until then is a beginning.
+fn print_and_tell<W: Write, E: Write>(
+    value: &(Saved, Summary),
+    out: &mut W,
+    err: &mut E,
+) -> Result<(), ToolError<'static>>
+    requires { Fits (content value.now.0) }
+    ensures text { OnOk result (Appends (W.contents out.old) (W.contents out.new) (text (content value.now.0))) }
+    ensures told { OnOk result (Appends (E.contents err.old) (E.contents err.new) (legal_line value.now.1)) }
+    ensures err { IfErr result (λ e. (e ≡ ToolError.Write) × IsPrintRefusal (text (content value.now.0)) (legal_line value.now.1) (W.contents out.old) (W.contents out.new) (E.contents err.old) (E.contents err.new) e) }
+{
+    write_saved(&value.0, out)?;
+    let Ok(()) = out.flush() else {
+        return Err(ToolError::Write);
+    };
+    write_sums(err, &value.1)?;
+    Ok(())
+}
+
+/// Hands out a value and its sums, as the word NEW says: to a file and standard output, or to standard output and standard error.
+///
+/// # Errors
+///
+/// Those of [`put_and_tell`] or [`print_and_tell`].
+fn hand_over<'a, D: Disk, W: Write, E: Write>(
+    alloc: Global,
+    disk: &mut D,
+    value: &(Saved, Summary),
+    word: &'a str,
+    out: &mut W,
+    err: &mut E,
+) -> Result<(), ToolError<'a>>
+    requires { Fits (content value.now.0) }
+    ensures ok { OnOk result (IsHanded word.now (text (content value.now.0)) (legal_line value.now.1) (D.holds disk.old) (D.holds disk.new) (W.contents out.old) (W.contents out.new) (E.contents err.old) (E.contents err.new)) }
+    ensures err { IfErr result (λ e. IsHandRefusal word.now (text (content value.now.0)) (legal_line value.now.1) (D.holds disk.old) (D.holds disk.new) (W.contents out.old) (W.contents out.new) (E.contents err.old) (E.contents err.new) e) }
+    ensures kept { IfErr result (λ e. e ≢ ToolError.Write → D.holds disk.new ≡ D.holds disk.old) }
+    ensures nothing { IfErr result (λ e. e ≢ ToolError.Write → out.new ≡ out.old) }
+    ensures silent { is_dash word.now ≡ false → err.new ≡ err.old }
+{
+    if names_stream(word) {
+        print_and_tell(value, out, err)
+    } else {
+        put_and_tell(alloc, disk, value, word, out)
+    }
+}
+
+/// `upgrade`, from its words: reads and checks the one file, or standard input; puts the upgrade of its value in the place of the
+/// other, which may be the same, and writes the line of `check` to `out`; where the other is `-`, the upgrade's text goes to `out`
+/// and the line to `err`.
+///
+/// # Errors
+///
+/// Those of reading what the word names, and what `check` says of a text that is not legal: no file is made then. `Save` with
+/// the other name where that cannot be made, written or put in its place, and `OutOfMemory`. Every file is as it was then, and
+/// nothing is written. `Write` where a writer fails, when the new file is in its place: what was written until then is a
+/// beginning.
+pub fn run<'a, D: Disk, I: Read, W: Write, E: Write>(
+    alloc: Global,
+    disk: &mut D,
+    words: &UpgradeWords<'a>,
+    input: &mut I,
+    out: &mut W,
+    err: &mut E,
+) -> Result<(), ToolError<'a>>
+    ensures ok { OnOk result (IsUpgradeAnswer words.now (D.holds disk.old) (D.holds disk.new) (I.remaining input.old) (I.remaining input.new) (W.contents out.old) (W.contents out.new) (E.contents err.old) (E.contents err.new)) }
+    ensures err { IfErr result (λ e. IsUpgradeRefusal words.now (D.holds disk.old) (D.holds disk.new) (I.remaining input.old) (I.remaining input.new) (W.contents out.old) (W.contents out.new) (E.contents err.old) (E.contents err.new) e) }
+    ensures kept { IfErr result (λ e. e ≢ ToolError.Write → D.holds disk.new ≡ D.holds disk.old) }
+    ensures nothing { IfErr result (λ e. e ≢ ToolError.Write → out.new ≡ out.old) }
+    ensures silent { is_dash words.now.new.now ≡ false → err.new ≡ err.old }
+    ensures unread { is_dash words.now.file.now ≡ false → input.new ≡ input.old }
+    ensures unmade { (disk.new ≡ disk.old) ⊎ ((bytes : List ℕ) × (c : Content) × (sums : Summary) × IsNamed words.now.file.now (D.holds disk.old) (I.remaining input.old) (I.remaining input.new) bytes × IsUpgradeOf bytes c sums) }
+{
+    let bytes = read_named(alloc, disk, words.file, input)?;
+    let value = upgraded(alloc, bytes.as_slice())?;
+    match hand_over(alloc, disk, &value, words.new, out, err) {
+        Ok(()) => Ok(()),
+        Err(fault) => Err(fault),
+    }
 }

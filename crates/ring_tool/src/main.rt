@@ -1,7 +1,7 @@
 //! The program: it reads its words, does a command and prints what the command answers.
 #![tactic(auto)]
 
-use disks::take_low;
+use disks::{SystemDisk, take_low};
 use ring_program::tell;
 pub use ring_program::{ToolError, read_limited, run_tool, step_lines};
 use std::io::{self, BufWriter, ErrorKind, Input, Write};
@@ -38,7 +38,8 @@ fn run<R: AllocGlobal + Env + Files + Input + Print + Threads + Wait + Sync, E: 
     let Ok(mut out) = BufWriter::new(rt.alloc(), io::writer(rt)) else {
         return Err(ToolError::OutOfMemory);
     };
-    Ok(run_tool(rt, words.as_slice(), &mut out, err))
+    let mut disk = SystemDisk { files: rt };
+    Ok(run_tool(rt, &mut disk, words.as_slice(), &mut out, err))
 }
 
 fn main(rt: HostRuntime) -> ExitCode {

@@ -12,8 +12,10 @@ const ABOUT: &str = "Checks a saved history as `check` does, and draws one of it
 
 const HELP: &str = "\
 The picture is an SVG: time goes to the right, an event a column. Each machine has a row, which is filled where it is
-privileged; below stands the rest, which falls to 0 until one machine is privileged. A PICTURE that is there is replaced,
-but only where the history is legal. Then it prints the sums over all rings, as `check` does.
+privileged; below stands the rest, which falls to 0 until one machine is privileged. Only where the history is legal is it
+written, to PICTURE.part, which then takes the place of PICTURE: an old one is whole after a refusal or an interrupt.
+PICTURE cannot be FILE. Then it prints the sums over all rings, as `check` does. Where PICTURE is `-`, it goes to
+standard output, and the sums to standard error.
 
 Example:
   $ ring_tool picture saved.txt ring.svg
@@ -35,9 +37,13 @@ fn with_files<'a>(alloc: Global, command: Command<'a>) -> Result<Command<'a>, Er
     let file = needed_text(
         alloc,
         "FILE",
-        "The saved history, as `run --history` writes it, of at most 1,073,741,824 bytes",
+        "The saved history, as `run --history` writes it, of at most 1,073,741,824 bytes; `-` is standard input",
     );
-    let picture = needed_text(alloc, "PICTURE", "The file that the SVG is written to");
+    let picture = needed_text(
+        alloc,
+        "PICTURE",
+        "The file that the SVG is written to; `-` is standard output",
+    );
     Ok(command.arg(file)?.arg(picture)?)
 }
 

@@ -38,9 +38,10 @@ const RUN_ABOUT: &str =
 
 const RUN_HELP: &str = "\
 Each client of the settings, and the injector of faults, has a thread of its own on each ring. When all have
-done their actions, the report has four lines for each ring and one for the farm. Where FILE is the settings file
-itself, it is replaced too. A file that is a pipe is waited for until somebody opens its other end. A file whose name
-is `-` is `./-`; one whose name begins with a dash stands behind `--`, or as `--history=FILE`.
+done their actions, the report has four lines for each ring and one for the farm. The history is written to FILE.part,
+which then takes the place of FILE: an old one is whole after a refusal or an interrupt. FILE cannot be the settings
+file. A file that is a pipe is waited for until somebody opens its other end. A file whose name is `-` is `./-`; one
+whose name begins with a dash stands behind `--`, or as `--history=FILE`.
 
 Example, where settings.json is {\"rings\":[{\"n\":3,\"k\":3,\"start\":[0,2,0]}],
 \"workers\":[{\"script\":[[\"pass\",0,0,5],[\"pass\",0,0,1],[\"pass\",0,2,4],[\"survey\",0]]}]}:
@@ -72,8 +73,9 @@ const UPGRADE_ABOUT: &str = "Carries a saved history over into the latest versio
 
 const UPGRADE_HELP: &str = "\
 It reads and checks FILE as `check` does, and only where that is legal makes NEW, writes the same history there in the
-latest version, and prints what `check` prints of it. Where NEW is there, it is replaced. A FILE that is refused makes
-no NEW.
+latest version, and prints what `check` prints of it. The text is written to NEW.part, which then takes the place of
+NEW: an old one is whole after a refusal or an interrupt, and NEW may be FILE. Where NEW is `-`, the text goes to
+standard output, and the line to standard error. A FILE that is refused makes no NEW.
 
 Example, where old.txt begins with `ringfarm 1`:
   $ ring_tool upgrade old.txt new.txt
@@ -185,8 +187,16 @@ fn check_command<'a>(alloc: Global) -> Result<Command<'a>, Error> {
 
 /// `upgrade` with its two files.
 fn with_texts<'a>(alloc: Global, command: Command<'a>) -> Result<Command<'a>, Error> {
-    let file = needed_text(alloc, "FILE", "The saved history, as for `check`");
-    let new = needed_text(alloc, "NEW", "The file that is made for the new text");
+    let file = needed_text(
+        alloc,
+        "FILE",
+        "The saved history, as for `check`; `-` is standard input",
+    );
+    let new = needed_text(
+        alloc,
+        "NEW",
+        "The file that is made for the new text; `-` is standard output",
+    );
     Ok(command.arg(file)?.arg(new)?)
 }
 

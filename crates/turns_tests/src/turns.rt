@@ -1,6 +1,6 @@
 //! Two clients of a ring of two machines, by their calls and the close.
 
-ghost use Rattle.std.specs.Prelude.{◌≡◌, ◌≢◌, ◌<◌, ◌≤◌, [], eqb, length, map, vec_capacity};
+ghost use Rattle.std.specs.Prelude.{◌≡◌, ◌≢◌, ◌≤◌, [], eqb, length, map, vec_capacity};
 ghost use Rattle.std.specs.List.{IsDistinct};
 ghost use Rattle.ring_model.specs.Resources.{till};
 ghost use Rattle.ring_model.specs.Ring.{IsRing};
@@ -16,11 +16,6 @@ use std::alloc::Global;
 use std::marker::Brand;
 use std::process::Abort;
 use std::sync::Wait;
-use std::thread;
-use std::thread::{Promise, PromisedHandle, Scope, Threads};
-
-/// How many turns each client takes where both do at once.
-const TURNS: u32 = 100;
 
 /// What the two clients do.
 #[derive(Clone, Copy)]
@@ -29,8 +24,6 @@ enum Scene {
     OneAlone,
     /// The first takes a turn behind a fault.
     BehindAFault,
-    /// Both take turns at once, each on a thread of its own.
-    Both,
     /// There are to be three clients of the two machines.
     TooMany,
 }
@@ -141,86 +134,11 @@ fn behind_a_fault<N: Name, W: Wait + Abort>(rt: &W, turns: &Turns<N, Till>, seat
     assert_eq!(rt; turn, wanted);
 }
 
-/// What a thread promises: to hand back the seat of this number.
-#[derive(Drop)]
-struct HandsBack {
-    number: u32,
-}
-
-impl<N: Name> Promise<Seat<N>> for HandsBack {
-    ghost use Rattle.std.specs.Prelude.{◌≡◌};
-
-    ghost kept_by = { λ p s. s.number ≡ p.number };
-}
-
-/// Takes so many turns, of order 1.
-fn take_often<N: Name, W: Wait + Abort>(rt: &W, turns: &Turns<N, Till>, seat: Seat<N>) -> Seat<N>
-    requires { seat.number < turns.now }
-    ensures { result.number ≡ seat.number }
-{
-    let mut seat = seat;
-    for _ in 0..TURNS {
-        let turn = turns.take_turn(rt, &mut seat, 1).expect(rt, "a turn");
-        assert_eq!(rt; turn.receipt.event.seat, seat.number());
-    }
-    seat
-}
-
-/// Starts a thread of a scope that takes turns for the seat.
-fn start<'s, E: 's, N: Name + Send + Sync + 's, W: Threads + Wait + Abort + Sync + 's>(
-    scope: &Scope<'s, E>,
-    rt: &'s W,
-    turns: &'s Turns<N, Till>,
-    seat: Seat<N>,
-) -> PromisedHandle<Seat<N>, HandsBack>
-    requires { seat.number < turns.now }
-    ensures { result.promise.number ≡ seat.number }
-{
-    let promise = HandsBack {
-        number: seat.number(),
-    };
-    let job = move || -> Seat<N>
-        requires { seat.number < turns.now }
-        ensures { result.number ≡ seat.number }
-    { take_often(rt, turns, seat) };
-    match scope.spawn_with(promise, job) {
-        Ok(handle) => handle,
-        Err(_) => panic!(rt; "a thread was not started"),
-    }
-}
-
-/// Both clients take turns, on two threads.
-fn at_once<N: Name + Send + Sync, W: Threads + Wait + Abort + Sync>(
-    rt: &W,
-    turns: &Turns<N, Till>,
-    first: Seat<N>,
-    second: Seat<N>,
-) -> (Seat<N>, Seat<N>)
-    requires one { first.number < turns.now }
-    requires other { second.number < turns.now }
-    ensures first { result.0.number ≡ first.number }
-    ensures second { result.1.number ≡ second.number }
-{
-    thread::scope(
-        thread::scope_env(),
-        rt,
-        |scope| -> (Seat<N>, Seat<N>)
-            requires { (first.number < turns.now) × (second.number < turns.now) }
-            ensures { (result.0.number ≡ first.number) × (result.1.number ≡ second.number) }
-        {
-            let one = start(scope, rt, turns, first);
-            let other = start(scope, rt, turns, second);
-            (one.join(rt), other.join(rt))
-        },
-    )
-}
-
-/// How many turns each client had, and how many events the history has at least.
+/// How many turns each client had, and how many events the history has.
 fn end_of(scene: Scene) -> ([usize; 2], usize) {
     match scene {
         Scene::OneAlone => ([2, 0], 3),
         Scene::BehindAFault => ([1, 0], 3),
-        Scene::Both => ([100, 100], 200),
         Scene::TooMany => ([0, 0], 0),
     }
 }
@@ -259,7 +177,7 @@ fn clients_of(scene: Scene) -> u32
 }
 
 /// Plays the scene at a ring of this name, and closes it.
-fn run_named<N: Name + Send + Sync, W: Threads + Wait + Abort + Sync>(
+fn run_named<N: Name, W: Wait + Abort>(
     rt: &W,
     alloc: Global,
     draft: Draft<Spared<Till>>,
@@ -311,7 +229,7 @@ fn hand_back<N: Name, W: Wait + Abort>(
 }
 
 /// Plays the scene, and closes the ring.
-fn play<N: Name + Send + Sync, W: Threads + Wait + Abort + Sync>(
+fn play<N: Name, W: Wait + Abort>(
     rt: &W,
     alloc: Global,
     turns: Turns<N, Till>,
@@ -325,13 +243,10 @@ fn play<N: Name + Send + Sync, W: Threads + Wait + Abort + Sync>(
     requires machines { length N.start.values ≡ 2 }
     requires values { N.start.k ≡ 2 }
 {
-    let (mut first, mut second) = (first, second);
+    let mut first = first;
     match scene {
         Scene::OneAlone | Scene::TooMany => alone(rt, &turns, &mut first),
         Scene::BehindAFault => behind_a_fault(rt, &turns, &mut first),
-        Scene::Both => {
-            (first, second) = at_once(rt, &turns, first, second);
-        }
     }
     let seats = both(rt, alloc, first, second);
     let Ok(closed) = turns.close(rt, alloc, seats) else {
@@ -342,14 +257,11 @@ fn play<N: Name + Send + Sync, W: Threads + Wait + Abort + Sync>(
     assert_eq!(rt; turns_in(&closed.logs[0].entries, 0), turns[0]);
     assert_eq!(rt; turns_in(&closed.logs[1].entries, 1), turns[1]);
     let history = closed.book.history();
-    match scene {
-        Scene::Both => assert!(rt; history.len() >= events),
-        _ => assert_eq!(rt; history.len(), events),
-    }
+    assert_eq!(rt; history.len(), events);
 }
 
 /// Plays the scene at a new ring.
-fn run<W: Threads + Wait + Abort + Sync>(rt: &W, alloc: Global, scene: Scene) {
+fn run<W: Wait + Abort>(rt: &W, alloc: Global, scene: Scene) {
     let draft = draft(rt, alloc);
     run_named::<Brand, W>(rt, alloc, draft, scene);
 }
@@ -363,11 +275,6 @@ fn a_machine_whose_client_wants_nothing_is_passed_on(rt: HostRuntime) {
 #[test]
 fn a_turn_behind_a_fault(rt: HostRuntime) {
     run(&rt, rt.alloc(), Scene::BehindAFault);
-}
-
-#[test]
-fn two_clients_at_once(rt: HostRuntime) {
-    run(&rt, rt.alloc(), Scene::Both);
 }
 
 #[test]

@@ -1,10 +1,42 @@
--- Where there is no upgrade, what is told is the other case.
-use Rattle.std.proofs.Common.{inl, inr}
-use Rattle.std.specs.Prelude.{ℕ, List, Option, ◌⊎◌}
+-- What files hold where one was to be replaced.
+use Rattle.std.proofs.Common.{◌≡◌, ◌∙◌, ap, sym, subst, refl, inl, inr}
+use Rattle.std.specs.Prelude.{ℕ, List, [], Option, None, Some, IsSome, Bool, false, ◌⊎◌}
+use Rattle.std.proofs.lemmas.Bool.{false≢true}
+use Rattle.disks.specs.Held.{Held, Starts, Replaces, bytes_of}
 use Rattle.ring_saved.specs.Content.{Content}
 use Rattle.ring_check.specs.declared.answers.Summary.{Summary}
+use Rattle.ring_commands.specs.Named.{IsHeld, IsNamed, IsApart}
+use Rattle.ring_commands.specs.Reading.{is_dash}
 use Rattle.ring_commands.specs.Upgraded.{IsUpgradeOf}
 
-pub only_left : {A : Type 0} (from left : Option (List ℕ)) → ((c : Content) (sums : Summary) → IsUpgradeOf from left c sums → ⊥) → A ⊎ ((c : Content) × (sums : Summary) × IsUpgradeOf from left c sums) → A
-only_left from left none (inl a) = a
-only_left from left none (inr h) = absurd (none h.0 h.1 h.2)
+-- where there is no upgrade, what is told is the other case
+pub only_left : {A : Type 0} (word : List ℕ) (files mid : Option Held) (from left : Option (List ℕ)) → mid ≡ files →
+    ((bytes : List ℕ) (c : Content) (sums : Summary) → IsNamed word files from left bytes → IsUpgradeOf bytes c sums → ⊥) →
+    A ⊎ ((bytes : List ℕ) × (c : Content) × (sums : Summary) × IsNamed word mid from left bytes × IsUpgradeOf bytes c sums) → A
+only_left word files mid from left same none (inl a) = a
+only_left word files mid from left same none (inr h) = absurd (none h.0 h.1 h.2 (subst (λ (d : Option Held). IsNamed word d from left h.0) same h.3) h.4)
+
+-- a file that was replaced holds its bytes
+pub held_there : (was is : Option Held) (name bytes : List ℕ) → IsSome was → Replaces was is name (Some bytes) → IsHeld is name bytes
+held_there None is name bytes known h = absurd (false≢true known)
+held_there (Some was) None name bytes known h = absurd h
+held_there (Some was) (Some is) name bytes known h = h.here name refl
+
+-- as it was, it is not replaced by what it did not hold
+pub as_it_was : (was is : Option Held) (name bytes : List ℕ) → IsSome was → is ≡ was → (IsHeld was name bytes → ⊥) → Replaces was is name (Some bytes) → ⊥
+as_it_was was is name bytes known same not h = not (subst (λ (d : Option Held). IsHeld d name bytes) same (held_there was is name bytes known h))
+
+-- nor is it if another file was
+pub another_was : (was is : Option Held) (other name bytes : List ℕ) → IsSome was → is_dash other ≡ false → IsApart was other (Some name) → (IsHeld was name bytes → ⊥) →
+    Replaces was is other (Some bytes) → Replaces was is name (Some bytes) → ⊥
+another_was None is other name bytes known named apart not done h = absurd (false≢true known)
+another_was (Some was) None other name bytes known named apart not done h = absurd h
+another_was (Some was) (Some is) other name bytes known named apart not done h = not (sym (done.others name (apart named)) ∙ h.here name refl)
+
+-- a file that was emptied is not as it was
+pub emptied : (was mid put is : Option Held) (name : List ℕ) (made : Option (List ℕ)) → IsSome was → (IsHeld was name [] → ⊥) → Starts was made → mid ≡ was →
+    Replaces mid put name made → is ≡ put → is ≡ was → ⊥
+emptied None mid put is name made known not starts same puts last back = absurd (false≢true known)
+emptied (Some was) mid put is name made known not starts same puts last back =
+    let there : Replaces (Some was) put name (Some []) = subst (λ (d : Option Held). Replaces d put name (Some [])) same (subst (λ (m : Option (List ℕ)). Replaces mid put name m) starts puts) in
+    not (subst (λ (d : Option Held). IsHeld d name []) (sym last ∙ back) (held_there (Some was) put name [] known there))

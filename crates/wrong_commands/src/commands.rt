@@ -1,8 +1,9 @@
 //! What the commands read, judge, print and save, each broken.
 
-ghost use Rattle.std.specs.Prelude.{◌≡◌, ◌≢◌, ℕ, List, ◌<◌, ◌≤◌, ◌^◌, Some, IsSome, length, OnOk, IfOk, IfSome, IsErrOf};
+ghost use Rattle.std.specs.Prelude.{◌≡◌, ◌≢◌, ℕ, List, ◌<◌, ◌≤◌, ◌^◌, false, Some, IsSome, length, OnOk, IfOk, IfSome, IsErrOf};
 ghost use Rattle.std.specs.Io.KnownBytes.{Appends, Consumes};
 ghost use Rattle.text_lines.specs.Writing.{Writes};
+ghost use Rattle.disks.specs.Held.{Replaces};
 ghost use Rattle.ring_settings.specs.Limits.{ring_limit};
 ghost use Rattle.ring_check.specs.declared.answers.Summary.{Summary};
 ghost use Rattle.ring_saved.specs.Content.{content};
@@ -13,9 +14,11 @@ ghost use Rattle.ring_text.specs.SavedOf.{saved_of};
 ghost use Rattle.ring_commands.specs.CheckText.{legal_line};
 ghost use Rattle.ring_commands.specs.Checked.{IsLegalSavedText, IsCheckRefusal};
 ghost use Rattle.ring_commands.specs.Faults.{status_of, end_status};
+ghost use Rattle.ring_commands.specs.Named.{IsHeld, IsApart};
 ghost use Rattle.ring_commands.specs.Ran.{told};
 ghost use Rattle.ring_commands.specs.Reading.{most_bytes, is_dash, IsAllOf, IsOver};
 
+use disks::Disk;
 use ring_check::{Kind, Summary};
 use ring_commands::check::{check_bytes, legal_saved, write_sums};
 use ring_commands::endings::{finish, tell};
@@ -142,60 +145,84 @@ pub fn refusal_that_ends_well<E: Write>(
     }
 }
 
-/// What is saved of a farm is the saved text of its outcome: the report alone is written, and the file stays as it was.
-pub fn history_that_is_not_saved<H: Write + Drop, W: Write>(
+/// The history of a farm holds the saved text of its outcome: the report alone is written, and the file stays as it was.
+pub fn history_that_is_not_saved<D: Disk, W: Write>(
     outcome: &Outcome,
-    history: H,
+    _disk: &mut D,
+    _file: &str,
     out: &mut W,
-) -> Result<H, WriteFault>
+) -> Result<(), WriteFault>
     requires some { 1 ≤ length outcome.now.rings.items }
     requires most { length outcome.now.rings.items ≤ ring_limit }
     requires few { entries_in outcome.now < 2 ^ 64 }
-    requires known { IsSome (H.contents history) }
-    ensures wrong { IfOk result (λ after. Appends (H.contents history) (H.contents after) (text (saved_of outcome.now)) → ⊥) }
+    requires known { IsSome (D.holds _disk.old) }
+    requires others { IsHeld (D.holds _disk.old) _file.now (text (saved_of outcome.now)) → ⊥ }
+    ensures wrong { OnOk result (Replaces (D.holds _disk.old) (D.holds _disk.new) _file.now (Some (text (saved_of outcome.now))) → ⊥) }
 {
     write_report(outcome, out)?;
-    Ok(history)
+    Ok(())
+}
+
+/// The history is saved in the file of its name: it is saved in another one.
+pub fn history_in_another_file<'a, D: Disk, W: Write>(
+    alloc: Global,
+    disk: &mut D,
+    outcome: &Outcome,
+    _file: &str,
+    other: &'a str,
+    out: &mut W,
+) -> Result<(), ToolError<'a>>
+    requires some { 1 ≤ length outcome.now.rings.items }
+    requires most { length outcome.now.rings.items ≤ ring_limit }
+    requires few { entries_in outcome.now < 2 ^ 64 }
+    requires known { IsSome (D.holds disk.old) }
+    requires named { is_dash other.now ≡ false }
+    requires apart { IsApart (D.holds disk.old) other.now (Some _file.now) }
+    requires others { IsHeld (D.holds disk.old) _file.now (text (saved_of outcome.now)) → ⊥ }
+    ensures wrong { OnOk result (Replaces (D.holds disk.old) (D.holds disk.new) _file.now (Some (text (saved_of outcome.now))) → ⊥) }
+{
+    save_and_report(alloc, disk, outcome, other, true, out)?;
+    Ok(())
 }
 
 /// What is told of a farm is its outcome: another one is saved and told, which reads otherwise.
-pub fn outcome_that_is_anothers<'a, H: Write + Drop, W: Write>(
+pub fn outcome_that_is_anothers<'a, D: Disk, W: Write>(
     alloc: Global,
+    disk: &mut D,
     outcome: &Outcome,
     other: &Outcome,
     file: &'a str,
-    history: H,
     quiet: bool,
     out: &mut W,
-) -> Result<H, ToolError<'a>>
+) -> Result<(), ToolError<'a>>
     requires some { 1 ≤ length other.now.rings.items }
     requires most { length other.now.rings.items ≤ ring_limit }
     requires few { entries_in other.now < 2 ^ 64 }
     requires known { IsSome (W.contents out.old) }
     requires apart { told quiet other.now ≢ told quiet outcome.now }
-    ensures wrong { IfOk result (λ _. Appends (W.contents out.old) (W.contents out.new) (told quiet outcome.now) → ⊥) }
+    ensures wrong { OnOk result (Appends (W.contents out.old) (W.contents out.new) (told quiet outcome.now) → ⊥) }
 {
-    let after = save_and_report(alloc, other, file, history, quiet, out)?;
-    Ok(after)
+    save_and_report(alloc, disk, other, file, quiet, out)?;
+    Ok(())
 }
 
 /// A quiet run tells the last line alone, and each other the whole report: it is the other way.
-pub fn quiet_run_that_reports<'a, H: Write + Drop, W: Write>(
+pub fn quiet_run_that_reports<'a, D: Disk, W: Write>(
     alloc: Global,
+    disk: &mut D,
     outcome: &Outcome,
     file: &'a str,
-    history: H,
     quiet: bool,
     out: &mut W,
-) -> Result<H, ToolError<'a>>
+) -> Result<(), ToolError<'a>>
     requires some { 1 ≤ length outcome.now.rings.items }
     requires most { length outcome.now.rings.items ≤ ring_limit }
     requires few { entries_in outcome.now < 2 ^ 64 }
     requires known { IsSome (W.contents out.old) }
-    ensures wrong { IfOk result (λ _. Appends (W.contents out.old) (W.contents out.new) (told quiet outcome.now) → ⊥) }
+    ensures wrong { OnOk result (Appends (W.contents out.old) (W.contents out.new) (told quiet outcome.now) → ⊥) }
 {
-    let after = save_and_report(alloc, outcome, file, history, !quiet, out)?;
-    Ok(after)
+    save_and_report(alloc, disk, outcome, file, !quiet, out)?;
+    Ok(())
 }
 
 /// A file with more bytes than the limit is refused: it is read as empty.

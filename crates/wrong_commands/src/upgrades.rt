@@ -1,43 +1,66 @@
 //! Upgrades, each broken.
 
-ghost use Rattle.std.specs.Prelude.{◌≡◌, ◌⊎◌};
+ghost use Rattle.std.specs.Prelude.{◌≡◌, ◌≢◌, ◌⊎◌, ℕ, List, [], IsSome, IfSome};
 ghost use Rattle.ring_check.specs.declared.answers.Summary.{Summary};
 ghost use Rattle.ring_saved.specs.Content.{Content};
+ghost use Rattle.ring_commands.specs.Named.{IsHeld, IsNamed};
 ghost use Rattle.ring_commands.specs.Upgraded.{IsUpgradeOf};
 
+use disks::Disk;
 use ring_commands::faults::ToolError;
-use ring_commands::upgrade::{Place, upgrade_file};
+use ring_commands::upgrade;
 use ring_requests::UpgradeWords;
 use std::alloc::Global;
 use std::io::{self, Read, Write};
 
-/// A place that counts how often a file was made there.
-pub trait CountedPlace<F>: Place<F> {
+/// A disk that counts how often a file was made there.
+pub trait CountedDisk: Disk {
     ghost use Rattle.std.specs.Prelude.{ℕ, ◌≡◌, ◌+◌};
 
     ghost made: { Self → ℕ };
 
-    /// Makes the file, and counts it.
-    fn make_counted(&mut self) -> io::Result<F>
-        ensures { made self.new ≡ made self.old + 1 };
+    /// Makes the file, and counts it. No file changes.
+    fn make_counted(&mut self, name: &str) -> io::Result<Self::New>
+        ensures counted { made self.new ≡ made self.old + 1 }
+        ensures kept { Self.holds self.new ≡ Self.holds self.old };
 }
 
 /// The new file is made only where the text is legal: it is made before the text is read.
-pub fn file_that_is_made_before_the_check<
-    'a,
-    I: Read,
-    F: Write + Drop,
-    P: CountedPlace<F>,
-    W: Write,
->(
+pub fn file_that_is_made_before_the_check<'a, D: CountedDisk, I: Read, W: Write, E: Write>(
     alloc: Global,
+    disk: &mut D,
     words: &UpgradeWords<'a>,
-    reader: &mut I,
-    place: &mut P,
+    input: &mut I,
     out: &mut W,
-) -> Result<F, ToolError<'a>>
-    ensures wrong { ((c : Content) (sums : Summary) → IsUpgradeOf (I.remaining reader.old) (I.remaining reader.new) c sums → ⊥) → (place.new ≡ place.old) ⊎ ((c : Content) × (sums : Summary) × IsUpgradeOf (I.remaining reader.old) (I.remaining reader.new) c sums) → ⊥ }
+    err: &mut E,
+) -> Result<(), ToolError<'a>>
+    ensures wrong { ((bytes : List ℕ) (c : Content) (sums : Summary) → IsNamed words.now.file.now (D.holds disk.old) (I.remaining input.old) (I.remaining input.new) bytes → IsUpgradeOf bytes c sums → ⊥) → (disk.new ≡ disk.old) ⊎ ((bytes : List ℕ) × (c : Content) × (sums : Summary) × IsNamed words.now.file.now (D.holds disk.old) (I.remaining input.old) (I.remaining input.new) bytes × IsUpgradeOf bytes c sums) → ⊥ }
 {
-    let _early = place.make_counted();
-    upgrade_file(alloc, words, reader, place, out)
+    let _early = disk.make_counted(words.new);
+    upgrade::run(alloc, disk, words, input, out, err)
+}
+
+/// After a refusal every file is as it was: the new file is emptied before the other one is read.
+pub fn file_that_is_emptied_before_the_check<'a, D: Disk, I: Read, W: Write, E: Write>(
+    alloc: Global,
+    disk: &mut D,
+    words: &UpgradeWords<'a>,
+    input: &mut I,
+    out: &mut W,
+    err: &mut E,
+) -> Option<ToolError<'a>>
+    requires known { IsSome (D.holds disk.old) }
+    requires some { IsHeld (D.holds disk.old) words.now.new.now [] → ⊥ }
+    ensures wrong { IfSome result (λ e. e ≢ ToolError.Write → D.holds disk.new ≡ D.holds disk.old → ⊥) }
+{
+    let Ok(made) = disk.make(words.new) else {
+        return None;
+    };
+    let Ok(()) = disk.finish(made, words.new) else {
+        return None;
+    };
+    match upgrade::run(alloc, disk, words, input, out, err) {
+        Ok(()) | Err(ToolError::Write) => None,
+        Err(fault) => Some(fault),
+    }
 }

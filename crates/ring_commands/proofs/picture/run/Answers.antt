@@ -1,19 +1,23 @@
-use Rattle.std.proofs.Common.{inr, refl}
+use Rattle.std.proofs.Common.{inl, inr, sym, subst}
 use Rattle.std.proofs.lemmas.Result.{err_from_is_err_and}
+use Rattle.ring_commands.specs.Named.{IsNamed}
 use Rattle.ring_commands.proofs.picture.run.Goals as goal
 
-pub returns-in_default-create-clause-err : goal.returns-in_default-create-clause-err
-returns-in_default-create-clause-err g c =
-    let f = c.in_ok-drawing.ensures.ok in
-    inr (inr (f.0, c.in_ok-drawing.drawing, f.2, refl))
+pub returns-in_err-drawing-clause-err : goal.returns-in_err-drawing-clause-err
+returns-in_err-drawing-clause-err g c =
+    let named = subst (λ t. IsNamed c.args.words.now.file.now (g.D.Disk.holds c.args.disk.now) (g.I.Read.remaining c.args.input.now) (g.I.Read.remaining c.read_named.new.input) t)
+    (sym c.as_slice.ensures.value) c.in_ok-bytes.ensures.ok in
+    let p = err_from_is_err_and c.from_residual-in_err-drawing.result c.from_residual-in_err-drawing.ensures.1 in
+    rw (p.1, p.2) (inr (inr (_, named, inl c.in_err-drawing.ensures.err)))
 
-pub returns-in_err-draw_and_tell-clause-err : goal.returns-in_err-draw_and_tell-clause-err
-returns-in_err-draw_and_tell-clause-err g c =
-    let f = c.in_ok-drawing.ensures.ok in
-    let p = err_from_is_err_and c.from_residual-in_err-draw_and_tell.result c.from_residual-in_err-draw_and_tell.ensures.1 in
-    rw (p.1, p.2) (inr (inr (f.0, c.in_ok-drawing.drawing, f.2, c.in_err-draw_and_tell.ensures.err)))
+pub returns-in-Ok-clause-ok : goal.returns-in-Ok-clause-ok
+returns-in-Ok-clause-ok g c =
+    let named = subst (λ t. IsNamed c.args.words.now.file.now (g.D.Disk.holds c.args.disk.now) (g.I.Read.remaining c.args.input.now) (g.I.Read.remaining c.read_named.new.input) t)
+    (sym c.as_slice.ensures.value) c.in_ok-bytes.ensures.ok in
+    (_, c.in_ok-drawing.drawing, named, c.in_ok-drawing.ensures.ok, c.in-Ok.ensures.apart, c.in-Ok.ensures.ok)
 
-pub returns-clause-ok : goal.returns-clause-ok
-returns-clause-ok g c =
-    let f = c.in_ok-drawing.ensures.ok in
-    (f.0, c.in_ok-drawing.drawing, f.2, c.in_ok-draw_and_tell.ensures.told)
+pub returns-clause-err : goal.returns-clause-err
+returns-clause-err g c =
+    let named = subst (λ t. IsNamed c.args.words.now.file.now (g.D.Disk.holds c.args.disk.now) (g.I.Read.remaining c.args.input.now) (g.I.Read.remaining c.read_named.new.input) t)
+    (sym c.as_slice.ensures.value) c.in_ok-bytes.ensures.ok in
+    inr (inr (_, named, inr (c.in_ok-drawing.drawing, c.in_ok-drawing.ensures.ok, c.in-Err.ensures.err)))
