@@ -1,5 +1,5 @@
 -- What the program refuses.
-use Rattle.std.specs.Prelude.{◌≡◌, ◌≢◌, ℕ, ◌<◌, ◌^◌, decimal, cond, ◌==◌, nat_lt, nat_le, List, length, Option, None, Some, Result, Ok, Err, ◌⊎◌}
+use Rattle.std.specs.Prelude.{◌≡◌, ◌≢◌, ℕ, ◌<◌, ◌^◌, decimal, Bool, true, false, cond, ◌==◌, nat_lt, nat_le, List, length, Option, None, Some, Result, Ok, Err, ◌⊎◌}
 use Rattle.std.specs.List.{position}
 use Rattle.std.specs.Option.{option_map, option_or}
 use Rattle.ring_state.specs.declared.sizes.ParamsError.{ParamsError}
@@ -11,7 +11,7 @@ use Rattle.ring_farm.specs.declared.faults.FarmError.{FarmError}
 use Rattle.text_lines.specs.declared.answer.ReadError.{ReadError}
 use Rattle.ring_check.specs.declared.answers.CheckError.{CheckError}
 use Rattle.ring_commands.specs.ListWords.{IsNoList}
-use Rattle.ring_commands.specs.Reading.{most_bytes, IsOver}
+use Rattle.ring_commands.specs.Reading.{most_bytes, IsWithin, IsOver}
 use Rattle.ring_commands.specs.declared.faults.ToolError.{ToolError}
 use Rattle.ring_state.specs.declared.sizes.ParamsError.TheVariants as params
 use Rattle.ring_state.specs.declared.states.StateError.TheVariants as state
@@ -22,10 +22,14 @@ use Rattle.text_lines.specs.declared.answer.ReadError.TheVariants as read
 use Rattle.ring_check.specs.declared.answers.CheckError.TheVariants as check
 use Rattle.ring_commands.specs.declared.faults.ToolError.TheVariants as tool
 
+-- whether a refusal is that of a list that cannot be read
+abbrev pub is_bad_list : ToolError → Bool
+is_bad_list tool.BadList = true
+is_bad_list e = false
+
 -- the exit status after a refusal: 2 where a list cannot be read, as after other words that cannot be, else 1
 abbrev pub status_of : ToolError → ℕ
-status_of tool.BadList = 2
-status_of e = 1
+status_of e = cond (is_bad_list e) 2 1
 
 -- the exit status of a command, by what it answered and whether what it printed could leave a buffer
 abbrev pub end_status : {F : Type 0} → Result (Unit {0}) ToolError → Result (Unit {0}) F → ℕ
@@ -127,10 +131,10 @@ IsPieceRefusal piece e = ((e ≡ tool.BadList) × ((n : ℕ) → n < 2 ^ 32 → 
 abbrev pub IsListRefusal : List ℕ → ToolError → Type 0
 IsListRefusal word e = ((e ≡ tool.BadList) × IsNoList word) ⊎ (e ≡ tool.OutOfMemory)
 
--- Which refusals the reading of a file may meet, by what its reader had left before and has now: that the file of this name cannot be read, that it
--- has more bytes than are read, or want of memory.
+-- Which refusals the reading of a file may meet, by what its reader had left before and has now: a read of the file of this name failed, and no more than are read were
+-- given until then; it has more bytes than are read; or want of memory.
 abbrev pub IsReadRefusal : List ℕ → Option (List ℕ) → Option (List ℕ) → ToolError → Type 0
-IsReadRefusal file old new (tool.Read named) = named.now ≡ file
+IsReadRefusal file old new (tool.Read named) = (named.now ≡ file) × IsWithin most_bytes old new
 IsReadRefusal file old new (tool.TooLarge named) = (named.now ≡ file) × IsOver most_bytes old new
 IsReadRefusal file old new tool.OutOfMemory = Unit {0}
 IsReadRefusal file old new _ = ⊥

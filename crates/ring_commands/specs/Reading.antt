@@ -17,6 +17,10 @@ pub record IsAllOf (limit : ℕ) (old new : Option (List ℕ)) (bytes : List ℕ
 abbrev pub is_dash : List ℕ → Bool
 is_dash word = bytes_eq word (codes "-")
 
+-- it gave no more than so many bytes
+abbrev pub IsWithin : ℕ → Option (List ℕ) → Option (List ℕ) → Type 0
+IsWithin limit old new = (bytes : List ℕ) × (length bytes ≤ limit) × Consumes old new bytes
+
 -- it gave one byte more than so many
 abbrev pub IsOver : ℕ → Option (List ℕ) → Option (List ℕ) → Type 0
 IsOver limit old new = (bytes : List ℕ) × (length bytes ≡ limit + 1) × Consumes old new bytes

@@ -1,6 +1,6 @@
 //! How a command ends: its status, and the line of its fault.
 
-ghost use Rattle.std.specs.Prelude.{◌≡◌};
+ghost use Rattle.std.specs.Prelude.{◌≡◌, OnOk};
 ghost use Rattle.ring_commands.specs.Faults.{status_of, end_status};
 
 use crate::faults::ToolError;
@@ -15,9 +15,10 @@ pub fn tell<E: Write>(fault: &ToolError<'_>, err: &mut E) -> u8
 }
 
 /// Ends a command, by what it answered and whether what was printed could leave a buffer, which is tried
-/// after a refusal too: answers the status. A fault is told on `err`.
+/// after a refusal too: answers the status. A fault is told on `err`, which else stays as it was.
 pub fn finish<E: Write>(done: Result<(), ToolError<'_>>, flushed: io::Result<()>, err: &mut E) -> u8
-    ensures { result ≡ end_status done.entry flushed }
+    ensures status { result ≡ end_status done.entry flushed }
+    ensures silent { OnOk done.entry (OnOk flushed (err.new ≡ err.old)) }
 {
     match (done, flushed) {
         (Err(fault), _) => tell(&fault, err),

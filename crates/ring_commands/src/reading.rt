@@ -4,7 +4,7 @@ ghost use Rattle.std.specs.Prelude.{◌≡◌, ◌≤◌, Some, false, vec_len, 
 ghost use Rattle.std.specs.Io.KnownBytes.{Consumes, IsAtEnd};
 ghost use Rattle.ring_commands.specs.Faults.{IsReadRefusal};
 ghost use Rattle.ring_commands.specs.Named.{IsHeld, IsNamed, IsFileRefusal, IsNamedRefusal, IsApart, IsApartRefusal};
-ghost use Rattle.ring_commands.specs.Reading.{most_bytes, is_dash, IsAllOf, IsOver};
+ghost use Rattle.ring_commands.specs.Reading.{most_bytes, is_dash, IsAllOf, IsWithin, IsOver};
 
 use crate::faults::ToolError;
 use disks::Disk;
@@ -45,6 +45,7 @@ pub fn read_limited<R: Read>(
     ensures given { IfOk result (λ bytes. Consumes (R.remaining reader.old) (R.remaining reader.new) bytes.items) }
     ensures end { OnOk result (IsAtEnd (R.remaining reader.new)) }
     ensures large { IsErrOf result ReadFault.TooLarge → IsOver limit (R.remaining reader.old) (R.remaining reader.new) }
+    ensures failed { IsErrOf result ReadFault.Failed → IsWithin limit (R.remaining reader.old) (R.remaining reader.new) }
 {
     let mut bytes = Vec::new(alloc);
     let mut block = [0u8; BLOCK];

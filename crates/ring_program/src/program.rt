@@ -1,6 +1,7 @@
 //! The whole program, over its words, the files of any disk, any reader and any two writers.
 
-ghost use Rattle.std.specs.Prelude.{◌≤◌};
+ghost use Rattle.std.specs.Prelude.{◌≤◌, ℕ, List, Option};
+ghost use Rattle.ring_program.specs.Ended.{HasEnded};
 
 use clap::error::ErrorKind;
 use disks::Disk;
@@ -25,7 +26,8 @@ pub fn run_tool<R: AllocGlobal + Input + Threads + Wait + Sync, D: Disk, O: Writ
     out: &mut O,
     err: &mut E,
 ) -> u8
-    ensures { result ≤ 2 }
+    ensures status { result ≤ 2 }
+    ensures ended { (was : Option (List ℕ)) × (is : Option (List ℕ)) × HasEnded result (D.holds disk.old) (D.holds disk.new) was is (O.contents out.old) (O.contents out.new) (E.contents err.old) (E.contents err.new) }
 {
     run_tool_on(rt, disk, words, &mut rt.reader(), out, err)
 }
@@ -39,7 +41,8 @@ pub fn run_tool_on<R: AllocGlobal + Threads + Wait + Sync, D: Disk, I: Read, O: 
     out: &mut O,
     err: &mut E,
 ) -> u8
-    ensures { result ≤ 2 }
+    ensures status { result ≤ 2 }
+    ensures ended { HasEnded result (D.holds disk.old) (D.holds disk.new) (I.remaining input.old) (I.remaining input.new) (O.contents out.old) (O.contents out.new) (E.contents err.old) (E.contents err.new) }
 {
     match read_words(rt.alloc(), words) {
         Ok(request) => {

@@ -1,5 +1,7 @@
 -- No saved text is both legal and bad.
-use Rattle.std.proofs.Common.{◌≡◌, ℕ, List, [], ◌∷◌, length, Option, Ok, Err, refl, sym, ◌∙◌, subst, arith}
+use Rattle.std.proofs.Common.{◌≡◌, ℕ, ◌<◌, List, [], ◌∷◌, length, Option, Ok, Err, refl, sym, ap, ◌∙◌, subst, arith}
+use Rattle.std.specs.Prelude.{IsSome}
+use Rattle.std.specs.Io.KnownBytes.{Appends}
 use Rattle.std.specs.List.{All, AllByRecursion}
 use Rattle.std.proofs.lemmas.List.Elements.{All-cons}
 use Rattle.ring_saved.specs.Content.{Block, Content}
@@ -14,7 +16,8 @@ use Rattle.ring_check.proofs.Scans.{at_most_one}
 use Rattle.ring_commands.specs.Checked.{IsLegalSavedText, IsBadSavedText, IsSavedTextRefusal, IsCheckRefusal}
 use Rattle.ring_commands.specs.declared.faults.ToolError.{ToolError}
 use Rattle.ring_commands.specs.declared.faults.ToolError.TheVariants as tool
-use Rattle.wrong_commands.proofs.Written.{one_value}
+use Rattle.ring_commands.specs.CheckText.{legal_line}
+use Rattle.wrong_commands.proofs.Written.{one_value, not_twice}
 
 -- what fits has its starts
 starts : (version : ℕ) (bs : List Block) → AllByRecursion (BlockFits version) bs → All (λ (b : Block). length b.start ≡ b.n) bs
@@ -44,3 +47,15 @@ pub not_checked : (bytes : List ℕ) (sums : Summary) (old new : Option (List �
 not_checked bytes sums old new e line kind is refusal l =
     let P : ToolError → Type 0 = λ t. IsCheckRefusal bytes old new t in
     not_both bytes sums line kind (subst P is refusal) l
+
+-- a text has one legal value, with one line of sums
+pub one_sums : (bytes : List ℕ) (a b : Summary) → IsLegalSavedText bytes a → IsLegalSavedText bytes b → a ≡ b
+one_sums bytes a b l k =
+    l.sums_right ∙ ap summary_of (one_value l.content k.content l.fits k.fits (sym l.spelled ∙ k.spelled)) ∙ sym k.sums_right
+
+pub not_told_twice : (bytes : List ℕ) (a b c : Summary) (old mid new : Option (List ℕ)) → IsSome old → IsLegalSavedText bytes a → IsLegalSavedText bytes b → IsLegalSavedText bytes c →
+    Appends old mid (legal_line a) → Appends mid new (legal_line b) → Appends old new (legal_line c) → ⊥
+not_told_twice bytes a b c old mid new known l k m one two both =
+    let some : 0 < length (legal_line a) = omega arith in
+    not_twice old mid new (legal_line a) known some one (subst (λ (s : Summary). Appends mid new (legal_line s)) (one_sums bytes b a k l) two)
+    (subst (λ (s : Summary). Appends old new (legal_line s)) (one_sums bytes c a m l) both)

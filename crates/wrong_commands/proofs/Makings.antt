@@ -1,6 +1,7 @@
 -- What files hold where one was to be replaced.
 use Rattle.std.proofs.Common.{◌≡◌, ◌∙◌, ap, sym, subst, refl, inl, inr}
 use Rattle.std.specs.Prelude.{ℕ, List, [], Option, None, Some, IsSome, Bool, false, ◌⊎◌}
+use Rattle.std.specs.Option.{unwrap_or}
 use Rattle.std.proofs.lemmas.Bool.{false≢true}
 use Rattle.disks.specs.Held.{Held, Starts, Replaces, bytes_of}
 use Rattle.ring_saved.specs.Content.{Content}
@@ -40,3 +41,8 @@ emptied None mid put is name made known not starts same puts last back = absurd 
 emptied (Some was) mid put is name made known not starts same puts last back =
     let there : Replaces (Some was) put name (Some []) = subst (λ (d : Option Held). Replaces d put name (Some [])) same (subst (λ (m : Option (List ℕ)). Replaces mid put name m) starts puts) in
     not (subst (λ (d : Option Held). IsHeld d name []) (sym last ∙ back) (held_there (Some was) put name [] known there))
+
+-- a file holds one list of bytes
+pub one_file_holds : (files : Option Held) (name one other : List ℕ) → IsSome files → IsHeld files name one → IsHeld files name other → one ≡ other
+one_file_holds None name one other known h k = absurd (false≢true known)
+one_file_holds (Some held) name one other known h k = ap (λ (o : Option (List ℕ)). unwrap_or o []) (sym h ∙ k)

@@ -3,7 +3,7 @@ use Rattle.std.proofs.Common.{◌≡◌, ℕ, ◌+◌, List, [], length, Option,
 use Rattle.std.specs.Prelude.{IsSome}
 use Rattle.std.proofs.lemmas.Bool.{false≢true}
 use Rattle.std.specs.Io.KnownBytes.{Consumes}
-use Rattle.ring_commands.specs.Reading.{IsOver}
+use Rattle.ring_commands.specs.Reading.{IsWithin, IsOver}
 
 -- of one length
 pub one_length : (o n : Option (List ℕ)) (x y : List ℕ) → IsSome o → Consumes o n x → Consumes o n y → length x ≡ length y
@@ -28,4 +28,12 @@ not_empty limit o n bytes known h none k =
     let e = one_length o n h.0 bytes known h.2 k in
     let a = h.1 in
     let b : length bytes ≡ 0 = ap length none in
+    omega (arith, e, a, b)
+
+-- what is over a limit is not within it
+pub not_within : (limit : ℕ) (o n : Option (List ℕ)) → IsSome o → IsOver limit o n → IsWithin limit o n → ⊥
+not_within limit o n known h k =
+    let e = one_length o n h.0 k.0 known h.2 k.2 in
+    let a = h.1 in
+    let b = k.1 in
     omega (arith, e, a, b)

@@ -16,7 +16,7 @@ ghost use Rattle.ring_commands.specs.Checked.{IsLegalSavedText, IsCheckRefusal};
 ghost use Rattle.ring_commands.specs.Faults.{status_of, end_status};
 ghost use Rattle.ring_commands.specs.Named.{IsHeld, IsApart};
 ghost use Rattle.ring_commands.specs.Ran.{told};
-ghost use Rattle.ring_commands.specs.Reading.{most_bytes, is_dash, IsAllOf, IsOver};
+ghost use Rattle.ring_commands.specs.Reading.{most_bytes, is_dash, IsAllOf, IsWithin, IsOver};
 
 use disks::Disk;
 use ring_check::{Kind, Summary};
@@ -145,86 +145,6 @@ pub fn refusal_that_ends_well<E: Write>(
     }
 }
 
-/// The history of a farm holds the saved text of its outcome: the report alone is written, and the file stays as it was.
-pub fn history_that_is_not_saved<D: Disk, W: Write>(
-    outcome: &Outcome,
-    _disk: &mut D,
-    _file: &str,
-    out: &mut W,
-) -> Result<(), WriteFault>
-    requires some { 1 ≤ length outcome.now.rings.items }
-    requires most { length outcome.now.rings.items ≤ ring_limit }
-    requires few { entries_in outcome.now < 2 ^ 64 }
-    requires known { IsSome (D.holds _disk.old) }
-    requires others { IsHeld (D.holds _disk.old) _file.now (text (saved_of outcome.now)) → ⊥ }
-    ensures wrong { OnOk result (Replaces (D.holds _disk.old) (D.holds _disk.new) _file.now (Some (text (saved_of outcome.now))) → ⊥) }
-{
-    write_report(outcome, out)?;
-    Ok(())
-}
-
-/// The history is saved in the file of its name: it is saved in another one.
-pub fn history_in_another_file<'a, D: Disk, W: Write>(
-    alloc: Global,
-    disk: &mut D,
-    outcome: &Outcome,
-    _file: &str,
-    other: &'a str,
-    out: &mut W,
-) -> Result<(), ToolError<'a>>
-    requires some { 1 ≤ length outcome.now.rings.items }
-    requires most { length outcome.now.rings.items ≤ ring_limit }
-    requires few { entries_in outcome.now < 2 ^ 64 }
-    requires known { IsSome (D.holds disk.old) }
-    requires named { is_dash other.now ≡ false }
-    requires apart { IsApart (D.holds disk.old) other.now (Some _file.now) }
-    requires others { IsHeld (D.holds disk.old) _file.now (text (saved_of outcome.now)) → ⊥ }
-    ensures wrong { OnOk result (Replaces (D.holds disk.old) (D.holds disk.new) _file.now (Some (text (saved_of outcome.now))) → ⊥) }
-{
-    save_and_report(alloc, disk, outcome, other, true, out)?;
-    Ok(())
-}
-
-/// What is told of a farm is its outcome: another one is saved and told, which reads otherwise.
-pub fn outcome_that_is_anothers<'a, D: Disk, W: Write>(
-    alloc: Global,
-    disk: &mut D,
-    outcome: &Outcome,
-    other: &Outcome,
-    file: &'a str,
-    quiet: bool,
-    out: &mut W,
-) -> Result<(), ToolError<'a>>
-    requires some { 1 ≤ length other.now.rings.items }
-    requires most { length other.now.rings.items ≤ ring_limit }
-    requires few { entries_in other.now < 2 ^ 64 }
-    requires known { IsSome (W.contents out.old) }
-    requires apart { told quiet other.now ≢ told quiet outcome.now }
-    ensures wrong { OnOk result (Appends (W.contents out.old) (W.contents out.new) (told quiet outcome.now) → ⊥) }
-{
-    save_and_report(alloc, disk, other, file, quiet, out)?;
-    Ok(())
-}
-
-/// A quiet run tells the last line alone, and each other the whole report: it is the other way.
-pub fn quiet_run_that_reports<'a, D: Disk, W: Write>(
-    alloc: Global,
-    disk: &mut D,
-    outcome: &Outcome,
-    file: &'a str,
-    quiet: bool,
-    out: &mut W,
-) -> Result<(), ToolError<'a>>
-    requires some { 1 ≤ length outcome.now.rings.items }
-    requires most { length outcome.now.rings.items ≤ ring_limit }
-    requires few { entries_in outcome.now < 2 ^ 64 }
-    requires known { IsSome (W.contents out.old) }
-    ensures wrong { OnOk result (Appends (W.contents out.old) (W.contents out.new) (told quiet outcome.now) → ⊥) }
-{
-    save_and_report(alloc, disk, outcome, file, !quiet, out)?;
-    Ok(())
-}
-
 /// A file with more bytes than the limit is refused: it is read as empty.
 pub fn file_over_the_limit_that_is_read<R: Read>(
     alloc: Global,
@@ -250,4 +170,62 @@ pub fn whole_file_that_is_cut<R: Read>(alloc: Global, file: &str, reader: &mut R
     };
     let _last = bytes.pop()?;
     Some(bytes)
+}
+
+/// A file is too large only if a byte more than the limit was read: a read that failed is told as that.
+pub fn failed_read_that_is_too_large<R: Read>(
+    alloc: Global,
+    reader: &mut R,
+    limit: u64,
+) -> Option<ReadFault>
+    requires known { IsSome (R.remaining reader.old) }
+    ensures wrong { IfSome result (λ _. IsOver limit (R.remaining reader.old) (R.remaining reader.new) → ⊥) }
+{
+    let Err(ReadFault::Failed) = read_limited(alloc, reader, limit) else {
+        return None;
+    };
+    Some(ReadFault::TooLarge)
+}
+
+/// A read failed only if no more than the limit was given until then: a file that is too large is told as that.
+pub fn large_file_that_fails<R: Read>(
+    alloc: Global,
+    reader: &mut R,
+    limit: u64,
+) -> Option<ReadFault>
+    requires known { IsSome (R.remaining reader.old) }
+    ensures wrong { IfSome result (λ _. IsWithin limit (R.remaining reader.old) (R.remaining reader.new) → ⊥) }
+{
+    let Err(ReadFault::TooLarge) = read_limited(alloc, reader, limit) else {
+        return None;
+    };
+    Some(ReadFault::Failed)
+}
+
+/// A command ends well only if all that it printed has left: it is not asked whether that is so.
+pub fn output_that_is_stuck_and_ends_well<E: Write>(
+    done: Result<(), ToolError<'_>>,
+    flushed: io::Result<()>,
+    err: &mut E,
+) -> Option<u8>
+    ensures wrong { IfSome result (λ status. status ≡ end_status done.entry flushed → ⊥) }
+{
+    if done.is_err() || flushed.is_ok() {
+        return None;
+    }
+    Some(finish(done, Ok(()), err))
+}
+
+/// A command is done once: a text is checked and told twice.
+pub fn check_that_is_told_twice<W: Write>(
+    alloc: Global,
+    bytes: &[u8],
+    out: &mut W,
+) -> Result<(), ToolError<'static>>
+    requires known { IsSome (W.contents out.old) }
+    ensures wrong { OnOk result ((sums : Summary) → IsLegalSavedText bytes.now sums → Appends (W.contents out.old) (W.contents out.new) (legal_line sums) → ⊥) }
+{
+    check_bytes(alloc, bytes, out)?;
+    check_bytes(alloc, bytes, out)?;
+    Ok(())
 }

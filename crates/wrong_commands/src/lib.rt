@@ -3,5 +3,6 @@
 #![tactic(auto)]
 
 pub mod commands;
+pub mod files;
 pub mod texts;
 pub mod upgrades;

@@ -1,6 +1,6 @@
 use Rattle.ring_commands.specs.Ran.{told}
 use Rattle.wrong_commands.proofs.Written.{one_text}
-use Rattle.wrong_commands.proofs.commands.outcome_that_is_anothers.Goals as goal
+use Rattle.wrong_commands.proofs.files.outcome_that_is_anothers.Goals as goal
 
 pub returns : goal.returns
 returns g c = record {

@@ -1,5 +1,5 @@
 use Rattle.wrong_commands.proofs.Reports.{told_apart}
-use Rattle.wrong_commands.proofs.commands.quiet_run_that_reports.Goals as goal
+use Rattle.wrong_commands.proofs.files.quiet_run_that_reports.Goals as goal
 
 pub returns : goal.returns
 returns g c = record {

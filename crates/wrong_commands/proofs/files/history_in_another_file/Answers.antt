@@ -1,5 +1,5 @@
 use Rattle.wrong_commands.proofs.Makings.{another_was}
-use Rattle.wrong_commands.proofs.commands.history_in_another_file.Goals as goal
+use Rattle.wrong_commands.proofs.files.history_in_another_file.Goals as goal
 
 pub returns : goal.returns
 returns g c = record {

@@ -1,0 +1,49 @@
+-- From what a command answered, and whether its output left, to how the program ends.
+use Rattle.std.proofs.Common.{◌≡◌, ◌∙◌, ◌≢◌, ℕ, List, Bool, true, false, cond, Option, Result, Ok, Err, ◌⊎◌, inl, inr, refl, ap, sym, subst, arith}
+use Rattle.std.specs.Prelude.{OnOk, IfErr}
+use Rattle.std.proofs.lemmas.Bool.{false≢true}
+use Rattle.std.specs.Io.KnownBytes.{Keeps}
+use Rattle.disks.specs.Held.{Held}
+use Rattle.ring_requests.specs.declared.requests.Request.{Request}
+use Rattle.ring_commands.specs.Answered.{IsAnswer, IsRefusal}
+use Rattle.ring_commands.specs.Faults.{is_bad_list, end_status}
+use Rattle.ring_commands.specs.declared.faults.ToolError.{ToolError}
+use Rattle.ring_commands.specs.declared.faults.ToolError.TheVariants as tool
+use Rattle.ring_program.specs.Ended.{HasEnded}
+
+some : (b : Bool) → cond {A = ℕ} b 2 1 ≡ 0 → ⊥
+some true h = omega (arith, h)
+some false h = omega (arith, h)
+
+two : (b : Bool) → cond {A = ℕ} b 2 1 ≡ 2 → b ≡ true
+two true h = refl
+two false h = absurd (omega (arith, h))
+
+not_write : (e : ToolError) → is_bad_list e ≡ true → e ≢ tool.Write
+not_write e bad same = false≢true (sym (ap is_bad_list same) ∙ bad)
+
+-- what is said of a value is said of a part of it
+pub silent_of : {A B : Type 0} {E F : Type 0} (part : A → B) (late early : A) (r : Result (Unit {0}) E) (f : Result (Unit {0}) F) → OnOk r (OnOk f (late ≡ early)) →
+    OnOk r (OnOk f (part late ≡ part early))
+silent_of part late early (Ok u) (Ok v) same = ap part same
+silent_of part late early (Ok u) (Err e) same = tt
+silent_of part late early (Err e) f same = tt
+
+pub ended : {F : Type 0} (r : Result (Unit {0}) ToolError) (f : Result (Unit {0}) F) (request : Request) (before after : Option Held) (was is old mid new early told late : Option (List ℕ)) →
+    OnOk r (IsAnswer request before after was is old mid early told) → IfErr r (λ e. IsRefusal request before after was is old mid early told e) →
+    IfErr r (λ e. e ≢ tool.Write → after ≡ before) → Keeps mid new → OnOk r (OnOk f (late ≡ told)) → HasEnded (end_status r f) before after was is old new early late
+ended (Ok u) (Ok v) request before after was is old mid new early told late answered refused kept keeps same = record {
+  done = λ s. inl (mid, (request, subst (λ (l : Option (List ℕ)). IsAnswer request before after was is old mid early l) (sym same) answered), keeps);
+  unread = λ s. absurd (omega (arith, s));
+  refused = λ s. absurd (omega (arith, s));
+}
+ended (Ok u) (Err e) request before after was is old mid new early told late answered refused kept keeps same = record {
+  done = λ s. absurd (omega (arith, s));
+  unread = λ s. absurd (omega (arith, s));
+  refused = λ s. inr (mid, told, inl (request, answered));
+}
+ended (Err e) f request before after was is old mid new early told late answered refused kept keeps same = record {
+  done = λ s. absurd (some (is_bad_list e) s);
+  unread = λ s. kept (not_write e (two (is_bad_list e) s));
+  refused = λ s. inr (mid, told, inr (request, e, refused, kept));
+}
