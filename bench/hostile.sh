@@ -1,7 +1,7 @@
 #!/bin/sh
-# Runs what is tried of hostile use beside the gate: each request for memory refused in turn, files that are too large, and
-# drawn settings and damaged texts for so many minutes (2 where there is no word). Prints one table, what, how many and how
-# many of them failed, and ends with status 1 where one did; what each part printed stands in bench/out/hostile-*.log.
+# Runs what is tried of hostile use beside the gate: each request for memory refused in turn, files that are too large, files in
+# danger, and drawn settings and damaged texts for so many minutes (2 where there is no word). Prints one table, what, how many
+# and how many of them failed, and ends with status 1 where one did; what each part printed stands in bench/out/hostile-*.log.
 # Needs rt, a C compiler, awk, python3 and 2 GiB of memory.
 set -eu
 . "$(dirname "$0")/common.sh"
@@ -20,6 +20,7 @@ part() {
 
 part refused_memory
 part large_files
+part files
 part soak "${1:-2}"
 awk -F '\t' '
     BEGIN { print "| What | How many | Failed |"; print "|---|---|---|" }

@@ -1,6 +1,6 @@
 //! `picture`: whether a saved text is that of legal histories, and one of its rings as an SVG.
 
-ghost use Rattle.std.specs.Prelude.{◌≡◌, ◌≢◌, ◌⊎◌, ℕ, ◌<◌, ◌≤◌, List, length, slice_get, false, Some, OnOk, OnErr, IfOk, IfErr};
+ghost use Rattle.std.specs.Prelude.{◌≡◌, ◌≢◌, ◌⊎◌, ℕ, ◌<◌, ◌≤◌, List, length, slice_get, false, Some, OnOk, OnErr, IfOk, IfErr, IsErrOf};
 ghost use Rattle.std.specs.Io.KnownBytes.{Appends};
 ghost use Rattle.ring_saved.specs.Content.{content, block_of};
 ghost use Rattle.ring_commands.specs.CheckText.{legal_line};
@@ -10,6 +10,7 @@ ghost use Rattle.ring_commands.specs.Handed.{IsHandOutRefusal, IsPrintRefusal, I
 ghost use Rattle.ring_commands.specs.Named.{IsApart, IsApartRefusal};
 ghost use Rattle.ring_commands.specs.Ran.{IsSaveRefusal};
 ghost use Rattle.ring_commands.specs.Reading.{is_dash};
+ghost use Rattle.ring_commands.specs.Written.{AppendsFront};
 
 use crate::check::{legal_saved, write_sums};
 use crate::faults::ToolError;
@@ -77,6 +78,31 @@ fn drawing_of(
 }
 
 /// Writes the picture of a drawing.
+///
+/// # Errors
+///
+/// Those of [`write_picture`].
+fn write_drawing<W: Write>(
+    alloc: Global,
+    out: &mut W,
+    drawing: &Drawing,
+    words: &PictureWords<'_>,
+) -> Result<(), PictureFault>
+    requires drawn { (bytes : List ℕ) × IsDrawing words.now bytes drawing.now }
+    ensures drawn { OnOk result (Appends (W.contents out.old) (W.contents out.new) (picture_of words.now drawing.now)) }
+    ensures front { IsErrOf result PictureFault.Write → AppendsFront (W.contents out.old) (W.contents out.new) (picture_of words.now drawing.now) }
+    ensures nothing { IsErrOf result PictureFault.OutOfMemory → out.new ≡ out.old }
+{
+    write_picture(
+        alloc,
+        out,
+        &drawing.ring,
+        words.from as usize,
+        drawing.count,
+    )
+}
+
+/// Writes the picture of a drawing for its file.
 fn put_picture<'a, W: Write>(
     alloc: Global,
     out: &mut W,
@@ -87,13 +113,7 @@ fn put_picture<'a, W: Write>(
     ensures written { OnOk result (Appends (W.contents out.old) (W.contents out.new) (picture_of words.now drawing.now)) }
     ensures err { IfErr result (λ e. IsSaveRefusal words.now.picture.now e) }
 {
-    match write_picture(
-        alloc,
-        out,
-        &drawing.ring,
-        words.from as usize,
-        drawing.count,
-    ) {
+    match write_drawing(alloc, out, drawing, words) {
         Ok(()) => Ok(()),
         Err(PictureFault::Write) => Err(ToolError::Save(words.picture)),
         Err(PictureFault::OutOfMemory) => Err(ToolError::OutOfMemory),
@@ -200,13 +220,7 @@ fn print_and_tell<W: Write, E: Write>(
     ensures err { IfErr result (λ e. IsPrintRefusal (picture_of words.now drawing.now) (legal_line drawing.now.sums) (W.contents out.old) (W.contents out.new) (E.contents err.old) (E.contents err.new) e) }
     ensures nothing { IfErr result (λ e. e ≢ ToolError.Write → out.new ≡ out.old) }
 {
-    match write_picture(
-        alloc,
-        out,
-        &drawing.ring,
-        words.from as usize,
-        drawing.count,
-    ) {
+    match write_drawing(alloc, out, drawing, words) {
         Ok(()) => {}
         Err(PictureFault::Write) => return Err(ToolError::Write),
         Err(PictureFault::OutOfMemory) => return Err(ToolError::OutOfMemory),

@@ -2,14 +2,7 @@ use Rattle.std.proofs.Common.{◌<◌, length, inr, arith}
 use Rattle.ring_commands.specs.CheckText.{legal_line}
 use Rattle.ring_commands.specs.Pictured.{picture_of}
 use Rattle.ring_commands.proofs.Buffers.{flushed, line_left}
-use Rattle.ring_commands.proofs.Drawings.{drawn_some, drawn_few}
 use Rattle.ring_commands.proofs.picture.print_and_tell.Goals as goal
-
-pub write_picture-requires-clause-some : goal.write_picture-requires-clause-some
-write_picture-requires-clause-some g c = drawn_some c.args.words.now c.requires.drawn.0 c.args.drawing.now c.requires.drawn.1
-
-pub write_picture-requires-clause-few : goal.write_picture-requires-clause-few
-write_picture-requires-clause-few g c = drawn_few c.args.words.now c.requires.drawn.0 c.args.drawing.now c.requires.drawn.1
 
 pub returns-in_default-clause-err : goal.returns-in_default-clause-err
 returns-in_default-clause-err g c =

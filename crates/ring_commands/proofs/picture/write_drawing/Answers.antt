@@ -1,5 +1,5 @@
 use Rattle.ring_commands.proofs.Drawings.{drawn_some, drawn_few}
-use Rattle.ring_commands.proofs.picture.put_picture.Goals as goal
+use Rattle.ring_commands.proofs.picture.write_drawing.Goals as goal
 
 pub write_picture-requires-clause-some : goal.write_picture-requires-clause-some
 write_picture-requires-clause-some g c = drawn_some c.args.words.now c.requires.drawn.0 c.args.drawing.now c.requires.drawn.1
