@@ -2,3 +2,4 @@ pub mod Places
 pub mod Runs
 pub mod Shown
 pub mod Texts
+pub mod Walking

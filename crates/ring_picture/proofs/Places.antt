@@ -1,10 +1,10 @@
 -- A ring from place to place: what a call makes of it, whatever its resource holds.
 use Rattle.std.proofs.Common.{◌≡◌, ℕ, ◌+◌, ◌<◌, ◌≤◌, cond, true, false, List, [], ◌∷◌, ◌++◌, length, take, get_or, map, refl, sym, ap, ◌∙◌, arith}
-use Rattle.std.proofs.lemmas.List.{take_more, take_all, map-append, set_past}
+use Rattle.std.proofs.lemmas.List.{take_more, take_all, map-append}
 use Rattle.ring_model.specs.declared.events.Op.{Op}
 use Rattle.ring_model.specs.declared.events.Op.TheVariants.{Pass, Member, Corrupt}
 use Rattle.ring_model.specs.declared.events.Event.{Event}
-use Rattle.ring_model.specs.Ring.{Ring, ring_with, is_privileged, moved, moved_value}
+use Rattle.ring_model.specs.Ring.{Ring, ring_with, is_privileged, moved}
 use Rattle.ring_model.specs.History.{State, granted_state, next, after}
 use Rattle.ring_model.specs.Resources.{till}
 use Rattle.ring_model.specs.Surveys.{calm}
@@ -12,24 +12,12 @@ use Rattle.ring_model.proofs.Histories.{after-push, calm_next, calm-push}
 use Rattle.ring_saved.specs.declared.saved.SavedEvent.{SavedEvent}
 use Rattle.ring_saved.specs.Content.{Block}
 use Rattle.ring_check.specs.Table.{event_of, first_state}
-use Rattle.ring_picture.specs.Picture.{passed, next_ring, ring_at, calm_at}
+use Rattle.ring_picture.specs.Picture.{next_ring, ring_at, calm_at}
 
 next_is : (a : State ℕ) (o : Op) → (next till a o).ring ≡ next_ring a.ring o
 next_is a (Pass i order) = elim (is_privileged a.ring.values i) as (λ p. (cond p (granted_state till a i order) a).ring ≡ cond p (moved a.ring i) a.ring) [ true ↦ refl | false ↦ refl ]
 next_is a (Member i order left) = elim (is_privileged a.ring.values i) as (λ p. (cond p (granted_state till a i order) a).ring ≡ cond p (moved a.ring i) a.ring) [ true ↦ refl | false ↦ refl ]
 next_is a (Corrupt i v) = refl
-
--- a machine past the last has no part in the ring
-pub passed_past : (r : Ring) (i : ℕ) → length r.values ≤ i → r ≡ passed r i
-passed_past r i l =
-    let same : moved r i ≡ r = ap (λ (s : List ℕ). ring_with r.k s) (set_past r.values i (moved_value r i) l) in
-    elim (is_privileged r.values i) as (λ p. r ≡ cond p (moved r i) r) [ true ↦ sym same | false ↦ refl ]
-
-pub passed_off : (r : Ring) (i : ℕ) → is_privileged r.values i ≡ false → r ≡ passed r i
-passed_off r i e = rw e refl
-
-pub passed_on : (r : Ring) (i : ℕ) → is_privileged r.values i ≡ true → moved r i ≡ passed r i
-passed_on r i e = rw e refl
 
 -- the events so far with one more
 history_more : (b : Block) (i : ℕ) (d : SavedEvent) → i < length b.events → map event_of (take (i + 1) b.events) ≡ map event_of (take i b.events) ++ event_of (get_or b.events i d) ∷ []

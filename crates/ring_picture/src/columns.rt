@@ -1,114 +1,112 @@
 //! The ring of a block, from place to place.
 
-ghost use Rattle.std.specs.Prelude.{◌≡◌, ◌+◌, ◌<◌, ◌≤◌, ◌^◌, length, vec_len, slice_set, IfOk};
-ghost use Rattle.ring_model.specs.Ring.{ring_with};
-ghost use Rattle.ring_saved.specs.Content.{block_of};
-ghost use Rattle.ring_check.specs.Table.{event_of};
+ghost use Rattle.std.specs.Prelude.{◌≡◌, ◌+◌, ◌<◌, ◌≤◌, ◌^◌, IfOk};
+ghost use Rattle.ring_model.specs.Limits.{machine_limit};
+ghost use Rattle.ring_model.specs.Ring.{written};
 ghost use Rattle.ring_model.proofs.Histories.{calm_next};
+ghost use Rattle.ring_saved.specs.Content.{block_of};
+ghost use Rattle.ring_check.specs.Gauges.{ring_of, IsGauge};
+ghost use Rattle.ring_check.specs.Table.{event_of};
 ghost use Rattle.ring_picture.specs.Picture.{passed, next_ring, ring_at, calm_at, shown, ring_shown, calm_shown};
+ghost use Rattle.ring_picture.specs.Walks.{HasRing};
 
 use crate::groups::{left_before, shown};
+use ring_check::Gauge;
 use ring_model::plain::is_privileged;
 use ring_saved::{SavedEvent, SavedRing};
 use std::alloc::{AllocError, Global};
 
 /// Moves a machine that is privileged. One that is not, or is none of the ring's, changes nothing.
-fn pass(k: u32, values: &mut Vec<u32>, machine: u32)
-    requires { 0 < k }
-    ensures ring { ring_with k values.new.items ≡ passed (ring_with k values.old.items) machine }
-    ensures len { vec_len values.new ≡ vec_len values.old }
+fn pass(k: u32, gauge: &mut Gauge, machine: u32)
+    requires gauge { IsGauge gauge.old }
+    requires k { (ring_of gauge.old).k ≡ k }
+    ensures gauge { IsGauge gauge.new }
+    ensures ring { ring_of gauge.new ≡ passed (ring_of gauge.old) machine }
 {
     let i = machine as usize;
+    let values = gauge.values();
     if i < values.len() && is_privileged(values, i) {
-        values[i] = if i == 0 {
+        let value = if i == 0 {
             ((values[0] as u64 + 1) % k as u64) as u32
         } else {
             values[i - 1]
         };
+        gauge.write(i, value);
     }
 }
 
 /// Writes a value into a machine, where it is one of the ring's.
-fn corrupt(values: &mut Vec<u32>, machine: u32, value: u32)
-    ensures values { values.new.items ≡ slice_set values.old.items machine value }
-    ensures len { vec_len values.new ≡ vec_len values.old }
+fn corrupt(gauge: &mut Gauge, machine: u32, value: u32)
+    requires { IsGauge gauge.old }
+    ensures gauge { IsGauge gauge.new }
+    ensures ring { ring_of gauge.new ≡ written (ring_of gauge.old) machine value }
 {
     let i = machine as usize;
-    if i < values.len() {
-        values[i] = value;
+    if i < gauge.values().len() {
+        gauge.write(i, value);
     }
 }
 
 /// Does the call of an event.
-fn call(k: u32, event: SavedEvent, values: &mut Vec<u32>)
-    requires { 0 < k }
-    ensures ring { ring_with k values.new.items ≡ next_ring (ring_with k values.old.items) (event_of event).op }
-    ensures len { vec_len values.new ≡ vec_len values.old }
+fn call(k: u32, event: SavedEvent, gauge: &mut Gauge)
+    requires gauge { IsGauge gauge.old }
+    requires k { (ring_of gauge.old).k ≡ k }
+    ensures gauge { IsGauge gauge.new }
+    ensures ring { ring_of gauge.new ≡ next_ring (ring_of gauge.old) (event_of event).op }
 {
     match event {
-        SavedEvent::Granted { machine, .. } => pass(k, values, machine),
-        SavedEvent::Refused { machine, .. } => pass(k, values, machine),
-        SavedEvent::Member { machine, .. } => pass(k, values, machine),
-        SavedEvent::Corrupted { machine, value, .. } => corrupt(values, machine, value),
+        SavedEvent::Granted { machine, .. } => pass(k, gauge, machine),
+        SavedEvent::Refused { machine, .. } => pass(k, gauge, machine),
+        SavedEvent::Member { machine, .. } => pass(k, gauge, machine),
+        SavedEvent::Corrupted { machine, value, .. } => corrupt(gauge, machine, value),
     }
 }
 
 /// Goes one event further; behind the last one the ring stays as it is.
-fn step_on(ring: &SavedRing, place: usize, values: &mut Vec<u32>)
-    requires some { 0 < ring.now.k }
-    requires ring { ring_with ring.now.k values.old.items ≡ ring_at (block_of ring.now) place }
-    ensures ring { ring_with ring.now.k values.new.items ≡ ring_at (block_of ring.now) (place + 1) }
-    ensures len { vec_len values.new ≡ vec_len values.old }
+fn step_on(ring: &SavedRing, place: usize, gauge: &mut Gauge)
+    requires { HasRing ring.now (ring_at (block_of ring.now) place) gauge.old }
+    ensures { HasRing ring.now (ring_at (block_of ring.now) (place + 1)) gauge.new }
 {
     if place < ring.events.len() {
-        call(ring.k, ring.events[place], values);
+        call(ring.k, ring.events[place], gauge);
     }
 }
 
 /// Goes one place further, as places are shown: inside a group's block the ring stays as it is, and at the block's end
 /// all its members move.
-pub(crate) fn go_on(ring: &SavedRing, place: usize, values: &mut Vec<u32>)
-    requires some { 0 < ring.now.k }
+pub(crate) fn go_on(ring: &SavedRing, place: usize, gauge: &mut Gauge)
     requires room { place + 1 < 2 ^ 63 }
-    requires ring { ring_with ring.now.k values.old.items ≡ ring_shown (block_of ring.now) place }
-    ensures ring { ring_with ring.now.k values.new.items ≡ ring_shown (block_of ring.now) (place + 1) }
-    ensures len { vec_len values.new ≡ vec_len values.old }
+    requires ring { HasRing ring.now (ring_shown (block_of ring.now) place) gauge.old }
+    ensures { HasRing ring.now (ring_shown (block_of ring.now) (place + 1)) gauge.new }
 {
     if left_before(ring, place + 1) == 0 {
         for i in shown(ring, place)..place + 1 {
-            step_on(ring, i, values);
+            step_on(ring, i, gauge);
         }
     }
 }
 
 /// Goes on from the start to a place.
-fn go_to(ring: &SavedRing, place: usize, values: &mut Vec<u32>)
-    requires some { 0 < ring.now.k }
-    requires start { values.old.items ≡ ring.now.start.items }
-    requires len { vec_len values.old ≡ vec_len ring.now.start }
+fn go_to(ring: &SavedRing, place: usize, gauge: &mut Gauge)
+    requires start { HasRing ring.now (ring_shown (block_of ring.now) 0) gauge.old }
     requires room { place < 2 ^ 63 }
-    ensures ring { ring_with ring.now.k values.new.items ≡ ring_shown (block_of ring.now) place }
-    ensures len { vec_len values.new ≡ vec_len ring.now.start }
+    ensures { HasRing ring.now (ring_shown (block_of ring.now) place) gauge.new }
 {
     for i in 0..place {
-        go_on(ring, i, values);
+        go_on(ring, i, gauge);
     }
 }
 
-/// The values of a ring's machines that are shown behind its first so many events.
-pub(crate) fn values_at(
-    alloc: Global,
-    ring: &SavedRing,
-    place: usize,
-) -> Result<Vec<u32>, AllocError>
+/// The ring that is shown behind the first so many events.
+pub(crate) fn gauge_at(alloc: Global, ring: &SavedRing, place: usize) -> Result<Gauge, AllocError>
     requires some { 0 < ring.now.k }
+    requires few { ring.now.n ≤ machine_limit }
     requires room { place < 2 ^ 63 }
-    ensures ring { IfOk result (λ values. ring_with ring.now.k values.items ≡ ring_shown (block_of ring.now) place) }
-    ensures len { IfOk result (λ values. vec_len values ≡ ring.now.n) }
+    ensures { IfOk result (λ gauge. HasRing ring.now (ring_shown (block_of ring.now) place) gauge) }
 {
-    let mut values = Vec::from_slice(alloc, &ring.start)?;
-    go_to(ring, place, &mut values);
-    Ok(values)
+    let mut gauge = Gauge::new(alloc, ring.k, &ring.start)?;
+    go_to(ring, place, &mut gauge);
+    Ok(gauge)
 }
 
 /// The calm after one more event.
@@ -169,13 +167,4 @@ pub(crate) fn calm_to(ring: &SavedRing, place: usize) -> u64
         calm = calm_on(ring, i, calm);
     }
     calm
-}
-
-/// Brings the values back to others.
-pub(crate) fn bring_back(values: &mut Vec<u32>, base: &[u32])
-    requires { vec_len values.old ≡ length base.now }
-    ensures values { values.new.items ≡ base.now }
-    ensures len { vec_len values.new ≡ vec_len values.old }
-{
-    values.copy_from_slice(base);
 }

@@ -1,12 +1,12 @@
 //! The curves of the rest and of the calm.
 
-ghost use Rattle.std.specs.Prelude.{◌≡◌, ◌+◌, ◌<◌, ◌≤◌, ◌^◌, length, vec_len};
+ghost use Rattle.std.specs.Prelude.{◌≡◌, ◌+◌, ◌<◌, ◌≤◌, ◌^◌};
 ghost use Rattle.text_lines.specs.Writing.{Writes};
 ghost use Rattle.ring_model.specs.Limits.{machine_limit};
-ghost use Rattle.ring_model.specs.Ring.{ring_with, bound};
+ghost use Rattle.ring_model.specs.Ring.{bound};
 ghost use Rattle.ring_saved.specs.Content.{block_of};
-ghost use Rattle.ring_check.specs.Gauges.{ring_of, IsGauge};
 ghost use Rattle.ring_picture.specs.Picture.{ring_shown, highest_rest, height_of, curve_height, point, rest_points, calm_points};
+ghost use Rattle.ring_picture.specs.Walks.{HasRing};
 
 use crate::columns::{calm_on, calm_to, go_on};
 use itoa::Buffer;
@@ -17,30 +17,16 @@ use std::io::Write;
 use text_lines::{WriteFault, put_all};
 
 /// The highest rest of so many columns.
-fn highest_rest(
-    ring: &SavedRing,
-    from: usize,
-    columns: u32,
-    values: &mut Vec<u32>,
-    gauge: &mut Gauge,
-) -> u64
-    requires some { 0 < ring.now.k }
-    requires gauge { IsGauge gauge.old }
-    requires same { (ring_of gauge.old).k ≡ ring.now.k }
-    requires len { vec_len values.old ≡ length (ring_of gauge.old).values }
-    requires ring { ring_with ring.now.k values.old.items ≡ ring_shown (block_of ring.now) from }
+fn highest_rest(ring: &SavedRing, from: usize, columns: u32, gauge: &mut Gauge) -> u64
+    requires ring { HasRing ring.now (ring_shown (block_of ring.now) from) gauge.old }
     requires room { from + columns < 2 ^ 63 }
     ensures highest { result ≡ highest_rest (block_of ring.now) from columns }
-    ensures gauge { IsGauge gauge.new }
-    ensures same { (ring_of gauge.new).k ≡ ring.now.k }
-    ensures len { vec_len values.new ≡ length (ring_of gauge.new).values }
-    ensures machines { vec_len values.new ≡ vec_len values.old }
+    ensures ring { HasRing ring.now (ring_shown (block_of ring.now) (from + columns)) gauge.new }
 {
     let mut highest: u64 = 0;
     for column in 0..columns {
-        gauge.follow(values);
         highest = highest.max(gauge.rest());
-        go_on(ring, from + column as usize, values);
+        go_on(ring, from + column as usize, gauge);
     }
     highest
 }
@@ -57,27 +43,14 @@ fn height_of(highest: u64, limit: u64) -> u64
 }
 
 /// The number at the top of the curves of so many columns.
-pub(crate) fn curve_height(
-    ring: &SavedRing,
-    from: usize,
-    columns: u32,
-    values: &mut Vec<u32>,
-    gauge: &mut Gauge,
-) -> u64
-    requires some { 0 < ring.now.k }
+pub(crate) fn curve_height(ring: &SavedRing, from: usize, columns: u32, gauge: &mut Gauge) -> u64
     requires few { ring.now.n ≤ machine_limit }
-    requires gauge { IsGauge gauge.old }
-    requires same { (ring_of gauge.old).k ≡ ring.now.k }
-    requires len { vec_len values.old ≡ length (ring_of gauge.old).values }
-    requires ring { ring_with ring.now.k values.old.items ≡ ring_shown (block_of ring.now) from }
+    requires ring { HasRing ring.now (ring_shown (block_of ring.now) from) gauge.old }
     requires room { from + columns < 2 ^ 63 }
     ensures height { result ≡ curve_height (block_of ring.now) from columns }
-    ensures gauge { IsGauge gauge.new }
-    ensures same { (ring_of gauge.new).k ≡ ring.now.k }
-    ensures len { vec_len values.new ≡ length (ring_of gauge.new).values }
-    ensures machines { vec_len values.new ≡ vec_len values.old }
+    ensures ring { HasRing ring.now (ring_shown (block_of ring.now) (from + columns)) gauge.new }
 {
-    let highest = highest_rest(ring, from, columns, values, gauge);
+    let highest = highest_rest(ring, from, columns, gauge);
     height_of(highest, bound(ring.n))
 }
 
@@ -97,24 +70,18 @@ pub(crate) fn put_rests<W: Write>(
     ring: &SavedRing,
     from: usize,
     columns: u32,
-    values: &mut Vec<u32>,
     gauge: &mut Gauge,
 ) -> Result<(), WriteFault>
-    requires some { 0 < ring.now.k }
-    requires gauge { IsGauge gauge.old }
-    requires same { (ring_of gauge.old).k ≡ ring.now.k }
-    requires len { vec_len values.old ≡ length (ring_of gauge.old).values }
-    requires ring { ring_with ring.now.k values.old.items ≡ ring_shown (block_of ring.now) from }
+    requires ring { HasRing ring.now (ring_shown (block_of ring.now) from) gauge.old }
     requires room { from + columns < 2 ^ 63 }
     ensures { Writes (W.contents out.old) (W.contents out.new) result (rest_points (block_of ring.now) from columns) }
 {
     for column in 0..columns {
-        gauge.follow(values);
         match put_point(out, column, gauge.rest()) {
             Ok(()) => {}
             Err(fault) => return Err(fault),
         }
-        go_on(ring, from + column as usize, values);
+        go_on(ring, from + column as usize, gauge);
     }
     Ok(())
 }

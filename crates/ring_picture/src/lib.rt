@@ -15,6 +15,7 @@ mod laws;
 mod marks;
 mod picture;
 mod rows;
+mod stretches;
 
 pub use laws::stretches_cover;
 pub use picture::{PictureFault, write_picture};

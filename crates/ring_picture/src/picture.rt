@@ -1,19 +1,20 @@
 //! The whole picture, part by part.
 
-ghost use Rattle.std.specs.Prelude.{◌≡◌, ℕ, ◌+◌, ◌<◌, ◌≤◌, ◌^◌, List, length, vec_len, OnOk, IsErrOf};
+ghost use Rattle.std.specs.Prelude.{◌≡◌, ℕ, ◌+◌, ◌<◌, ◌≤◌, ◌^◌, List, length, OnOk, IsErrOf};
 ghost use Rattle.std.specs.Io.KnownBytes.{Appends};
 ghost use Rattle.text_lines.specs.Writing.{Wrote, Writes};
 ghost use Rattle.ring_model.specs.Limits.{machine_limit};
 ghost use Rattle.ring_model.specs.Ring.{ring_with, bound};
 ghost use Rattle.ring_saved.specs.Content.{block_of};
-ghost use Rattle.ring_check.specs.Gauges.{ring_of, IsGauge};
 ghost use Rattle.ring_picture.specs.Picture.{ring_shown, curve_height, upper_part, marks_part, lower_part, picture};
+ghost use Rattle.ring_picture.specs.Walks.{HasRing, AreRows};
 
-use crate::columns::{bring_back, values_at};
+use crate::columns::gauge_at;
 use crate::curves::{curve_height, put_calms, put_rests};
 use crate::frame::{put_axes, put_curves_opening, put_rows_opening, put_title};
 use crate::marks::put_marks;
 use crate::rows::put_rows;
+use crate::stretches::{Row, walk};
 use ring_check::Gauge;
 use ring_model::plain::bound;
 use ring_saved::SavedRing;
@@ -36,24 +37,20 @@ fn put_upper<W: Write>(
     from: usize,
     count: u32,
     height: u64,
-    base: &[u32],
-    values: &mut Vec<u32>,
+    rows: &[Row],
 ) -> Result<(), WriteFault>
-    requires some { 0 < ring.now.k }
     requires few { ring.now.n ≤ machine_limit }
-    requires same { length base.now ≡ ring.now.n }
-    requires len { vec_len values.old ≡ ring.now.n }
-    requires ring { ring_with ring.now.k base.now ≡ ring_shown (block_of ring.now) from }
     requires height { height ≡ curve_height (block_of ring.now) from (count + 1) }
     requires columns { count + 1 < 2 ^ 32 }
     requires room { from + count + 1 < 2 ^ 63 }
-    ensures text { Writes (W.contents out.old) (W.contents out.new) result (upper_part (block_of ring.now) from count) }
-    ensures len { vec_len values.new ≡ ring.now.n }
+    requires machines { length rows.now ≡ ring.now.n }
+    requires rows { AreRows (block_of ring.now) from (count + 1) rows.now }
+    ensures { Writes (W.contents out.old) (W.contents out.new) result (upper_part (block_of ring.now) from count) }
 {
     put_title(out, ring, from, count)?;
     put_axes(out, ring.n, from, count, height)?;
     put_rows_opening(out, ring.n, count + 1)?;
-    put_rows(out, ring, from, count + 1, base, values)
+    put_rows(out, rows, count + 1)
 }
 
 /// The marks of refused passes, and over them those of corruptions.
@@ -86,21 +83,16 @@ fn put_lower<W: Write>(
     from: usize,
     columns: u32,
     height: u64,
-    values: &mut Vec<u32>,
     gauge: &mut Gauge,
 ) -> Result<(), WriteFault>
-    requires some { 0 < ring.now.k }
     requires few { ring.now.n ≤ machine_limit }
     requires height { height ≡ curve_height (block_of ring.now) from columns }
-    requires gauge { IsGauge gauge.old }
-    requires same { (ring_of gauge.old).k ≡ ring.now.k }
-    requires len { vec_len values.old ≡ length (ring_of gauge.old).values }
-    requires ring { ring_with ring.now.k values.old.items ≡ ring_shown (block_of ring.now) from }
+    requires ring { HasRing ring.now (ring_shown (block_of ring.now) from) gauge.old }
     requires room { from + columns < 2 ^ 63 }
     ensures { Writes (W.contents out.old) (W.contents out.new) result (lower_part (block_of ring.now) from columns) }
 {
     put_curves_opening(out, columns, height, bound(ring.n))?;
-    put_rests(out, ring, from, columns, values, gauge)?;
+    put_rests(out, ring, from, columns, gauge)?;
     put(
         out,
         b"\"/>\n<polyline stroke=\"#0a7d4f\" stroke-width=\"1.5\" stroke-dasharray=\"5 3\" points=\"",
@@ -112,33 +104,32 @@ fn put_lower<W: Write>(
     )
 }
 
-/// The picture, from the values at its first column on.
+/// The picture, from its rows and from the values at its first column on.
 fn put_picture<W: Write>(
     out: &mut W,
     ring: &SavedRing,
     from: usize,
     count: u32,
+    rows: &[Row],
     base: &[u32],
-    values: &mut Vec<u32>,
     gauge: &mut Gauge,
 ) -> Result<(), WriteFault>
-    requires some { 0 < ring.now.k }
     requires few { ring.now.n ≤ machine_limit }
-    requires same { length base.now ≡ ring.now.n }
-    requires len { vec_len values.old ≡ ring.now.n }
-    requires ring { ring_with ring.now.k base.now ≡ ring_shown (block_of ring.now) from }
-    requires gauge { IsGauge gauge.old }
-    requires measured { ring_of gauge.old ≡ ring_with ring.now.k base.now }
     requires columns { count + 1 < 2 ^ 32 }
     requires room { from + count + 1 < 2 ^ 63 }
+    requires machines { length rows.now ≡ ring.now.n }
+    requires rows { AreRows (block_of ring.now) from (count + 1) rows.now }
+    requires same { length base.now ≡ ring.now.n }
+    requires base { ring_with ring.now.k base.now ≡ ring_shown (block_of ring.now) from }
+    requires gauge { HasRing ring.now (ring_shown (block_of ring.now) (from + (count + 1))) gauge.old }
     ensures { Writes (W.contents out.old) (W.contents out.new) result (picture (block_of ring.now) from count) }
 {
-    bring_back(values, base);
-    let height = curve_height(ring, from, count + 1, values, gauge);
-    put_upper(out, ring, from, count, height, base, values)?;
+    gauge.follow(base);
+    let height = curve_height(ring, from, count + 1, gauge);
+    put_upper(out, ring, from, count, height, rows)?;
     put_both_marks(out, ring, from, count)?;
-    bring_back(values, base);
-    put_lower(out, ring, from, count + 1, height, values, gauge)
+    gauge.follow(base);
+    put_lower(out, ring, from, count + 1, height, gauge)
 }
 
 /// Writes the picture of a ring from behind its first `from` events on, for `count` events: a column for each place from
@@ -146,7 +137,8 @@ fn put_picture<W: Write>(
 ///
 /// # Errors
 ///
-/// `OutOfMemory` if there is no room for the ring's values and a count of each of its K values, and nothing is written then. `Write` at the first error of
+/// `OutOfMemory` if there is no room for the ring's values, a count of each of its K values and the stretches of its
+/// machines, and nothing is written then. `Write` at the first error of
 /// the writer, an interruption too, or write of 0 bytes: the writer then holds a beginning of the picture, but not all of
 /// it, behind what it held.
 pub fn write_picture<W: Write>(
@@ -164,16 +156,16 @@ pub fn write_picture<W: Write>(
     ensures front { IsErrOf result PictureFault.Write → (left : List ℕ) × (0 < length left) × Wrote (W.contents out.old) (W.contents out.new) (picture (block_of ring.now) from count) left }
     ensures nothing { IsErrOf result PictureFault.OutOfMemory → out.new ≡ out.old }
 {
-    let Ok(base) = values_at(alloc, ring, from) else {
+    let Ok(mut gauge) = gauge_at(alloc, ring, from) else {
         return Err(PictureFault::OutOfMemory);
     };
-    let Ok(mut values) = Vec::from_slice(alloc, &base) else {
+    let Ok(base) = Vec::from_slice(alloc, gauge.values()) else {
         return Err(PictureFault::OutOfMemory);
     };
-    let Ok(mut gauge) = Gauge::new(alloc, ring.k, &base) else {
+    let Ok(rows) = walk(alloc, ring, from, count + 1, &mut gauge) else {
         return Err(PictureFault::OutOfMemory);
     };
-    match put_picture(out, ring, from, count, &base, &mut values, &mut gauge) {
+    match put_picture(out, ring, from, count, &rows, &base, &mut gauge) {
         Ok(()) => Ok(()),
         Err(_) => Err(PictureFault::Write),
     }

@@ -3,6 +3,7 @@ use Rattle.ring_picture.proofs.rows.put_rectangle.Goals as goal
 pub returns : goal.returns
 returns g c =
     rw (
+      ← c.saturating_sub.ensures,
       ← c.format.ensures.text,
       ← c.format-2.ensures.text,
       ← c.format-3.ensures.text,

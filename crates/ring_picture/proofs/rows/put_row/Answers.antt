@@ -1,35 +1,48 @@
-use Rattle.std.proofs.Common.{◌≡◌, ◌+◌, ◌∙◌, Bool, List, ℕ, Ok, Err, ap, arith}
-use Rattle.text_lines.proofs.Writing.{writes_same}
-use Rattle.ring_model.specs.Ring.{Ring, is_privileged}
-use Rattle.ring_saved.specs.Content.{block_of}
-use Rattle.ring_picture.specs.Picture.{ring_shown, privileged_in, rectangle}
-use Rattle.ring_picture.proofs.Texts.{piece_more, ended_same, begin_more, begin_within, row_fault, row_end}
+use Rattle.std.proofs.Common.{◌≡◌, ◌<◌, ◌++◌, ◌∙◌, Ok, Err, ℕ, List, length, get_or, refl, sym, ap, subst, arith, rules, map}
+use Rattle.std.specs.List.{flat_map, slice_get}
+use Rattle.std.specs.Io.KnownBytes.{Appends}
+use Rattle.std.proofs.lemmas.Option.{slice_get_read}
+use Rattle.std.proofs.lemmas.List.Concat.{flat_map-append}
+use Rattle.text_lines.proofs.Writing.{writes_same, writes_then, writes_err}
+use Rattle.ring_picture.specs.Stretches.{pieces, run_from}
+use Rattle.ring_picture.specs.Picture.{rectangle}
+use Rattle.ring_picture.specs.Walks.{stretch_of}
+use Rattle.ring_picture.proofs.Texts.{piece_more, piece_fault}
+use Rattle.ring_picture.proofs.Walking.{run_to, runs_are}
 use Rattle.ring_picture.proofs.rows.put_row.Goals as goal
 
-pub returns-in-Err-clause-text : goal.returns-in-Err-clause-text
-returns-in-Err-clause-text g c =
-    let p : ℕ → Bool = privileged_in (block_of c.args.ring.now) c.args.from c.args.machine in
-    let here : c.is_privileged-privileged.result ≡ p c.loop-column.column =
-    c.is_privileged-privileged.ensures ∙ ap (λ (s : List ℕ). is_privileged s c.args.machine) (c.deref.ensures.value ∙ ap (λ (r : Ring). r.values) c.loop-column.invariant.ring) in
-    let piece = writes_same _ _ (Err c.in-Err.fault) _ _ (ended_same (rectangle c.args.machine) p c.loop-column.column c.loop-column.begin _ c.loop-column.invariant.begin here) c.in-Err.ensures in
-    row_fault (rectangle c.args.machine) p c.loop-column.column c.args.columns _ _ _ c.in-Err.fault c.loop-column-test.true c.loop-column.invariant.text piece
+pub returns-in-Err : goal.returns-in-Err
+returns-in-Err g c =
+    let runs = c.args.row.now.ended.items in
+    let text = rectangle c.args.machine in
+    let i = c.loop-i.i in
+    let lt : i < length runs = omega (arith, c.len-i-end.ensures, c.loop-i-test.true) in
+    let at : c.index.result.now ≡ get_or runs i c.index.result.now = search rules in
+    let is = slice_get_read runs (length runs) i c.index.result.now refl lt at in
+    let piece = writes_same _ _ (Err c.in-Err.fault) _ _ (sym (ap (run_to text) is)) c.in-Err.ensures in
+    let all = piece_fault (λ j. run_to text (slice_get runs j)) i (length runs) _ _ _ c.in-Err.fault lt c.loop-i.invariant piece in
+    let last = flat_map text (run_from c.args.row.now.begin c.args.columns) in
+    writes_same _ _ (Err c.in-Err.fault) _ _ (ap (λ (t : List ℕ). t ++ last) (runs_are text runs) ∙ sym (flat_map-append text (map stretch_of runs) (run_from c.args.row.now.begin c.args.columns)))
+    (writes_err _ _ c.in-Err.fault (pieces (λ j. run_to text (slice_get runs j)) (length runs)) last all)
 
-pub loop-column-preserved : goal.loop-column-preserved
-loop-column-preserved g c =
-    let p : ℕ → Bool = privileged_in (block_of c.args.ring.now) c.args.from c.args.machine in
-    let here : c.is_privileged-privileged.result ≡ p c.loop-column.column =
-    c.is_privileged-privileged.ensures ∙ ap (λ (s : List ℕ). is_privileged s c.args.machine) (c.deref.ensures.value ∙ ap (λ (r : Ring). r.values) c.loop-column.invariant.ring) in
-    let piece = writes_same _ _ (Ok c.in-Ok.field-0) _ _ (ended_same (rectangle c.args.machine) p c.loop-column.column c.loop-column.begin _ c.loop-column.invariant.begin here) c.in-Ok.ensures in
-    let further : c.args.from + c.loop-column.column + 1 ≡ c.args.from + (c.loop-column.column + 1) = omega arith in
-    record {
-      begin = begin_more (rectangle c.args.machine) p c.loop-column.column c.loop-column.begin _ _ c.loop-column.invariant.begin here c.next_begin-begin.ensures;
-      order = begin_within c.loop-column.begin c.loop-column.column _ _ c.loop-column.invariant.order c.next_begin-begin.ensures;
-      ring = c.go_on.ensures.ring ∙ ap (ring_shown (block_of c.args.ring.now)) further;
-      len = c.go_on.ensures.len ∙ c.loop-column.invariant.len;
-      text = piece_more _ c.loop-column.column _ _ _ c.loop-column.invariant.text piece;
-    }
+pub loop-i-preserved : goal.loop-i-preserved
+loop-i-preserved g c =
+    let runs = c.args.row.now.ended.items in
+    let text = rectangle c.args.machine in
+    let i = c.loop-i.i in
+    let lt : i < length runs = omega (arith, c.len-i-end.ensures, c.loop-i-test.true) in
+    let at : c.index.result.now ≡ get_or runs i c.index.result.now = search rules in
+    let is = slice_get_read runs (length runs) i c.index.result.now refl lt at in
+    let piece = writes_same _ _ (Ok c.in-Ok.field-0) _ _ (sym (ap (run_to text) is)) c.in-Ok.ensures in
+    piece_more (λ j. run_to text (slice_get runs j)) i _ _ _ c.loop-i.invariant piece
 
-pub returns-clause-text : goal.returns-clause-text
-returns-clause-text g c =
-    let p : ℕ → Bool = privileged_in (block_of c.args.ring.now) c.args.from c.args.machine in
-    row_end (rectangle c.args.machine) p c.loop-column.column c.args.columns c.loop-column.begin _ _ _ c.put_run.result (omega (arith, c.loop-column-test.false, c.loop-column.auto.column-end)) c.loop-column.invariant.begin c.loop-column.invariant.text c.put_run.ensures
+pub returns : goal.returns
+returns g c =
+    let runs = c.args.row.now.ended.items in
+    let text = rectangle c.args.machine in
+    let f : ℕ → List ℕ = λ j. run_to text (slice_get runs j) in
+    let end : c.loop-i.i ≡ length runs = omega (arith, c.len-i-end.ensures, c.loop-i-test.false, c.loop-i.auto.i-end) in
+    let all : Appends (g.W.Write.contents c.args.out.now) (g.W.Write.contents c.loop-i.out) (pieces f (length runs)) = subst (λ (j : ℕ). Appends (g.W.Write.contents c.args.out.now) (g.W.Write.contents c.loop-i.out) (pieces f j)) end c.loop-i.invariant in
+    let last = flat_map text (run_from c.args.row.now.begin c.args.columns) in
+    writes_same _ _ c.put_run.result _ _ (ap (λ (t : List ℕ). t ++ last) (runs_are text runs) ∙ sym (flat_map-append text (map stretch_of runs) (run_from c.args.row.now.begin c.args.columns)))
+    (writes_then _ _ _ c.put_run.result (pieces f (length runs)) last all c.put_run.ensures)

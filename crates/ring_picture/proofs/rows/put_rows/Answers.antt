@@ -1,14 +1,23 @@
-use Rattle.std.proofs.Common.{◌∙◌}
-use Rattle.ring_saved.specs.Content.{block_of}
-use Rattle.ring_picture.specs.Picture.{row_text}
+use Rattle.std.proofs.Common.{Ok, Err, length, refl, sym, ap}
+use Rattle.std.specs.List.{slice_get}
+use Rattle.std.proofs.lemmas.Option.{slice_get_read}
+use Rattle.text_lines.proofs.Writing.{writes_same}
+use Rattle.ring_picture.specs.Walks.{row_to}
 use Rattle.ring_picture.proofs.Texts.{piece_more, piece_fault}
 use Rattle.ring_picture.proofs.rows.put_rows.Goals as goal
 
-pub returns-in-Err-clause-text : goal.returns-in-Err-clause-text
-returns-in-Err-clause-text g c = piece_fault (row_text (block_of c.args.ring.now) c.args.from c.args.columns) c.loop-machine.machine c.args.ring.now.n _ _ _ c.in-Err.fault c.loop-machine-test.true c.loop-machine.invariant.text c.in-Err.ensures.text
+pub returns-in-Err : goal.returns-in-Err
+returns-in-Err g c =
+    let rows = c.args.rows.now in
+    let i = c.loop-machine.machine in
+    let is = slice_get_read rows (length rows) i c.index-rows-machine.result refl c.loop-machine-test.true c.index-rows-machine.is in
+    let piece = writes_same _ _ (Err c.in-Err.fault) _ _ (sym (ap (row_to c.args.columns i) is)) c.in-Err.ensures in
+    piece_fault (λ j. row_to c.args.columns j (slice_get rows j)) i (length rows) _ _ _ c.in-Err.fault c.loop-machine-test.true c.loop-machine.invariant piece
 
 pub loop-machine-preserved : goal.loop-machine-preserved
-loop-machine-preserved g c = record {
-  len = c.in-Ok.ensures.len ∙ c.bring_back.ensures.len ∙ c.loop-machine.invariant.len;
-  text = piece_more (row_text (block_of c.args.ring.now) c.args.from c.args.columns) c.loop-machine.machine _ _ _ c.loop-machine.invariant.text c.in-Ok.ensures.text;
-}
+loop-machine-preserved g c =
+    let rows = c.args.rows.now in
+    let i = c.loop-machine.machine in
+    let is = slice_get_read rows (length rows) i c.index-rows-machine.result refl c.loop-machine-test.true c.index-rows-machine.is in
+    let piece = writes_same _ _ (Ok c.in-Ok.field-0) _ _ (sym (ap (row_to c.args.columns i) is)) c.in-Ok.ensures in
+    piece_more (λ j. row_to c.args.columns j (slice_get rows j)) i _ _ _ c.loop-machine.invariant piece
