@@ -1,5 +1,5 @@
 -- What a command read and what it made, by the names of files.
-use Rattle.std.specs.Prelude.{◌≡◌, ℕ, List, Bool, true, false, Option, None, Some, ◌⊎◌, ⊤}
+use Rattle.std.specs.Prelude.{◌≡◌, ℕ, List, true, false, Option, None, Some, ◌⊎◌, ⊤}
 use Rattle.disks.specs.Held.{Held, IsOneFile, bytes_of, Opens, Replaces}
 use Rattle.ring_commands.specs.Faults.{IsReadRefusal}
 use Rattle.ring_commands.specs.Reading.{most_bytes, is_dash, IsAllOf}

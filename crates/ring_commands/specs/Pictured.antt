@@ -2,7 +2,6 @@
 use Rattle.std.specs.Prelude.{◌≡◌, ℕ, ◌-◌, ◌<◌, ◌≤◌, min, List, length, slice_get, true, false, Option, Some, ◌⊎◌}
 use Rattle.ring_saved.specs.Content.{Content, Block, block_of}
 use Rattle.ring_saved.specs.Spelling.{Fits, text}
-use Rattle.ring_check.specs.declared.answers.Summary.{Summary}
 use Rattle.ring_check.specs.Legal.{summary_of}
 use Rattle.ring_check.specs.Meaning.{IsRightText}
 use Rattle.ring_picture.specs.Picture.{picture}

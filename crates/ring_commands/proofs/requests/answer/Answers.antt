@@ -1,0 +1,46 @@
+use Rattle.ring_commands.proofs.requests.answer.Goals as goal
+
+pub returns-in-Run-clause-ok : goal.returns-in-Run-clause-ok
+returns-in-Run-clause-ok g c = rw c.in-Run.is c.run-in-Run.ensures.ok
+
+pub returns-in-Run-clause-err : goal.returns-in-Run-clause-err
+returns-in-Run-clause-err g c = rw c.in-Run.is c.run-in-Run.ensures.err
+
+pub returns-in-Picture-clause-ok : goal.returns-in-Picture-clause-ok
+returns-in-Picture-clause-ok g c = rw c.in-Picture.is c.run-in-Picture.ensures.ok
+
+pub returns-in-Picture-clause-err : goal.returns-in-Picture-clause-err
+returns-in-Picture-clause-err g c = rw c.in-Picture.is c.run-in-Picture.ensures.err
+
+pub returns-in-Upgrade-clause-ok : goal.returns-in-Upgrade-clause-ok
+returns-in-Upgrade-clause-ok g c = rw c.in-Upgrade.is c.run-in-Upgrade.ensures.ok
+
+pub returns-in-Upgrade-clause-err : goal.returns-in-Upgrade-clause-err
+returns-in-Upgrade-clause-err g c = rw c.in-Upgrade.is c.run-in-Upgrade.ensures.err
+
+pub returns-in-Picture-clause-kept : goal.returns-in-Picture-clause-kept
+returns-in-Picture-clause-kept g c = c.run-in-Picture.ensures.kept
+
+pub returns-in-Upgrade-clause-kept : goal.returns-in-Upgrade-clause-kept
+returns-in-Upgrade-clause-kept g c = c.run-in-Upgrade.ensures.kept
+
+pub returns-in-Run-clause-kept : goal.returns-in-Run-clause-kept
+returns-in-Run-clause-kept g c = c.run-in-Run.ensures.kept
+
+pub returns-in-Picture-clause-unread : goal.returns-in-Picture-clause-unread
+returns-in-Picture-clause-unread g c = rw c.in-Picture.is c.run-in-Picture.ensures.unread
+
+pub returns-in-Upgrade-clause-unread : goal.returns-in-Upgrade-clause-unread
+returns-in-Upgrade-clause-unread g c = rw c.in-Upgrade.is c.run-in-Upgrade.ensures.unread
+
+pub returns-in-Check-clause-unread : goal.returns-in-Check-clause-unread
+returns-in-Check-clause-unread g c = rw c.in-Check.is c.run-in-Check.ensures.unread
+
+pub returns-in-Run-clause-unread : goal.returns-in-Run-clause-unread
+returns-in-Run-clause-unread g c = rw c.in-Run.is c.run-in-Run.ensures.unread
+
+pub returns-in-Picture-clause-silent : goal.returns-in-Picture-clause-silent
+returns-in-Picture-clause-silent g c = rw c.in-Picture.is c.run-in-Picture.ensures.silent
+
+pub returns-in-Upgrade-clause-silent : goal.returns-in-Upgrade-clause-silent
+returns-in-Upgrade-clause-silent g c = rw c.in-Upgrade.is c.run-in-Upgrade.ensures.silent
