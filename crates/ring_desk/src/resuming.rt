@@ -42,6 +42,17 @@ impl From<AllocError> for ResumeError {
     }
 }
 
+/// The event of a pass by itself, with its reply.
+fn pass_told(seat: u32, machine: u32, order: u64, reply: Reply) -> Event
+    ensures { result ≡ record { seat = seat; op = Op.Pass machine order; reply = reply } }
+{
+    Event {
+        seat,
+        op: Op::Pass { machine, order },
+        reply,
+    }
+}
+
 /// The event that an event line tells of.
 fn event_told(saved: SavedEvent) -> Event
     ensures { result ≡ event_of saved }
@@ -53,11 +64,7 @@ fn event_told(saved: SavedEvent) -> Event
             order,
             number,
             result,
-        } => Event {
-            seat,
-            op: Op::Pass { machine, order },
-            reply: Reply::Granted { number, result },
-        },
+        } => pass_told(seat, machine, order, Reply::Granted { number, result }),
         SavedEvent::Member {
             seat,
             machine,
@@ -78,11 +85,7 @@ fn event_told(saved: SavedEvent) -> Event
             seat,
             machine,
             order,
-        } => Event {
-            seat,
-            op: Op::Pass { machine, order },
-            reply: Reply::NotPrivileged,
-        },
+        } => pass_told(seat, machine, order, Reply::NotPrivileged),
         SavedEvent::Corrupted {
             seat,
             machine,

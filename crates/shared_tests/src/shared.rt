@@ -179,7 +179,12 @@ fn room_for_two<N: Name>(rt: &impl Abort, alloc: Global) -> Vec<Seat<N>>
 }
 
 /// Two seats, to be given back.
-fn both<N: Name>(rt: &impl Abort, alloc: Global, one: Seat<N>, other: Seat<N>) -> Vec<Seat<N>>
+pub(crate) fn both<N: Name>(
+    rt: &impl Abort,
+    alloc: Global,
+    one: Seat<N>,
+    other: Seat<N>,
+) -> Vec<Seat<N>>
     requires { one.number ≢ other.number }
     ensures { IsDistinct eqb (map (λ s. s.number) result.items) }
 {

@@ -1,12 +1,13 @@
 //! Two clients of a ring of two machines, by their calls and the close.
 
-ghost use Rattle.std.specs.Prelude.{◌≡◌, ◌≢◌, ◌≤◌, [], eqb, length, map, vec_capacity};
-ghost use Rattle.std.specs.List.{IsDistinct};
+ghost use Rattle.std.specs.Prelude.{◌≡◌, ◌≢◌, ◌≤◌, length};
 ghost use Rattle.ring_model.specs.Resources.{till};
 ghost use Rattle.ring_model.specs.Ring.{IsRing};
 ghost use Rattle.ring_shared.specs.Holding.{MeansLegal};
 ghost use Rattle.ring_turns.specs.Spared.{spared};
 
+use crate::events::granted;
+use crate::shared::both;
 use ring_book::{Book, Till};
 use ring_model::{Entry, Event, Op, Receipt, Reply};
 use ring_shared::{Draft, Name, Ring, Seat};
@@ -51,48 +52,15 @@ fn draft(rt: &impl Abort, alloc: Global) -> Draft<Spared<Till>>
     draft
 }
 
-/// The receipt of a granted pass.
-fn granted(
-    position: u64,
-    seat: u32,
-    machine: u32,
-    order: u64,
-    number: u64,
-    answer: u64,
-) -> Receipt {
-    Receipt {
-        position,
-        event: Event {
-            seat,
-            op: Op::Pass { machine, order },
-            reply: Reply::Granted {
-                number,
-                result: answer,
-            },
+/// A turn of the first client, whose machine is machine 0.
+fn turn(asked_at: u64, position: u64, order: u64, number: u64, answer: u64) -> Turn {
+    Turn {
+        asked_at,
+        receipt: Receipt {
+            position,
+            event: granted(0, 0, order, number, answer),
         },
     }
-}
-
-/// Room for two seats.
-fn room_for_two<N: Name>(rt: &impl Abort, alloc: Global) -> Vec<Seat<N>>
-    ensures room { 2 ≤ vec_capacity result }
-    ensures empty { result.items ≡ [] }
-{
-    match Vec::with_capacity(alloc, 2) {
-        Ok(seats) => seats,
-        Err(_) => panic!(rt; "there is memory"),
-    }
-}
-
-/// Two seats, to be given back.
-fn both<N: Name>(rt: &impl Abort, alloc: Global, one: Seat<N>, other: Seat<N>) -> Vec<Seat<N>>
-    requires { one.number ≢ other.number }
-    ensures { IsDistinct eqb (map (λ s. s.number) result.items) }
-{
-    let mut seats = room_for_two(rt, alloc);
-    seats.push_reserved(one);
-    seats.push_reserved(other);
-    seats
 }
 
 /// The first client alone: machine 0 is its own, and machine 1 is passed on for the other, who wants nothing.
@@ -102,17 +70,9 @@ fn alone<N: Name, W: Wait + Abort>(rt: &W, turns: &Turns<N, Till>, seat: &mut Se
     ensures { seat.new.number ≡ seat.old.number }
 {
     let first = turns.take_turn(rt, seat, 7).expect(rt, "a turn");
-    let wanted = Turn {
-        asked_at: 0,
-        receipt: granted(0, 0, 0, 7, 1, 7),
-    };
-    assert_eq!(rt; first, wanted);
+    assert_eq!(rt; first, turn(0, 0, 7, 1, 7));
     let second = turns.take_turn(rt, seat, 5).expect(rt, "a turn");
-    let wanted = Turn {
-        asked_at: 1,
-        receipt: granted(2, 0, 0, 5, 3, 12),
-    };
-    assert_eq!(rt; second, wanted);
+    assert_eq!(rt; second, turn(1, 2, 5, 3, 12));
 }
 
 /// The first client behind a fault, which makes machine 1 privileged in the place of machine 0.
@@ -126,12 +86,8 @@ fn behind_a_fault<N: Name, W: Wait + Abort>(rt: &W, turns: &Turns<N, Till>, seat
     let fault = turns.corrupt(rt, seat, 0, 1).expect(rt, "a fault");
     assert_eq!(rt; fault.position, 0);
     assert_eq!(rt; fault.event.reply, Reply::Corrupted { old: 0 });
-    let turn = turns.take_turn(rt, seat, 4).expect(rt, "a turn");
-    let wanted = Turn {
-        asked_at: 1,
-        receipt: granted(2, 0, 0, 4, 2, 4),
-    };
-    assert_eq!(rt; turn, wanted);
+    let behind = turns.take_turn(rt, seat, 4).expect(rt, "a turn");
+    assert_eq!(rt; behind, turn(1, 2, 4, 2, 4));
 }
 
 /// How many turns each client had, and how many events the history has.
