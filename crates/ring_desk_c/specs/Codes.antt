@@ -1,0 +1,81 @@
+-- The code of each refusal, as the header has them (this project's own).
+use Rattle.std.specs.Prelude.{ℕ}
+use Rattle.ring_state.specs.declared.sizes.ParamsError.{ParamsError}
+use Rattle.ring_state.specs.declared.sizes.ParamsError.TheVariants as params
+use Rattle.text_lines.specs.declared.answer.ReadError.{ReadError}
+use Rattle.text_lines.specs.declared.answer.ReadError.TheVariants as read
+use Rattle.ring_check.specs.declared.answers.Kind.{Kind}
+use Rattle.ring_check.specs.declared.answers.Kind.TheVariants as kind
+use Rattle.ring_desk.specs.declared.errors.CallError.{CallError}
+use Rattle.ring_desk.specs.declared.errors.CallError.TheVariants as call
+use Rattle.ring_desk.specs.declared.errors.OpenError.{OpenError}
+use Rattle.ring_desk.specs.declared.errors.OpenError.TheVariants as opens
+use Rattle.ring_desk.specs.declared.resuming.ResumeError.{ResumeError}
+use Rattle.ring_desk.specs.declared.resuming.ResumeError.TheVariants as resume
+use Rattle.ring_desk_c.specs.declared.kept.TextError.{TextError}
+use Rattle.ring_desk_c.specs.declared.kept.TextError.TheVariants as text
+
+-- want of memory, whoever asks for it
+abbrev pub no_memory : ℕ
+no_memory = 23
+
+-- of a call
+abbrev pub call_code : CallError → ℕ
+call_code call.NoSeat = 16
+call_code call.NoMachine = 17
+call_code call.NoValue = 18
+call_code call.NotRising = 19
+call_code call.WholeRing = 20
+call_code (call.NotPrivileged m) = 21
+call_code call.HistoryFull = 22
+call_code call.OutOfMemory = no_memory
+
+-- of a size: the number of machines, or that of values
+abbrev pub size_code : ParamsError → ℕ
+size_code params.TooFew = 33
+size_code params.TooMany = 33
+size_code params.FewValues = 34
+size_code params.ManyValues = 34
+
+-- of numbers from which no ring is opened
+abbrev pub open_code : OpenError → ℕ
+open_code opens.Seats = 32
+open_code (opens.Size e) = size_code e
+open_code opens.Length = 35
+open_code (opens.Value i) = 36
+open_code opens.OutOfMemory = no_memory
+
+-- of bytes that are no saved text
+abbrev pub read_code : ReadError → ℕ
+read_code (read.Syntax line) = 48
+read_code read.Truncated = 49
+read_code read.OutOfMemory = no_memory
+
+-- of a saved text that has no ring at a place
+abbrev pub no_ring : ℕ
+no_ring = 50
+
+-- of a saved ring that is not gone on with
+abbrev pub resume_code : ResumeError → ℕ
+resume_code (resume.Open e) = open_code e
+resume_code (resume.Call e) = call_code e
+resume_code resume.Differs = 51
+resume_code resume.OutOfMemory = no_memory
+
+-- of a text that is not legal
+abbrev pub kind_code : Kind → ℕ
+kind_code kind.Parameter = 64
+kind_code kind.Range = 65
+kind_code kind.Reply = 66
+kind_code kind.Count = 67
+kind_code kind.Survey = 68
+kind_code kind.Group = 69
+
+-- of a ring that has no saved text
+abbrev pub text_code : TextError → ℕ
+text_code text.NoTill = 80
+text_code text.OutOfMemory = no_memory
+
+-- of a buffer that is too small
+abbrev pub too_small : ℕ
+too_small = 81

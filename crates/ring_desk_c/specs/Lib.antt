@@ -1,0 +1,5 @@
+pub mod Answers
+pub mod Codes
+pub mod Held
+pub mod Opened
+pub mod Told

@@ -1,0 +1,62 @@
+-- A ring that is opened for C, and why none is (this project's own).
+use Rattle.std.specs.Prelude.{◌≡◌, ℕ, ◌≤◌, ◌⊎◌, List, map, length, slice_get, Some, Ok, Err}
+use Rattle.ring_model.specs.Ring.{ring_with}
+use Rattle.ring_model.specs.Resources.{till}
+use Rattle.ring_model.specs.History.{Works}
+use Rattle.ring_state.specs.Sizes.{Size, IsSize}
+use Rattle.ring_book.specs.BookView.{IsFresh}
+use Rattle.ring_book.specs.IdleWorks.{idle}
+use Rattle.ring_saved.specs.declared.saved.Saved.{Saved}
+use Rattle.ring_saved.specs.declared.saved.SavedRing.{SavedRing}
+use Rattle.ring_saved.specs.Meaning.{IsRightRead}
+use Rattle.text_lines.specs.declared.answer.ReadError.{ReadError}
+use Rattle.ring_check.specs.Table.{event_of}
+use Rattle.ring_desk.specs.Rings.{RingView, IsOneThreadRing, IsSeatCount, IsOpenFault, AreFresh}
+use Rattle.ring_desk.specs.declared.errors.OpenError.{OpenError}
+use Rattle.ring_desk.specs.declared.resuming.ResumeError.{ResumeError}
+use Rattle.ring_desk_c.specs.declared.kept.Kept.{Kept}
+use Rattle.ring_desk_c.specs.declared.kept.Kept.TheVariants.{Till, Idle}
+use Rattle.ring_desk_c.specs.Codes.{open_code, read_code, resume_code, no_memory, no_ring}
+
+-- a ring with no events that starts so, over the resource's first content, with so many clients that were told nothing
+pub record IsOpened {C : Type 0} (w : Works C) (first : C) (n k : ℕ) (start : List ℕ) (seats : ℕ) (d : RingView C) : Type 0 where
+  pub ring : IsOneThreadRing w first d
+  pub fresh : IsFresh (record { k = k; values = start }) first d.book
+  pub clients : AreFresh seats d.clients
+  pub count : IsSeatCount seats
+  pub size : IsSize (record { n = n; k = k })
+  pub values : length start ≡ n
+
+abbrev pub IsOpenedTill : ℕ → ℕ → List ℕ → ℕ → Kept → Type 0
+IsOpenedTill n k start seats (Till d) = IsOpened till 0 n k start seats d
+IsOpenedTill n k start seats (Idle d) = ⊥
+
+abbrev pub IsOpenedIdle : ℕ → ℕ → List ℕ → ℕ → Kept → Type 0
+IsOpenedIdle n k start seats (Idle d) = IsOpened idle (record {}) n k start seats d
+IsOpenedIdle n k start seats (Till d) = ⊥
+
+-- the code of the first fault of the numbers, or of want of memory
+abbrev pub IsOpenRefused : Size → List ℕ → ℕ → ℕ → Type 0
+IsOpenRefused size start seats code = (code ≡ no_memory) ⊎ ((e : OpenError) × IsOpenFault size start seats e × (code ≡ open_code e))
+
+-- The ring goes on with the one at this place of the saved text that the bytes are: it started so, and its history is that one.
+pub record IsResumedFrom (bytes : List ℕ) (place : ℕ) (d : RingView ℕ) : Type 0 where
+  pub saved : Saved
+  pub read : IsRightRead bytes (Ok saved)
+  pub ring : SavedRing
+  pub at : slice_get saved.rings.items place ≡ Some ring
+  pub start : d.book.start ≡ ring_with ring.k ring.start.items
+  pub history : d.book.history ≡ map event_of ring.events.items
+  pub right : IsOneThreadRing till 0 d
+
+abbrev pub IsResumed : List ℕ → ℕ → Kept → Type 0
+IsResumed bytes place (Till d) = IsResumedFrom bytes place d
+IsResumed bytes place (Idle d) = ⊥
+
+-- the code of what is wrong with the bytes, with the place, or with the ring there, or of want of memory
+abbrev pub IsResumeRefused : List ℕ → ℕ → ℕ → Type 0
+IsResumeRefused bytes place code =
+    (code ≡ no_memory)
+    ⊎ (((e : ReadError) × IsRightRead bytes (Err e) × (code ≡ read_code e))
+    ⊎ (((saved : Saved) × IsRightRead bytes (Ok saved) × (length saved.rings.items ≤ place) × (code ≡ no_ring))
+    ⊎ ((e : ResumeError) × (code ≡ resume_code e))))

@@ -1,0 +1,190 @@
+//! The calls of a ring that C holds.
+
+ghost use Rattle.std.specs.Prelude.{◌≡◌, true, length, Ok, Result};
+ghost use Rattle.ring_model.specs.declared.events.Receipt.{Receipt};
+ghost use Rattle.ring_model.specs.declared.events.Survey.{Survey};
+ghost use Rattle.ring_book.specs.declared.books.groups.GroupReceipt.{GroupReceipt};
+ghost use Rattle.ring_desk.specs.declared.errors.CallError.{CallError};
+ghost use Rattle.ring_desk_c.specs.Answers.{IsPassAnswer, IsCorruptAnswer, IsGroupAnswer, IsSurveyAnswer, IsGlance, history_of};
+ghost use Rattle.ring_desk_c.specs.Told.{IsTold, IsGroupTold, IsSightTold, sight_of};
+
+use crate::answers::{Answer, Group, Sight, group_told, sight_told, told};
+use crate::handle::{Handle, hold, loosen};
+use crate::kept;
+use crate::loose::Loose;
+use core::mem::replace_with;
+use ring_book::GroupReceipt;
+use ring_desk::CallError;
+use ring_model::{Receipt, Survey};
+
+/// A pass of a ring that C holds.
+fn passed(handle: Handle, call: (u32, u32, u64)) -> (Handle, Result<Receipt, CallError>)
+    requires { handle.full ≡ true }
+    ensures full { result.0.full ≡ true }
+    ensures is { IsPassAnswer handle.value result.0.value call.0 call.1 call.2 result.1 }
+{
+    let mut kept = loosen(handle).into_box();
+    let answer = kept::pass(&mut kept, call.0, call.1, call.2);
+    (hold(Loose::of(kept)), answer)
+}
+
+/// A pass by a machine, for a seat: 0 where it was granted, 1 where the machine is not privileged, else why it was refused.
+#[unsafe(no_mangle)]
+pub extern "C" fn wozgirt_pass(
+    ring: &mut Handle,
+    seat: u32,
+    machine: u32,
+    order: u64,
+    out: &mut Answer,
+) -> u32
+    requires { ring.old.full ≡ true }
+    ensures full { ring.new.full ≡ true }
+    ensures told { (answer : Result Receipt CallError) × IsPassAnswer ring.old.value ring.new.value seat machine order answer × IsTold answer result out.old out.new }
+{
+    let answer = replace_with(ring, (seat, machine, order), |handle, call| {
+        passed(handle, call)
+    });
+    told(answer, out)
+}
+
+/// A fault of a ring that C holds.
+fn corrupted(handle: Handle, call: (u32, u32, u32)) -> (Handle, Result<Receipt, CallError>)
+    requires { handle.full ≡ true }
+    ensures full { result.0.full ≡ true }
+    ensures is { IsCorruptAnswer handle.value result.0.value call.0 call.1 call.2 result.1 }
+{
+    let mut kept = loosen(handle).into_box();
+    let answer = kept::corrupt(&mut kept, call.0, call.1, call.2);
+    (hold(Loose::of(kept)), answer)
+}
+
+/// A fault, for a seat: a value is written into a machine.
+#[unsafe(no_mangle)]
+pub extern "C" fn wozgirt_corrupt(
+    ring: &mut Handle,
+    seat: u32,
+    machine: u32,
+    value: u32,
+    out: &mut Answer,
+) -> u32
+    requires { ring.old.full ≡ true }
+    ensures full { ring.new.full ≡ true }
+    ensures told { (answer : Result Receipt CallError) × IsCorruptAnswer ring.old.value ring.new.value seat machine value answer × IsTold answer result out.old out.new }
+{
+    let answer = replace_with(ring, (seat, machine, value), |handle, call| {
+        corrupted(handle, call)
+    });
+    told(answer, out)
+}
+
+/// A group pass of a ring that C holds.
+fn grouped(
+    handle: Handle,
+    seat: u32,
+    machines: &[u32],
+    order: u64,
+) -> (Handle, Result<GroupReceipt, CallError>)
+    requires { handle.full ≡ true }
+    ensures full { result.0.full ≡ true }
+    ensures is { IsGroupAnswer handle.value result.0.value seat machines.now order result.1 }
+{
+    let mut kept = loosen(handle).into_box();
+    let answer = kept::pass_group(&mut kept, seat, machines, order);
+    (hold(Loose::of(kept)), answer)
+}
+
+/// A pass by machines whose numbers rise, all at once, for a seat.
+#[unsafe(no_mangle)]
+pub extern "C" fn wozgirt_pass_group(
+    ring: &mut Handle,
+    seat: u32,
+    machines: &[u32],
+    order: u64,
+    out: &mut Group,
+) -> u32
+    requires { ring.old.full ≡ true }
+    ensures full { ring.new.full ≡ true }
+    ensures told { (answer : Result GroupReceipt CallError) × IsGroupAnswer ring.old.value ring.new.value seat machines.now order answer × IsGroupTold answer result out.old out.new }
+{
+    let answer = replace_with(ring, (), |handle, _call| {
+        grouped(handle, seat, machines, order)
+    });
+    group_told(answer, out)
+}
+
+/// A survey of a ring that C holds.
+fn surveyed(handle: Handle, seat: u32) -> (Handle, Result<Survey, CallError>)
+    requires { handle.full ≡ true }
+    ensures full { result.0.full ≡ true }
+    ensures is { IsSurveyAnswer handle.value result.0.value seat result.1 }
+{
+    let mut kept = loosen(handle).into_box();
+    let answer = kept::survey(&mut kept, seat);
+    (hold(Loose::of(kept)), answer)
+}
+
+/// A survey, for a seat, whose log keeps it.
+#[unsafe(no_mangle)]
+pub extern "C" fn wozgirt_survey(ring: &mut Handle, seat: u32, out: &mut Sight) -> u32
+    requires { ring.old.full ≡ true }
+    ensures full { ring.new.full ≡ true }
+    ensures told { (answer : Result Survey CallError) × IsSurveyAnswer ring.old.value ring.new.value seat answer × IsSightTold answer result out.old out.new }
+{
+    let answer = replace_with(ring, seat, |handle, seat| surveyed(handle, seat));
+    sight_told(answer, out)
+}
+
+/// A glance at a ring that C holds.
+fn glanced(handle: Handle) -> (Handle, Survey)
+    requires { handle.full ≡ true }
+    ensures full { result.0.full ≡ true }
+    ensures same { result.0.value ≡ handle.value }
+    ensures is { IsGlance handle.value result.1 }
+{
+    let kept = loosen(handle).into_box();
+    let answer = kept::glance(&kept);
+    (hold(Loose::of(kept)), answer)
+}
+
+/// The same, and nothing is logged.
+#[unsafe(no_mangle)]
+pub extern "C" fn wozgirt_glance(ring: &mut Handle, out: &mut Sight) -> u32
+    requires { ring.old.full ≡ true }
+    ensures full { ring.new.full ≡ true }
+    ensures same { ring.new.value ≡ ring.old.value }
+    ensures told { (survey : Survey) × IsGlance ring.old.value survey × (result ≡ 0) × (out.new ≡ sight_of survey) }
+{
+    let survey = replace_with(ring, (), |handle, _call| glanced(handle));
+    sight_told(Ok(survey), out)
+}
+
+/// How long the history of a ring that C holds is.
+fn measured(handle: Handle) -> (Handle, u64)
+    requires { handle.full ≡ true }
+    ensures full { result.0.full ≡ true }
+    ensures same { result.0.value ≡ handle.value }
+    ensures is { result.1 ≡ length (history_of handle.value) }
+{
+    let kept = loosen(handle).into_box();
+    let length = kept::history_length(&kept);
+    (hold(Loose::of(kept)), length)
+}
+
+/// How many events the history has.
+#[unsafe(no_mangle)]
+pub extern "C" fn wozgirt_history_length(ring: &mut Handle) -> u64
+    requires { ring.old.full ≡ true }
+    ensures full { ring.new.full ≡ true }
+    ensures same { ring.new.value ≡ ring.old.value }
+    ensures is { result ≡ length (history_of ring.old.value) }
+{
+    replace_with(ring, (), |handle, _call| measured(handle))
+}
+
+/// Frees what C holds.
+#[unsafe(no_mangle)]
+pub extern "C" fn wozgirt_close(ring: Handle)
+    requires { ring.full ≡ true }
+{
+    let _kept = loosen(ring).into_box();
+}

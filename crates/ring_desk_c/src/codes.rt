@@ -1,0 +1,107 @@
+//! The code of each refusal.
+
+ghost use Rattle.std.specs.Prelude.{◌≡◌};
+ghost use Rattle.ring_desk_c.specs.Codes;
+
+use crate::kept::TextError;
+use ring_check::Kind;
+use ring_desk::{CallError, OpenError, ResumeError};
+use ring_saved::ReadError;
+use ring_state::ParamsError;
+
+/// Want of memory, whoever asks for it.
+pub(crate) const NO_MEMORY: u32 = 23;
+
+/// A saved text has no ring at this place.
+pub(crate) const NO_RING: u32 = 50;
+
+/// A buffer is too small.
+pub(crate) const TOO_SMALL: u32 = 81;
+
+/// Of a call.
+pub(crate) fn call_code(error: CallError) -> u32
+    ensures { result ≡ Codes.call_code error }
+{
+    match error {
+        CallError::NoSeat => 16,
+        CallError::NoMachine => 17,
+        CallError::NoValue => 18,
+        CallError::NotRising => 19,
+        CallError::WholeRing => 20,
+        CallError::NotPrivileged(_) => 21,
+        CallError::HistoryFull => 22,
+        CallError::OutOfMemory => NO_MEMORY,
+    }
+}
+
+/// Of a size.
+fn size_code(error: ParamsError) -> u32
+    ensures { result ≡ Codes.size_code error }
+{
+    match error {
+        ParamsError::TooFew => 33,
+        ParamsError::TooMany => 33,
+        ParamsError::FewValues => 34,
+        ParamsError::ManyValues => 34,
+    }
+}
+
+/// Of numbers from which no ring is opened.
+pub(crate) fn open_code(error: OpenError) -> u32
+    ensures { result ≡ Codes.open_code error }
+{
+    match error {
+        OpenError::Seats => 32,
+        OpenError::Size(error) => size_code(error),
+        OpenError::Length => 35,
+        OpenError::Value(_) => 36,
+        OpenError::OutOfMemory => NO_MEMORY,
+    }
+}
+
+/// Of bytes that are no saved text.
+pub(crate) fn read_code(error: ReadError) -> u32
+    ensures { result ≡ Codes.read_code error }
+{
+    match error {
+        ReadError::Syntax(_) => 48,
+        ReadError::Truncated => 49,
+        ReadError::OutOfMemory => NO_MEMORY,
+    }
+}
+
+/// Of a saved ring that is not gone on with.
+pub(crate) fn resume_code(error: ResumeError) -> u32
+    ensures { result ≡ Codes.resume_code error }
+{
+    match error {
+        ResumeError::Open(error) => open_code(error),
+        ResumeError::Call(error) => call_code(error),
+        ResumeError::Differs => 51,
+        ResumeError::OutOfMemory => NO_MEMORY,
+    }
+}
+
+/// Of a text that is not legal.
+pub(crate) fn kind_code(kind: Kind) -> u32
+    ensures { result ≡ Codes.kind_code kind }
+{
+    match kind {
+        Kind::Parameter => 64,
+        Kind::Range => 65,
+        Kind::Reply => 66,
+        Kind::Count => 67,
+        Kind::Survey => 68,
+        Kind::Group => 69,
+    }
+}
+
+/// Of a ring that has no saved text.
+pub(crate) fn text_code(error: TextError) -> u32
+    ensures { result ≡ Codes.text_code error }
+{
+    match error {
+        TextError::NoTill => 80,
+        TextError::OutOfMemory => NO_MEMORY,
+    }
+}

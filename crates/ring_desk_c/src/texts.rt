@@ -1,0 +1,45 @@
+//! What is saved of a ring that C holds.
+
+ghost use Rattle.std.specs.Prelude.{◌≡◌, ℕ, true, Result};
+ghost use Rattle.std_alloc.specs.declared.vec.Vec.{Vec};
+ghost use Rattle.std.specs.declared.alloc.Global.{Global};
+ghost use Rattle.ring_desk_c.specs.Answers.{IsTextAnswer};
+ghost use Rattle.ring_desk_c.specs.Told.{IsSaveTold};
+ghost use Rattle.ring_desk_c.specs.declared.kept.TextError.{TextError};
+
+use crate::answers::save_told;
+use crate::handle::{Handle, hold, loosen};
+use crate::kept::{TextError, text};
+use crate::loose::Loose;
+use core::mem::replace_with;
+use std::alloc::Global;
+
+/// The text of a ring that C holds.
+fn saved(handle: Handle, alloc: Global) -> (Handle, Result<Vec<u8>, TextError>)
+    requires { handle.full ≡ true }
+    ensures full { result.0.full ≡ true }
+    ensures same { result.0.value ≡ handle.value }
+    ensures text { IsTextAnswer handle.value result.1 }
+{
+    let mut kept = loosen(handle).into_box();
+    let answer = replace_with(&mut *kept, alloc, |kept, alloc| text(kept, alloc));
+    (hold(Loose::of(kept)), answer)
+}
+
+/// Copies the saved text of the ring as it is now to the front of the caller's bytes, if it has room there, and tells its
+/// size. The ring stays as it was.
+#[unsafe(no_mangle)]
+pub extern "C" fn wozgirt_save(
+    alloc: Global,
+    ring: &mut Handle,
+    out: &mut [u8],
+    size: &mut u64,
+) -> u32
+    requires { ring.old.full ≡ true }
+    ensures full { ring.new.full ≡ true }
+    ensures same { ring.new.value ≡ ring.old.value }
+    ensures told { (answer : Result (Vec ℕ Global) TextError) × IsTextAnswer ring.old.value answer × IsSaveTold answer result out.old out.new size.old size.new }
+{
+    let answer = replace_with(ring, alloc, |handle, alloc| saved(handle, alloc));
+    save_told(answer, out, size)
+}
