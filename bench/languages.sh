@@ -1,0 +1,58 @@
+#!/bin/sh
+# Builds the static library for other languages and the examples in C, Python and Rust, runs them, and has `ring_tool check`
+# judge each history that they saved; with -v it prints what the C program measures, too. Word: a `ring_tool` that judges in
+# place of one that is proved and built here. Needs rt, a C and a C++ compiler with their sanitizers, Python 3.8 and cargo.
+set -eu
+. "$(dirname "$0")/common.sh"
+measure=
+[ "${1:-}" != -v ] || { measure=1; shift; }
+tool=${1:-}
+[ -n "$tool" ] || { build ring_tool --help; tool=$top/crates/ring_tool/out/ring_tool; }
+case $tool in /*) ;; *) tool=$PWD/$tool ;; esac
+
+echo "proving and building ring_desk_c"
+(cd "$top/crates/ring_desk_c" && rt lib >"$out/ring_desk_c-build.log" 2>&1) || { cat "$out/ring_desk_c-build.log"; exit 1; }
+folder=$out/languages
+mkdir -p "$folder"
+cp "$top/crates/ring_desk_c/out/libring_desk_c.a" "$(dirname "$(rt doc)")/c/liblibc_c.a" "$folder"
+libraries="$folder/libring_desk_c.a $folder/liblibc_c.a"
+flags="-std=c11 -Wall -Wextra -Wpedantic -Werror -I$top/include"
+checked="-g -O1 -fsanitize=address,undefined -fno-sanitize-recover=all"
+
+# judge NAME: what the separate checker says of the history that an example saved
+judge() {
+    printf '%s: ' "$1"
+    "$tool" check "$folder/$1.txt"
+}
+
+for name in refusals four_threads; do
+    cc $flags $checked -o "$folder/$name-checked" "$top/examples/c/$name.c" $libraries -pthread
+done
+for name in four_threads speed; do
+    cc $flags -O2 -o "$folder/$name" "$top/examples/c/$name.c" $libraries -pthread
+done
+echo '#include "wozgirt.h"
+int main() { return wozgirt_version() == 100 ? 0 : 1; }' >"$folder/header.cpp"
+c++ -std=c++17 -Wall -Wextra -Wpedantic -Werror "-I$top/include" -o "$folder/header" "$folder/header.cpp" $libraries
+"$folder/header"
+
+"$folder/refusals-checked"
+"$folder/four_threads-checked" "$folder/c-checked.txt"
+judge c-checked
+"$folder/four_threads" "$folder/c.txt"
+judge c
+
+cc -shared -o "$folder/libwozgirt.so" -Wl,--whole-archive "$folder/libring_desk_c.a" -Wl,--no-whole-archive "$folder/liblibc_c.a"
+WOZGIRT_LIBRARY=$folder/libwozgirt.so PYTHONDONTWRITEBYTECODE=1 python3 "$top/examples/python/four_threads.py" "$folder/python.txt"
+judge python
+
+rm -rf "$folder/rust"
+cp -r "$top/examples/rust" "$folder/rust"
+(cd "$folder/rust" && WOZGIRT_LIBRARIES=$folder cargo build -q --release --offline --target-dir "$folder/rust-target")
+"$folder/rust-target/release/four_threads" "$folder/rust.txt"
+judge rust
+
+if [ -n "$measure" ]; then
+    "$folder/speed" "$folder/speed.txt"
+    judge speed
+fi
