@@ -4,6 +4,7 @@
 
 pub mod calls;
 pub mod closings;
+pub mod desks;
 pub mod farms;
 pub mod groups;
 pub mod locks;
