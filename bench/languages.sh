@@ -42,6 +42,18 @@ judge c-checked
 "$folder/four_threads" "$folder/c.txt"
 judge c
 
+cc $flags -O1 -o "$folder/memory" "$top/bench/languages_memory.c" $libraries
+cc -shared -fPIC -O1 -o "$folder/refuse_memory.so" "$top/bench/refuse_memory.c" -ldl
+number=0
+while :; do
+    number=$((number + 1))
+    rm -f "$folder/refused"
+    REFUSED_REQUEST=$number REFUSED_MARK=$folder/refused LD_PRELOAD=$folder/refuse_memory.so "$folder/memory" ||
+        { echo "request $number refused: status $?"; exit 1; }
+    [ -e "$folder/refused" ] || break
+done
+echo "$((number - 1)) requests for memory refused in turn"
+
 cc -shared -o "$folder/libwozgirt.so" -Wl,--whole-archive "$folder/libring_desk_c.a" -Wl,--no-whole-archive "$folder/liblibc_c.a"
 WOZGIRT_LIBRARY=$folder/libwozgirt.so PYTHONDONTWRITEBYTECODE=1 python3 "$top/examples/python/four_threads.py" "$folder/python.txt"
 judge python

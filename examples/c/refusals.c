@@ -110,6 +110,28 @@ static void idle(void)
     wozgirt_close(ring);
 }
 
+/* A ring whose history has as many events as one may have. */
+static void filled(void)
+{
+    const uint32_t start[3] = {0, 2, 0}, one[1] = {2};
+    struct wozgirt_ring ring = {0};
+    struct wozgirt_answer answer;
+    struct wozgirt_group group;
+    struct wozgirt_sight sight;
+    uint64_t done = 0;
+    expect("a ring to fill", wozgirt_open_idle(&ring, 3, 3, start, 3, 1), WOZGIRT_DONE);
+    while (done < 4000000 && wozgirt_corrupt(&ring, 0, 1, 2, &answer) == WOZGIRT_DONE)
+        done++;
+    expect("as many events as there may be", done, 4000000);
+    expect("a pass", wozgirt_pass(&ring, 0, 0, 5, &answer), WOZGIRT_HISTORY_FULL);
+    expect("a fault", wozgirt_corrupt(&ring, 0, 0, 0, &answer), WOZGIRT_HISTORY_FULL);
+    expect("a group", wozgirt_pass_group(&ring, 0, one, 1, 5, &group), WOZGIRT_HISTORY_FULL);
+    expect("a seat is looked at before", wozgirt_pass(&ring, 1, 0, 5, &answer), WOZGIRT_NO_SEAT);
+    expect("a survey is no event", wozgirt_survey(&ring, 0, &sight), WOZGIRT_DONE);
+    expect("no event more", wozgirt_history_length(&ring), 4000000);
+    wozgirt_close(ring);
+}
+
 int main(void)
 {
     const uint32_t start[3] = {0, 2, 0};
@@ -120,6 +142,7 @@ int main(void)
     saved(&ring);
     wozgirt_close(ring);
     idle();
+    filled();
     expect("the version", wozgirt_version(), 100);
     printf("%s\n", failed ? "some answers differ" : "each refusal has its code");
     return failed;
