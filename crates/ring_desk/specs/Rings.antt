@@ -13,7 +13,7 @@ use Rattle.ring_model.specs.GroupLaws.{CanMove}
 use Rattle.ring_model.specs.Logs.{Fits}
 use Rattle.ring_model.specs.declared.events.Entry.{Entry}
 use Rattle.ring_model.specs.declared.events.Receipt.{Receipt}
-use Rattle.ring_replay.specs.Told.{Told}
+use Rattle.ring_logs.specs.Told.{Told}
 use Rattle.ring_book.specs.BookView.{BookView, IsBook}
 use Rattle.ring_book.specs.GroupView.{IsLeastWithout}
 use Rattle.ring_book.specs.declared.events.BookError.{BookError}

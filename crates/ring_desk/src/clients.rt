@@ -4,7 +4,7 @@ ghost use Rattle.ring_model.specs.Limits.{event_limit, seat_limit};
 ghost use Rattle.ring_model.specs.Groups.{IsAlone};
 ghost use Rattle.ring_book.specs.BookView.{IsBook, IsRecorded};
 ghost use Rattle.ring_book.specs.GroupView.{IsGroupRecorded};
-ghost use Rattle.ring_replay.specs.Replays.{IsCallOf};
+ghost use Rattle.ring_logs.specs.Replays.{IsCallOf};
 ghost use Rattle.ring_shared.specs.Groups.{receipts_from};
 ghost use Rattle.ring_desk.specs.Rings.{grown, IsCallRefused, IsRisingGroup};
 
@@ -25,7 +25,7 @@ pub struct Client {
 impl Model for Client {
     ghost use Rattle.std.specs.Prelude.{◌<◌};
     ghost use Rattle.ring_model.specs.Limits.{seat_limit};
-    ghost use Rattle.ring_replay.specs.Told.{Told};
+    ghost use Rattle.ring_logs.specs.Told.{Told};
 
     ghost Value = { Told };
 

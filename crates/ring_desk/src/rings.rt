@@ -9,7 +9,7 @@ ghost use Rattle.ring_state.specs.Sizes.{IsSize};
 ghost use Rattle.ring_book.specs.BookView.{IsBook, IsFresh, IsRecorded};
 ghost use Rattle.ring_model.specs.Groups.{IsAlone, Rises};
 ghost use Rattle.ring_book.specs.GroupView.{IsGroupRecorded, IsLeastWithout};
-ghost use Rattle.ring_replay.specs.Replays.{IsCallOf};
+ghost use Rattle.ring_logs.specs.Replays.{IsCallOf};
 ghost use Rattle.ring_shared.specs.Groups.{receipts_from};
 ghost use Rattle.ring_desk.specs.Rings.{IsOneThreadRing, IsRisingGroup, IsGroupFault, IsOpenFault, IsSeatCount, AreFresh, told_more};
 

@@ -1,4 +1,4 @@
-//! The whole program: the command line, as `ring_words` reads it, and the command of `ring_commands` that it asks for.
+//! The whole program: the command line, as `ring_cli` reads it, and the command of `ring_commands` that it asks for.
 //!
 //! It passes on what else a caller of the program's parts names, so that `ring_tool` needs this crate and `disks` alone.
 #![tactic(auto)]
@@ -6,8 +6,8 @@
 mod program;
 
 pub use program::{run_tool, run_tool_on};
+pub use ring_cli::VERSION;
 pub use ring_commands::endings::tell;
 pub use ring_commands::faults::ToolError;
 pub use ring_commands::reading::read_limited;
 pub use ring_commands::step::step_lines;
-pub use ring_words::VERSION;

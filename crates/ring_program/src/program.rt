@@ -5,10 +5,10 @@ ghost use Rattle.ring_program.specs.Ended.{HasEnded};
 
 use clap::error::ErrorKind;
 use disks::Disk;
+use ring_cli::read_words;
 use ring_commands::endings::finish;
 use ring_commands::faults::ToolError;
 use ring_commands::requests::answer;
-use ring_words::read_words;
 use std::io::{Input, Read, Write};
 use std::sync::Wait;
 use std::thread::Threads;

@@ -11,10 +11,10 @@ use Rattle.ring_model.specs.declared.events.Event.{Event}
 use Rattle.ring_model.specs.declared.events.Survey.{Survey}
 use Rattle.ring_book.specs.BookView.{BookView, IsBook}
 use Rattle.ring_model.proofs.HistoryLaws.{settlement}
-use Rattle.ring_replay.specs.Replays.{IsCallOf, machine_of, called}
+use Rattle.ring_logs.specs.Replays.{IsCallOf, machine_of, called}
 use Rattle.ring_shared.specs.Folds.{ring_after, survey_from, survey_of, IsSummary, IsWritten}
 use Rattle.ring_shared.proofs.Prefixes.{prefix_take, take_before}
-use Rattle.ring_replay.proofs.Replaying.{next_ring}
+use Rattle.ring_logs.proofs.Replaying.{next_ring}
 
 pub ring_after-push : (r : Ring) (h : List Event) (e : Event) → ring_after r (h ++ e ∷ []) ≡ called (ring_after r h) e.op
 ring_after-push r [] e = refl

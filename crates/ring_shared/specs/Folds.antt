@@ -4,7 +4,7 @@ use Rattle.ring_model.specs.Ring.{Ring, privileged_count, first_privileged, rest
 use Rattle.ring_model.specs.Surveys.{calm}
 use Rattle.ring_model.specs.declared.events.Event.{Event}
 use Rattle.ring_model.specs.declared.events.Survey.{Survey}
-use Rattle.ring_replay.specs.Replays.{called}
+use Rattle.ring_logs.specs.Replays.{called}
 use Rattle.ring_shared.specs.declared.shown.Change.{Change}
 use Rattle.ring_shared.specs.declared.shown.Change.TheVariants.{Write, Become}
 

@@ -18,7 +18,7 @@ use crate::names::Name;
 use crate::rings::Ring;
 use crate::seats::{Log, Seat};
 use ring_book::{Book, Resource};
-use ring_replay::{ClientLog, logs_fit};
+use ring_logs::{ClientLog, logs_fit};
 use std::alloc::{AllocError, Global};
 use std::sync::Wait;
 

@@ -5,7 +5,7 @@ ghost use Rattle.ring_model.specs.Groups.{IsAlone};
 ghost use Rattle.ring_model.specs.Limits.{event_limit, seat_limit};
 ghost use Rattle.ring_shared.specs.Calls.{IsCallUnderLock, IsRefusedUnderLock};
 ghost use Rattle.ring_shared.specs.Holding.{IsHeld};
-ghost use Rattle.ring_replay.specs.Replays.{IsCallOf};
+ghost use Rattle.ring_logs.specs.Replays.{IsCallOf};
 ghost use Rattle.ring_shared.specs.Stepping.{stepped};
 
 use crate::front::{Front, Head};

@@ -4,7 +4,7 @@ ghost use Rattle.ring_model.specs.Surveys.{calm as calm_of};
 ghost use Rattle.ring_model.specs.declared.events.Event.{Event};
 ghost use Rattle.ring_shared.specs.Folds.{ring_after, survey_of, IsSummary, IsWritten};
 ghost use Rattle.ring_shared.specs.Holding.{IsHeld};
-ghost use Rattle.ring_replay.specs.Replays.{IsCallOf, machine_of};
+ghost use Rattle.ring_logs.specs.Replays.{IsCallOf, machine_of};
 ghost use Rattle.ring_shared.specs.Stepping.{stepped};
 
 use crate::front::Front;

@@ -5,11 +5,11 @@ ghost use Rattle.ring_model.specs.Limits.{event_limit};
 ghost use Rattle.ring_model.specs.History.{opening};
 ghost use Rattle.ring_model.specs.Groups.{left_after};
 ghost use Rattle.ring_model.specs.Logs.{Fits};
-ghost use Rattle.ring_replay.specs.Replays.{calm_after};
+ghost use Rattle.ring_logs.specs.Replays.{calm_after};
 
 use crate::numbers::another;
 use ring_book::{Book, Entry, Receipt, Reply, Resource, Survey};
-use ring_replay::{ClientLog, calm_behind, logs_fit};
+use ring_logs::{ClientLog, calm_behind, logs_fit};
 use std::alloc::{AllocError, Global};
 
 /// Logs fit just where each of them does: here the answer is the other one.

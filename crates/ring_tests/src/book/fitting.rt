@@ -2,8 +2,8 @@
 
 use super::{Scene, Step, book_of, play};
 use ring_book::{Book, Event, GroupReceipt, Op, Reply, Resource, Survey, Till};
+use ring_logs::{ClientLog, logs_fit};
 use ring_model::{Entry, Receipt};
-use ring_replay::{ClientLog, logs_fit};
 use std::alloc::Global;
 use std::process::Abort;
 

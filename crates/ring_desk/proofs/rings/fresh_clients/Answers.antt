@@ -1,5 +1,5 @@
 use Rattle.std.proofs.Common.{◌+◌, List, ◌++◌, ◌∷◌, [], sym, ap, ◌∙◌, subst, arith}
-use Rattle.ring_replay.specs.Told.{Told}
+use Rattle.ring_logs.specs.Told.{Told}
 use Rattle.ring_desk.specs.Rings.{AreFresh}
 use Rattle.ring_desk.proofs.Kept.{fresh_more}
 use Rattle.ring_desk.proofs.rings.fresh_clients.Goals as goal

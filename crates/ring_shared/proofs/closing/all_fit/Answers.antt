@@ -3,7 +3,7 @@ use Rattle.std.specs.Prelude.{Result, Ok, Err, IfOk}
 use Rattle.std.proofs.lemmas.List.Elements.{All-map, All-nil, All-cons, All-head, All-tail}
 use Rattle.ring_model.specs.History.{opening}
 use Rattle.ring_model.specs.Logs.{Fits}
-use Rattle.ring_replay.specs.Told.{Told}
+use Rattle.ring_logs.specs.Told.{Told}
 use Rattle.ring_shared.specs.Client.{Client, told_of}
 use Rattle.ring_shared.proofs.closing.all_fit.Goals as goal
 

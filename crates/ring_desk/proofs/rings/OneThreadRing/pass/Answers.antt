@@ -1,5 +1,5 @@
 use Rattle.std.proofs.Common.{rules, ◌<◌, List, length, subst, sym}
-use Rattle.ring_replay.specs.Told.{Told}
+use Rattle.ring_logs.specs.Told.{Told}
 use Rattle.ring_book.proofs.Repairing.{book_settlement}
 use Rattle.ring_desk.specs.Rings.{IsOneThreadRing}
 use Rattle.ring_desk.proofs.Kept.{called_ring}

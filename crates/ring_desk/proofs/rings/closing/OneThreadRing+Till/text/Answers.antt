@@ -1,6 +1,6 @@
 use Rattle.std.proofs.Common.{rules, ◌≡◌, ◌≤◌, ℕ, List, length, vec_capacity, ap, arith, refl, subst}
 use Rattle.ring_model.specs.Resources.{till}
-use Rattle.ring_replay.specs.Told.{Told}
+use Rattle.ring_logs.specs.Told.{Told}
 use Rattle.ring_shared.specs.declared.seats.Log.{Log}
 use Rattle.ring_farm.specs.declared.outcomes.RingOutcome.{RingOutcome}
 use Rattle.ring_book.specs.BookView.{BookView}
