@@ -1,5 +1,5 @@
 //! Beginnings of a ring's one list of events. The list itself is in the proofs alone.
-ghost use Rattle.std.specs.Prelude.{◌≡◌, ◌+◌, ◌<◌, ◌≤◌, ◌++◌, ◌∷◌, [], length, MatchBool};
+ghost use Rattle.std.specs.Prelude.{◌≡◌, ◌+◌, ◌<◌, ◌≤◌, ◌++◌, ◌∷◌, [], length, IsTrue, MatchBool};
 ghost use mathlib.Core.List.{IsPrefix};
 ghost use Rattle.ring_model.specs.Limits.{event_limit};
 ghost use Rattle.ring_shared.specs.Holding.{AreOfSeats};
@@ -158,12 +158,15 @@ impl<N: Name> End<N> {
         both.learn(&other.seen);
     }
 
-    /// Adds an event to all that was seen, and says whether it did. It did not where the list is longer.
-    fn add(&mut self, head: &Head<N>, event: Event) -> bool
+    /// Adds an event to all that was seen, and says whether it did. It did not where the list is longer. Where it did,
+    /// this end has the whole list, so the other begins it.
+    fn add(&mut self, head: &Head<N>, other: &End<N>, event: Event) -> bool
         requires { length self.old < event_limit }
-        ensures { MatchBool result (self.new ≡ self.old ++ event ∷ []) (self.new ≡ self.old) }
+        ensures is { MatchBool result (self.new ≡ self.old ++ event ∷ []) (self.new ≡ self.old) }
+        ensures begins { IsTrue result → IsPrefix other.now self.new }
     {
         let mut seen = self.seen.again();
+        seen.learn(&other.seen);
         let mut offer: Offer<Event, u64, Law, Nothing> = seen.plain::<Nothing, Event, Add>(&event);
         let mut pen = seen.no_pen();
         let count = self.count;
@@ -177,13 +180,14 @@ impl<N: Name> End<N> {
         found == count
     }
 
-    /// Returns only where the event was added to all that was seen.
-    fn surely_add<W: Wait>(&mut self, rt: &W, head: &Head<N>, event: Event)
+    /// Returns only where the event was added to all that was seen. The other begins the list then.
+    fn surely_add<W: Wait>(&mut self, rt: &W, head: &Head<N>, other: &End<N>, event: Event)
         requires { length self.old < event_limit }
-        ensures { self.new ≡ self.old ++ event ∷ [] }
+        ensures is { self.new ≡ self.old ++ event ∷ [] }
+        ensures begins { IsPrefix other.now self.new }
     {
         for _ in rt.forever() {
-            if self.add(head, event) {
+            if self.add(head, other, event) {
                 return;
             }
         }
@@ -251,26 +255,42 @@ impl<N: Name> Front<N> {
         unreachable!()
     }
 
-    /// Returns only where the event was added to all that was seen.
-    pub(crate) fn surely_add<W: Wait>(&mut self, rt: &W, head: &Head<N>, event: Event)
+    /// Returns only where the event was added to all that was seen. The other begins the list then.
+    pub(crate) fn surely_add<W: Wait>(
+        &mut self,
+        rt: &W,
+        head: &Head<N>,
+        other: &Front<N>,
+        event: Event,
+    )
         requires room { length self.old < event_limit }
         requires legal { N.legal (self.old ++ event ∷ []) }
         requires of_seats { AreOfSeats N.seats (self.old ++ event ∷ []) }
-        ensures { self.new ≡ self.old ++ event ∷ [] }
+        ensures is { self.new ≡ self.old ++ event ∷ [] }
+        ensures begins { IsPrefix other.now self.new }
     {
-        self.end.surely_add(rt, head, event);
+        self.end.surely_add(rt, head, &other.end, event);
     }
 
-    /// Returns only where the events were added, in order, to all that was seen.
-    pub(crate) fn surely_add_all<W: Wait>(&mut self, rt: &W, head: &Head<N>, events: &[Event])
+    /// Returns only where the events, at least one, were added, in order, to all that was seen. The other begins the
+    /// list then.
+    pub(crate) fn surely_add_all<W: Wait>(
+        &mut self,
+        rt: &W,
+        head: &Head<N>,
+        other: &Front<N>,
+        events: &[Event],
+    )
+        requires some { 1 ≤ length events.now }
         requires room { length self.old + length events.now ≤ event_limit }
         requires legal { N.legal (self.old ++ events.now) }
         requires of_seats { AreOfSeats N.seats (self.old ++ events.now) }
-        ensures { self.new ≡ self.old ++ events.now }
+        ensures is { self.new ≡ self.old ++ events.now }
+        ensures begins { IsPrefix other.now self.new }
     {
         let mut end = self.end.again();
         for event in events {
-            end.surely_add(rt, head, *event);
+            end.surely_add(rt, head, &other.end, *event);
         }
         self.end = end;
     }

@@ -111,9 +111,10 @@ impl<N: Name, R: Resource + Drop> Locked<N, R> {
         let receipt = log_group(&mut self.book, seat, machines, order)?;
         ring.copy_from(self.book.state());
         let members = &self.book.history()[receipt.first as usize..];
-        self.front.surely_add_all(rt, &self.head, members);
+        self.front
+            .surely_add_all(rt, &self.head, seat.front(), members);
         show_block(rt, &self.book, &self.front, &mut self.writer, ring);
-        seat.catch_up(rt, self.writer.published());
+        seat.go_on(self.writer.published());
         Ok(receipt)
     }
 }

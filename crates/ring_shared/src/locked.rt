@@ -54,42 +54,19 @@ where
     ghost invariant = { λ l. IsHeld R.works R.first N.start N.seats N.legal l.book × (l.front ≡ l.book.history) × (l.writer.desk.shown.value ≡ l.book.history) × (fold stepped l.writer.desk.shown.value (drop l.writer.behind l.writer.log.items) ≡ l.book.history) };
 }
 
-/// Returns only where the operation is pending.
-#[inline(always)]
-fn surely_append<N: Name, W: Wait>(rt: &W, writer: &mut RingWriter<N>, operation: Operation<N>)
-    ensures desk { writer.new.desk ≡ writer.old.desk }
-    ensures pending { drop writer.new.behind writer.new.log.items ≡ drop writer.old.behind writer.old.log.items ++ operation ∷ [] }
-{
-    let mut operation = operation;
-    for _ in rt.forever() {
-        match writer.append(operation) {
-            Ok(()) => return,
-            Err(back) => operation = back,
-        }
-    }
-    unreachable!()
-}
-
-/// Shows readers what is pending.
-#[inline(always)]
-fn publish<N: Name, W: Wait>(rt: &W, writer: RingWriter<N>) -> (RingWriter<N>, ())
-    ensures shown { result.0.desk.shown.value ≡ fold stepped writer.desk.shown.value (drop writer.behind writer.log.items) }
-    ensures pending { drop result.0.behind result.0.log.items ≡ [] }
-{
-    let (writer, _result) = writer.publish_as::<Unruled, W>(rt);
-    (writer, ())
-}
-
 /// Shows readers what is pending, in the place of the copy that they see.
 #[inline(always)]
 pub(crate) fn turn<N: Name, W: Wait>(rt: &W, writer: &mut RingWriter<N>)
     ensures shown { writer.new.desk.shown.value ≡ fold stepped writer.old.desk.shown.value (drop writer.old.behind writer.old.log.items) }
     ensures pending { drop writer.new.behind writer.new.log.items ≡ [] }
 {
-    replace_with(writer, rt, |writer, rt| publish(rt, writer));
+    replace_with(writer, rt, |writer, rt| {
+        let (writer, _result) = writer.publish_as::<Unruled, W>(rt);
+        (writer, ())
+    });
 }
 
-/// Shows readers one event or one block more.
+/// Shows readers one event or one block more. Returns only where the operation was appended to what is pending.
 #[inline(always)]
 #[tactic(auto, using(crate::proofs::Stepped::stepped_last))]
 pub(crate) fn show<N: Name, W: Wait>(rt: &W, writer: &mut RingWriter<N>, operation: Operation<N>)
@@ -97,29 +74,17 @@ pub(crate) fn show<N: Name, W: Wait>(rt: &W, writer: &mut RingWriter<N>, operati
     ensures shown { writer.new.desk.shown.value ≡ operation.list }
     ensures pending { drop writer.new.behind writer.new.log.items ≡ [] }
 {
-    surely_append(rt, writer, operation);
-    turn(rt, writer);
-}
-
-/// Shows readers the event that ends the book's history, the rest of which is shown.
-#[inline(always)]
-fn show_last<N: Name, R: Resource + Drop, W: Wait>(
-    rt: &W,
-    book: &Book<R>,
-    front: &Front<N>,
-    writer: &mut RingWriter<N>,
-    event: Event,
-)
-    requires held { IsHeld R.works R.first N.start N.seats N.legal book.now }
-    requires call { IsCallOf N.start event.op }
-    requires one { book.now.history ≡ writer.old.desk.shown.value ++ event ∷ [] }
-    requires none { fold stepped writer.old.desk.shown.value (drop writer.old.behind writer.old.log.items) ≡ writer.old.desk.shown.value }
-    requires front { front.now ≡ book.now.history }
-    ensures shown { writer.new.desk.shown.value ≡ book.now.history }
-    ensures pending { drop writer.new.behind writer.new.log.items ≡ [] }
-{
-    let operation = Operation::last(book, event, front.again());
-    show(rt, writer, operation);
+    let mut operation = operation;
+    for _ in rt.forever() {
+        match writer.append(operation) {
+            Ok(()) => {
+                turn(rt, writer);
+                return;
+            }
+            Err(back) => operation = back,
+        }
+    }
+    unreachable!()
 }
 
 impl<N: Name, R: Resource + Drop> Locked<N, R> {
@@ -149,16 +114,23 @@ impl<N: Name, R: Resource + Drop> Locked<N, R> {
     /// One critical section: the seat's log and the history are grown, behind which nothing is refused; the
     /// book makes the call for the seat, its receipt is logged, what it did is shown, and the seat is told.
     #[inline(always)]
-    fn call<W: Wait>(&mut self, rt: &W, seat: &mut Seat<N>, op: Op) -> Result<Receipt, BookError>
+    pub(crate) fn call<W: Wait>(
+        &mut self,
+        rt: &W,
+        seat: &mut Seat<N>,
+        op: Op,
+    ) -> Result<Receipt, BookError>
         requires call { IsCallOf N.start op }
         requires alone { IsAlone op }
         ensures ok { IfOk result (λ r. IsCallUnderLock R.works R.first N.start N.seats N.legal self.old self.new seat.old seat.new op r) }
         ensures refused { IsRefusedUnderLock self.old self.new seat.old seat.new result }
     {
         let receipt = log_call(&mut self.book, seat, op)?;
-        self.front.surely_add(rt, &self.head, receipt.event);
-        show_last(rt, &self.book, &self.front, &mut self.writer, receipt.event);
-        seat.catch_up(rt, self.writer.published());
+        self.front
+            .surely_add(rt, &self.head, seat.front(), receipt.event);
+        let operation = Operation::last(&self.book, receipt.event, self.front.again());
+        show(rt, &mut self.writer, operation);
+        seat.go_on(self.writer.published());
         Ok(receipt)
     }
 

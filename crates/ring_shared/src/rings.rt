@@ -321,7 +321,7 @@ impl<N: Name, R: Resource + Drop> Ring<N, R> {
         ensures err { OnErr result (IsUnchanged seat.old seat.new) }
     {
         let mut locked = self.shared.lock(rt);
-        let result = locked.pass(rt, seat, machine, order);
+        let result = locked.call(rt, seat, Op::Pass { machine, order });
         MutexGuard::unlock(locked);
         result
     }
@@ -347,7 +347,7 @@ impl<N: Name, R: Resource + Drop> Ring<N, R> {
         ensures err { OnErr result (IsUnchanged seat.old seat.new) }
     {
         let mut locked = self.shared.lock(rt);
-        let result = locked.corrupt(rt, seat, machine, value);
+        let result = locked.call(rt, seat, Op::Corrupt { machine, value });
         MutexGuard::unlock(locked);
         result
     }

@@ -248,15 +248,20 @@ impl<N: Name> Seat<N> {
         Ok(survey)
     }
 
+    /// What was seen.
+    pub(crate) fn front(&self) -> &Front<N>
+        ensures { result.now ≡ self.now.seen }
+    {
+        &self.front
+    }
+
     /// Sees what is shown, which begins with what was seen.
     #[inline(always)]
-    pub(crate) fn catch_up<W: Wait>(&mut self, rt: &W, shown: &Shown<N>)
+    pub(crate) fn go_on(&mut self, shown: &Shown<N>)
+        requires later { IsPrefix self.old.seen shown.now }
         ensures is { self.new ≡ record { number = self.old.number; log = self.old.log; seen = shown.now; room = self.old.room } }
-        ensures later { IsPrefix self.old.seen self.new.seen }
     {
-        let front = shown.front();
-        self.front.surely_begins(rt, &front);
-        self.front = front;
+        self.front = shown.front();
         self.last = None;
         shown.copy_to(&mut self.summary);
     }
