@@ -1,5 +1,5 @@
 -- The ring, the calm and the survey behind a list of events.
-use Rattle.std.proofs.Common.{◌≡◌, ℕ, suc, ◌+◌, ◌-◌, ◌<◌, ◌≤◌, List, [], ◌∷◌, ◌++◌, length, take, true, false, cond, slice_index, slice_set, subst, ap, sym, ◌∙◌, refl, arith}
+use Rattle.std.proofs.Common.{◌≡◌, Option, Some, None, ℕ, suc, ◌+◌, ◌-◌, ◌<◌, ◌≤◌, List, [], ◌∷◌, ◌++◌, length, take, true, false, cond, slice_index, slice_set, subst, ap, sym, ◌∙◌, refl, arith}
 use Rattle.std.proofs.lemmas.List.{take_all, length-set, get_or-set_same, set-get_or}
 use mathlib.Core.List.{IsPrefix}
 use Rattle.ring_model.specs.Ring.{Ring, IsRing, is_privileged, moved_value, moved, written, bound}
@@ -12,8 +12,8 @@ use Rattle.ring_model.specs.declared.events.Survey.{Survey}
 use Rattle.ring_book.specs.BookView.{BookView, IsBook}
 use Rattle.ring_model.proofs.HistoryLaws.{settlement}
 use Rattle.ring_logs.specs.Replays.{IsCallOf, machine_of, called}
-use Rattle.ring_shared.specs.Folds.{ring_after, survey_from, survey_of, IsSummary, IsWritten}
-use Rattle.ring_shared.proofs.Prefixes.{prefix_take, take_before}
+use Rattle.ring_shared.specs.Folds.{ring_after, survey_from, survey_of, IsSummary, IsSummaryWithin, IsWritten, AnswersFor}
+use Rattle.ring_shared.proofs.Prefixes.{prefix_take, prefix_trans, prefix_length, take_before}
 use Rattle.ring_logs.proofs.Replaying.{next_ring}
 
 pub ring_after-push : (r : Ring) (h : List Event) (e : Event) → ring_after r (h ++ e ∷ []) ≡ called (ring_after r h) e.op
@@ -125,3 +125,32 @@ pub calm_tells : {C : Type 0} (w : Works C) (start : Ring) (c : C) (h : List Eve
 calm_tells w start c h s ring legal is =
     let tell = (settlement w (opening start c) h ring legal).surveys_tell (length h) (omega arith) in
     subst (λ (t : Survey). bound (length start.values) ≤ t.calm → (t.privileged ≡ 1) × (t.rest ≡ 0)) (sym (is ∙ survey_of_is w start c h)) tell.4
+
+-- each summary has the start's K and number of machines
+pub summary_size : (start : Ring) (h : List Event) (ring : Ring) (position c : ℕ) → IsSummary start h ring position c → (ring.k ≡ start.k) × (length ring.values ≡ length start.values)
+summary_size start h ring position c s =
+    let kept = ring_after_keeps start h in
+    (ap (λ (r : Ring). r.k) s.ring_is ∙ kept.0, ap (λ (r : Ring). length r.values) s.ring_is ∙ kept.1)
+
+-- what answers for a beginning has a summary within
+pub within_on : (start : Ring) (xs ys : List Event) (last : Option Survey) (ring : Ring) (position c : ℕ) → AnswersFor start xs last ring position c → IsPrefix xs ys →
+    IsSummaryWithin start ys ring position c
+within_on start xs ys (Some s) ring position c a more =
+    let w : IsSummaryWithin start xs ring position c = a.1 in record {
+      past = w.past;
+      begins = prefix_trans w.past xs ys w.begins more;
+      of_past = w.of_past;
+    }
+within_on start xs ys None ring position c a more = record { past = xs; begins = more; of_past = a }
+
+-- where the last event alone is missing, the summary goes on by it
+pub within_goes_on : (start : Ring) (h : List Event) (ring new : Ring) (position behind c d machine value : ℕ) → IsSummaryWithin start h ring position c → IsWritten start h machine value d →
+    length h ≡ suc position → new ≡ written ring machine value → behind ≡ position + 1 → IsSummary start h new behind d
+within_goes_on start h ring new position behind c d machine value w effect one new_is behind_is =
+    let p = w.of_past.position_is in
+    summary_goes_on start w.past h ring new position behind c d machine value w.of_past effect w.begins (one ∙ ap suc p) new_is behind_is
+
+-- a summary within is no further on than the list
+pub within_position : (start : Ring) (h : List Event) (ring : Ring) (position c : ℕ) → IsSummaryWithin start h ring position c → position ≤ length h
+within_position start h ring position c w =
+    let p = w.of_past.position_is in let le = prefix_length w.past h w.begins in omega (arith, p, le)

@@ -1,5 +1,6 @@
 -- What a list of events does to a ring, whatever the resource: the ring behind it, its survey, and its summary.
 use Rattle.std.specs.Prelude.{◌≡◌, ℕ, Bool, true, false, ◌-◌, ◌<◌, List, [], ◌∷◌, length, take, Option, Some, None}
+use mathlib.Core.List.{IsPrefix}
 use Rattle.ring_model.specs.Ring.{Ring, privileged_count, first_privileged, rest, written}
 use Rattle.ring_model.specs.Surveys.{calm}
 use Rattle.ring_model.specs.declared.events.Event.{Event}
@@ -50,7 +51,13 @@ abbrev pub is_block : Change → Bool
 is_block (Write machine value) = false
 is_block (Become ring) = true
 
--- what answers for these events: their survey, or a summary of them where it was not made yet
+-- a ring, a position and a calm are those behind a beginning of these events
+pub record IsSummaryWithin (start : Ring) (h : List Event) (ring : Ring) (position : ℕ) (calm_there : ℕ) : Type 0 where
+  pub past : List Event
+  pub begins : IsPrefix past h
+  pub of_past : IsSummary start past ring position calm_there
+
+-- what answers for these events: their survey, beside a summary of a beginning of them, or a summary of them where it was not made yet
 abbrev pub AnswersFor : Ring → List Event → Option Survey → Ring → ℕ → ℕ → Type 0
-AnswersFor start h (Some s) ring position calm_there = s ≡ survey_of start h
+AnswersFor start h (Some s) ring position calm_there = (s ≡ survey_of start h) × IsSummaryWithin start h ring position calm_there
 AnswersFor start h None ring position calm_there = IsSummary start h ring position calm_there

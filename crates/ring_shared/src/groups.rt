@@ -114,7 +114,7 @@ impl<N: Name, R: Resource + Drop> Locked<N, R> {
         self.front
             .surely_add_all(rt, &self.head, seat.front(), members);
         show_block(rt, &self.book, &self.front, &mut self.writer, ring);
-        seat.go_on(self.writer.published());
+        seat.catch_up(self.writer.published());
         Ok(receipt)
     }
 }

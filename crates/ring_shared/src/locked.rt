@@ -11,7 +11,7 @@ ghost use Rattle.ring_shared.specs.Stepping.{stepped};
 use crate::front::{Front, Head};
 use crate::names::Name;
 use crate::seats::{RingWriter, Seat};
-use crate::shown::{Operation, Shown};
+use crate::shown::{Operation, Shown, last_effect};
 use core::mem::replace_with;
 use crossbeam_utils::rule::Unruled;
 use left_right::Absorb;
@@ -128,9 +128,10 @@ impl<N: Name, R: Resource + Drop> Locked<N, R> {
         let receipt = log_call(&mut self.book, seat, op)?;
         self.front
             .surely_add(rt, &self.head, seat.front(), receipt.event);
-        let operation = Operation::last(&self.book, receipt.event, self.front.again());
+        let effect = last_effect::<N, R>(&self.book, receipt.event);
+        let operation = Operation::event(effect, self.front.again());
         show(rt, &mut self.writer, operation);
-        seat.go_on(self.writer.published());
+        seat.go_on(self.writer.published(), effect);
         Ok(receipt)
     }
 

@@ -4,13 +4,13 @@ ghost use mathlib.Core.List.{IsPrefix};
 ghost use Rattle.ring_model.specs.Limits.{seat_limit};
 ghost use Rattle.ring_shared.specs.Client.{fresh_client, told_of, IsUnchanged};
 ghost use Rattle.ring_shared.specs.Closing.{IsLogOf};
-ghost use Rattle.ring_shared.specs.Folds.{survey_of, AnswersFor};
+ghost use Rattle.ring_shared.specs.Folds.{survey_of, AnswersFor, IsWritten};
 ghost use Rattle.ring_shared.specs.Holding.{AreOfSeats};
 
 use crate::front::Front;
 use crate::names::Name;
 use crate::shown::{Operation, Shown};
-use crate::summary::Summary;
+use crate::summary::{Effect, Summary};
 use core::mem::replace_with;
 use crossbeam_utils::rule::Unruled;
 use left_right::reader::Reader;
@@ -52,7 +52,7 @@ impl<N: Name> Model for Seat<N> {
 
     ghost view = { λ s. record { number = s.number; log = s.log.items; seen = s.front; room = vec_capacity s.log - length s.log.items } };
 
-    ghost invariant = { λ s. (s.number < N.seats) × (s.number < seat_limit) × (length s.summary.ring.values ≡ length N.start.values) × (s.summary.ring.k ≡ N.start.k) × AnswersFor N.start s.front s.last s.summary.ring s.summary.position s.summary.calm };
+    ghost invariant = { λ s. (s.number < N.seats) × (s.number < seat_limit) × AnswersFor N.start s.front s.last s.summary.ring s.summary.position s.summary.calm };
 }
 
 /// Enters, and answers what is shown then.
@@ -110,7 +110,7 @@ fn renew<N: Name>(
     summary: &Summary,
 ) -> Survey
     requires { AnswersFor N.start front.old last.old summary.now.ring summary.now.position summary.now.calm }
-    ensures last { last.new ≡ Some result }
+    ensures answers { AnswersFor N.start front.new last.new summary.now.ring summary.now.position summary.now.calm }
     ensures legal { N.legal front.new }
     ensures of_seats { AreOfSeats N.seats front.new }
     ensures survey { result ≡ survey_of N.start front.new }
@@ -255,11 +255,23 @@ impl<N: Name> Seat<N> {
         &self.front
     }
 
-    /// Sees what is shown, which begins with what was seen.
+    /// Sees what is shown, which begins with what was seen and ends with the event of this effect. Where that event
+    /// alone was not seen, the seat's summary takes what it wrote, and nothing else.
     #[inline(always)]
-    pub(crate) fn go_on(&mut self, shown: &Shown<N>)
+    pub(crate) fn go_on(&mut self, shown: &Shown<N>, effect: Effect)
         requires later { IsPrefix self.old.seen shown.now }
-        ensures is { self.new ≡ record { number = self.old.number; log = self.old.log; seen = shown.now; room = self.old.room } }
+        requires effect { IsWritten N.start shown.now effect.machine effect.value effect.calm }
+        ensures { self.new ≡ record { number = self.old.number; log = self.old.log; seen = shown.now; room = self.old.room } }
+    {
+        self.front = shown.front();
+        self.last = None;
+        shown.lead_on(&mut self.summary, effect);
+    }
+
+    /// Sees what is shown, which begins with what was seen.
+    pub(crate) fn catch_up(&mut self, shown: &Shown<N>)
+        requires { IsPrefix self.old.seen shown.now }
+        ensures { self.new ≡ record { number = self.old.number; log = self.old.log; seen = shown.now; room = self.old.room } }
     {
         self.front = shown.front();
         self.last = None;

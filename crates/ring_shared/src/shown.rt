@@ -2,14 +2,14 @@
 ghost use Rattle.std.specs.Prelude.{◌≡◌, ◌+◌, ◌<◌, ◌≤◌, ◌++◌, ◌∷◌, [], List, length, true, false};
 ghost use Rattle.ring_model.specs.Surveys.{calm as calm_of};
 ghost use Rattle.ring_model.specs.declared.events.Event.{Event};
-ghost use Rattle.ring_shared.specs.Folds.{ring_after, survey_of, IsSummary, IsWritten};
+ghost use Rattle.ring_shared.specs.Folds.{ring_after, survey_of, IsSummary, IsSummaryWithin, IsWritten};
 ghost use Rattle.ring_shared.specs.Holding.{IsHeld};
 ghost use Rattle.ring_logs.specs.Replays.{IsCallOf, machine_of};
 ghost use Rattle.ring_shared.specs.Stepping.{stepped};
 
 use crate::front::Front;
 use crate::names::Name;
-use crate::summary::Summary;
+use crate::summary::{Effect, Summary};
 use left_right::Absorb;
 use ring_book::{Book, Resource};
 use ring_model::{Event, Op, Survey};
@@ -85,15 +85,27 @@ impl<N: Name> Shown<N> {
         self.summary.survey()
     }
 
-    /// Writes the summary of the list over another.
+    /// Writes the summary of the list over another, which is of a beginning of it.
     pub(crate) fn copy_to(&self, summary: &mut Summary)
-        requires machines { length summary.old.ring.values ≡ length N.start.values }
-        requires values { summary.old.ring.k ≡ N.start.k }
-        ensures is { IsSummary N.start self.now summary.new.ring summary.new.position summary.new.calm }
-        ensures machines { length summary.new.ring.values ≡ length N.start.values }
-        ensures values { summary.new.ring.k ≡ N.start.k }
+        requires { IsSummaryWithin N.start self.now summary.old.ring summary.old.position summary.old.calm }
+        ensures { IsSummary N.start self.now summary.new.ring summary.new.position summary.new.calm }
     {
         summary.go_to(&self.summary.ring, self.summary.position, self.summary.calm);
+    }
+
+    /// Brings another summary up to the list, of which it has a beginning. Where it lacks the last event alone, nothing
+    /// but what that event wrote is written.
+    pub(crate) fn lead_on(&self, summary: &mut Summary, effect: Effect)
+        requires within { IsSummaryWithin N.start self.now summary.old.ring summary.old.position summary.old.calm }
+        requires effect { IsWritten N.start self.now effect.machine effect.value effect.calm }
+        ensures { IsSummary N.start self.now summary.new.ring summary.new.position summary.new.calm }
+    {
+        self.front.len(); // says: it is not too long
+        if summary.position + 1 == self.summary.position {
+            summary.go_on(effect.machine, effect.value, effect.calm);
+        } else {
+            self.copy_to(summary);
+        }
     }
 
     pub(crate) fn front(&self) -> Front<N>
@@ -138,6 +150,22 @@ fn machine_named(op: Op) -> u32
     }
 }
 
+/// What the event that ends the book's history did.
+#[inline(always)]
+pub(crate) fn last_effect<N: Name, R: Resource + Drop>(book: &Book<R>, event: Event) -> Effect
+    requires held { IsHeld R.works R.first N.start N.seats N.legal book.now }
+    requires call { IsCallOf N.start event.op }
+    requires last { (before : List Event) × (book.now.history ≡ before ++ event ∷ []) }
+    ensures { IsWritten N.start book.now.history result.machine result.value result.calm }
+{
+    let machine = machine_named(event.op);
+    Effect {
+        machine,
+        value: book.state().get(machine),
+        calm: book.calm(),
+    }
+}
+
 impl<N: Name> Operation<N> {
     /// It changes nothing.
     pub(crate) fn nothing(front: Front<N>) -> Operation<N>
@@ -156,25 +184,18 @@ impl<N: Name> Operation<N> {
         }
     }
 
-    /// What the event that ends the book's history does to a summary of that history without it.
-    pub(crate) fn last<R: Resource + Drop>(
-        book: &Book<R>,
-        event: Event,
-        front: Front<N>,
-    ) -> Operation<N>
-        requires held { IsHeld R.works R.first N.start N.seats N.legal book.now }
-        requires call { IsCallOf N.start event.op }
-        requires last { (before : List Event) × (book.now.history ≡ before ++ event ∷ []) }
-        requires front { front ≡ book.now.history }
+    /// What the event that ends the list of this front does to a summary of that list without it.
+    #[inline(always)]
+    pub(crate) fn event(effect: Effect, front: Front<N>) -> Operation<N>
+        requires { IsWritten N.start front effect.machine effect.value effect.calm }
         ensures { result ≡ record { list = front; block = false } }
     {
-        let machine = machine_named(event.op);
         Operation {
             change: Change::Write {
-                machine,
-                value: book.state().get(machine),
+                machine: effect.machine,
+                value: effect.value,
             },
-            calm: book.calm(),
+            calm: effect.calm,
             front,
         }
     }

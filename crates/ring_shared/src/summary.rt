@@ -8,6 +8,14 @@ use ring_model::Survey;
 use ring_settle::rest_of_counted;
 use ring_state::RingState;
 
+/// What the last of some events did to a summary: it left this value in this machine, and the calm behind it.
+#[derive(Clone, Copy)]
+pub(crate) struct Effect {
+    pub(crate) machine: u32,
+    pub(crate) value: u32,
+    pub(crate) calm: u64,
+}
+
 /// The ring behind so many events, and the calm there.
 #[derive(Drop)]
 pub(crate) struct Summary {

@@ -38,14 +38,14 @@ surely_add_all-requires-clause-some g c =
     let some = c.requires.some in
     rw c.history.ensures.is (omega (arith, n, some))
 
-pub go_on-requires : goal.go_on-requires
-go_on-requires g c =
+pub catch_up-requires : goal.catch_up-requires
+catch_up-requires g c =
     let front = c.surely_add_all.ensures.is
     ∙ sym (group_grown g.R.Resource.works c.self.inside.book c.log_group.new.book c.args.seat.now.number c.args.order c.args.machines.now c.in_ok-receipt.receipt c.self.inside.front c.history.result.now
     c.in_ok-receipt.ensures.ok c.self.invariant.1 c.history.ensures.is) in
     let shown = c.published.ensures ∙ (c.show_block.ensures.shown ∙ sym front) in
     let begins = subst (λ (h : List Event). IsPrefix h c.surely_add_all.new.self) c.front.ensures c.surely_add_all.ensures.begins in
-    record { later = subst (λ (h : List Event). IsPrefix c.log_group.new.seat.seen h) (sym shown) begins }
+    subst (λ (h : List Event). IsPrefix c.log_group.new.seat.seen h) (sym shown) begins
 
 pub invariant_of-self-2 : goal.invariant_of-self-2
 invariant_of-self-2 g c =
@@ -66,7 +66,7 @@ returns-clause-ok g c =
     ∙ sym (group_grown g.R.Resource.works c.self.inside.book c.log_group.new.book c.args.seat.now.number c.args.order c.args.machines.now c.in_ok-receipt.receipt c.self.inside.front c.history.result.now
     ok c.self.invariant.1 c.history.ensures.is) in
     let begins = subst (λ (h : List Event). IsPrefix h c.surely_add_all.new.self) c.front.ensures c.surely_add_all.ensures.begins in
-    let logged = c.go_on.ensures.is
+    let logged = c.catch_up.ensures
     ∙ (ap (λ (s : Client). record { number = s.number; log = s.log; seen = c.published.result.now; room = s.room }) c.in_ok-receipt.ensures.logged
     ∙ ap (λ (h : List Event). record { number = c.args.seat.now.number; log = c.args.seat.now.log ++ receipts_from c.in_ok-receipt.receipt.first (drop c.in_ok-receipt.receipt.first c.log_group.new.book.history); seen = h; room = c.log_group.new.seat.room }) seen) in
     let held = group_held g.R.Resource.works g.R.Resource.first g.N.Name.start g.N.Name.seats g.N.Name.legal c.self.inside.book c.log_group.new.book c.args.seat.now.number c.args.order c.args.machines.now
@@ -74,8 +74,8 @@ returns-clause-ok g c =
     let size = held_size g.R.Resource.works g.R.Resource.first g.N.Name.start g.N.Name.seats g.N.Name.legal c.self.inside.book c.self.invariant.0 in
     rw (← c.self.view_is) (record {
       recorded = ok;
-      told = group_logged g.R.Resource.works _ c.log_group.new.seat.room c.self.inside.book c.log_group.new.book c.args.seat.now c.go_on.new.self c.args.order c.args.machines.now c.in_ok-receipt.receipt size ok logged c.in_ok-receipt.ensures.room;
+      told = group_logged g.R.Resource.works _ c.log_group.new.seat.room c.self.inside.book c.log_group.new.book c.args.seat.now c.catch_up.new.self c.args.order c.args.machines.now c.in_ok-receipt.receipt size ok logged c.in_ok-receipt.ensures.room;
       all = ap (λ (s : Client). s.seen) logged;
-      later = subst (λ (s : Client). IsPrefix s.seen c.go_on.new.self.seen) c.in_ok-receipt.ensures.logged (subst (λ (h : List Event). IsPrefix c.log_group.new.seat.seen h) (sym (ap (λ (s : Client). s.seen) logged ∙ sym front)) begins);
+      later = subst (λ (s : Client). IsPrefix s.seen c.catch_up.new.self.seen) c.in_ok-receipt.ensures.logged (subst (λ (h : List Event). IsPrefix c.log_group.new.seat.seen h) (sym (ap (λ (s : Client). s.seen) logged ∙ sym front)) begins);
       held = held;
     })

@@ -1,20 +1,15 @@
-use Rattle.std.proofs.Common.{length, sym, ap, ◌∙◌}
-use Rattle.ring_model.specs.Ring.{Ring}
-use Rattle.ring_shared.proofs.Folding.{ring_after_keeps}
+use Rattle.std.proofs.Common.{length, sym, ◌∙◌}
+use Rattle.ring_shared.proofs.Folding.{summary_size}
 use Rattle.ring_shared.proofs.shown.Shown.copy_to.Goals as goal
 
 pub go_to-requires-clause-machines : goal.go_to-requires-clause-machines
 go_to-requires-clause-machines g c =
-    c.requires.machines ∙ sym (ap (λ (r : Ring). length r.values) c.self.invariant.ring_is ∙ (ring_after_keeps g.N.Name.start c.self.inside.front).1)
+    let mine = summary_size g.N.Name.start c.self.inside.front c.self.inside.summary.ring c.self.inside.summary.position c.self.inside.summary.calm c.self.invariant in
+    let other = summary_size g.N.Name.start c.requires.past c.args.summary.now.ring c.args.summary.now.position c.args.summary.now.calm c.requires.of_past in
+    other.1 ∙ sym mine.1
 
 pub go_to-requires-clause-values : goal.go_to-requires-clause-values
 go_to-requires-clause-values g c =
-    c.requires.values ∙ sym (ap (λ (r : Ring). r.k) c.self.invariant.ring_is ∙ (ring_after_keeps g.N.Name.start c.self.inside.front).0)
-
-pub returns-clause-machines : goal.returns-clause-machines
-returns-clause-machines g c =
-    ap (λ (r : Ring). length r.values) (c.go_to.ensures.ring ∙ c.self.invariant.ring_is) ∙ (ring_after_keeps g.N.Name.start c.self.inside.front).1
-
-pub returns-clause-values : goal.returns-clause-values
-returns-clause-values g c =
-    ap (λ (r : Ring). r.k) (c.go_to.ensures.ring ∙ c.self.invariant.ring_is) ∙ (ring_after_keeps g.N.Name.start c.self.inside.front).0
+    let mine = summary_size g.N.Name.start c.self.inside.front c.self.inside.summary.ring c.self.inside.summary.position c.self.inside.summary.calm c.self.invariant in
+    let other = summary_size g.N.Name.start c.requires.past c.args.summary.now.ring c.args.summary.now.position c.args.summary.now.calm c.requires.of_past in
+    other.0 ∙ sym mine.0
