@@ -12,35 +12,35 @@ use std::marker::Model;
 /// How many events all logs are followed along before the next are: so many stay near the processor.
 const BLOCK: usize = 2048;
 
-fn is_same_event(one: Event, other: Event) -> bool
-    ensures { IsTrue result ↔ one ≡ other }
+fn is_same_event(one: &Event, other: &Event) -> bool
+    ensures { IsTrue result ↔ one.now ≡ other.now }
 {
-    one == other
+    *one == *other
 }
 
 /// Whether this event stands at this place of a history.
-fn is_at(history: &[Event], position: u64, event: Event) -> bool
-    ensures { IsTrue result ↔ slice_get history.now position ≡ Some event }
+fn is_at(history: &[Event], position: u64, event: &Event) -> bool
+    ensures { IsTrue result ↔ slice_get history.now position ≡ Some event.now }
 {
     match history.get(position as usize) {
-        Some(found) => is_same_event(*found, event),
+        Some(found) => is_same_event(found, event),
         None => false,
     }
 }
 
 /// Whether the event of a receipt stands where the receipt says, not before the front, and is this seat's.
-fn is_receipt_from(history: &[Event], seat: u32, front: u64, receipt: Receipt) -> bool
-    ensures { IsTrue result ↔ IsReceiptFrom history.now seat front receipt }
+fn is_receipt_from(history: &[Event], seat: u32, front: u64, receipt: &Receipt) -> bool
+    ensures { IsTrue result ↔ IsReceiptFrom history.now seat front receipt.now }
 {
     front <= receipt.position
         && receipt.event.seat == seat
-        && is_at(history, receipt.position, receipt.event)
+        && is_at(history, receipt.position, &receipt.event)
 }
 
 /// The front behind an entry; none where its receipt is not right, or where it goes back behind the front before.
-fn front_past(history: &[Event], seat: u32, front: u64, entry: Entry) -> Option<u64>
-    ensures some { IfSome result (λ f. (f ≡ front_of entry) × IsPlacedFrom history.now seat front entry) }
-    ensures none { result ≡ None → IsPlacedFrom history.now seat front entry → ⊥ }
+fn front_past(history: &[Event], seat: u32, front: u64, entry: &Entry) -> Option<u64>
+    ensures some { IfSome result (λ f. (f ≡ front_of entry.now) × IsPlacedFrom history.now seat front entry.now) }
+    ensures none { result ≡ None → IsPlacedFrom history.now seat front entry.now → ⊥ }
 {
     match entry {
         Entry::Receipt(receipt) if is_receipt_from(history, seat, front, receipt) => {
@@ -51,8 +51,8 @@ fn front_past(history: &[Event], seat: u32, front: u64, entry: Entry) -> Option<
     }
 }
 
-fn is_receipt(entry: Entry) -> bool
-    ensures { result ≡ is_receipt_entry entry }
+fn is_receipt(entry: &Entry) -> bool
+    ensures { result ≡ is_receipt_entry entry.now }
 {
     matches!(entry, Entry::Receipt(_))
 }
@@ -66,7 +66,7 @@ struct Reached {
 }
 
 /// Where an entry says that it stands.
-fn place_of(entry: Entry) -> u64 {
+fn place_of(entry: &Entry) -> u64 {
     match entry {
         Entry::Receipt(receipt) => receipt.position,
         Entry::Survey(survey) => survey.position,
@@ -95,7 +95,7 @@ fn followed(
     let mut front = from.front;
     let mut receipts = from.receipts;
     for place in from.entry..log.len() {
-        let entry = log[place];
+        let entry = &log[place];
         if until != u64::MAX && place_of(entry) >= until {
             return Some(Reached {
                 entry: place,
