@@ -14,11 +14,10 @@ mod shown;
 mod summary;
 
 pub use closing::{CloseFault, CloseReason, Closed};
-pub use front::{Front, Head, Opened};
+pub use front::Front;
 pub use laws::{calls_have_one_answer, groups_have_one_answer};
 pub use locked::Locked;
 pub use names::Name;
 pub use ring_model::Entry;
 pub use rings::{Draft, DraftFault, OpenFault, OpenReason, Ring};
-pub use seats::{Log, RingReader, RingWriter, Seat};
-pub use shown::{Operation, Shown};
+pub use seats::{Log, Seat};
