@@ -1,5 +1,5 @@
 -- How a book grows by one step.
-use Rattle.std.proofs.Common.{◌≡◌, ℕ, ◌+◌, ◌<◌, ◌≤◌, Bool, true, List, [], ◌∷◌, ◌++◌, length, length-append, replicate, cond, refl, sym, ◌∙◌, ap, subst, arith}
+use Rattle.std.proofs.Common.{◌≡◌, ℕ, ◌+◌, ◌<◌, ◌≤◌, Bool, true, Option, None, Some, List, [], ◌∷◌, ◌++◌, length, length-append, replicate, cond, refl, sym, ◌∙◌, ap, subst, arith}
 use Rattle.std.specs.Prelude.{◌==◌, slice_index}
 use Rattle.std.specs.List.{count_by}
 use Rattle.std.proofs.lemmas.List.{length-set, take_all}
@@ -17,6 +17,7 @@ use Rattle.ring_model.specs.declared.events.Op.TheVariants.{Pass, Member, Corrup
 use Rattle.ring_model.specs.declared.events.Reply.{Reply}
 use Rattle.ring_model.specs.declared.events.Reply.TheVariants.{Granted, NotPrivileged, Corrupted}
 use Rattle.ring_model.specs.declared.events.Event.{Event}
+use Rattle.ring_model.specs.declared.events.Receipt.{Receipt}
 use Rattle.ring_model.specs.declared.events.Survey.{Survey}
 use Rattle.ring_model.proofs.Moves.{length_move}
 use Rattle.ring_model.proofs.Settled.{move_ring, settled_stays}
@@ -29,7 +30,7 @@ use Rattle.ring_book.specs.EventsView.{EventsView}
 use Rattle.ring_book.specs.GrantsView.{IsGrantsOf, raised, no_grants, one_grant}
 use Rattle.ring_book.specs.GrantCounts.{IsEven}
 use Rattle.ring_book.specs.TallyView.{TallyView, after_call, after_grant, after_corruption}
-use Rattle.ring_book.specs.BookView.{BookView, book_view, IsOpen, IsBook, IsKept, IsOpenKept}
+use Rattle.ring_book.specs.BookView.{BookView, view_of, pass_of, IsOpen, IsBook, IsKept, IsOpenKept, IsRecorded}
 use Rattle.ring_book.proofs.Counting.{grants-grant, IsTallyOf-new, IsTallyOf-grant, IsTallyOf-idle, IsTallyOf-corruption}
 
 -- a step keeps a ring, and its size
@@ -70,6 +71,7 @@ open_of w first b k = record {
   start_ring = k.start_ring;
   now_ring = k.now_ring;
   same_size = k.same_size;
+  whole = tt;
 }
 
 pub closed_of : {C : Type 0} (w : Works C) (first : C) (b : BookView C) → IsOpen w first b → IsWhole (length b.start.values) b.history → IsBook w first b
@@ -104,6 +106,7 @@ IsOpen-push w first old e b room h fits step =
       start_ring = h.start_ring;
       now_ring = ring_kept w old.now b e.op e.reply step h.now_ring;
       same_size = same_size-step w old.now b e.op e.reply step ∙ h.same_size;
+      whole = tt;
     }
 
 pub IsBook-push : {C : Type 0} (w : Works C) (first : C) (old : BookView C) (e : Event) (b : State C) (room : ℕ) →
@@ -151,16 +154,21 @@ IsOpenKept-grant w first old t b seat m order number result room settled o mine 
       (rw k.book.current k.book.now_ring.ring) (same_length w first old k.book) few s;
 }
 
-pub IsKept-grant : {C : Type 0} (w : Works C) (first : C) (old : BookView C) (t : TallyView) (b : State C) (seat m order number result room : ℕ) (settled : Bool) →
-    IsKept w first old t → length old.history + 1 + room ≤ event_limit → StepOf w old.now (Pass m order) (Granted number result) b → seat < seat_limit →
-    settled ≡ is_settled b.ring.values →
-    IsKept w first (record { start = old.start; now = b; history = old.history ++ record { seat = seat; op = Pass m order; reply = Granted number result } ∷ []; room = room })
+pub IsOpenKept-pass : {C : Type 0} (w : Works C) (first : C) (old : BookView C) (t : TallyView) (b : State C) (seat m order number result room : ℕ) (settled : Bool) (left : Option ℕ) →
+    IsOpenKept w first old t → length old.history + 1 + room ≤ event_limit → IsGrant w old.now m order number result b → seat < seat_limit → settled ≡ is_settled b.ring.values →
+    IsOpenKept w first (record { start = old.start; now = b; history = old.history ++ record { seat = seat; op = pass_of m order left; reply = Granted number result } ∷ []; room = room })
     (after_call (after_grant t m settled) seat)
-IsKept-grant w first old t b seat m order number result room settled k fits step few s =
-    let e : Event = record { seat = seat; op = Pass m order; reply = Granted number result } in
-    kept_closed w first (record { start = old.start; now = b; history = old.history ++ e ∷ []; room = room }) (after_call (after_grant t m settled) seat)
-    (IsOpenKept-grant w first old t b seat m order number result room settled (Pass m order) (λ i. refl) (kept_open w first old t k) fits step step few s)
-    (whole_push (length old.start.values) old.history e k.book.whole tt)
+IsOpenKept-pass w first old t b seat m order number result room settled None k fits grant few s =
+    IsOpenKept-grant w first old t b seat m order number result room settled (Pass m order) (λ i. refl) k fits grant grant few s
+IsOpenKept-pass w first old t b seat m order number result room settled (Some left) k fits grant few s =
+    IsOpenKept-grant w first old t b seat m order number result room settled (Member m order left) (λ i. refl) k fits grant grant few s
+
+-- a whole history stays whole by a pass by itself
+pub pass_keeps : {C : Type 0} (w : Works C) (first : C) (old new : BookView C) (t : TallyView) (seat m order : ℕ) (r : Receipt) →
+    IsOpenKept w first new t → IsRecorded w old new seat (Pass m order) r → IsWhole (length old.start.values) old.history → IsKept w first new t
+pass_keeps w first old new t seat m order r kept rec whole =
+    kept_closed w first new t kept
+    (rw (rec.same_start, rec.grown) (whole_push (length old.start.values) old.history r.event whole (subst IsAlone (sym rec.of_call) tt)))
 
 -- by a pass that was not granted
 pub IsKept-idle : {C : Type 0} (w : Works C) (first : C) (old : BookView C) (t : TallyView) (b : State C) (seat m order room : ℕ) →
@@ -209,7 +217,8 @@ survey_end w a h = ap (λ (front : List Event). let s : Survey = record {
 -- a book with no events
 pub IsKept-new : {C : Type 0} (w : Works C) (first : C) (start ring : Ring) (content : C) (events : EventsView) (t : TallyView) (n : ℕ) (settled : Bool) →
     IsRingState ring → start ≡ ring → content ≡ first → events ≡ record { list = []; room = 0 } → n ≡ length ring.values → settled ≡ is_settled ring.values →
-    t ≡ record { calm = 0; calls = replicate seat_limit 0; settled = settled; grants = no_grants n } → IsKept w first (book_view start ring content events t) t
+    t ≡ record { calm = 0; calls = replicate seat_limit 0; settled = settled; grants = no_grants n } →
+    IsKept w first (view_of (record { start = start; ring = ring; resource = content; events = events; tally = t })) t
 IsKept-new w first start ring content events t n settled g q r e m s u = rw (q, r, e, u, m) (record {
   book = record {
     legal = tt;

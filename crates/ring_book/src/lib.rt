@@ -6,6 +6,7 @@ mod books;
 mod events;
 mod grants;
 pub mod laws;
+mod open_books;
 mod resources;
 mod tallies;
 

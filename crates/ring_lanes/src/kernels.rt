@@ -4,6 +4,7 @@
 // 32 machines, comes from the block of the last 32. To count and to find, a ring of 9 to 32 machines
 // is read by blocks of 8 in the same way; any other small ring is read one machine at a time.
 ghost use Rattle.std.specs.Prelude.{◌≡◌, ℕ, ◌+◌, ◌-◌, ◌*◌, ◌≤◌, ◌<◌, Bool, true, false, slice_index, length, if◌then◌else◌};
+ghost use Rattle.ring_model.specs.Limits.{value_limit};
 ghost use Rattle.ring_lanes.specs.Hits.{mask_from, count_from, within, weight_from};
 
 use crate::probe::Probe;
@@ -260,7 +261,7 @@ fn first_bit<P: Probe>(p: &P) -> u64
 #[inline(always)]
 #[tactic(auto, using(crate::proofs::Words::halving))]
 fn half_word<P: Probe>(p: &P, base: usize) -> u64
-    requires { base ≤ 65536 }
+    requires { base ≤ value_limit }
     ensures { result ≡ mask_from (within (P.size p.now) (P.hit p.now)) base 32 }
 {
     let n = p.len();
@@ -321,7 +322,7 @@ fn places(hits: u64) -> u64
 #[inline(always)]
 pub(crate) fn weigh_hits<P: Probe>(p: &P) -> u64
     requires low { 1 ≤ P.size p.now }
-    requires high { P.size p.now ≤ 65536 }
+    requires high { P.size p.now ≤ value_limit }
     ensures { result ≡ weight_from (P.hit p.now) (P.size p.now) 1 (P.size p.now - 1) }
 {
     let n = p.len();

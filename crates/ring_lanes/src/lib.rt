@@ -4,6 +4,7 @@
 #![tactic(auto)]
 
 ghost use Rattle.std.specs.Prelude.{◌≡◌, ◌↔◌, ◌≤◌, ◌<◌, ◌/◌, ◌%◌, ◌&&◌, if◌then◌else◌, not, nat_lt, ℕ, length, slice_index, IsTrue, EachIndex, true};
+ghost use Rattle.ring_model.specs.Limits.{value_limit};
 ghost use Rattle.ring_model.specs.Ring.{is_privileged, privileged_count, first_privileged, weight, is_absent, first_value_is_prefix, IsPrefix};
 ghost use Rattle.ring_lanes.specs.Masks.{mask_limit, wide_mask_limit, IsMaskOf};
 
@@ -58,7 +59,7 @@ pub fn first_privileged(s: &[u8]) -> usize
 /// ring. For at most 65,536 machines.
 pub fn weight(s: &[u8]) -> u64
     requires low { 2 ≤ length s.now }
-    requires high { length s.now ≤ 65536 }
+    requires high { length s.now ≤ value_limit }
     ensures { result ≡ weight s.now }
 {
     weigh_hits(&Privileged(s))
@@ -134,7 +135,7 @@ pub fn wide_first(s: &[u16]) -> usize
 /// ring. For at most 65,536 machines.
 pub fn wide_weight(s: &[u16]) -> u64
     requires low { 2 ≤ length s.now }
-    requires high { length s.now ≤ 65536 }
+    requires high { length s.now ≤ value_limit }
     ensures { result ≡ weight s.now }
 {
     weigh_hits(&WidePrivileged(s))

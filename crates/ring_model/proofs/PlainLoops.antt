@@ -1,4 +1,4 @@
--- What the loops of the plain program need, one turn further and at their ends.
+-- What the loops of the plain programs need, one turn further and at their ends.
 use Rattle.std.proofs.Common.{◌≡◌, ℕ, zero, suc, ◌+◌, ◌-◌, ◌%◌, ◌<◌, ◌≤◌, ◌≢◌, Bool, true, false, List, length, get_or, refl, sym, ◌∙◌, ap, arith}
 use Rattle.std.proofs.lemmas.Bool.{cond-true, cond-false, both_ways, false_from_ne_true}
 use Rattle.ring_model.specs.Numbers.{sum_below, bit, count_below, least}

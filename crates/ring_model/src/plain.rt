@@ -1,10 +1,11 @@
-//! The plain, slow program: each definition computed on a slice of values by the shortest loop that
-//! does it, and proved equal to the definition. Tests of this and other crates compare with it.
+//! Plain programs: each definition computed on a slice of values by the shortest loop that does it, and
+//! proved equal to the definition. Tests compare with them, and what is in no hurry calls them.
 //!
 //! A ring is its machines' values and the number K. No function here needs a true ring, with values
 //! below K and K at least n: each equals its definition on every list that its `requires` allow.
 
 ghost use Rattle.std.specs.Prelude.{◌≡◌, ℕ, ◌+◌, ◌^◌, ◌<◌, ◌≤◌, ◌↔◌, length, IsTrue};
+ghost use Rattle.ring_model.specs.Limits.{value_limit};
 ghost use Rattle.ring_model.specs.Ring.{ring_with, IsRing, is_privileged, moved, privileged_count, first_privileged, is_settled, weight, is_absent, first_value_is_prefix, lead, rest, bound};
 ghost use Rattle.ring_model.specs.Runs.{after_passes, granted_passes, AreBelow};
 
@@ -83,7 +84,7 @@ pub fn is_settled(values: &[u32]) -> bool
 /// The weight: the sum of n - i over the privileged machines i but machine 0.
 pub fn weight(values: &[u32]) -> u64
     requires some { 1 ≤ length values.now }
-    requires short { length values.now ≤ 65536 }
+    requires short { length values.now ≤ value_limit }
     ensures value { result ≡ weight values.now }
     ensures within { result ≤ 2 ^ 32 }
 {
@@ -144,7 +145,7 @@ pub fn lead(k: u32, values: &[u32]) -> u64
 pub fn rest(k: u32, values: &[u32]) -> u64
     requires positive { 0 < k }
     requires some { 1 ≤ length values.now }
-    requires short { length values.now ≤ 65536 }
+    requires short { length values.now ≤ value_limit }
     ensures { result ≡ rest (ring_with k values.now) }
 {
     if is_settled(values) {
@@ -156,7 +157,7 @@ pub fn rest(k: u32, values: &[u32]) -> u64
 
 /// No rest of a ring of n machines is more than this.
 pub fn bound(n: u32) -> u64
-    requires { n ≤ 65536 }
+    requires { n ≤ value_limit }
     ensures { result ≡ bound n }
 {
     3 * n as u64 * (n as u64).saturating_sub(1) / 2

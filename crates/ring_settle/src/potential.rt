@@ -1,4 +1,5 @@
 ghost use Rattle.std.specs.Prelude.{◌≡◌, ◌<◌, ◌≤◌, length};
+ghost use Rattle.ring_model.specs.Limits.{value_limit};
 ghost use Rattle.ring_model.specs.Ring.{bound, is_settled, lead, privileged_count, rest};
 
 use ring_state::RingState;
@@ -6,7 +7,7 @@ use ring_state::RingState;
 /// The bound of the rest, 3n(n-1)/2, of a ring of `n` machines; `n` is 2 to 65,536.
 pub fn bound(n: u32) -> u64
     requires few { 2 ≤ n }
-    requires many { n ≤ 65536 }
+    requires many { n ≤ value_limit }
     ensures { result ≡ bound n }
 {
     3 * n as u64 * (n as u64 - 1) / 2

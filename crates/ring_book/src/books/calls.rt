@@ -34,24 +34,17 @@ impl<R: Resource + Drop> Book<R> {
         ensures succeeds { 1 ≤ self.old.room → IsOk result }
         ensures room { OnOk result (self.old.room ≤ self.new.room + 1) }
     {
-        self.events.reserve(1)?; // before the work
-        let reply = if self.ring.is_privileged(machine) {
-            let result = self.resource.work(machine, order);
-            self.ring.move_machine(machine);
-            // A move of a settled ring leaves it settled.
-            let settled = self.tally.is_settled() || is_settled(&self.ring);
-            let number = self.tally.add_grant(machine, settled);
-            Reply::Granted { number, result }
-        } else {
-            Reply::NotPrivileged
-        };
-        self.tally.add_call(seat);
+        self.parts.events.reserve(1)?; // before the work
+        if self.parts.ring.is_privileged(machine) {
+            return Ok(self.parts.grant(seat, machine, order, None));
+        }
+        self.parts.tally.add_call(seat);
         let event = Event {
             seat,
             op: Op::Pass { machine, order },
-            reply,
+            reply: Reply::NotPrivileged,
         };
-        let position = self.events.push(event);
+        let position = self.parts.events.push(event);
         Ok(Receipt { position, event })
     }
 
@@ -75,16 +68,18 @@ impl<R: Resource + Drop> Book<R> {
         ensures succeeds { 1 ≤ self.old.room → IsOk result }
         ensures room { OnOk result (self.old.room ≤ self.new.room + 1) }
     {
-        self.events.reserve(1)?; // before the write
-        let old = self.ring.write(machine, value);
-        self.tally.add_corruption(is_settled(&self.ring));
-        self.tally.add_call(seat); // a corruption is a call too
+        self.parts.events.reserve(1)?; // before the write
+        let old = self.parts.ring.write(machine, value);
+        self.parts
+            .tally
+            .add_corruption(is_settled(&self.parts.ring));
+        self.parts.tally.add_call(seat); // a corruption is a call too
         let event = Event {
             seat,
             op: Op::Corrupt { machine, value },
             reply: Reply::Corrupted { old },
         };
-        let position = self.events.push(event);
+        let position = self.parts.events.push(event);
         Ok(Receipt { position, event })
     }
 
@@ -104,7 +99,7 @@ impl<R: Resource + Drop> Book<R> {
         ensures succeeds { more ≤ self.old.room → IsOk result }
         ensures err { OnErr result (self.new ≡ self.old) }
     {
-        self.events.reserve(more)
+        self.parts.events.reserve(more)
     }
 
     /// Passes the first privileged machine with order 0, as calls of `seat`, which is below `SEAT_LIMIT`, until exactly
@@ -141,6 +136,6 @@ impl<R: Resource + Drop> Book<R> {
         ensures is { result ≡ is_settled self.now.now.ring.values }
         ensures book { IsBook R.works R.first self.now }
     {
-        self.tally.is_settled()
+        self.parts.tally.is_settled()
     }
 }

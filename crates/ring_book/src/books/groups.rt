@@ -5,15 +5,12 @@ ghost use Rattle.ring_model.specs.HistoryLaws.{Settlement};
 ghost use Rattle.ring_model.specs.Groups.{Rises};
 ghost use Rattle.ring_model.specs.GroupLaws.{AreAllPrivileged, CanMove};
 ghost use Rattle.ring_model.specs.Limits.{event_limit, seat_limit};
-ghost use Rattle.ring_book.specs.BookView.{book_view, IsBook, IsOpenKept, IsRecorded};
-ghost use Rattle.ring_book.specs.GroupView.{IsLeastWithout, HasMoved, IsGroupRecorded};
+ghost use Rattle.ring_book.specs.BookView.{IsBook};
+ghost use Rattle.ring_book.specs.GroupView.{IsLeastWithout, IsGroupRecorded};
 
 use crate::books::Book;
-use crate::events::{BookError, Events};
+use crate::events::BookError;
 use crate::resources::Resource;
-use crate::tallies::Tally;
-use ring_model::{Event, Op, Receipt, Reply};
-use ring_settle::{is_settled, least_left_out, machine_in_turn};
 use ring_state::RingState;
 use thiserror::Error;
 
@@ -69,29 +66,20 @@ impl<R: Resource + Drop> Book<R> {
         ensures succeeds { CanMove self.old.now.ring.values machines.now → length machines.now ≤ self.old.room → IsOk result }
         ensures room { OnOk result (self.old.room ≤ self.new.room + length machines.now) }
     {
-        if machines.len() == self.ring.params().n() as usize {
+        if machines.len() == self.parts.ring.params().n() as usize {
             return Err(GroupError::WholeRing);
         }
-        if let Some(machine) = first_unprivileged(&self.ring, machines) {
+        if let Some(machine) = first_unprivileged(&self.parts.ring, machines) {
             return Err(GroupError::NotPrivileged(machine));
         }
         let count = machines.len() as u32;
-        match self.events.reserve(count) {
+        match self.parts.events.reserve(count) {
             Ok(()) => {}
             Err(BookError::HistoryFull) => return Err(GroupError::HistoryFull),
             Err(BookError::OutOfMemory) => return Err(GroupError::OutOfMemory),
         }
-        let first = self.events.as_slice().len() as u64;
-        pass_members(
-            &self.start,
-            &mut self.ring,
-            &mut self.resource,
-            &mut self.events,
-            &mut self.tally,
-            seat,
-            machines,
-            order,
-        );
+        let first = self.parts.events.as_slice().len() as u64;
+        self.parts.grant_group(seat, machines, order);
         Ok(GroupReceipt { first, count })
     }
 }
@@ -108,73 +96,4 @@ fn first_unprivileged(ring: &RingState, machines: &[u32]) -> Option<u32>
         }
     }
     None
-}
-
-/// The members of a group pass, one after the other.
-fn pass_members<R: Resource + Drop>(
-    start: &RingState,
-    ring: &mut RingState,
-    resource: &mut R,
-    events: &mut Events,
-    tally: &mut Tally,
-    seat: u32,
-    machines: &[u32],
-    order: u64,
-)
-    requires kept { IsOpenKept R.works R.first (book_view start.now ring.old resource.old events.old tally.old) tally.old }
-    requires seat { seat < seat_limit }
-    requires group { CanMove ring.old.values machines.now }
-    requires room { length machines.now ≤ events.old.room }
-    ensures kept { IsOpenKept R.works R.first (book_view start.now ring.new resource.new events.new tally.new) tally.new }
-    ensures moved { HasMoved R.works (book_view start.now ring.old resource.old events.old tally.old) (book_view start.now ring.new resource.new events.new tally.new) seat order machines.now }
-    ensures room { events.new.room + length machines.now ≡ events.old.room }
-{
-    let least = least_left_out(machines);
-    for turn in 0..machines.len() {
-        let machine = machine_in_turn(machines, least, turn);
-        let left = (machines.len() - 1 - turn) as u32;
-        pass_member(
-            start, ring, resource, events, tally, seat, machine, order, left,
-        );
-    }
-}
-
-/// One member's pass: it does the work and moves, and is recorded.
-fn pass_member<R: Resource + Drop>(
-    start: &RingState,
-    ring: &mut RingState,
-    resource: &mut R,
-    events: &mut Events,
-    tally: &mut Tally,
-    seat: u32,
-    machine: u32,
-    order: u64,
-    left: u32,
-) -> Receipt
-    requires kept { IsOpenKept R.works R.first (book_view start.now ring.old resource.old events.old tally.old) tally.old }
-    requires seat { seat < seat_limit }
-    requires machine { machine < length ring.old.values }
-    requires privileged { is_privileged ring.old.values machine ≡ true }
-    requires room { 1 ≤ events.old.room }
-    ensures kept { IsOpenKept R.works R.first (book_view start.now ring.new resource.new events.new tally.new) tally.new }
-    ensures recorded { IsRecorded R.works (book_view start.now ring.old resource.old events.old tally.old) (book_view start.now ring.new resource.new events.new tally.new) seat (Op.Member machine order left) result }
-    ensures room { events.new.room + 1 ≡ events.old.room }
-{
-    let result = resource.work(machine, order);
-    ring.move_machine(machine);
-    // A move of a settled ring leaves it settled.
-    let settled = tally.is_settled() || is_settled(ring);
-    let number = tally.add_grant(machine, settled);
-    tally.add_call(seat);
-    let event = Event {
-        seat,
-        op: Op::Member {
-            machine,
-            order,
-            left,
-        },
-        reply: Reply::Granted { number, result },
-    };
-    let position = events.push(event);
-    Receipt { position, event }
 }

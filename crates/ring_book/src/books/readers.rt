@@ -23,7 +23,7 @@ impl<R: Resource + Drop> Book<R> {
         ensures is { result.now ≡ self.now.now.ring }
         ensures book { IsBook R.works R.first self.now }
     {
-        &self.ring
+        &self.parts.ring
     }
 
     /// The state that the book started with.
@@ -31,7 +31,7 @@ impl<R: Resource + Drop> Book<R> {
         ensures is { result.now ≡ self.now.start }
         ensures book { IsBook R.works R.first self.now }
     {
-        &self.start
+        &self.parts.start
     }
 
     /// The resource.
@@ -39,7 +39,7 @@ impl<R: Resource + Drop> Book<R> {
         ensures is { result.now ≡ self.now.now.content }
         ensures book { IsBook R.works R.first self.now }
     {
-        &self.resource
+        &self.parts.resource
     }
 
     /// The events, in order.
@@ -49,7 +49,7 @@ impl<R: Resource + Drop> Book<R> {
         ensures settlement { Settlement R.works (opening self.now.start R.first) self.now.history }
         ensures progress { Progress R.works (opening self.now.start R.first) self.now.history }
     {
-        self.events.as_slice()
+        self.parts.events.as_slice()
     }
 
     /// What a reader learns of the ring behind all events.
@@ -60,13 +60,13 @@ impl<R: Resource + Drop> Book<R> {
         ensures progress { Progress R.works (opening self.now.start R.first) self.now.history }
         ensures calm { bound (length self.now.start.values) ≤ result.calm → (result.privileged ≡ 1) × (result.rest ≡ 0) }
     {
-        let privileged = self.ring.privileged();
+        let privileged = self.parts.ring.privileged();
         Survey {
-            position: self.events.as_slice().len() as u64,
+            position: self.parts.events.as_slice().len() as u64,
             privileged,
-            first: self.ring.first(),
-            calm: self.tally.calm(),
-            rest: rest_of_counted(&self.ring, privileged),
+            first: self.parts.ring.first(),
+            calm: self.parts.tally.calm(),
+            rest: rest_of_counted(&self.parts.ring, privileged),
         }
     }
 
@@ -75,7 +75,7 @@ impl<R: Resource + Drop> Book<R> {
         ensures is { result ≡ calm_of self.now.history }
         ensures book { IsBook R.works R.first self.now }
     {
-        self.tally.calm()
+        self.parts.tally.calm()
     }
 
     /// The granted passes of the history.
@@ -83,7 +83,7 @@ impl<R: Resource + Drop> Book<R> {
         ensures is { IsGrantsOf R.works (opening self.now.start R.first) self.now.history (length self.now.start.values) result.now }
         ensures book { IsBook R.works R.first self.now }
     {
-        self.tally.grants()
+        self.parts.tally.grants()
     }
 
     /// How many events of the history are calls of `seat`, which is below `SEAT_LIMIT`.
@@ -92,6 +92,6 @@ impl<R: Resource + Drop> Book<R> {
         ensures is { result ≡ length (calls_of seat self.now.history) }
         ensures book { IsBook R.works R.first self.now }
     {
-        self.tally.calls_of(seat)
+        self.parts.tally.calls_of(seat)
     }
 }

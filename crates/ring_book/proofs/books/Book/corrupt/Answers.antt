@@ -13,7 +13,7 @@ add_call-requires-clause-fits g c =
 pub invariant_of-self-2 : goal.invariant_of-self-2
 invariant_of-self-2 g c =
     let same = ap (λ (e : List Event). length e) c.in_ok-reserve.ensures.list in
-    let fits : length c.self.inside.events.list + 1 + c.push-position.new.self.room ≤ event_limit = omega (arith, same, c.in_ok-reserve.ensures.bounded) in
+    let fits : length c.self.inside.parts.events.list + 1 + c.push-position.new.self.room ≤ event_limit = omega (arith, same, c.in_ok-reserve.ensures.bounded) in
     rw (c.push-position.ensures.list, c.in_ok-reserve.ensures.list, c.add_call.ensures, c.add_corruption.ensures)
     (IsKept-corruption _ _ _ _ _ _ _ _ _ _ _ c.self.invariant fits (search rules) c.requires.seat c.is_settled.ensures)
 

@@ -21,31 +21,31 @@ returns-in-Err-OutOfMemory-clause-settlement g c = rw c.reserve.ensures.list (bo
 
 pub overflow_cast-count : goal.overflow_cast-count
 overflow_cast-count g c =
-    let rising : Rises 0 (length c.self.inside.ring.values) c.args.machines.now = search rules in
-    let few : 0 + length c.args.machines.now ≤ length c.self.inside.ring.values = rising_few 0 (length c.self.inside.ring.values) c.args.machines.now rising (omega arith) in
+    let rising : Rises 0 (length c.self.inside.parts.ring.values) c.args.machines.now = search rules in
+    let few : 0 + length c.args.machines.now ≤ length c.self.inside.parts.ring.values = rising_few 0 (length c.self.inside.parts.ring.values) c.args.machines.now rising (omega arith) in
     let most = c.self.invariant.book.now_ring.most_machines in
     omega arith
 
-pub pass_members-requires-clause-group : goal.pass_members-requires-clause-group
-pass_members-requires-clause-group g c =
-    let n : c.n.result ≡ length c.self.inside.ring.values = c.n.ensures.is ∙ ap (λ (s : Size). s.n) c.params.ensures.is in
-    let rising : Rises 0 (length c.self.inside.ring.values) c.args.machines.now = search rules in
-    can_move c.self.inside.ring.values c.args.machines.now rising c.requires.some (λ e. c.if-machines-n.false (e ∙ sym n)) (c.in_default.ensures.none (search rules))
+pub grant_group-requires-clause-group : goal.grant_group-requires-clause-group
+grant_group-requires-clause-group g c =
+    let n : c.n.result ≡ length c.self.inside.parts.ring.values = c.n.ensures.is ∙ ap (λ (s : Size). s.n) c.params.ensures.is in
+    let rising : Rises 0 (length c.self.inside.parts.ring.values) c.args.machines.now = search rules in
+    can_move c.self.inside.parts.ring.values c.args.machines.now rising c.requires.some (λ e. c.if-machines-n.false (e ∙ sym n)) (c.in_default.ensures.none (search rules))
 
 pub returns-in-Err-HistoryFull-clause-full : goal.returns-in-Err-HistoryFull-clause-full
 returns-in-Err-HistoryFull-clause-full g c =
-    let n : c.n.result ≡ length c.self.inside.ring.values = c.n.ensures.is ∙ ap (λ (s : Size). s.n) c.params.ensures.is in
-    let rising : Rises 0 (length c.self.inside.ring.values) c.args.machines.now = search rules in
-    let can : CanMove c.self.inside.ring.values c.args.machines.now =
-    can_move c.self.inside.ring.values c.args.machines.now rising c.requires.some (λ e. c.if-machines-n.false (e ∙ sym n)) (c.in_default.ensures.none (search rules)) in
+    let n : c.n.result ≡ length c.self.inside.parts.ring.values = c.n.ensures.is ∙ ap (λ (s : Size). s.n) c.params.ensures.is in
+    let rising : Rises 0 (length c.self.inside.parts.ring.values) c.args.machines.now = search rules in
+    let can : CanMove c.self.inside.parts.ring.values c.args.machines.now =
+    can_move c.self.inside.parts.ring.values c.args.machines.now rising c.requires.some (λ e. c.if-machines-n.false (e ∙ sym n)) (c.in_default.ensures.none (search rules)) in
     let past = c.in-Err-HistoryFull.ensures.full.0 (ap Err c.in-Err-HistoryFull.field-0-is) in
     rw (← c.self.view_is) ((λ _. (can, past)), λ _. refl)
 
 pub invariant_of-self-2 : goal.invariant_of-self-2
 invariant_of-self-2 g c =
-    let whole : IsWhole (length c.self.inside.start.values) c.reserve.new.self.list = rw c.reserve.ensures.list c.self.invariant.book.whole in
-    kept_closed _ _ _ _ c.pass_members.ensures.kept
-    (moved_whole g.R.Resource.works _ _ c.args.seat c.args.order c.args.machines.now (ap (λ (s : Size). s.n) c.self.invariant.book.same_size) whole c.pass_members.ensures.moved)
+    let whole : IsWhole (length c.self.inside.parts.start.values) c.reserve.new.self.list = rw c.reserve.ensures.list c.self.invariant.book.whole in
+    kept_closed _ _ _ _ c.grant_group.ensures.kept
+    (moved_whole g.R.Resource.works _ _ c.args.seat c.args.order c.args.machines.now (ap (λ (s : Size). s.n) c.self.invariant.book.same_size) whole c.grant_group.ensures.moved)
 
 pub returns-clause-book : goal.returns-clause-book
 returns-clause-book g c = (invariant_of-self-2 g c).book

@@ -8,7 +8,7 @@ pub returns-clause-is : goal.returns-clause-is
 returns-clause-is g c =
     rw (
       ← c.self.view_is,
-      survey_end g.R.Resource.works (opening c.self.inside.start g.R.Resource.first) c.self.inside.events.list,
+      survey_end g.R.Resource.works (opening c.self.inside.parts.start g.R.Resource.first) c.self.inside.parts.events.list,
       c.as_slice.ensures.is,
       c.privileged-privileged.ensures.is,
       c.first.ensures.is,
