@@ -403,10 +403,10 @@ NextFits = OfEither HeadFits Small
 abbrev pub next_line : Either Head ℕ → List ℕ
 next_line = of_either head_line done_line
 
-abbrev FollowFits : Follow → Type 0
+abbrev pub FollowFits : Follow → Type 0
 FollowFits = OfEither SurveyFits NextFits
 
-abbrev follow_line : Follow → List ℕ
+abbrev pub follow_line : Follow → List ℕ
 follow_line = of_either survey_line next_line
 
 abbrev survey_back : Follow → SavedSurvey
@@ -462,7 +462,7 @@ done_branch_reads = as_reads (λ a. FollowFits a × StartsWith 100 (follow_line 
     same (that (this h)) f = absurd (starts_otherwise 114 100 _ (λ e. omega arith) f.1)
     same (that (that n)) f = refl
 
-survey_or_next_reads : Reads FollowFits follow_line survey_or_next_at
+pub survey_or_next_reads : Reads FollowFits follow_line survey_or_next_at
 unfolding survey_or_next_at
 survey_or_next_reads = choice_reads FollowFits follow_line survey_branch (head_branch ∷ done_branch ∷ []) (survey_branch_reads, (head_branch_reads, (done_branch_reads, tt))) (((λ e. omega arith), ((λ e. omega arith), tt)), (((λ e. omega arith), tt), (tt, tt))) kinds
   where

@@ -1,13 +1,13 @@
 -- A block and a text as their parts, one after the other, and why they fit.
-use Rattle.std.proofs.Common.{◌≡◌, ℕ, suc, ◌+◌, ◌^◌, ◌<◌, ◌≤◌, List, [], ◌∷◌, ◌++◌, length, map, Option, Err, refl, sym, ap, subst, arith}
+use Rattle.std.proofs.Common.{ℕ, List, [], ◌++◌, Option, Err, sym, subst}
 use Rattle.std.specs.Io.KnownBytes.{Appends}
-use Rattle.std.specs.List.{flat_map, AllByRecursion}
+use Rattle.std.specs.List.{flat_map}
 use Rattle.std.proofs.lemmas.List.{append-nil}
 use Rattle.text_lines.specs.declared.write.WriteFault.{WriteFault}
 use Rattle.text_lines.specs.Writing.{Wrote, Writes}
 use Rattle.text_lines.proofs.Writing.{wrote_none, wrote_piece, wrote_fault, wrote_all}
 use Rattle.ring_saved.specs.Content.{Block, Content}
-use Rattle.ring_saved.specs.Spelling.{first_line, head_line, start_line, event_line, end_line, survey_line, done_line, head_of, below_head, block_text, text, EventFits, SurveyFits, BlockFits, Fits}
+use Rattle.ring_saved.specs.Spelling.{first_line, head_line, start_line, event_line, end_line, survey_line, done_line, head_of, below_head, block_text, text}
 
 -- a fault in the last piece
 wrote_last : (a b c : Option (List ℕ)) (e : WriteFault) (text x : List ℕ) → Wrote a b text x → Writes b c (Err e) x → Writes a c (Err e) text

@@ -104,18 +104,33 @@ fn body(alloc: Global, version: u32, bytes: &[u8]) -> Result<(Vec<SavedRing>, u3
     rings(alloc, version, first, rest)
 }
 
-/// A whole text, behind which nothing stands.
-#[tactic(auto, unfolding(crate::specs::Lines::text_at, text_lines::specs::Reading::whole_at))]
-pub fn whole(alloc: Global, bytes: &[u8]) -> Result<Saved, Stop>
-    ensures { Gives content result (whole_at text_at bytes.now) }
+/// A text at the front of some bytes, and what stands behind it: for formats in which a saved text is a part.
+///
+/// # Errors
+///
+/// A fault where the bytes begin with no text: `Short` if they end within one, `Bad` at the first byte with which none
+/// goes on. `Memory` where there was no room.
+#[tactic(auto, unfolding(crate::specs::Lines::text_at))]
+pub fn front(alloc: Global, bytes: &[u8]) -> Result<(Saved, &[u8]), Stop>
+    ensures { Gives (λ x. (content x.0, x.1.now)) result (text_at bytes.now) }
 {
     let rest = word(bytes, b"ringfarm ")?;
     let (version, rest) = version(rest)?;
     let (rings, rings_said, rest) = body(alloc, version, rest)?;
-    nothing_more(rest)?;
-    Ok(Saved {
+    let saved = Saved {
         version,
         rings,
         rings_said,
-    })
+    };
+    Ok((saved, rest))
+}
+
+/// A whole text, behind which nothing stands.
+#[tactic(auto, unfolding(text_lines::specs::Reading::whole_at))]
+pub fn whole(alloc: Global, bytes: &[u8]) -> Result<Saved, Stop>
+    ensures { Gives content result (whole_at text_at bytes.now) }
+{
+    let (saved, rest) = front(alloc, bytes)?;
+    nothing_more(rest)?;
+    Ok(saved)
 }

@@ -13,8 +13,10 @@ mod saved;
 mod versions;
 mod write;
 
+pub use blocks::front;
+pub use lines::{EventOrEnd, Next, SurveyOrNext, event_or_end, survey_or_next};
 pub use read::{answers_are_apart, read_saved, texts_are_apart, texts_read_back};
-pub use saved::{Saved, SavedEvent, SavedRing, SavedSurvey};
+pub use saved::{Head, Saved, SavedEvent, SavedRing, SavedSurvey};
 pub use text_lines::{ReadError, WriteFault};
 pub use versions::{
     FIRST_VERSION, LATEST_VERSION, first_version_has_no_members, upgrade, versions_as_defined,
