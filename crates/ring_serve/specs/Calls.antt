@@ -1,0 +1,108 @@
+-- The calls, and the lines that they are (this project's own).
+use Rattle.std.specs.Prelude.{ℕ, ◌+◌, ◌^◌, min, List, [], ◌∷◌, ◌++◌, ◌==◌, length, codes, if◌then◌else◌, Result, Ok, Err}
+use Rattle.text_lines.specs.declared.fault.Fault.{Fault}
+use Rattle.text_lines.specs.declared.fault.Fault.TheVariants.{Short, Bad}
+use Rattle.text_lines.specs.Reading.{Reader, ◌>>=◌, number_at, row_at, after_at, then_at, as_at, branch, choice_at}
+use Rattle.ring_serve.specs.declared.calls.Call.{Call as Read}
+use Rattle.ring_serve.specs.declared.calls.Call.TheVariants as reads
+
+-- a call, with its numbers
+pub data Call : Type 0 where
+  pass : ℕ → ℕ → ℕ → ℕ → Call
+  group : ℕ → ℕ → ℕ → List ℕ → Call
+  corrupt : ℕ → ℕ → ℕ → ℕ → Call
+  survey : ℕ → ℕ → Call
+  glance : ℕ → Call
+  save : Call
+
+-- a call that was read
+abbrev pub seen : Read → Call
+seen (reads.Pass ring seat machine order) = pass ring seat machine order
+seen (reads.Group ring seat order machines) = group ring seat order machines.items
+seen (reads.Corrupt ring seat machine value) = corrupt ring seat machine value
+seen (reads.Survey ring seat) = survey ring seat
+seen (reads.Glance ring) = glance ring
+seen reads.Save = save
+
+-- the most bytes of a line, with its LF: 8 KiB
+abbrev pub line_limit : ℕ
+line_limit = 8192
+
+-- ---- the readers of the lines as functions on lists
+
+abbrev pub small : Reader ℕ
+small = number_at (2 ^ 32) 32
+
+abbrev pub last_small : Reader ℕ
+last_small = number_at (2 ^ 32) 10
+
+abbrev pub large : Reader ℕ
+large = number_at (2 ^ 64) 32
+
+abbrev pub last_large : Reader ℕ
+last_large = number_at (2 ^ 64) 10
+
+infixr 20 ◌then◌
+abbrev pub ◌then◌ : {A B : Type 0} → Reader A → Reader B → Reader (A × B)
+first then second = then_at first (λ _. second)
+
+abbrev pub pass_of : ℕ × (ℕ × (ℕ × ℕ)) → Call
+pass_of (ring, (seat, (machine, order))) = pass ring seat machine order
+
+unfoldable pub pass_at : Reader Call
+pass_at = as_at pass_of (after_at (codes "pass ") (small then small then small then last_large))
+
+abbrev pub corrupt_of : ℕ × (ℕ × (ℕ × ℕ)) → Call
+corrupt_of (ring, (seat, (machine, value))) = corrupt ring seat machine value
+
+unfoldable pub corrupt_at : Reader Call
+corrupt_at = as_at corrupt_of (after_at (codes "corrupt ") (small then small then small then last_small))
+
+-- the spaces up to the end of the line
+unfoldable pub gaps : List ℕ → ℕ
+gaps [] = 0
+gaps (b ∷ bs) = if b == 10 then 0 else (if b == 32 then gaps bs + 1 else gaps bs)
+
+-- numbers up to the end of the line, one at least; a line that is read has fewer than its bytes
+unfoldable pub machines_at : Reader (List ℕ)
+machines_at bytes = row_at (2 ^ 32) (min (gaps bytes) line_limit + 1) bytes
+
+abbrev pub group_of : ℕ × (ℕ × (ℕ × List ℕ)) → Call
+group_of (ring, (seat, (order, machines))) = group ring seat order machines
+
+unfoldable pub group_at : Reader Call
+group_at = as_at group_of (after_at (codes "roup ") (small then small then large then machines_at))
+
+unfoldable pub glance_at : Reader Call
+glance_at = as_at glance (after_at (codes "lance ") last_small)
+
+-- a line that begins with a g
+unfoldable pub g_at : Reader Call
+g_at = after_at (codes "g") (choice_at (branch 114 group_at ∷ branch 108 glance_at ∷ []))
+
+abbrev pub survey_of : ℕ × ℕ → Call
+survey_of (ring, seat) = survey ring seat
+
+unfoldable pub survey_at : Reader Call
+survey_at = as_at survey_of (after_at (codes "urvey ") (small then last_small))
+
+-- what stands behind the end of the line
+unfoldable pub end_of_line : List ℕ → Result (List ℕ) Fault
+end_of_line [] = Err Short
+end_of_line (b ∷ bs) = if b == 10 then Ok bs else end_of_line bs
+
+-- the rest of the line is a name, of a byte at least
+unfoldable pub name_at : List ℕ → Result (List ℕ) Fault
+name_at [] = Err Short
+name_at (b ∷ bs) = if b == 10 then Err (Bad (length bs + 1)) else end_of_line bs
+
+unfoldable pub save_at : Reader Call
+save_at = after_at (codes "ave ") (λ bytes. name_at bytes >>= λ rest. Ok (save, rest))
+
+-- a line that begins with an s
+unfoldable pub s_at : Reader Call
+s_at = after_at (codes "s") (choice_at (branch 117 survey_at ∷ branch 97 save_at ∷ []))
+
+-- the call that a line is
+unfoldable pub call_at : Reader Call
+call_at = choice_at (branch 112 pass_at ∷ branch 99 corrupt_at ∷ branch 103 g_at ∷ branch 115 s_at ∷ [])

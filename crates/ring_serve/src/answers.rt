@@ -1,0 +1,154 @@
+//! The answers, as lines.
+
+ghost use Rattle.std.specs.Prelude.{◌≡◌, ◌≤◌, ◌+◌, ◌++◌, codes, length};
+ghost use Rattle.text_lines.specs.Spelling.{spaced, ended};
+ghost use Rattle.ring_serve.specs.declared.answers.Answer.TheVariants as answer;
+ghost use Rattle.ring_serve.specs.Answers.{answer_line};
+
+use ring_model::Survey;
+use text_lines::Line;
+
+/// Why a call is refused. Nothing has changed then.
+#[derive(Clone, Copy, Debug, PartialEq, Eq)]
+pub enum Refusal {
+    /// The line is no call, or has more than 8 KiB.
+    Syntax,
+    /// There is no ring of this number.
+    NoRing,
+    /// The ring has no seat of this number.
+    NoSeat,
+    /// The ring has no machine of this number.
+    NoMachine,
+    /// The value is not below K.
+    NoValue,
+    /// The machines of a group do not rise, or one is none of the ring's.
+    NoGroup,
+    /// The group is the whole ring.
+    WholeRing,
+    /// The least machine of the group that is not privileged.
+    NotPrivileged(u32),
+    /// The history is full.
+    HistoryFull,
+    OutOfMemory,
+    /// The rings could not be saved.
+    File,
+}
+
+/// What a call is answered.
+#[derive(Clone, Copy, Debug, PartialEq, Eq)]
+pub enum Answer {
+    /// The machine was privileged: the number of the grant, and what the resource answered.
+    Granted { number: u64, result: u64 },
+    /// The machine was not privileged.
+    Waits,
+    /// The fault was written over this value.
+    Corrupted { old: u32 },
+    /// What is privileged now.
+    Survey(Survey),
+    /// The group moved: the place of its first event in the history, and how many events it has.
+    Block { first: u64, count: u64 },
+    /// The rings were saved.
+    Saved,
+    Refused(Refusal),
+}
+
+/// Puts the word in front of a line.
+fn put_word(line: &mut Line, word: &[u8])
+    requires { length line.old + length word.now ≤ 128 }
+    ensures { line.new ≡ word.now ++ line.old }
+{
+    for i in 0..word.len() {
+        line.byte(word[word.len() - 1 - i]);
+    }
+}
+
+/// The line of this one word, which has its LF.
+fn only(word: &[u8]) -> Line
+    requires { length word.now ≤ 128 }
+    ensures { result ≡ word.now }
+{
+    let mut line = Line::new();
+    put_word(&mut line, word);
+    line
+}
+
+/// The line of a word and a number.
+fn with_number(word: &[u8], number: u64) -> Line
+    requires { length word.now ≤ 32 }
+    ensures { result ≡ word.now ++ ended number }
+{
+    let mut line = Line::new();
+    line.byte(b'\n');
+    line.number(number);
+    put_word(&mut line, word);
+    line
+}
+
+/// The line of a word and two numbers.
+fn with_numbers(word: &[u8], first: u64, second: u64) -> Line
+    requires { length word.now ≤ 32 }
+    ensures { result ≡ word.now ++ (spaced first ++ ended second) }
+{
+    let mut line = Line::new();
+    line.byte(b'\n');
+    line.number(second);
+    line.byte(b' ');
+    line.number(first);
+    put_word(&mut line, word);
+    line
+}
+
+/// The line of a survey.
+fn survey_line(survey: Survey) -> Line
+    ensures { result ≡ answer_line (answer.Survey survey) }
+{
+    let mut line = Line::new();
+    line.byte(b'\n');
+    line.number(survey.rest);
+    line.byte(b' ');
+    line.number(survey.calm);
+    line.byte(b' ');
+    line.number(survey.first as u64);
+    line.byte(b' ');
+    line.number(survey.privileged as u64);
+    line.byte(b' ');
+    line.number(survey.position);
+    put_word(&mut line, b"survey ");
+    line
+}
+
+/// The line of a refusal.
+fn refusal_line(why: Refusal) -> Line
+    ensures { result ≡ answer_line (answer.Refused why) }
+{
+    match why {
+        Refusal::Syntax => only(b"refused syntax\n"),
+        Refusal::NoRing => only(b"refused ring\n"),
+        Refusal::NoSeat => only(b"refused seat\n"),
+        Refusal::NoMachine => only(b"refused machine\n"),
+        Refusal::NoValue => only(b"refused value\n"),
+        Refusal::NoGroup => only(b"refused group\n"),
+        Refusal::WholeRing => only(b"refused whole\n"),
+        Refusal::NotPrivileged(machine) => with_number(b"refused privileged ", machine as u64),
+        Refusal::HistoryFull => only(b"refused full\n"),
+        Refusal::OutOfMemory => only(b"refused memory\n"),
+        Refusal::File => only(b"refused file\n"),
+    }
+}
+
+impl Answer {
+    /// The answer's line, with its LF.
+    pub fn line(&self) -> Line
+        ensures { result ≡ answer_line self.now }
+    {
+        match *self {
+            Answer::Granted { number, result } => with_numbers(b"granted ", number, result),
+            Answer::Waits => only(b"waits\n"),
+            Answer::Corrupted { old } => with_number(b"corrupted ", old as u64),
+            Answer::Survey(survey) => survey_line(survey),
+            Answer::Block { first, count } => with_numbers(b"block ", first, count),
+            Answer::Saved => only(b"saved\n"),
+            Answer::Refused(why) => refusal_line(why),
+        }
+    }
+}

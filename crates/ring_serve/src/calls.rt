@@ -1,0 +1,233 @@
+//! The calls, as lines.
+
+ghost use Rattle.std.specs.Prelude.{◌≡◌};
+ghost use Rattle.text_lines.specs.Reading.{Gives, whole_at};
+ghost use Rattle.ring_serve.specs.Calls.{seen, pass_at, corrupt_at, survey_at, glance_at, group_at, machines_at, gaps, name_at, end_of_line, save_at, g_at, s_at, call_at};
+
+use std::alloc::Global;
+use text_lines::{Fault, Stop, nothing_more, number32, number64, row32, word};
+
+/// The most bytes of a line, with its LF.
+pub const LINE_LIMIT: usize = 8192;
+
+/// A call, by its numbers.
+#[derive(Drop)]
+pub enum Call {
+    /// A pass by a machine, for a seat.
+    Pass {
+        ring: u32,
+        seat: u32,
+        machine: u32,
+        order: u64,
+    },
+    /// A pass by a group of machines at once.
+    Group {
+        ring: u32,
+        seat: u32,
+        order: u64,
+        machines: Vec<u32>,
+    },
+    /// A fault: a value is written into a machine.
+    Corrupt {
+        ring: u32,
+        seat: u32,
+        machine: u32,
+        value: u32,
+    },
+    /// A survey, which the seat's log keeps.
+    Survey {
+        ring: u32,
+        seat: u32,
+    },
+    /// A survey that nobody keeps.
+    Glance {
+        ring: u32,
+    },
+    /// All rings are to be saved in the file that the line names.
+    Save,
+}
+
+#[tactic(auto, unfolding(crate::specs::Calls::pass_at))]
+fn pass(bytes: &[u8]) -> Result<(Call, &[u8]), Stop>
+    ensures { Gives (λ x. (seen x.0, x.1.now)) result (pass_at bytes.now) }
+{
+    let rest = word(bytes, b"pass ")?;
+    let (ring, rest) = number32(rest, b' ')?;
+    let (seat, rest) = number32(rest, b' ')?;
+    let (machine, rest) = number32(rest, b' ')?;
+    let (order, rest) = number64(rest, b'\n')?;
+    let call = Call::Pass {
+        ring,
+        seat,
+        machine,
+        order,
+    };
+    Ok((call, rest))
+}
+
+#[tactic(auto, unfolding(crate::specs::Calls::corrupt_at))]
+fn corrupt(bytes: &[u8]) -> Result<(Call, &[u8]), Stop>
+    ensures { Gives (λ x. (seen x.0, x.1.now)) result (corrupt_at bytes.now) }
+{
+    let rest = word(bytes, b"corrupt ")?;
+    let (ring, rest) = number32(rest, b' ')?;
+    let (seat, rest) = number32(rest, b' ')?;
+    let (machine, rest) = number32(rest, b' ')?;
+    let (value, rest) = number32(rest, b'\n')?;
+    let call = Call::Corrupt {
+        ring,
+        seat,
+        machine,
+        value,
+    };
+    Ok((call, rest))
+}
+
+/// How many spaces stand before the end of the line.
+fn gaps(bytes: &[u8]) -> usize
+    ensures { result ≡ gaps bytes.now }
+{
+    let mut count = 0;
+    for byte in bytes {
+        if *byte == b'\n' {
+            return count;
+        }
+        if *byte == b' ' {
+            count += 1;
+        }
+    }
+    count
+}
+
+/// The numbers up to the end of the line, one at least.
+#[tactic(auto, unfolding(crate::specs::Calls::machines_at))]
+fn machines(alloc: Global, bytes: &[u8]) -> Result<(Vec<u32>, &[u8]), Stop>
+    ensures { Gives (λ x. (x.0.items, x.1.now)) result (machines_at bytes.now) }
+{
+    let count = gaps(bytes).min(LINE_LIMIT) as u32 + 1;
+    row32(alloc, count, bytes)
+}
+
+#[tactic(auto, unfolding(crate::specs::Calls::group_at))]
+fn group(alloc: Global, bytes: &[u8]) -> Result<(Call, &[u8]), Stop>
+    ensures { Gives (λ x. (seen x.0, x.1.now)) result (group_at bytes.now) }
+{
+    let rest = word(bytes, b"roup ")?;
+    let (ring, rest) = number32(rest, b' ')?;
+    let (seat, rest) = number32(rest, b' ')?;
+    let (order, rest) = number64(rest, b' ')?;
+    let (machines, rest) = machines(alloc, rest)?;
+    let call = Call::Group {
+        ring,
+        seat,
+        order,
+        machines,
+    };
+    Ok((call, rest))
+}
+
+#[tactic(auto, unfolding(crate::specs::Calls::glance_at))]
+fn glance(bytes: &[u8]) -> Result<(Call, &[u8]), Stop>
+    ensures { Gives (λ x. (seen x.0, x.1.now)) result (glance_at bytes.now) }
+{
+    let rest = word(bytes, b"lance ")?;
+    let (ring, rest) = number32(rest, b'\n')?;
+    Ok((Call::Glance { ring }, rest))
+}
+
+#[tactic(auto, unfolding(crate::specs::Calls::survey_at))]
+fn survey(bytes: &[u8]) -> Result<(Call, &[u8]), Stop>
+    ensures { Gives (λ x. (seen x.0, x.1.now)) result (survey_at bytes.now) }
+{
+    let rest = word(bytes, b"urvey ")?;
+    let (ring, rest) = number32(rest, b' ')?;
+    let (seat, rest) = number32(rest, b'\n')?;
+    Ok((Call::Survey { ring, seat }, rest))
+}
+
+/// What stands behind the end of the line.
+fn end_of_line(bytes: &[u8]) -> Result<&[u8], Stop>
+    ensures { Gives (λ rest. rest.now) result (end_of_line bytes.now) }
+{
+    for (i, byte) in bytes.iter().enumerate() {
+        if *byte == b'\n' {
+            return Ok(&bytes[i + 1..]);
+        }
+    }
+    Err(Stop::Fault(Fault::Short))
+}
+
+/// That the rest of the line is a name, of a byte at least.
+#[tactic(auto, unfolding(crate::specs::Calls::name_at))]
+fn name(bytes: &[u8]) -> Result<&[u8], Stop>
+    ensures { Gives (λ rest. rest.now) result (name_at bytes.now) }
+{
+    match bytes {
+        [] => Err(Stop::Fault(Fault::Short)),
+        [b'\n', ..] => Err(Stop::Fault(Fault::Bad(bytes.len()))),
+        [_, rest @ ..] => end_of_line(rest),
+    }
+}
+
+#[tactic(auto, unfolding(crate::specs::Calls::save_at))]
+fn save(bytes: &[u8]) -> Result<(Call, &[u8]), Stop>
+    ensures { Gives (λ x. (seen x.0, x.1.now)) result (save_at bytes.now) }
+{
+    let rest = word(bytes, b"ave ")?;
+    let rest = name(rest)?;
+    Ok((Call::Save, rest))
+}
+
+#[tactic(auto, unfolding(crate::specs::Calls::g_at))]
+fn begins_with_g(alloc: Global, bytes: &[u8]) -> Result<(Call, &[u8]), Stop>
+    ensures { Gives (λ x. (seen x.0, x.1.now)) result (g_at bytes.now) }
+{
+    let rest = word(bytes, b"g")?;
+    match rest {
+        [] => Err(Stop::Fault(Fault::Short)),
+        [b'r', ..] => group(alloc, rest),
+        [b'l', ..] => glance(rest),
+        [_, ..] => Err(Stop::Fault(Fault::Bad(rest.len()))),
+    }
+}
+
+#[tactic(auto, unfolding(crate::specs::Calls::s_at))]
+fn begins_with_s(bytes: &[u8]) -> Result<(Call, &[u8]), Stop>
+    ensures { Gives (λ x. (seen x.0, x.1.now)) result (s_at bytes.now) }
+{
+    let rest = word(bytes, b"s")?;
+    match rest {
+        [] => Err(Stop::Fault(Fault::Short)),
+        [b'u', ..] => survey(rest),
+        [b'a', ..] => save(rest),
+        [_, ..] => Err(Stop::Fault(Fault::Bad(rest.len()))),
+    }
+}
+
+#[tactic(auto, unfolding(crate::specs::Calls::call_at))]
+fn front_call(alloc: Global, bytes: &[u8]) -> Result<(Call, &[u8]), Stop>
+    ensures { Gives (λ x. (seen x.0, x.1.now)) result (call_at bytes.now) }
+{
+    match bytes {
+        [] => Err(Stop::Fault(Fault::Short)),
+        [b'p', ..] => pass(bytes),
+        [b'c', ..] => corrupt(bytes),
+        [b'g', ..] => begins_with_g(alloc, bytes),
+        [b's', ..] => begins_with_s(bytes),
+        [_, ..] => Err(Stop::Fault(Fault::Bad(bytes.len()))),
+    }
+}
+
+/// The call that a line is, its LF included.
+///
+/// # Errors
+///
+/// A fault where it is none; `Memory` where there was no room for a group's machines.
+#[tactic(auto, unfolding(text_lines::specs::Reading::whole_at))]
+pub fn read_call(alloc: Global, line: &[u8]) -> Result<Call, Stop>
+    ensures { Gives (λ c. seen c) result (whole_at call_at line.now) }
+{
+    let (call, rest) = front_call(alloc, line)?;
+    nothing_more(rest)?;
+    Ok(call)
+}
