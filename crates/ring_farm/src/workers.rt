@@ -1,7 +1,7 @@
 //! A worker: the actions of one plan on one ring, in order.
 ghost use Rattle.std.specs.Prelude.{◌≡◌, ◌==◌, ◌≤◌, ◌<◌, ◌++◌, ◌∷◌, ◌+◌, [], None, Some, IfSome, IsTrue, IsFalse, length, vec_len};
 ghost use Rattle.ring_settings.specs.Limits.{action_limit};
-ghost use Rattle.ring_farm.specs.Refusals.{told_as, IsCallFault, IsSeatFault};
+ghost use Rattle.ring_farm.specs.Refusals.{told_as, IsSeatFault};
 ghost use Rattle.ring_farm.specs.Plans.{ring_of, planned, actions_of, IsActionOn, IsShort, IsPlanOn};
 
 use crate::faults::FarmError;
@@ -16,43 +16,6 @@ use std::sync::Wait;
 pub(crate) struct Work<N: Name> {
     pub(crate) seat: Seat<N>,
     pub(crate) fault: Option<FarmError>,
-}
-
-/// Makes one action on the ring, and answers the refusal that it met.
-fn act<N: Name, R: Resource + Drop, W: Wait>(
-    rt: &W,
-    ring: &Ring<N, R>,
-    action: Action,
-    seat: &mut Seat<N>,
-) -> Option<FarmError>
-    requires { IsActionOn N.start action }
-    ensures number { seat.new.number ≡ seat.old.number }
-    ensures log { result ≡ None → actions_of (ring_of action) seat.new.log ≡ actions_of (ring_of action) seat.old.log ++ Some action ∷ [] }
-    ensures one { result ≡ None → length seat.new.log ≡ length seat.old.log + 1 }
-    ensures fault { IfSome result IsCallFault }
-{
-    match action {
-        Action::Pass {
-            ring: _,
-            machine,
-            order,
-        } => match ring.pass(rt, seat, machine, order) {
-            Ok(_) => None,
-            Err(error) => Some(fault_of(error)),
-        },
-        Action::Corrupt {
-            ring: _,
-            machine,
-            value,
-        } => match ring.corrupt(rt, seat, machine, value) {
-            Ok(_) => None,
-            Err(error) => Some(fault_of(error)),
-        },
-        Action::Survey { ring: _ } => match ring.survey(seat) {
-            Ok(_) => None,
-            Err(_) => Some(FarmError::OutOfMemory),
-        },
-    }
 }
 
 /// The farm's refusal for one of a book.
@@ -111,9 +74,31 @@ fn make<N: Name, R: Resource + Drop, G: Gate, W: Wait>(
     ensures one { result ≡ None → length seat.new.log ≡ length seat.old.log + 1 }
     ensures fault { IfSome result IsSeatFault }
 {
-    match comes(gate, number, seat) {
-        Some(fault) => Some(fault),
-        None => act(rt, ring, action, seat),
+    let shut = comes(gate, number, seat);
+    if shut.is_some() {
+        return shut;
+    }
+    match action {
+        Action::Pass {
+            ring: _,
+            machine,
+            order,
+        } => match ring.pass(rt, seat, machine, order) {
+            Ok(_) => None,
+            Err(error) => Some(fault_of(error)),
+        },
+        Action::Corrupt {
+            ring: _,
+            machine,
+            value,
+        } => match ring.corrupt(rt, seat, machine, value) {
+            Ok(_) => None,
+            Err(error) => Some(fault_of(error)),
+        },
+        Action::Survey { ring: _ } => match ring.survey(seat) {
+            Ok(_) => None,
+            Err(_) => Some(FarmError::OutOfMemory),
+        },
     }
 }
 

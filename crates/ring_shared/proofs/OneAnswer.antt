@@ -11,7 +11,7 @@ use Rattle.ring_model.specs.declared.events.Entry.TheVariants as entry
 use Rattle.ring_model.proofs.Histories.{StepOf-reply, IsLegal-back, legal_step}
 use Rattle.ring_book.specs.declared.books.groups.GroupReceipt.{GroupReceipt}
 use Rattle.ring_book.proofs.OneAnswer.{one_answer}
-use Rattle.ring_shared.specs.Client.{Client, AreAlike}
+use Rattle.ring_shared.specs.Client.{Client}
 use Rattle.ring_shared.specs.Groups.{receipts_from}
 use Rattle.ring_shared.specs.OneAnswer.{CallsAreToldAlike, GroupsAreToldAlike, CallsHaveOneOutcome, GroupsHaveOneOutcome}
 use Rattle.ring_shared.proofs.Prefixes.{prefix_take}

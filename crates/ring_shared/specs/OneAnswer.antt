@@ -1,11 +1,10 @@
 -- A ring's call and a ring's group call have one answer.
-use Rattle.std.specs.Prelude.{◌≡◌, ℕ, ◌+◌, ◌++◌, ◌∷◌, [], List, length, take, Some, slice_get}
+use Rattle.std.specs.Prelude.{◌≡◌, ℕ, List, take}
 use Rattle.ring_model.specs.Ring.{Ring}
 use Rattle.ring_model.specs.History.{Works, State}
 use Rattle.ring_model.specs.Groups.{IsHistory}
 use Rattle.ring_model.specs.declared.events.Op.{Op}
 use Rattle.ring_model.specs.declared.events.Event.{Event}
-use Rattle.ring_model.specs.declared.events.Entry.TheVariants as entry
 use Rattle.ring_model.specs.declared.events.Receipt.{Receipt}
 use Rattle.ring_book.specs.BookView.{BookView}
 use Rattle.ring_book.specs.declared.books.groups.GroupReceipt.{GroupReceipt}

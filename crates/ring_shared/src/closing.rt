@@ -170,7 +170,8 @@ fn all_fit<N: Name, R: Resource + Drop>(
     logs_fit(alloc, book, logs.as_slice())
 }
 
-/// Returns only where what each seat has seen begins this front.
+/// Returns only where what each seat has seen begins this front. It returns where the front has the whole list, as that
+/// which lay under the lock has.
 fn all_begin<N: Name, W: Wait>(rt: &W, seats: &[Seat<N>], front: &Front<N>)
     ensures { All (λ s. IsPrefix s.seen front.now) seats.now }
 {

@@ -180,7 +180,8 @@ impl<N: Name> End<N> {
         found == count
     }
 
-    /// Returns only where the event was added to all that was seen. The other begins the list then.
+    /// Returns only where the event was added to all that was seen. The other begins the list then. It returns at its
+    /// first turn where this end has the whole list, as that under the lock has.
     fn surely_add<W: Wait>(&mut self, rt: &W, head: &Head<N>, other: &End<N>, event: Event)
         requires { length self.old < event_limit }
         ensures is { self.new ≡ self.old ++ event ∷ [] }
@@ -242,7 +243,7 @@ impl<N: Name> Front<N> {
         self.end.compare(&other.end);
     }
 
-    /// Returns only where this front begins the other.
+    /// Returns only where this front begins the other. It returns at its first turn where the other has the whole list.
     pub(crate) fn surely_begins<W: Wait>(&self, rt: &W, other: &Front<N>)
         ensures { IsPrefix self.now other.now }
     {
@@ -255,7 +256,8 @@ impl<N: Name> Front<N> {
         unreachable!()
     }
 
-    /// Returns only where the event was added to all that was seen. The other begins the list then.
+    /// Returns only where the event was added to all that was seen. The other begins the list then. It returns at its
+    /// first turn where this front has the whole list, as that under the lock has.
     pub(crate) fn surely_add<W: Wait>(
         &mut self,
         rt: &W,
@@ -273,7 +275,7 @@ impl<N: Name> Front<N> {
     }
 
     /// Returns only where the events, at least one, were added, in order, to all that was seen. The other begins the
-    /// list then.
+    /// list then. It returns as `surely_add` does, for each event.
     pub(crate) fn surely_add_all<W: Wait>(
         &mut self,
         rt: &W,

@@ -66,7 +66,8 @@ pub(crate) fn turn<N: Name, W: Wait>(rt: &W, writer: &mut RingWriter<N>)
     });
 }
 
-/// Shows readers one event or one block more. Returns only where the operation was appended to what is pending.
+/// Shows readers one event or one block more. Returns only where the operation was appended to what is pending. It
+/// returns at its first turn, since the places for operations are taken when the ring is opened.
 #[inline(always)]
 #[tactic(auto, using(crate::proofs::Stepped::stepped_last))]
 pub(crate) fn show<N: Name, W: Wait>(rt: &W, writer: &mut RingWriter<N>, operation: Operation<N>)

@@ -278,7 +278,8 @@ impl<N: Name> Seat<N> {
         shown.copy_to(&mut self.summary);
     }
 
-    /// Returns only where what was seen begins this front.
+    /// Returns only where what was seen begins this front. It returns at its first turn where the front has the whole
+    /// list.
     pub(crate) fn surely_begins<W: Wait>(&self, rt: &W, front: &Front<N>)
         ensures { IsPrefix self.now.seen front.now }
     {

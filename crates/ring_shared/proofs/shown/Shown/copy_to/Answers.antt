@@ -1,4 +1,4 @@
-use Rattle.std.proofs.Common.{length, sym, ◌∙◌}
+use Rattle.std.proofs.Common.{sym, ◌∙◌}
 use Rattle.ring_shared.proofs.Folding.{summary_size}
 use Rattle.ring_shared.proofs.shown.Shown.copy_to.Goals as goal
 

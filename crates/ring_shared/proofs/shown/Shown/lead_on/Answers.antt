@@ -1,4 +1,4 @@
-use Rattle.std.proofs.Common.{◌≡◌, ◌<◌, ℕ, length, sym, subst}
+use Rattle.std.proofs.Common.{◌<◌, ℕ, sym, subst}
 use Rattle.ring_shared.proofs.Folding.{summary_size}
 use Rattle.ring_shared.proofs.shown.Shown.lead_on.Goals as goal
 
