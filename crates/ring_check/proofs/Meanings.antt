@@ -217,7 +217,7 @@ block_means b r n none =
       most = limits.3;
       below = below_means r.k r.start values;
       seats = events.0;
-      legal = (events.1, (whole_by_events (length r.start) (history r)).1 events.2 end.1);
+      legal_and_whole = (events.1, (whole_by_events (length r.start) (history r)).1 events.2 end.1);
       events_said = end.0 ∙ length-map r.events event_of;
       surveys = surveys.1;
       order = to_order r.surveys surveys.0;
@@ -228,8 +228,8 @@ block_fine b r n h =
     let par = parameters_true b.version r.n r.k h.two h.most_machines h.enough h.most in
     let values = all_below_true r.k r.start h.below in
     let well : IsWell r.k r.start [] = record { ring = ring_of b.version r.n r.k r.start par values n; long = refl } in
-    let whole = (whole_by_events (length r.start) (history r)).0 h.legal.1 in
-    let events = events_fine b.version (b.line + 2) (b.rings + 1) r.k r.start [] r.events well h.seats h.legal.0 whole.0 in
+    let whole = (whole_by_events (length r.start) (history r)).0 h.legal_and_whole.1 in
+    let events = events_fine b.version (b.line + 2) (b.rings + 1) r.k r.start [] r.events well h.seats h.legal_and_whole.0 whole.0 in
     let surveys = surveys_fine b.version r (b.line + 3 + length r.events) (b.rings + 1) 0 0 r.surveys (from_order r.surveys h.order) h.surveys in
     let said = end_fine r.events_said (history r) (h.events_said ∙ sym (length-map r.events event_of)) whole.1 in
     block_parts b r b.line b.rings refl refl par h.index values n ∙ rw (events, said, surveys) refl

@@ -3,11 +3,12 @@ use Rattle.std.proofs.Common.{◌≡◌, ℕ, zero, suc, ◌+◌, ◌-◌, ◌<�
 use Rattle.std.specs.Prelude.{nat_lt, ◌&&◌, ◌||◌}
 use Rattle.std.proofs.lemmas.List.{length-map}
 use Rattle.ring_model.specs.Groups.{left_of, left_after}
+use Rattle.ring_model.specs.Replay.{machine_of}
 use Rattle.ring_model.specs.Scanning.{and_member, members_of, opened, GoesOn, EndsWell, MayCome}
 use Rattle.ring_model.specs.declared.events.Op.{Op}
 use Rattle.ring_model.specs.declared.events.Op.TheVariants.{Pass, Member, Corrupt}
 use Rattle.ring_model.specs.declared.events.Event.{Event}
-use Rattle.ring_check.specs.Members.{run_behind, run_of, machine_of, machines_of, is_member_of, goes_on, is_in_order, call_may_come}
+use Rattle.ring_check.specs.Members.{run_behind, run_of, machines_of, is_member_of, goes_on, is_in_order, call_may_come}
 use Rattle.ring_check.proofs.Booleans.{both, joined, same, below, eq_true, lt_true}
 use Rattle.ring_saved.specs.declared.saved.SavedEvent.{SavedEvent}
 use Rattle.ring_check.specs.Table.{event_of}

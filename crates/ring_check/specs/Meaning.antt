@@ -44,7 +44,7 @@ pub record IsRightBlock (version place : ℕ) (b : Block) : Type 0 where
   pub most : b.k ≤ value_limit_of version
   pub below : All (λ v. v < b.k) b.start
   pub seats : All (λ (e : Event). e.seat < seat_limit) (history b)
-  pub legal : IsHistory till (first_state (ring_with b.k b.start)) (history b)
+  pub legal_and_whole : IsHistory till (first_state (ring_with b.k b.start)) (history b)
   pub events_said : b.events_said ≡ length b.events
   pub surveys : All (IsRightSurvey b) b.surveys
   pub order : AreInOrder b.surveys

@@ -2,6 +2,7 @@
 -- it says is `MayCome` of `ring_model`, by the law `members_law`, and who believes that law need not read it.
 use Rattle.std.specs.Prelude.{ℕ, zero, suc, ◌+◌, ◌==◌, nat_lt, nat_le, ◌&&◌, ◌||◌, cond, Bool, true, false, List, [], ◌∷◌, ◌++◌, length, map, slice_index, slice_index_or}
 use Rattle.ring_model.specs.Groups.{left_of}
+use Rattle.ring_model.specs.Replay.{machine_of}
 use Rattle.ring_model.specs.Scanning.{opened}
 use Rattle.ring_model.specs.declared.events.Op.{Op}
 use Rattle.ring_model.specs.declared.events.Op.TheVariants.{Pass, Member, Corrupt}
@@ -15,12 +16,6 @@ run_behind run (e ∷ es) = run_behind (opened (left_of e.op) (run ++ e ∷ []))
 -- the members of the block that is open behind a history, none outside blocks
 abbrev pub run_of : List Event → List Event
 run_of h = run_behind [] h
-
--- the machine that a call names
-abbrev pub machine_of : Op → ℕ
-machine_of (Pass machine order) = machine
-machine_of (Member machine order left) = machine
-machine_of (Corrupt machine value) = machine
 
 -- the machines that the events name
 abbrev pub machines_of : List Event → List ℕ

@@ -1,7 +1,7 @@
 //! What is told of a ring's values, kept while they change one by one.
 
 ghost use Rattle.std.specs.Prelude.{◌≡◌, ℕ, ◌+◌, ◌-◌, ◌*◌, ◌<◌, ◌≤◌, ◌^◌, length, IfOk, IfSome, vec_len, slice_index, slice_set};
-ghost use Rattle.ring_model.specs.Limits.{machine_limit};
+ghost use Rattle.ring_model.specs.Limits.{machine_limit, value_limit};
 ghost use Rattle.ring_model.specs.Ring.{ring_with, IsRing, is_privileged, privileged_count, first_privileged, right_neighbour, weight_at, is_absent, written, lead, rest};
 ghost use Rattle.ring_check.specs.Gauges.{bit_of, both_of, ring_of, holders, IsGauge};
 
@@ -49,7 +49,7 @@ fn share_of_one(values: &[u32], machine: usize) -> Share
     ensures privileged { result.privileged ≡ bit_of values.now machine }
     ensures weight { result.weight ≡ weight_at values.now machine }
     ensures one { result.privileged ≤ 1 }
-    ensures few { result.weight ≤ 65536 }
+    ensures few { result.weight ≤ value_limit }
 {
     if !is_privileged(values, machine) {
         Share {

@@ -2,7 +2,8 @@
 
 ghost use Rattle.std.specs.Prelude.{◌≡◌, ◌+◌, ◌≤◌, ◌∷◌, ◌++◌, [], length, map, take, slice_index};
 ghost use Rattle.ring_model.specs.Groups.{left_of, left_after};
-ghost use Rattle.ring_check.specs.Members.{machine_of, machines_of, least_of, is_in_order, goes_on, may_come};
+ghost use Rattle.ring_model.specs.Replay.{machine_of};
+ghost use Rattle.ring_check.specs.Members.{machines_of, least_of, is_in_order, goes_on, may_come};
 ghost use Rattle.ring_check.specs.Table.{event_of};
 
 use ring_saved::SavedEvent;
@@ -18,7 +19,7 @@ pub(crate) fn left_of(event: &SavedEvent) -> u32
 }
 
 /// How many come after the last of the first `place` events of a block: 0 where that place is inside none.
-pub(crate) fn left_after(events: &[SavedEvent], place: usize) -> u32
+pub fn left_after(events: &[SavedEvent], place: usize) -> u32
     requires { place ≤ length events.now }
     ensures { result ≡ left_after (take place (map event_of events.now)) }
 {

@@ -20,6 +20,7 @@ mod surveys;
 pub use answers::{CheckError, Kind, Summary};
 pub use check::check_saved;
 pub use gauge::Gauge;
+pub use group_lines::left_after;
 pub use laws::{answers_are_apart, legal_law, lines_law, members_law, upgrade_law};
 pub use limits::{
     FIRST_VERSION_MACHINE_LIMIT, FIRST_VERSION_VALUE_LIMIT, first_version_limits_as_defined,

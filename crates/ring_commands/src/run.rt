@@ -102,7 +102,7 @@ fn save<W: Write>(outcome: &Outcome, out: &mut W) -> Result<(), WriteFault>
     ensures written { Writes (W.contents out.old) (W.contents out.new) result (text (saved_of outcome.now)) }
     ensures legal { OnOk result (IsLegalOfFarm outcome.now) }
 {
-    texts_read_back();
+    texts_read_back(); // says: a text that is written reads back
     match write_outcome(outcome, out) {
         Ok(()) => Ok(()),
         Err(fault) => Err(fault),

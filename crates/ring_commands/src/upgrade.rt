@@ -33,7 +33,7 @@ fn upgraded(alloc: Global, bytes: &[u8]) -> Result<(Saved, Summary), ToolError<'
     ensures ok { IfOk result (λ x. IsUpgradeOf bytes.now (content x.0) x.1) }
     ensures err { IfErr result (λ e. IsSavedTextRefusal bytes.now e) }
 {
-    upgrade_law();
+    upgrade_law(); // says: the upgrade of a legal text is legal, with the same sums
     let (saved, sums) = legal_saved(alloc, bytes)?;
     Ok((upgrade(saved), sums))
 }

@@ -204,7 +204,7 @@ right_run r cs d of =
       ring = d.book.start_ring.ring;
       most_machines = d.book.start_ring.most_machines;
       most = d.book.start_ring.most;
-      legal = (d.book.legal, d.book.whole);
+      legal_and_whole = (d.book.legal, d.book.whole);
       few = let few = d.few in omega arith;
       by_number = λ seat l at.
           let lt = slice_get_within r.logs.items seat l at in

@@ -170,7 +170,7 @@ pub(crate) fn log_group<R: Resource + Drop>(
     ensures logged { IfOk result (λ r. client.new ≡ grown client.old (receipts_from r.first (drop r.first book.new.history))) }
     ensures refused { OnErr result ((book.new ≡ book.old) × (client.new ≡ client.old)) }
 {
-    book.history();
+    book.history(); // says: the book is one
     let number = client.number();
     client.log.reserve(machines.len())?;
     let receipt = match book.pass_group(number, machines, order) {

@@ -4,6 +4,7 @@ use Rattle.std.specs.List.{flat_map, slice_get}
 use Rattle.std.proofs.lemmas.List.{length-set, take_more, take_all, map-append, append-nil}
 use Rattle.std.proofs.lemmas.List.Concat.{flat_map-append}
 use Rattle.std.proofs.lemmas.Option.{slice_get-get_or, slice_get_cases}
+use Rattle.ring_model.specs.Runs.{passed}
 use Rattle.ring_model.specs.declared.events.Op.{Op}
 use Rattle.ring_model.specs.declared.events.Op.TheVariants.{Pass, Member, Corrupt}
 use Rattle.ring_model.specs.Ring.{Ring, ring_with, is_privileged, moved, moved_value}
@@ -14,7 +15,7 @@ use Rattle.ring_check.specs.Gauges.{ring_of, IsGauge}
 use Rattle.ring_picture.specs.declared.stretches.Run.{Run}
 use Rattle.ring_picture.specs.declared.stretches.Row.{Row}
 use Rattle.ring_picture.specs.Stretches.{Stretch, begin_after, ended_from, run_from, run_begin, runs_ended, stretches, pieces}
-use Rattle.ring_picture.specs.Picture.{passed, next_ring, privileged_in, rectangle, row_text, rows_text}
+use Rattle.ring_picture.specs.Picture.{next_ring, privileged_in, rectangle, row_text, rows_text}
 use Rattle.ring_picture.specs.Walks.{HasRing, stretch_of, IsLooked, AreLooked, IsRow, AreNew, AreRows, stretches_to, row_to, rows_to}
 
 passed_k : (r : Ring) (i : ℕ) → (passed r i).k ≡ r.k

@@ -1,7 +1,8 @@
 -- The picture of a ring's history, as a plain function of a block (this project's own).
 use Rattle.std.specs.Prelude.{ℕ, zero, suc, ◌+◌, ◌-◌, ◌*◌, ◌/◌, max, nat_lt, ◌&&◌, Bool, true, false, cond, List, [], ◌++◌, Option, Some, None, map, take, length, slice_get, codes, decimal}
 use Rattle.std.specs.List.{flat_map}
-use Rattle.ring_model.specs.Ring.{Ring, ring_with, is_privileged, moved, written, rest, bound}
+use Rattle.ring_model.specs.Ring.{Ring, ring_with, is_privileged, written, rest, bound}
+use Rattle.ring_model.specs.Runs.{passed}
 use Rattle.ring_model.specs.declared.events.Op.{Op}
 use Rattle.ring_model.specs.declared.events.Op.TheVariants.{Pass, Member, Corrupt}
 use Rattle.ring_model.specs.Groups.{left_after}
@@ -14,10 +15,6 @@ use Rattle.ring_saved.specs.Content.{Block}
 use Rattle.ring_check.specs.Legal.{history}
 use Rattle.ring_check.specs.Table.{event_of, first_state}
 use Rattle.ring_picture.specs.Stretches.{Stretch, stretches, pieces}
-
--- the ring where a machine has asked to pass
-abbrev pub passed : Ring → ℕ → Ring
-passed r i = cond (is_privileged r.values i) (moved r i) r
 
 -- the ring after a call
 abbrev pub next_ring : Ring → Op → Ring
@@ -130,20 +127,44 @@ curve_height b from columns = height_of (highest_rest b from columns) (bound b.n
 
 -- ---- what stands around them
 
--- the head, a white page, and the title: the ring's place, n and K, which events are shown of how many, and the sums of its block
+-- the head of the file, lines that are as thick in each part of the page, and a white page
+abbrev pub page_opening : List ℕ
+page_opening = codes "<svg xmlns=\"http://www.w3.org/2000/svg\" viewBox=\"0 0 1000 640\" font-family=\"sans-serif\" font-size=\"15\">\n"
+
+abbrev pub line_style : List ℕ
+line_style = codes "<style>rect,path,polyline{vector-effect:non-scaling-stroke}</style>\n"
+
+abbrev pub white_page : List ℕ
+white_page = codes "<rect width=\"1000\" height=\"640\" rx=\"8\" fill=\"#fff\"/>\n"
+
+-- the title: the ring's place, n and K, which events are shown of how many, and the sums of its block
 abbrev pub title_text : Block → ℕ → ℕ → List ℕ
 title_text b from count =
-    codes "<svg xmlns=\"http://www.w3.org/2000/svg\" viewBox=\"0 0 1000 640\" font-family=\"sans-serif\" font-size=\"15\">\n<style>rect,path,polyline{vector-effect:non-scaling-stroke}</style>\n<rect width=\"1000\" height=\"640\" rx=\"8\" fill=\"#fff\"/>\n<text x=\"70\" y=\"36\" font-size=\"22\">ring "
+    page_opening ++ (line_style ++ (white_page ++ (codes "<text x=\"70\" y=\"36\" font-size=\"22\">ring "
     ++ (decimal b.index ++ (codes ": n " ++ (decimal b.n ++ (codes ", K " ++ (decimal b.k ++ (codes "</text>\n<text x=\"70\" y=\"62\">events "
     ++ (decimal from ++ (codes " to " ++ (decimal (from + count) ++ (codes " of " ++ (decimal (length b.events) ++ (codes ", granted " ++ (decimal (granted_count (history b))
-    ++ (codes ", corrupted " ++ (decimal (corrupted_count (history b)) ++ (codes ", surveys " ++ (decimal (length b.surveys) ++ codes "</text>\n")))))))))))))))))
+    ++ (codes ", corrupted " ++ (decimal (corrupted_count (history b)) ++ (codes ", surveys " ++ (decimal (length b.surveys) ++ codes "</text>\n"))))))))))))))))))))
 
--- the axes: five ticks of equal distance, the first and the last machine, the first and the last place, and the number at the top of the curves and 0
+-- five ticks of equal distance, and the names of the axes
+abbrev pub ticks : List ℕ
+ticks = codes "<path d=\"M70 380v5M295 380v5M520 380v5M745 380v5M970 380v5\" stroke=\"#555\"/>\n"
+
+abbrev pub machine_axis : List ℕ
+machine_axis = codes "<text x=\"24\" y=\"230\" text-anchor=\"middle\" transform=\"rotate(-90 24 230)\">machine</text>\n"
+
+abbrev pub first_machine : List ℕ
+first_machine = codes "<text x=\"62\" y=\"94\" text-anchor=\"end\">0</text>\n"
+
+abbrev pub event_axis : List ℕ
+event_axis = codes "<text x=\"520\" y=\"402\" text-anchor=\"middle\">granted passes and other events</text>\n"
+
+-- the axes: with the ticks and the names, the first and the last machine, the first and the last place, and the number at the top of the curves and 0
 abbrev pub axes_text : ℕ → ℕ → ℕ → ℕ → List ℕ
 axes_text n from count height =
-    codes "<path d=\"M70 380v5M295 380v5M520 380v5M745 380v5M970 380v5\" stroke=\"#555\"/>\n<text x=\"24\" y=\"230\" text-anchor=\"middle\" transform=\"rotate(-90 24 230)\">machine</text>\n<text x=\"62\" y=\"94\" text-anchor=\"end\">0</text>\n<text x=\"62\" y=\"380\" text-anchor=\"end\">"
-    ++ (decimal (n - 1) ++ (codes "</text>\n<text x=\"70\" y=\"402\">" ++ (decimal from ++ (codes "</text>\n<text x=\"520\" y=\"402\" text-anchor=\"middle\">granted passes and other events</text>\n<text x=\"970\" y=\"402\" text-anchor=\"end\">"
-    ++ (decimal (from + count) ++ (codes "</text>\n<text x=\"62\" y=\"436\" text-anchor=\"end\">" ++ (decimal height ++ codes "</text>\n<text x=\"62\" y=\"590\" text-anchor=\"end\">0</text>\n")))))))
+    ticks ++ (machine_axis ++ (first_machine ++ (codes "<text x=\"62\" y=\"380\" text-anchor=\"end\">"
+    ++ (decimal (n - 1) ++ (codes "</text>\n<text x=\"70\" y=\"402\">" ++ (decimal from ++ (codes "</text>\n"
+    ++ (event_axis ++ (codes "<text x=\"970\" y=\"402\" text-anchor=\"end\">"
+    ++ (decimal (from + count) ++ (codes "</text>\n<text x=\"62\" y=\"436\" text-anchor=\"end\">" ++ (decimal height ++ codes "</text>\n<text x=\"62\" y=\"590\" text-anchor=\"end\">0</text>\n"))))))))))))
 
 -- the beginning of the rows, of which the columns and the units are stretched over their part of the page
 abbrev pub rows_opening : ℕ → ℕ → List ℕ
@@ -169,10 +190,35 @@ curves_opening columns height limit =
 abbrev pub calm_opening : List ℕ
 calm_opening = codes "\"/>\n<polyline stroke=\"#0a7d4f\" stroke-width=\"1.5\" stroke-dasharray=\"5 3\" points=\""
 
--- the end of the curves, the line of the bound, and what the colours mean
+-- the end of the curves
+abbrev pub curves_end : List ℕ
+curves_end = codes "\"/>\n</g>\n</svg>\n<g font-size=\"14\">\n"
+
+-- what each colour means: a word beside a piece of it
+abbrev pub privileged_key : List ℕ
+privileged_key = codes "<rect x=\"70\" y=\"608\" width=\"16\" height=\"10\" fill=\"#15489f\"/>\n<text x=\"92\" y=\"618\">privileged</text>\n"
+
+abbrev pub corruption_key : List ℕ
+corruption_key = codes "<path d=\"M200 606v14\" stroke=\"#e69f00\" stroke-width=\"5\" stroke-linecap=\"round\"/>\n<text x=\"212\" y=\"618\">corruption</text>\n"
+
+abbrev pub refusal_key : List ℕ
+refusal_key = codes "<path d=\"M322 610v6\" stroke=\"#888\" stroke-width=\"1.5\" stroke-linecap=\"square\"/>\n<text x=\"332\" y=\"618\">refused pass</text>\n"
+
+abbrev pub rest_key : List ℕ
+rest_key = codes "<path d=\"M456 613h24\" stroke=\"#111\" stroke-width=\"2.5\"/>\n<text x=\"488\" y=\"618\">rest</text>\n"
+
+abbrev pub calm_key : List ℕ
+calm_key = codes "<path d=\"M556 613h24\" stroke=\"#0a7d4f\" stroke-width=\"1.5\" stroke-dasharray=\"5 3\"/>\n<text x=\"588\" y=\"618\">calm, cut off at the top</text>\n"
+
+abbrev pub bound_key : List ℕ
+bound_key = codes "<path d=\"M776 613h24\" stroke=\"#555\" stroke-width=\"1.5\" stroke-dasharray=\"2 3\"/>\n<text x=\"808\" y=\"618\">bound</text>\n"
+
+-- the end of the page
+abbrev pub page_end : List ℕ
+page_end = codes "</g>\n</svg>\n"
+
 abbrev pub ending_text : List ℕ
-ending_text =
-    codes "\"/>\n</g>\n</svg>\n<g font-size=\"14\">\n<rect x=\"70\" y=\"608\" width=\"16\" height=\"10\" fill=\"#15489f\"/>\n<text x=\"92\" y=\"618\">privileged</text>\n<path d=\"M200 606v14\" stroke=\"#e69f00\" stroke-width=\"5\" stroke-linecap=\"round\"/>\n<text x=\"212\" y=\"618\">corruption</text>\n<path d=\"M322 610v6\" stroke=\"#888\" stroke-width=\"1.5\" stroke-linecap=\"square\"/>\n<text x=\"332\" y=\"618\">refused pass</text>\n<path d=\"M456 613h24\" stroke=\"#111\" stroke-width=\"2.5\"/>\n<text x=\"488\" y=\"618\">rest</text>\n<path d=\"M556 613h24\" stroke=\"#0a7d4f\" stroke-width=\"1.5\" stroke-dasharray=\"5 3\"/>\n<text x=\"588\" y=\"618\">calm, cut off at the top</text>\n<path d=\"M776 613h24\" stroke=\"#555\" stroke-width=\"1.5\" stroke-dasharray=\"2 3\"/>\n<text x=\"808\" y=\"618\">bound</text>\n</g>\n</svg>\n"
+ending_text = curves_end ++ (privileged_key ++ (corruption_key ++ (refusal_key ++ (rest_key ++ (calm_key ++ (bound_key ++ page_end))))))
 
 -- ---- the picture: the upper part, the marks over its rows, and the lower part
 

@@ -3,11 +3,12 @@
 ghost use Rattle.std.specs.Prelude.{◌≡◌, ◌+◌, ◌<◌, ◌≤◌, ◌^◌, IfOk};
 ghost use Rattle.ring_model.specs.Limits.{machine_limit};
 ghost use Rattle.ring_model.specs.Ring.{written};
+ghost use Rattle.ring_model.specs.Runs.{passed};
 ghost use Rattle.ring_model.proofs.Histories.{calm_next};
 ghost use Rattle.ring_saved.specs.Content.{block_of};
 ghost use Rattle.ring_check.specs.Gauges.{ring_of, IsGauge};
 ghost use Rattle.ring_check.specs.Table.{event_of};
-ghost use Rattle.ring_picture.specs.Picture.{passed, next_ring, ring_at, calm_at, shown, ring_shown, calm_shown};
+ghost use Rattle.ring_picture.specs.Picture.{next_ring, ring_at, calm_at, shown, ring_shown, calm_shown};
 ghost use Rattle.ring_picture.specs.Walks.{HasRing};
 
 use crate::groups::{left_before, shown};

@@ -4,7 +4,7 @@ ghost use Rattle.std.specs.Prelude.{◌≡◌, ◌+◌, ◌<◌, ◌≤◌, ◌^
 ghost use Rattle.text_lines.specs.Writing.{Writes};
 ghost use Rattle.ring_model.specs.Limits.{machine_limit};
 ghost use Rattle.ring_saved.specs.Content.{block_of};
-ghost use Rattle.ring_picture.specs.Picture.{title_text, axes_text, rows_opening, curves_opening};
+ghost use Rattle.ring_picture.specs.Picture.{title_text, axes_text, rows_opening, curves_opening, ending_text};
 
 use itoa::Buffer;
 use ring_check::count_events;
@@ -38,7 +38,10 @@ pub(crate) fn put_title<W: Write>(
     put_all(
         out,
         &[
-            b"<svg xmlns=\"http://www.w3.org/2000/svg\" viewBox=\"0 0 1000 640\" font-family=\"sans-serif\" font-size=\"15\">\n<style>rect,path,polyline{vector-effect:non-scaling-stroke}</style>\n<rect width=\"1000\" height=\"640\" rx=\"8\" fill=\"#fff\"/>\n<text x=\"70\" y=\"36\" font-size=\"22\">ring ",
+            b"<svg xmlns=\"http://www.w3.org/2000/svg\" viewBox=\"0 0 1000 640\" font-family=\"sans-serif\" font-size=\"15\">\n",
+            b"<style>rect,path,polyline{vector-effect:non-scaling-stroke}</style>\n",
+            b"<rect width=\"1000\" height=\"640\" rx=\"8\" fill=\"#fff\"/>\n",
+            b"<text x=\"70\" y=\"36\" font-size=\"22\">ring ",
             index,
             b": n ",
             n,
@@ -81,11 +84,16 @@ pub(crate) fn put_axes<W: Write>(
     put_all(
         out,
         &[
-            b"<path d=\"M70 380v5M295 380v5M520 380v5M745 380v5M970 380v5\" stroke=\"#555\"/>\n<text x=\"24\" y=\"230\" text-anchor=\"middle\" transform=\"rotate(-90 24 230)\">machine</text>\n<text x=\"62\" y=\"94\" text-anchor=\"end\">0</text>\n<text x=\"62\" y=\"380\" text-anchor=\"end\">",
+            b"<path d=\"M70 380v5M295 380v5M520 380v5M745 380v5M970 380v5\" stroke=\"#555\"/>\n",
+            b"<text x=\"24\" y=\"230\" text-anchor=\"middle\" transform=\"rotate(-90 24 230)\">machine</text>\n",
+            b"<text x=\"62\" y=\"94\" text-anchor=\"end\">0</text>\n",
+            b"<text x=\"62\" y=\"380\" text-anchor=\"end\">",
             last,
             b"</text>\n<text x=\"70\" y=\"402\">",
             first,
-            b"</text>\n<text x=\"520\" y=\"402\" text-anchor=\"middle\">granted passes and other events</text>\n<text x=\"970\" y=\"402\" text-anchor=\"end\">",
+            b"</text>\n",
+            b"<text x=\"520\" y=\"402\" text-anchor=\"middle\">granted passes and other events</text>\n",
+            b"<text x=\"970\" y=\"402\" text-anchor=\"end\">",
             end,
             b"</text>\n<text x=\"62\" y=\"436\" text-anchor=\"end\">",
             high,
@@ -147,6 +155,25 @@ pub(crate) fn put_curves_opening<W: Write>(
             b"h",
             wide,
             b"\" stroke=\"#555\" stroke-width=\"1.5\" stroke-dasharray=\"2 3\"/>\n<polyline stroke=\"#111\" stroke-width=\"2.5\" points=\"",
+        ],
+    )
+}
+
+/// The end of the curves, and what each colour means.
+pub(crate) fn put_ending<W: Write>(out: &mut W) -> Result<(), WriteFault>
+    ensures { Writes (W.contents out.old) (W.contents out.new) result ending_text }
+{
+    put_all(
+        out,
+        &[
+            b"\"/>\n</g>\n</svg>\n<g font-size=\"14\">\n",
+            b"<rect x=\"70\" y=\"608\" width=\"16\" height=\"10\" fill=\"#15489f\"/>\n<text x=\"92\" y=\"618\">privileged</text>\n",
+            b"<path d=\"M200 606v14\" stroke=\"#e69f00\" stroke-width=\"5\" stroke-linecap=\"round\"/>\n<text x=\"212\" y=\"618\">corruption</text>\n",
+            b"<path d=\"M322 610v6\" stroke=\"#888\" stroke-width=\"1.5\" stroke-linecap=\"square\"/>\n<text x=\"332\" y=\"618\">refused pass</text>\n",
+            b"<path d=\"M456 613h24\" stroke=\"#111\" stroke-width=\"2.5\"/>\n<text x=\"488\" y=\"618\">rest</text>\n",
+            b"<path d=\"M556 613h24\" stroke=\"#0a7d4f\" stroke-width=\"1.5\" stroke-dasharray=\"5 3\"/>\n<text x=\"588\" y=\"618\">calm, cut off at the top</text>\n",
+            b"<path d=\"M776 613h24\" stroke=\"#555\" stroke-width=\"1.5\" stroke-dasharray=\"2 3\"/>\n<text x=\"808\" y=\"618\">bound</text>\n",
+            b"</g>\n</svg>\n",
         ],
     )
 }

@@ -11,7 +11,7 @@ ghost use Rattle.ring_picture.specs.Walks.{HasRing, AreRows};
 
 use crate::columns::gauge_at;
 use crate::curves::{curve_height, put_calms, put_rests};
-use crate::frame::{put_axes, put_curves_opening, put_rows_opening, put_title};
+use crate::frame::{put_axes, put_curves_opening, put_ending, put_rows_opening, put_title};
 use crate::marks::put_marks;
 use crate::rows::put_rows;
 use crate::stretches::{Row, walk};
@@ -98,10 +98,7 @@ fn put_lower<W: Write>(
         b"\"/>\n<polyline stroke=\"#0a7d4f\" stroke-width=\"1.5\" stroke-dasharray=\"5 3\" points=\"",
     )?;
     put_calms(out, ring, from, columns)?;
-    put(
-        out,
-        b"\"/>\n</g>\n</svg>\n<g font-size=\"14\">\n<rect x=\"70\" y=\"608\" width=\"16\" height=\"10\" fill=\"#15489f\"/>\n<text x=\"92\" y=\"618\">privileged</text>\n<path d=\"M200 606v14\" stroke=\"#e69f00\" stroke-width=\"5\" stroke-linecap=\"round\"/>\n<text x=\"212\" y=\"618\">corruption</text>\n<path d=\"M322 610v6\" stroke=\"#888\" stroke-width=\"1.5\" stroke-linecap=\"square\"/>\n<text x=\"332\" y=\"618\">refused pass</text>\n<path d=\"M456 613h24\" stroke=\"#111\" stroke-width=\"2.5\"/>\n<text x=\"488\" y=\"618\">rest</text>\n<path d=\"M556 613h24\" stroke=\"#0a7d4f\" stroke-width=\"1.5\" stroke-dasharray=\"5 3\"/>\n<text x=\"588\" y=\"618\">calm, cut off at the top</text>\n<path d=\"M776 613h24\" stroke=\"#555\" stroke-width=\"1.5\" stroke-dasharray=\"2 3\"/>\n<text x=\"808\" y=\"618\">bound</text>\n</g>\n</svg>\n",
-    )
+    put_ending(out)
 }
 
 /// The picture, from its rows and from the values at its first column on.

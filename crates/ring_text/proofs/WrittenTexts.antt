@@ -121,7 +121,7 @@ run_placed r h i l at =
 
 run_right : (place : ℕ) (r : RingOutcome) → IsRightRun r → IsRightBlock latest_version place (block_at place r)
 run_right place r h =
-    let same : history (block_at place r) ≡ r.book.history = told place r h.legal.0 in
+    let same : history (block_at place r) ≡ r.book.history = told place r h.legal_and_whole.0 in
     let few = h.few in
     let seats : All (λ (e : Event). e.seat < seat_limit) r.book.history = λ k d l. let s = h.seats k d l in omega arith in
     record {
@@ -132,9 +132,9 @@ run_right place r h =
       most = h.most;
       below = values_below r.book.start.k r.book.start.values h.ring.below;
       seats = subst (λ (x : List Event). All (λ (e : Event). e.seat < seat_limit) x) (sym same) seats;
-      legal = subst (λ (x : List Event). IsHistory till (opening r.book.start 0) x) (sym same) h.legal;
+      legal_and_whole = subst (λ (x : List Event). IsHistory till (opening r.book.start 0) x) (sym same) h.legal_and_whole;
       events_said = sym (length-map r.book.history saved_event);
-      surveys = logs_right place r h.legal.0 0 r.logs.items (omega arith) (run_placed r h);
+      surveys = logs_right place r h.legal_and_whole.0 0 r.logs.items (omega arith) (run_placed r h);
       order = to_order (flat_map log_surveys r.logs.items) (logs_order (opening r.book.start 0) r.book.history 0 r.logs.items (run_placed r h));
     }
 

@@ -25,7 +25,7 @@ pub record IsRightRun (r : RingOutcome) : Type 0 where
   pub ring : IsRing r.book.start
   pub most_machines : length r.book.start.values ≤ machine_limit
   pub most : r.book.start.k ≤ value_limit
-  pub legal : IsHistory till (opening r.book.start 0) r.book.history
+  pub legal_and_whole : IsHistory till (opening r.book.start 0) r.book.history
   pub few : length r.logs.items ≤ seat_limit
   pub by_number : (seat : ℕ) (l : Log) → slice_get r.logs.items seat ≡ Some l → l.seat ≡ seat
   pub seats : AreOfSeats (length r.logs.items) r.book.history

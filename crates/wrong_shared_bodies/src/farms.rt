@@ -80,7 +80,7 @@ pub fn event_that_no_plan_has<G: Gate + Sync, W: Threads + Wait + Sync>(
     ensures wrong { IfSome result (λ r. IsLastRing settings.now r → ⊥) }
 {
     let mut ring = last_ring(rt, alloc, settings, gate)?;
-    ring.book.history();
+    ring.book.history(); // says: the book is one
     let Ok(_) = ring.book.pass(0, 0, 0) else {
         return None;
     };

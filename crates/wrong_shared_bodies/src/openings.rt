@@ -51,7 +51,7 @@ pub fn book_handed_back_with_an_event<N: Name, R: Resource + Drop, W: Wait>(
     ensures wrong { IfSome result (λ book. book ≡ fault.book → ⊥) }
 {
     let mut book = fault.into_book(rt);
-    book.history();
+    book.history(); // says: the book is one
     let Ok(_) = book.pass(0, 0, 0) else {
         return None;
     };

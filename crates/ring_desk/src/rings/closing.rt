@@ -160,6 +160,6 @@ pub fn save<W: Write>(outcome: &Outcome, out: &mut W) -> Result<(), WriteFault>
     ensures written { Writes (W.contents out.old) (W.contents out.new) result (text (saved_of outcome.now)) }
     ensures legal { IsLegalText (saved_of outcome.now) }
 {
-    written_law();
+    written_law(); // says: the text of right runs is legal
     write_outcome(outcome, out)
 }

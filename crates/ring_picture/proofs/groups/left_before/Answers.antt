@@ -1,13 +1,14 @@
-use Rattle.std.proofs.Common.{◌≡◌, ◌≤◌, ◌∙◌, ℕ, take, length, ap, arith}
+use Rattle.std.proofs.Common.{◌≤◌, ◌∙◌, List, take, length, map, ap, subst}
 use Rattle.ring_model.specs.Groups.{left_after}
 use Rattle.ring_saved.specs.Content.{block_of}
-use Rattle.ring_check.specs.Legal.{history}
+use Rattle.ring_saved.specs.declared.saved.SavedEvent.{SavedEvent}
+use Rattle.ring_check.specs.Table.{event_of}
 use Rattle.ring_picture.proofs.Shown.{left_past}
 use Rattle.ring_picture.proofs.groups.left_before.Goals as goal
 
-pub returns-else-place-len : goal.returns-else-place-len
-returns-else-place-len c =
-    let b = block_of c.args.ring.now in
-    let past : length b.events ≤ c.args.place = omega (arith, c.len.ensures, c.if-place-len.false) in
-    let end : c.len-else-place-len.result ≡ length b.events = omega (arith, c.len-else-place-len.ensures, c.args.ring.now.events.ok.0) in
-    c.left_at-else-place-len.ensures ∙ ap (λ (x : ℕ). left_after (take x (history b))) end ∙ left_past b c.args.place past
+pub returns-else-place-events : goal.returns-else-place-events
+returns-else-place-events c =
+    let events = c.as_slice-events.ensures.value in
+    let past = subst (λ (es : List SavedEvent). length es ≤ c.args.place) events c.if-place-events.false in
+    c.left_after-else-place-events.ensures
+    ∙ (ap (λ (es : List SavedEvent). left_after (take (length es) (map event_of es))) events ∙ left_past (block_of c.args.ring.now) c.args.place past)

@@ -60,8 +60,8 @@ returns g c =
     let rests = rest_points b c.args.from c.args.columns in
     let calms = calm_points b c.args.from c.args.columns in
     let here = writes_same _ _ (Ok c.in_ok-put_curves_opening.field-0) (curves_opening c.args.columns c.args.height c.bound.result) opening (ap (λ (h : ℕ). curves_opening c.args.columns h c.bound.result) c.requires.height ∙ ap (curves_opening c.args.columns (curve_height b c.args.from c.args.columns)) c.bound.ensures) c.in_ok-put_curves_opening.ensures in
-    let r = c.put-2.result in
+    let r = c.put_ending.result in
     writes_then _ _ _ r opening (rests ++ (calm_opening ++ (calms ++ ending_text))) here
     (writes_then _ _ _ r rests (calm_opening ++ (calms ++ ending_text)) c.in_ok-put_rests.ensures
     (writes_then _ _ _ r calm_opening (calms ++ ending_text) c.in_ok-put.ensures
-    (writes_then _ _ _ r calms ending_text c.in_ok-put_calms.ensures c.put-2.ensures)))
+    (writes_then _ _ _ r calms ending_text c.in_ok-put_calms.ensures c.put_ending.ensures)))
