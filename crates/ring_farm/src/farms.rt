@@ -99,7 +99,7 @@ fn run_each<G: Gate + Sync, W: Threads + Wait + Sync>(
     ensures each { IfOk result (λ v. (i : ℕ) (d : _) → i < length settings.now.rings → IfOk (slice_index_or v.items i d) (λ o. IsRun plans.now.items i (ring_of_data (ring_at settings.now i)) o.book o.logs.items)) }
 {
     let rings = settings.ring_count();
-    let rooms = rooms_for(plans.as_slice());
+    let rooms = rooms_for(plans.as_slice(), rings);
     let run = |ring: usize| -> Result<RingOutcome, FarmError>
         requires { (ring < length settings.now.rings) × (length settings.now.rings ≤ ring_limit) × (1 ≤ vec_len plans.now) × (vec_len plans.now ≤ seat_limit) × All IsShort plans.now.items × All (IsPlanFor (sizes_of settings.now.rings)) plans.now.items }
         ensures { IfOk result (λ o. IsRun plans.entry.now.items ring (ring_of_data (ring_at settings.entry.now ring)) o.book o.logs.items) }

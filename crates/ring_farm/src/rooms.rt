@@ -66,6 +66,33 @@ impl Room {
     }
 }
 
+/// How many actions of a plan are events.
+fn event_count(plan: &Plan) -> u32 {
+    let mut events: u32 = 0;
+    for action in &plan.actions {
+        if !matches!(action, Action::Survey { .. }) {
+            events = events.saturating_add(1);
+        }
+    }
+    events
+}
+
+/// The room that a ring alone needs, which all actions are for.
+fn room_alone(plans: &[Plan]) -> Room {
+    let mut room = Room {
+        events: 0,
+        entries: [0; SEAT_LIMIT],
+    };
+    for seat in 0..plans.len() {
+        let plan = &plans[seat];
+        room.events = room.events.saturating_add(event_count(plan));
+        if let Some(entries) = room.entries.get_mut(seat) {
+            *entries = u32::try_from(plan.actions.len()).unwrap_or(u32::MAX);
+        }
+    }
+    room
+}
+
 /// Adds what a seat's plan needs.
 fn add_plan(rooms: &mut Rooms, seat: usize, plan: &Plan) {
     for action in &plan.actions {
@@ -79,14 +106,18 @@ fn add_plan(rooms: &mut Rooms, seat: usize, plan: &Plan) {
     }
 }
 
-/// The room that each ring needs for these plans, one for each seat. Nothing is promised of these counts: a call with no room
-/// left asks for memory itself.
-pub(crate) fn rooms_for(plans: &[Plan]) -> Rooms {
+/// The room that each of so many rings needs for these plans, one for each seat. Nothing is promised of these counts: a call
+/// with no room left asks for memory itself.
+pub(crate) fn rooms_for(plans: &[Plan], rings: usize) -> Rooms {
     let none = Room {
         events: 0,
         entries: [0; SEAT_LIMIT],
     };
     let mut rooms = [none; RING_LIMIT];
+    if rings == 1 {
+        rooms[0] = room_alone(plans);
+        return rooms;
+    }
     for seat in 0..plans.len() {
         add_plan(&mut rooms, seat, &plans[seat]);
     }
