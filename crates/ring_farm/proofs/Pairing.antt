@@ -17,7 +17,7 @@ use Rattle.ring_model.specs.declared.events.Event.{Event}
 use Rattle.ring_settings.specs.declared.actions.Plan.{Plan}
 use Rattle.ring_farm.specs.declared.threads.Does.{Does}
 use Rattle.ring_farm.specs.Plans.{actions_of, planned, action_of, Pairs}
-use Rattle.ring_farm.specs.Promises.{IsPromised, IsKept, IsDone, AreUnchanged}
+use Rattle.ring_farm.specs.Promises.{IsPromised, DidAsPromised, IsDone, AreUnchanged}
 use Rattle.ring_farm.specs.Runs.{IsLogged}
 
 -- what is at a place of a list with one more
@@ -61,7 +61,7 @@ pub map_same : {A : Type 0} (xs : List A) → xs ≡ map (λ y. y) xs
 map_same [] = refl
 map_same (x ∷ xs) = ap (λ ys. x ∷ ys) (map_same xs)
 
-pub done_of : (ring : ℕ) (ps : List Plan) (ds : List Does) (ss : List Client) → length ds ≡ length ps → Pairs (IsPromised ring) ps ds → Pairs IsKept ds ss → Pairs (IsDone ring) ps ss
+pub done_of : (ring : ℕ) (ps : List Plan) (ds : List Does) (ss : List Client) → length ds ≡ length ps → Pairs (IsPromised ring) ps ds → Pairs DidAsPromised ds ss → Pairs (IsDone ring) ps ss
 done_of ring ps ds ss n promised kept i p s at_p at_s =
     let w : i < length ps = slice_get_within ps i p at_p in
     ⊎_elim

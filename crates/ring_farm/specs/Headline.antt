@@ -9,7 +9,7 @@ use Rattle.ring_shared.specs.declared.seats.Log.{Log}
 use Rattle.ring_farm.specs.declared.faults.FarmError.{FarmError}
 use Rattle.ring_farm.specs.declared.outcomes.Outcome.{Outcome}
 use Rattle.ring_farm.specs.declared.outcomes.RingOutcome.{RingOutcome}
-use Rattle.ring_farm.specs.Plans.{Pairs, planned, planned_calls, actions_of, calls_read}
+use Rattle.ring_farm.specs.Plans.{Pairs, HasDone, planned_calls, calls_read}
 use Rattle.ring_farm.specs.Runs.{ring_of_data}
 
 -- of each ring of the settings and its outcome
@@ -30,7 +30,7 @@ HoldsCalls settings ring d r =
 -- the seats' logs stand by number; read as actions, each is the part of its plan that concerns the ring, in order
 pub record HasLogs (settings : SettingsData) (ring : ℕ) (r : RingOutcome) : Type 0 where
   pub count : length r.logs.items ≡ length settings.seats
-  pub each : (seat : ℕ) (l : Log) → slice_get r.logs.items seat ≡ Some l → (l.seat ≡ seat) × (actions_of ring l.entries.items ≡ planned ring (plan_of settings seat))
+  pub each : (seat : ℕ) (l : Log) → slice_get r.logs.items seat ≡ Some l → HasDone ring seat (plan_of settings seat) l.seat l.entries.items
 
 -- each receipt and each survey in the logs is the ring's at its position, and none stands before what its client had seen
 abbrev pub AreRight : RingData → RingOutcome → Type 0

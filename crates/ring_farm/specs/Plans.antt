@@ -64,6 +64,10 @@ actions_of ring log = map (action_of ring) log
 abbrev pub planned : ℕ → List Action → List (Option Action)
 planned ring actions = map (λ (a : Action). Some a) (part ring actions)
 
+-- the seat of this number did the part of some actions that concerns a ring: this seat's log reads so
+abbrev pub HasDone : ℕ → ℕ → List Action → ℕ → List Entry → Type 0
+HasDone ring number actions seat log = (seat ≡ number) × (actions_of ring log ≡ planned ring actions)
+
 -- a pass or a corruption, not a survey
 abbrev pub is_call : Action → Bool
 is_call (action.Pass ring machine order) = true

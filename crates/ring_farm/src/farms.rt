@@ -7,7 +7,7 @@ ghost use Rattle.ring_settings.specs.Actions.{size_at};
 ghost use Rattle.ring_settings.specs.Contents.{ring_at, sizes_of, plan_of, plans_of, IsSettings};
 ghost use Rattle.ring_settings.specs.Views.{plan_actions};
 ghost use Rattle.ring_farm.specs.Plans.{IsShort, IsPlanFor};
-ghost use Rattle.ring_farm.specs.Runs.{IsRun, ring_of_data, first_refusal};
+ghost use Rattle.ring_farm.specs.Runs.{IsRunOf, AreRunsOf, CanRun, ring_of_data, first_refusal};
 ghost use Rattle.ring_farm.specs.Headline.{EachDone, IsFarmRing, IsFarmOf};
 ghost use Rattle.ring_farm.specs.Consequences.{IsLawfulAt, IsLawfulFarm};
 
@@ -33,11 +33,11 @@ fn book_of(alloc: Global, settings: &Settings, ring: usize) -> Result<Book<Till>
 {
     let params = settings.params(ring);
     let Ok(state) = RingState::from_values(alloc, &params, settings.start(ring)) else {
-        return Err(FarmError::OutOfMemory);
+        return Err(want_of_memory());
     };
     match Book::new(alloc, state, Till::new()) {
         Ok(book) => Ok(book),
-        Err(_) => Err(FarmError::OutOfMemory),
+        Err(_) => Err(want_of_memory()),
     }
 }
 
@@ -57,7 +57,7 @@ fn run_at<G: Gate + Sync, W: Threads + Wait + Sync>(
     requires count { vec_len plans.now ≤ seat_limit }
     requires few { All IsShort plans.now.items }
     requires fits { All (IsPlanFor (sizes_of settings.now.rings)) plans.now.items }
-    ensures { IfOk result (λ o. IsRun plans.now.items ring (ring_of_data (ring_at settings.now ring)) o.book o.logs.items) }
+    ensures { IfOk result (λ o. IsRunOf settings.now plans.now.items ring o) }
 {
     let book = book_of(alloc, settings, ring)?;
     run_ring(rt, alloc, gate, ring as u32, plans, &rooms[ring], book)
@@ -96,13 +96,13 @@ fn run_each<G: Gate + Sync, W: Threads + Wait + Sync>(
     requires fits { All (IsPlanFor (sizes_of settings.now.rings)) plans.now.items }
     ensures settings { IsSettings settings.now }
     ensures len { IfOk result (λ v. vec_len v ≡ length settings.now.rings) }
-    ensures each { IfOk result (λ v. (i : ℕ) (d : _) → i < length settings.now.rings → IfOk (slice_index_or v.items i d) (λ o. IsRun plans.now.items i (ring_of_data (ring_at settings.now i)) o.book o.logs.items)) }
+    ensures each { IfOk result (λ v. AreRunsOf settings.now plans.now.items v.items) }
 {
     let rings = settings.ring_count();
     let rooms = rooms_for(plans.as_slice(), rings);
     let run = |ring: usize| -> Result<RingOutcome, FarmError>
-        requires { (ring < length settings.now.rings) × (length settings.now.rings ≤ ring_limit) × (1 ≤ vec_len plans.now) × (vec_len plans.now ≤ seat_limit) × All IsShort plans.now.items × All (IsPlanFor (sizes_of settings.now.rings)) plans.now.items }
-        ensures { IfOk result (λ o. IsRun plans.entry.now.items ring (ring_of_data (ring_at settings.entry.now ring)) o.book o.logs.items) }
+        requires { (ring < length settings.now.rings) × (length settings.now.rings ≤ ring_limit) × CanRun settings.now plans.now.items }
+        ensures { IfOk result (λ o. IsRunOf settings.entry.now plans.entry.now.items ring o) }
     { run_at(rt, alloc, gate, ring, settings, plans, &rooms) };
     thread::map_indices(rt, alloc, rings, &run)
 }

@@ -7,7 +7,7 @@ ghost use Rattle.ring_farm.specs.Plans.{IsShort, IsPlanOn};
 ghost use Rattle.ring_farm.specs.Refusals.{told_of, told_of_close};
 ghost use Rattle.ring_farm.specs.Runs.{IsRun};
 
-use crate::faults::FarmError;
+use crate::faults::{FarmError, want_of_memory};
 use crate::gates::Gate;
 use crate::outcomes::RingOutcome;
 use crate::rooms::Room;
@@ -49,7 +49,7 @@ fn run_named<N: Name + Send + Sync, G: Gate + Sync, W: Threads + Wait + Sync>(
     };
     if room.reserve_entries(&mut seats).is_err() {
         end(ring, rt, alloc);
-        return Err(FarmError::OutOfMemory);
+        return Err(want_of_memory());
     }
     let seats = match run_threads(rt, alloc, &ring, gate, number, plans, seats) {
         Ok(seats) => seats,
@@ -116,7 +116,7 @@ pub(crate) fn run_ring<G: Gate + Sync, W: Threads + Wait + Sync>(
     let seats = plans.len() as u32;
     let draft = match Draft::new(book, seats) {
         Ok(draft) => draft,
-        Err(_) => return Err(FarmError::OutOfMemory),
+        Err(_) => return Err(want_of_memory()),
     };
     run_named::<Brand, G, W>(rt, alloc, gate, number, plans, room, draft)
 }

@@ -2,10 +2,10 @@
 ghost use Rattle.std.specs.Prelude.{◌≡◌, ℕ, ◌<◌, ◌≤◌, [], None, All, Some, map, slice_get, length, vec_len, vec_capacity, IfOk, IfSome, IsTrue};
 ghost use Rattle.ring_shared.specs.Opening.{AreFresh};
 ghost use Rattle.ring_farm.specs.Plans.{Pairs, actions_of, planned, IsShort, IsPlanOn};
-ghost use Rattle.ring_farm.specs.Promises.{IsPromised, IsKept, IsDone, AreReady};
+ghost use Rattle.ring_farm.specs.Promises.{IsPromised, DidAsPromised, IsDone, AreReady};
 ghost use Rattle.ring_settings.specs.declared.actions.Plan.{Plan};
 
-use crate::faults::{FarmError, first_fault};
+use crate::faults::{FarmError, first_fault, want_of_memory};
 use crate::gates::Gate;
 use crate::workers::{Work, run_plan};
 use ring_book::Resource;
@@ -117,7 +117,7 @@ fn join_all<N: Name + Send, W: Threads>(
     requires room { vec_len handles ≤ vec_capacity seats }
     requires empty { seats.items ≡ [] }
     ensures count { IfOk result (λ v. vec_len v ≡ vec_len handles) }
-    ensures kept { IfOk result (λ v. Pairs IsKept (map (λ h. h.promise) handles.items) v.items) }
+    ensures kept { IfOk result (λ v. Pairs DidAsPromised (map (λ h. h.promise) handles.items) v.items) }
 {
     let mut fault = None;
     for handle in handles {
@@ -196,10 +196,10 @@ pub(crate) fn run_threads<
     ensures each { IfOk result (λ v. Pairs (IsDone number) plans.now.items v.items) }
 {
     let Ok(handles) = Vec::with_capacity(alloc, plans.len()) else {
-        return Err(FarmError::OutOfMemory);
+        return Err(want_of_memory());
     };
     let Ok(back) = Vec::with_capacity(alloc, plans.len()) else {
-        return Err(FarmError::OutOfMemory);
+        return Err(want_of_memory());
     };
     run_in_scope(rt, ring, gate, number, plans, seats, handles, back)
 }

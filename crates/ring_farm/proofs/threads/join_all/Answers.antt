@@ -1,7 +1,7 @@
 use Rattle.std.proofs.Common.{rules, ◌≡◌, ◌∷◌, [], length, length-append, ◌∙◌, arith}
 use Rattle.std.proofs.lemmas.Iterator.Consumers.{YieldsList-end}
 use Rattle.std.proofs.lemmas.Iterator.Adapters.{YieldsList-from_vec}
-use Rattle.ring_farm.specs.Promises.{IsKept}
+use Rattle.ring_farm.specs.Promises.{DidAsPromised}
 use Rattle.ring_farm.proofs.Pairing.{Pairs-map-push, map_same}
 use Rattle.ring_farm.proofs.threads.join_all.Goals as goal
 
@@ -15,7 +15,7 @@ loop-handle-preserved g c =
           let k = c.join-seat.ensures in
           let i0 = i.0 in
           let same : length c.loop-handle.yielded ≡ length c.loop-handle.seats.items = omega arith in
-          rw p.items (Pairs-map-push (λ h. h.promise) IsKept c.loop-handle.yielded c.loop-handle.seats.items c.in-Some.handle c.join-seat.result.seat same (i.2 t.0) (k.0, k.1 t.1))),
+          rw p.items (Pairs-map-push (λ h. h.promise) DidAsPromised c.loop-handle.yielded c.loop-handle.seats.items c.in-Some.handle c.join-seat.result.seat same (i.2 t.0) (k.0, k.1 t.1))),
     )
 
 pub returns-in-None-fault-clause-kept : goal.returns-in-None-fault-clause-kept
