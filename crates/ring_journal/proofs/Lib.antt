@@ -1,0 +1,7 @@
+pub mod Fronts
+pub mod Groupings
+pub mod Placings
+pub mod Seatings
+pub mod Countings
+pub mod Heads
+pub mod Orders

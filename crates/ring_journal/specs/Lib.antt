@@ -1,0 +1,5 @@
+pub mod Spelling
+pub mod Reading
+pub mod Told
+pub mod Recovery
+pub mod Judging
