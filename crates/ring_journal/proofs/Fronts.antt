@@ -43,7 +43,7 @@ no_call version bytes event survey (Survey v) more f spelled = survey v more f s
 ring_reads : Reads (Below (2 ^ 32)) spaced (number_at (2 ^ 32) 32)
 ring_reads = number_reads (2 ^ 32) 32 (omega arith) (omega arith) (omega arith)
 
-ring_read : (version rings : ℕ) (bytes : List ℕ) (r : Recorded) (more : List ℕ) → RecordedFits version rings r → bytes ≡ recorded_line r ++ more → number_at (2 ^ 32) 32 bytes ≡ Ok (r.ring, call_line r.call ++ more)
+pub ring_read : (version rings : ℕ) (bytes : List ℕ) (r : Recorded) (more : List ℕ) → RecordedFits version rings r → bytes ≡ recorded_line r ++ more → number_at (2 ^ 32) 32 bytes ≡ Ok (r.ring, call_line r.call ++ more)
 ring_read version rings bytes r more f e =
     ap (number_at (2 ^ 32) 32) (e ∙ append_assoc (spaced r.ring) (call_line r.call) more) ∙ ring_reads.again r.ring (call_line r.call ++ more) f.small
 

@@ -40,13 +40,20 @@ whole_fault : {A : Type 0} (at : Reader A) (bytes : List ℕ) (d : Fault) → at
 unfolding whole_at
 whole_fault {A} at bytes d k = ap (λ (r : Result (A × List ℕ) Fault). r >>= λ x. end_at x.1 >>= λ _. Ok x.0) k
 
-as_recovery : (bytes : List ℕ) (d : Fault) → IsRightAnswer {X = Content} (λ x. x) Fits head_text bytes (Err (refusal_of bytes (stops.Fault d))) → IsRightRecovery bytes (Err (refused_as (refusal_of bytes (stops.Fault d))))
-as_recovery bytes Short a = a
-as_recovery bytes (Bad left) a = inl a
+abbrev IsRead : Result (Content × List ℕ) Fault → Type 0
+IsRead (Ok x) = Unit {0}
+IsRead (Err d) = ⊥
+
+no_head : (bytes : List ℕ) (d : Fault) → head_at bytes ≡ Err d → BeginsNone Fits head_text bytes
+no_head bytes d k a more f e = subst IsRead k (subst IsRead (sym (ap head_at e ∙ head_reads.again a more f)) tt)
+
+as_recovery : (bytes : List ℕ) (d : Fault) → BeginsNone Fits head_text bytes → IsRightAnswer {X = Content} (λ x. x) Fits head_text bytes (Err (refusal_of bytes (stops.Fault d))) → IsRightRecovery bytes (Err (refused_as (refusal_of bytes (stops.Fault d))))
+as_recovery bytes Short none a = a
+as_recovery bytes (Bad left) none a = inl (record { none = none; first = a })
 
 pub head_refused : (bytes : List ℕ) (stop : Stop) → Fails stop (head_at bytes) → IsRightRecovery bytes (Err (refused_as (refusal_of bytes stop)))
 head_refused bytes stops.Memory k = tt
-head_refused bytes (stops.Fault d) k = as_recovery bytes d (answer_is_right head_reads (λ (x : Content). x) bytes (Err (stops.Fault d)) (whole_fault head_at bytes d k))
+head_refused bytes (stops.Fault d) k = as_recovery bytes d (no_head bytes d k) (answer_is_right head_reads (λ (x : Content). x) bytes (Err (stops.Fault d)) (whole_fault head_at bytes d k))
 
 -- ---- the calls
 

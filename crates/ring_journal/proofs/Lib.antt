@@ -5,3 +5,5 @@ pub mod Seatings
 pub mod Countings
 pub mod Heads
 pub mod Orders
+pub mod LineEnds
+pub mod Cutting

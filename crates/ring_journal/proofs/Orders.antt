@@ -40,7 +40,7 @@ None_of seat ss = (filter (is_of seat) ss ≡ []) × (filter (λ s. not (is_of s
 none_step : (seat : ℕ) (s : SavedSurvey) (ss : List SavedSurvey) → is_of seat s ≡ false → None_of seat ss → None_of seat (s ∷ ss)
 none_step seat s ss e k = rw e (k.0, ap (λ (xs : List SavedSurvey). s ∷ xs) k.1)
 
-other : (a b : ℕ) → b < a → eqb a b ≡ false
+pub other : (a b : ℕ) → b < a → eqb a b ≡ false
 other a b lt = go (eqb a b) refl
   where
     go : (r : Bool) → eqb a b ≡ r → eqb a b ≡ false
@@ -95,7 +95,7 @@ abbrev IsSome : Option Kind → Type 0
 IsSome (Some kind) = Unit {0}
 IsSome None = ⊥
 
-not_both : (c : Content) (line : ℕ) (kind : Kind) → IsLegalText c → IsRightCheck c (Err (check.Bad line kind)) → ⊥
+pub not_both : (c : Content) (line : ℕ) (kind : Kind) → IsLegalText c → IsRightCheck c (Err (check.Bad line kind)) → ⊥
 not_both c line kind good bad = subst IsSome (sym bad.6 ∙ good bad.0 bad.1 bad.2 bad.3) tt
 
 -- so where what the calls tell has one, there are calls

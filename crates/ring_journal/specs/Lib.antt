@@ -3,3 +3,4 @@ pub mod Reading
 pub mod Told
 pub mod Recovery
 pub mod Judging
+pub mod Beginnings

@@ -39,6 +39,11 @@ pub record IsRecovered (bytes : List ℕ) (c : Content) : Type 0 where
   pub told : c ≡ told journal.began journal.calls
   pub legal : IsLegalText c
 
+-- no journal's beginning stands at the front of the bytes, and up to this line, the first, they begin none
+pub record IsNoBeginning (bytes : List ℕ) (line : ℕ) : Type 0 where
+  pub none : BeginsNone Fits head_text bytes
+  pub first : IsFirstBadLine (Spells Fits head_text) bytes line
+
 -- a whole line that is no call's: the one behind the journal's
 pub record IsNoCall (bytes : List ℕ) (line : ℕ) : Type 0 where
   pub journal : Journal
@@ -78,6 +83,6 @@ pub record IsBadCall (bytes : List ℕ) (line : ℕ) (kind : Kind) : Type 0 wher
 abbrev pub IsRightRecovery : List ℕ → Result Saved RecoverError → Type 0
 IsRightRecovery bytes (Ok saved) = IsRecovered bytes (content saved)
 IsRightRecovery bytes (Err Truncated) = IsCutShort (Spells Fits head_text) bytes
-IsRightRecovery bytes (Err (Syntax line)) = IsFirstBadLine (Spells Fits head_text) bytes line ⊎ IsNoCall bytes line
+IsRightRecovery bytes (Err (Syntax line)) = IsNoBeginning bytes line ⊎ IsNoCall bytes line
 IsRightRecovery bytes (Err (Bad line kind)) = IsBadBeginning bytes line kind ⊎ IsBadCall bytes line kind
 IsRightRecovery bytes (Err OutOfMemory) = Unit {0}

@@ -9,11 +9,13 @@
 mod calls;
 mod errors;
 mod histories;
+mod laws;
 mod read;
 mod recover;
 mod write;
 
 pub use calls::{Call, Recorded};
 pub use errors::RecoverError;
+pub use laws::beginnings_law;
 pub use recover::recovered;
 pub use write::{put_all_recorded, put_first_line, put_recorded};
