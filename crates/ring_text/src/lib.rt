@@ -9,6 +9,6 @@ mod outcomes;
 mod report;
 
 pub use laws::{outcome_law, written_law};
-pub use outcomes::write_outcome;
+pub use outcomes::{saved_event, saved_survey, write_outcome};
 pub use report::{write_report, write_total};
 pub use text_lines::WriteFault;

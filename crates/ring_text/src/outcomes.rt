@@ -43,7 +43,7 @@ fn saved_member(seat: u32, machine: u32, order: u64, left: u32, reply: Reply) ->
 
 /// The line of an event. Where call and reply do not belong together there is none; no history has
 /// such an event, and a refused pass stands for it.
-fn saved_event(event: Event) -> SavedEvent
+pub fn saved_event(event: Event) -> SavedEvent
     ensures is { result ≡ saved_event event }
     ensures fits { EventFits latest_version result }
 {
@@ -85,7 +85,7 @@ fn saved_event(event: Event) -> SavedEvent
 }
 
 /// The line of a survey that a seat was given.
-fn saved_survey(seat: u32, survey: Survey) -> SavedSurvey
+pub fn saved_survey(seat: u32, survey: Survey) -> SavedSurvey
     ensures is { result ≡ saved_survey seat survey }
     ensures fits { SurveyFits result }
 {

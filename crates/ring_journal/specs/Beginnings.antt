@@ -1,0 +1,41 @@
+-- What is recovered of a beginning of a right journal (this project's own).
+use Rattle.std.specs.Prelude.{◌≡◌, ℕ, ◌<◌, ◌≤◌, List, ◌++◌, length, Result, Ok, Err}
+use Rattle.ring_saved.specs.declared.saved.Saved.{Saved}
+use Rattle.ring_saved.specs.Content.{Content, content}
+use Rattle.ring_check.specs.Legal.{IsLegalText}
+use Rattle.ring_journal.specs.declared.calls.Recorded.{Recorded}
+use Rattle.ring_journal.specs.declared.errors.RecoverError.{RecoverError}
+use Rattle.ring_journal.specs.declared.errors.RecoverError.TheVariants.{Truncated, Syntax, Bad, OutOfMemory}
+use Rattle.ring_journal.specs.Spelling.{Journal, JournalFits, head_text, journal_text}
+use Rattle.ring_journal.specs.Told.{told}
+use Rattle.ring_journal.specs.Recovery.{IsRightRecovery}
+
+-- a journal is right if what it began with is legal, and what its calls tell was legal at each moment, of whole groups
+pub record IsRightJournal (j : Journal) : Type 0 where
+  pub fits : JournalFits j
+  pub began : IsLegalText j.began
+  pub legal : (front back : List Recorded) → j.calls ≡ front ++ back → IsLegalText (told j.began front)
+
+-- the journal with its first calls alone
+abbrev pub up_to : Journal → List Recorded → Journal
+up_to j front = record { began = j.began; calls = front }
+
+-- What is recovered is the journal's own history up to some call: no call stands behind that one whose line ends in the bytes.
+pub record IsOwnHistory (j : Journal) (bytes : List ℕ) (c : Content) : Type 0 where
+  pub front : List Recorded
+  pub back : List Recorded
+  pub parts : j.calls ≡ front ++ back
+  pub told : c ≡ told j.began front
+  pub holds : (calls others : List Recorded) (rest : List ℕ) → j.calls ≡ calls ++ others → bytes ≡ journal_text (up_to j calls) ++ rest → length calls ≤ length front
+
+-- what may be answered of a beginning of a journal: its own history; or, if the bytes end before the first call, that they are cut short; memory aside
+abbrev pub IsAnswerOfBeginning : Journal → List ℕ → Result Saved RecoverError → Type 0
+IsAnswerOfBeginning j bytes (Ok saved) = IsOwnHistory j bytes (content saved)
+IsAnswerOfBeginning j bytes (Err Truncated) = length bytes < length (head_text j.began)
+IsAnswerOfBeginning j bytes (Err (Syntax line)) = ⊥
+IsAnswerOfBeginning j bytes (Err (Bad line kind)) = ⊥
+IsAnswerOfBeginning j bytes (Err OutOfMemory) = Unit {0}
+
+-- A right journal that was cut anywhere gives its own history: no other answer to a beginning of its text is right.
+abbrev pub BeginningsAreRecovered : Type 0
+BeginningsAreRecovered = (j : Journal) (bytes more : List ℕ) (answer : Result Saved RecoverError) → IsRightJournal j → bytes ++ more ≡ journal_text j → IsRightRecovery bytes answer → IsAnswerOfBeginning j bytes answer

@@ -1,0 +1,18 @@
+//! What a journal's lines record.
+
+use ring_saved::{SavedEvent, SavedSurvey};
+
+/// A call with its reply, as a saved text tells of it.
+#[derive(Clone, Copy, Debug, PartialEq, Eq)]
+pub enum Call {
+    Event(SavedEvent),
+    Survey(SavedSurvey),
+}
+
+/// A call of one of the rings.
+#[derive(Clone, Copy, Debug, PartialEq, Eq)]
+pub struct Recorded {
+    /// The ring's number, from 0.
+    pub ring: u32,
+    pub call: Call,
+}
