@@ -1,5 +1,5 @@
 //! All rings of the settings.
-ghost use Rattle.std.specs.Prelude.{◌≡◌, ℕ, ◌<◌, ◌≤◌, [], All, Some, map, length, slice_index_or, vec_len, vec_capacity, IfOk, IfErr};
+ghost use Rattle.std.specs.Prelude.{◌≡◌, ◌<◌, ◌≤◌, [], All, Some, map, length, vec_len, vec_capacity, IfOk, IfErr};
 ghost use Rattle.ring_settings.specs.Limits.{ring_limit};
 ghost use Rattle.ring_model.specs.Limits.{seat_limit};
 ghost use Rattle.ring_state.specs.Sizes.{size_of};

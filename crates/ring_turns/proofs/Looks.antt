@@ -66,5 +66,5 @@ is_turn w a before asked after p order r at logged number first later taken =
       granted = taken.own.granted;
       last = told.last;
       event = told.event;
-      legal = told.legal_and_whole;
+      legal_and_whole = told.legal_and_whole;
     }

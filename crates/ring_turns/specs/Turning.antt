@@ -43,7 +43,7 @@ pub record IsTurn {C : Type 0} (w : Works C) (a : State C) (before after : Clien
   pub granted : is_granted t.receipt.event.reply ≡ true
   pub last : length after.seen ≡ t.receipt.position + 1
   pub event : slice_get after.seen t.receipt.position ≡ Some t.receipt.event
-  pub legal : IsHistory w a after.seen
+  pub legal_and_whole : IsHistory w a after.seen
 
 -- A client had no turn: its log is as it was, or has the survey by which it asked and machines that it passed on.
 abbrev pub HasNoTurn : Client → Client → Type 0

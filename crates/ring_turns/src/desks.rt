@@ -290,7 +290,7 @@ impl<N: Name> Desk<N> {
         ensures number { seat.new.number ≡ seat.old.number }
         ensures logged { IfOk result (λ r. seat.new.log ≡ seat.old.log ++ Entry.Receipt r ∷ []) }
         ensures told { IfOk result (λ r. (length seat.new.seen ≡ r.position + 1) × (slice_get seat.new.seen r.position ≡ Some r.event)) }
-        ensures legal { IfOk result (λ r. IsHistory R.works (opening N.start R.first) seat.new.seen) }
+        ensures legal_and_whole { IfOk result (λ r. IsHistory R.works (opening N.start R.first) seat.new.seen) }
         ensures later { IsPrefix seat.old.seen seat.new.seen }
         ensures err { OnErr result (IsUnchanged seat.old seat.new) }
     {

@@ -159,7 +159,7 @@ impl<N: Name, R: Resource + Drop> Turns<N, R> {
         ensures number { seat.new.number ≡ seat.old.number }
         ensures logged { IfOk result (λ r. seat.new.log ≡ seat.old.log ++ Entry.Receipt r ∷ []) }
         ensures told { IfOk result (λ r. (length seat.new.seen ≡ r.position + 1) × (slice_get seat.new.seen r.position ≡ Some r.event)) }
-        ensures legal { IfOk result (λ r. IsHistory (spared R.works) (opening N.start R.first) seat.new.seen) }
+        ensures legal_and_whole { IfOk result (λ r. IsHistory (spared R.works) (opening N.start R.first) seat.new.seen) }
         ensures later { IsPrefix seat.old.seen seat.new.seen }
         ensures err { OnErr result (IsUnchanged seat.old seat.new) }
     {
@@ -180,7 +180,7 @@ impl<N: Name, R: Resource + Drop> Turns<N, R> {
         requires { IsDistinct eqb (map (λ s. s.number) seats.items) }
         ensures start { IfOk result (λ c. c.book.start ≡ N.start) }
         ensures book { IfOk result (λ c. IsBook (spared R.works) R.first c.book) }
-        ensures legal { IfOk result (λ c. IsHistory (spared R.works) (opening N.start R.first) c.book.history) }
+        ensures legal_and_whole { IfOk result (λ c. IsHistory (spared R.works) (opening N.start R.first) c.book.history) }
         ensures settlement { IfOk result (λ c. Settlement (spared R.works) (opening N.start R.first) c.book.history) }
         ensures progress { IfOk result (λ c. Progress (spared R.works) (opening N.start R.first) c.book.history) }
         ensures logs { IfOk result (λ c. (vec_len c.logs ≡ N.seats) × AreNumbered c.logs.items × All (HasLog c.logs.items) seats.items) }
