@@ -24,6 +24,15 @@ seen (reads.Survey ring seat) = survey ring seat
 seen (reads.Glance ring) = glance ring
 seen reads.Save = save
 
+-- the number of the ring that is called
+abbrev pub ring_of : Call → ℕ
+ring_of (pass ring seat machine order) = ring
+ring_of (group ring seat order machines) = ring
+ring_of (corrupt ring seat machine value) = ring
+ring_of (survey ring seat) = ring
+ring_of (glance ring) = ring
+ring_of save = 0
+
 -- the most bytes of a line, with its LF: 8 KiB
 abbrev pub line_limit : ℕ
 line_limit = 8192

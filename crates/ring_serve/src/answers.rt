@@ -46,7 +46,7 @@ pub enum Answer {
     /// What is privileged now.
     Survey(Survey),
     /// The group moved: the place of its first event in the history, and how many events it has.
-    Block { first: u64, count: u64 },
+    Block { first: u64, count: u32 },
     /// The rings were saved.
     Saved,
     Refused(Refusal),
@@ -146,7 +146,7 @@ impl Answer {
             Answer::Waits => only(b"waits\n"),
             Answer::Corrupted { old } => with_number(b"corrupted ", old as u64),
             Answer::Survey(survey) => survey_line(survey),
-            Answer::Block { first, count } => with_numbers(b"block ", first, count),
+            Answer::Block { first, count } => with_numbers(b"block ", first, count as u64),
             Answer::Saved => only(b"saved\n"),
             Answer::Refused(why) => refusal_line(why),
         }

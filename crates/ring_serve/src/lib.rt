@@ -3,6 +3,10 @@
 
 mod answers;
 mod calls;
+mod served;
+mod turns;
 
 pub use answers::{Answer, Refusal};
 pub use calls::{Call, LINE_LIMIT, read_call};
+pub use served::{Served, Turned, answer_line};
+pub use turns::{Made, Recorded};

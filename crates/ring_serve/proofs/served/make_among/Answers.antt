@@ -1,0 +1,14 @@
+use Rattle.std.proofs.Common.{◌≡◌, ◌<◌, length, get_or, arith, rules}
+use Rattle.std.proofs.lemmas.Grind.{common_steps}
+use Rattle.ring_serve.specs.Calls.{seen, ring_of}
+use Rattle.ring_serve.proofs.Placing.{placed_turn}
+use Rattle.ring_serve.proofs.served.make_among.Goals as goal
+
+pub returns-clause-turn : goal.returns-clause-turn
+returns-clause-turn c =
+    let e = c.ring_of-at.ensures in
+    let rings = c.args.rings.now.items in
+    let d = c.index_mut.result.now in
+    let l : ring_of (seen c.args.call.now) < length rings = grind (arith, common_steps) in
+    let is : get_or rings (ring_of (seen c.args.call.now)) d ≡ d = grind (arith, common_steps) in
+    rw e (placed_turn rings d c.make.new.ring (seen c.args.call.now) c.make.result l is c.make.ensures.turn)

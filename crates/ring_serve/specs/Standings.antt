@@ -1,0 +1,52 @@
+-- What is served: rings over a till, each with its start, its history, and what its clients were told (this project's own).
+use Rattle.std.specs.Prelude.{ℕ, ◌<◌, List, [], ◌∷◌, ◌++◌, length, slice_index_or}
+use Rattle.ring_model.specs.Ring.{Ring}
+use Rattle.ring_model.specs.History.{State, opening, after, reply}
+use Rattle.ring_model.specs.GroupLaws.{block_of}
+use Rattle.ring_model.specs.Groups.{move_order}
+use Rattle.ring_model.specs.Resources.{till}
+use Rattle.ring_model.specs.Surveys.{survey_at}
+use Rattle.ring_model.specs.declared.events.Op.{Op}
+use Rattle.ring_model.specs.declared.events.Event.{Event}
+use Rattle.ring_model.specs.declared.events.Survey.{Survey}
+use Rattle.ring_model.specs.declared.events.Entry.TheVariants as entry
+use Rattle.ring_logs.specs.Told.{Told}
+use Rattle.ring_shared.specs.Groups.{receipts_from}
+use Rattle.ring_desk.specs.Rings.{RingView, IsOneThreadRing, told_more}
+
+-- a ring that is served
+pub record Standing : Type 0 where
+  pub start : Ring
+  pub history : List Event
+  pub clients : List Told
+
+abbrev pub standing_of : RingView ℕ → Standing
+standing_of d = record { start = d.book.start; history = d.book.history; clients = d.clients }
+
+-- the state of the one-thread ring at the end of the history
+abbrev pub state_of : Standing → State ℕ
+state_of r = after till (opening r.start 0) r.history
+
+-- the event that a seat's call makes now
+abbrev pub event_now : Standing → ℕ → Op → Event
+event_now r seat op = record { seat = seat; op = op; reply = reply till (state_of r) op }
+
+-- the events that a seat's group pass makes now
+abbrev pub block_now : Standing → ℕ → ℕ → List ℕ → List Event
+block_now r seat order machines = block_of till (state_of r) seat order (move_order machines)
+
+-- the survey of the end of the history
+abbrev pub survey_now : Standing → Survey
+survey_now r = survey_at till (opening r.start 0) r.history (length r.history)
+
+-- the ring with more events of a seat, which was told of them
+abbrev pub with_events : Standing → ℕ → List Event → Standing
+with_events r seat es = record { start = r.start; history = r.history ++ es; clients = told_more r.clients seat (receipts_from (length r.history) es) }
+
+-- the ring with a survey more that a seat was told
+abbrev pub with_survey : Standing → ℕ → Survey → Standing
+with_survey r seat s = record { start = r.start; history = r.history; clients = told_more r.clients seat (entry.Survey s ∷ []) }
+
+-- each of the rings is, at every moment, a one-thread ring with its clients' logs
+abbrev pub AreRight : List (RingView ℕ) → Type 0
+AreRight rings = (i : ℕ) (d : RingView ℕ) → i < length rings → IsOneThreadRing till 0 (slice_index_or rings i d)
