@@ -1,2 +1,4 @@
 pub mod Rings
 pub mod Texts
+pub mod Resuming
+pub mod Replaying

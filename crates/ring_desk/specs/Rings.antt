@@ -61,6 +61,25 @@ abbrev pub IsCallRefused : {C : Type 0} → BookView C → BookView C → Told �
 IsCallRefused old new before after result =
     OnErr result ((new ≡ old) × (after ≡ before)) × (IsErrOf result book.HistoryFull ↔ (length old.history ≡ event_limit))
 
+-- why a pass is refused
+abbrev pub IsPassFault : {C : Type 0} → RingView C → ℕ → ℕ → CallError → Type 0
+IsPassFault d seat machine call.NoSeat = length d.clients ≤ seat
+IsPassFault d seat machine call.NoMachine = length d.book.now.ring.values ≤ machine
+IsPassFault d seat machine call.HistoryFull = length d.book.history ≡ event_limit
+IsPassFault d seat machine call.OutOfMemory = Unit {0}
+IsPassFault d seat machine _ = ⊥
+
+-- why a fault is refused
+abbrev pub IsCorruptFault : {C : Type 0} → RingView C → ℕ → ℕ → ℕ → CallError → Type 0
+IsCorruptFault d seat machine value call.NoValue = d.book.now.ring.k ≤ value
+IsCorruptFault d seat machine value e = IsPassFault d seat machine e
+
+-- why a survey is refused
+abbrev pub IsSurveyFault : {C : Type 0} → RingView C → ℕ → CallError → Type 0
+IsSurveyFault d seat call.NoSeat = length d.clients ≤ seat
+IsSurveyFault d seat call.OutOfMemory = Unit {0}
+IsSurveyFault d seat _ = ⊥
+
 -- the machines of a group: at least one, rising, and each below n
 abbrev pub IsRisingGroup : ℕ → List ℕ → Type 0
 IsRisingGroup n machines = Rises 0 n machines × (1 ≤ length machines)
@@ -73,6 +92,13 @@ IsGroupFault s events machines (Some call.WholeRing) = length machines ≡ lengt
 IsGroupFault s events machines (Some (call.NotPrivileged m)) = (length machines ≢ length s) × IsLeastWithout s machines m
 IsGroupFault s events machines (Some call.HistoryFull) = CanMove s machines × (event_limit < events + length machines)
 IsGroupFault s events machines (Some _) = ⊥
+
+-- why a group pass is refused
+abbrev pub IsGroupRefusal : {C : Type 0} → RingView C → ℕ → List ℕ → CallError → Type 0
+IsGroupRefusal d seat machines call.NoSeat = length d.clients ≤ seat
+IsGroupRefusal d seat machines call.NotRising = IsRisingGroup (length d.book.now.ring.values) machines → ⊥
+IsGroupRefusal d seat machines call.OutOfMemory = Unit {0}
+IsGroupRefusal d seat machines e = IsGroupFault d.book.now.ring.values (length d.book.history) machines (Some e)
 
 -- so many clients, each with its place as its number, that were told nothing
 abbrev pub AreFresh : ℕ → List Told → Type 0

@@ -11,7 +11,7 @@ ghost use Rattle.ring_model.specs.Groups.{IsAlone, Rises};
 ghost use Rattle.ring_book.specs.GroupView.{IsGroupRecorded, IsLeastWithout};
 ghost use Rattle.ring_logs.specs.Replays.{IsCallOf};
 ghost use Rattle.ring_shared.specs.Groups.{receipts_from};
-ghost use Rattle.ring_desk.specs.Rings.{IsOneThreadRing, IsRisingGroup, IsGroupFault, IsOpenFault, IsSeatCount, AreFresh, told_more};
+ghost use Rattle.ring_desk.specs.Rings.{IsOneThreadRing, IsPassFault, IsCorruptFault, IsGroupRefusal, IsSurveyFault, IsRisingGroup, IsGroupFault, IsOpenFault, IsSeatCount, AreFresh, told_more};
 
 mod closing;
 
@@ -128,15 +128,12 @@ fn group_at<R: Resource + Drop>(
 }
 
 /// The client of this number is told a survey.
-fn tell_at(clients: &mut Vec<Client>, seat: u32, survey: Survey) -> Result<(), BookError>
+fn tell_at(clients: &mut Vec<Client>, seat: u32, survey: Survey) -> Result<(), AllocError>
     requires seat { seat < length clients.old.items }
     ensures told { OnOk result (clients.new.items ≡ told_more clients.old.items seat (Entry.Survey survey ∷ [])) }
     ensures err { OnErr result (clients.new.items ≡ clients.old.items) }
 {
-    match clients[seat as usize].tell(survey) {
-        Ok(()) => Ok(()),
-        Err(_) => Err(BookError::OutOfMemory),
-    }
+    clients[seat as usize].tell(survey)
 }
 
 /// Whether the numbers rise, each below `n`.
@@ -215,6 +212,13 @@ impl<R: Resource + Drop> OneThreadRing<R> {
         self.book.history().len() as u64
     }
 
+    /// The clients, in the order of their seats.
+    pub(crate) fn clients(&self) -> &[Client]
+        ensures { result.now ≡ self.now.clients }
+    {
+        self.clients.as_slice()
+    }
+
     /// What the client of a seat was told, in order; nothing if there is no such seat.
     pub fn log(&self, seat: u32) -> Option<&[Entry]>
         ensures some { IfSome result (λ log. log.now ≡ (slice_index_or self.now.clients seat (record { number = seat; log = [] })).log) }
@@ -240,6 +244,7 @@ impl<R: Resource + Drop> OneThreadRing<R> {
         ensures seat { IsErrOf result CallError.NoSeat ↔ length self.old.clients ≤ seat }
         ensures machine { IsErrOf result CallError.NoMachine ↔ (seat < length self.old.clients) × (length self.old.book.now.ring.values ≤ machine) }
         ensures full { IsErrOf result CallError.HistoryFull ↔ (seat < length self.old.clients) × (machine < length self.old.book.now.ring.values) × (length self.old.book.history ≡ event_limit) }
+        ensures refused { IfErr result (λ e. IsPassFault self.old seat machine e) }
     {
         if seat as usize >= self.clients.len() {
             return Err(CallError::NoSeat);
@@ -265,6 +270,7 @@ impl<R: Resource + Drop> OneThreadRing<R> {
         ensures machine { IsErrOf result CallError.NoMachine ↔ (seat < length self.old.clients) × (length self.old.book.now.ring.values ≤ machine) }
         ensures value { IsErrOf result CallError.NoValue ↔ (seat < length self.old.clients) × (machine < length self.old.book.now.ring.values) × (self.old.book.now.ring.k ≤ value) }
         ensures full { IsErrOf result CallError.HistoryFull ↔ (seat < length self.old.clients) × (machine < length self.old.book.now.ring.values) × (value < self.old.book.now.ring.k) × (length self.old.book.history ≡ event_limit) }
+        ensures refused { IfErr result (λ e. IsCorruptFault self.old seat machine value e) }
         ensures err { OnErr result (self.new ≡ self.old) }
     {
         if seat as usize >= self.clients.len() {
@@ -301,6 +307,7 @@ impl<R: Resource + Drop> OneThreadRing<R> {
         ensures whole { IsErrOf result CallError.WholeRing ↔ (seat < length self.old.clients) × IsRisingGroup (length self.old.book.now.ring.values) machines.now × (length machines.now ≡ length self.old.book.now.ring.values) }
         ensures unprivileged { (m : ℕ) → IsErrOf result (CallError.NotPrivileged m) ↔ (seat < length self.old.clients) × IsRisingGroup (length self.old.book.now.ring.values) machines.now × (length machines.now ≢ length self.old.book.now.ring.values) × IsLeastWithout self.old.book.now.ring.values machines.now m }
         ensures full { IsErrOf result CallError.HistoryFull ↔ (seat < length self.old.clients) × CanMove self.old.book.now.ring.values machines.now × (event_limit < length self.old.book.history + length machines.now) }
+        ensures refused { IfErr result (λ e. IsGroupRefusal self.old seat machines.now e) }
         ensures err { OnErr result (self.new ≡ self.old) }
     {
         if seat as usize >= self.clients.len() {
@@ -334,6 +341,7 @@ impl<R: Resource + Drop> OneThreadRing<R> {
         ensures book { self.new.book ≡ self.old.book }
         ensures ring { IsOneThreadRing R.works R.first self.new }
         ensures seat { IsErrOf result CallError.NoSeat ↔ length self.old.clients ≤ seat }
+        ensures refused { IfErr result (λ e. IsSurveyFault self.old seat e) }
         ensures err { OnErr result (self.new ≡ self.old) }
     {
         if seat as usize >= self.clients.len() {

@@ -1,0 +1,111 @@
+-- A legal saved ring with enough seats is opened, and its surveys are told again.
+use Rattle.std.proofs.Common.{◌≡◌, ℕ, zero, suc, ◌<◌, ◌≤◌, Bool, true, false, cond, List, [], ◌∷◌, ◌++◌, length, get_or, take, filter, map, sym, ◌∙◌, ap, subst, refl, inl, inr, arith}
+use Rattle.std.specs.Prelude.{All, ◌==◌}
+use Rattle.std.specs.List.Sorted.{IsPermutation}
+use Rattle.std.proofs.lemmas.Bool.{cases_lt}
+use Rattle.std.proofs.lemmas.List.Sorted.{All-permutation}
+use Rattle.ring_model.specs.Ring.{Ring, ring_with}
+use Rattle.ring_model.specs.Limits.{machine_limit, value_limit}
+use Rattle.ring_model.specs.Resources.{till}
+use Rattle.ring_model.specs.History.{opening}
+use Rattle.ring_model.specs.Groups.{IsHistory}
+use Rattle.ring_model.specs.Logs.{IsSurvey}
+use Rattle.ring_model.specs.declared.events.Event.{Event}
+use Rattle.ring_state.specs.declared.sizes.ParamsError.TheVariants as params
+use Rattle.ring_logs.specs.Told.{Told}
+use Rattle.ring_book.specs.BookView.{IsFresh}
+use Rattle.ring_shared.specs.Holding.{AreOfSeats}
+use Rattle.ring_saved.specs.declared.saved.SavedEvent.{SavedEvent}
+use Rattle.ring_saved.specs.declared.saved.SavedSurvey.{SavedSurvey}
+use Rattle.ring_check.specs.Table.{event_of}
+use Rattle.ring_saved.specs.Content.{Block}
+use Rattle.ring_check.specs.Legal.{history}
+use Rattle.ring_check.specs.Limits.{machine_limit_of, value_limit_of}
+use Rattle.ring_check.specs.Meaning.{IsRightBlock, IsRightSurvey, survey_of}
+use Rattle.ring_text.specs.SavedOf.{entry_surveys}
+use Rattle.ring_desk.specs.declared.errors.OpenError.{OpenError}
+use Rattle.ring_desk.specs.declared.errors.OpenError.TheVariants as opens
+use Rattle.ring_desk.specs.declared.resuming.ResumeError.TheVariants as resume
+use Rattle.ring_desk.specs.Rings.{RingView, IsOneThreadRing, AreFresh, IsOpenFault}
+use Rattle.ring_desk.specs.Texts.{surveys_told}
+use Rattle.ring_desk.specs.Resuming.{CanGoOnWith, IsWantOfMemory}
+use Rattle.ring_desk.specs.Replaying.{is_by, stands_at, Climbs, told_by, IsDue, Awaits, Surveyed}
+use Rattle.ring_desk.proofs.Retold.{all_told}
+
+-- the limits of a version are no higher than those of rings
+
+at_most : (b : Bool) (x y : ℕ) → x ≤ y → cond b x y ≤ y
+at_most true x y l = l
+at_most false x y l = omega arith
+
+pub machines_few : (version : ℕ) → machine_limit_of version ≤ machine_limit
+machines_few version = at_most _ 256 machine_limit (omega arith)
+
+pub values_few : (version : ℕ) → value_limit_of version ≤ value_limit
+values_few version = at_most _ 256 value_limit (omega arith)
+
+pub open_memory : (b : Block) (seats : ℕ) (x : OpenError) → length b.start ≡ b.n → CanGoOnWith seats b → IsOpenFault (record { n = b.n; k = b.k }) b.start seats x → IsWantOfMemory (resume.Open x)
+open_memory b seats opens.Seats n c (inl z) = let l = c.count.0 in absurd (omega (arith, z, l))
+open_memory b seats opens.Seats n c (inr z) = let l = c.count.1 in absurd (omega (arith, z, l))
+open_memory b seats (opens.Size params.TooFew) n c f = let l = c.right.two in let z = f.1 in absurd (omega (arith, z, l))
+open_memory b seats (opens.Size params.TooMany) n c f = let l = c.right.most_machines in let m = machines_few c.version in let z = f.1 in absurd (omega (arith, z, l, m))
+open_memory b seats (opens.Size params.FewValues) n c f = let l = c.right.enough in let z = f.1.2 in absurd (omega (arith, z, l))
+open_memory b seats (opens.Size params.ManyValues) n c f = let l = c.right.most in let m = values_few c.version in let z = f.1.2 in absurd (omega (arith, z, l, m))
+open_memory b seats opens.Length n c f = absurd (f.2 n)
+open_memory b seats (opens.Value i) n c f =
+    let over = f.2.1.over in
+    let below : get_or b.start i 0 < b.k = c.right.below i 0 f.2.1.in_list in
+    absurd (omega (arith, over, below))
+open_memory b seats opens.OutOfMemory n c f = tt
+
+-- a ring that was opened awaits the history and the surveys of the block
+pub opened_awaits : (d : RingView ℕ) (b : Block) (seats : ℕ) (sorted : List SavedSurvey) → CanGoOnWith seats b → IsOneThreadRing till 0 d → IsFresh (ring_with b.k b.start) 0 d.book → AreFresh seats d.clients →
+    Climbs 0 sorted → IsPermutation b.surveys sorted → Awaits d (history b) sorted
+opened_awaits d b seats sorted c ring fresh clients climbs same =
+    let start : d.book.start ≡ ring_with b.k b.start = fresh.0 in
+    let none : d.book.history ≡ [] = fresh.2 in
+    record {
+      ring = ring;
+      history = subst (λ (r : Ring). IsHistory till (opening r 0) (history b)) (sym start) c.right.legal;
+      seats = subst (λ (n : ℕ). AreOfSeats n (history b)) (sym clients.0) c.callers;
+      few = c.few;
+      stands = ap (λ (xs : List Event). take (length xs) (history b)) none ∙ sym none;
+      climbs = subst (λ (xs : List Event). Climbs (length xs) sorted) (sym none) climbs;
+      due = All-permutation (λ (s : SavedSurvey). IsDue d (history b) s) b.surveys sorted same (λ i s l. (
+        subst (λ (n : ℕ). (get_or b.surveys i s).seat < n) (sym clients.0) (c.surveyors i s l),
+        subst (λ (r : Ring). IsSurvey till (opening r 0) (history b) (survey_of (get_or b.surveys i s))) (sym start) (c.right.surveys i s l).right,
+      ));
+    }
+
+past_end : (cs : List Told) (i : ℕ) (d : Told) → length cs ≤ i → get_or cs i d ≡ d
+past_end [] i d l = refl
+past_end (c ∷ cs) zero d l = absurd (omega (arith, l))
+past_end (c ∷ cs) (suc i) d l = past_end cs i d (omega (arith, l))
+
+told_none : (seats : ℕ) (cs : List Told) (seat : ℕ) → AreFresh seats cs → told_by cs seat ≡ []
+told_none seats cs seat f =
+    let nobody : Told = record { number = seat; log = [] } in
+    elim (cases_lt seat seats) [
+      | inl l ↦ ap (λ (t : Told). entry_surveys seat t.log) (f.1 seat nobody l)
+      | inr g ↦ let n = f.0 in ap (λ (t : Told). entry_surveys seat t.log) (past_end cs seat nobody (omega (arith, n, g)))
+    ]
+
+-- and then it tells the surveys of the block
+pub opened_tells : (first d : RingView ℕ) (b : Block) (seats : ℕ) (sorted : List SavedSurvey) → CanGoOnWith seats b → AreFresh seats first.clients → length d.clients ≡ length first.clients → IsOneThreadRing till 0 d →
+    Climbs 0 sorted → ((place : ℕ) → filter (stands_at place) sorted ≡ filter (stands_at place) b.surveys) → Surveyed first d sorted → surveys_told d.clients ≡ b.surveys
+opened_tells first d b seats sorted c clients many ring climbs places told =
+    all_told d b.surveys sorted ring c.right.order (subst (λ (n : ℕ). All (λ (s : SavedSurvey). s.seat < n) b.surveys) (sym (many ∙ clients.0)) c.surveyors) climbs places
+    (λ seat. told seat ∙ ap (λ (xs : List SavedSurvey). xs ++ filter (is_by seat) sorted) (told_none seats first.clients seat clients))
+
+-- the same, as the code has the lists
+pub started : (d : RingView ℕ) (b : Block) (seats : ℕ) (start : List ℕ) (surveys sorted given : List SavedSurvey) (events : List SavedEvent) → start ≡ b.start → surveys ≡ b.surveys → given ≡ sorted → events ≡ b.events →
+    CanGoOnWith seats b → IsOneThreadRing till 0 d → IsFresh (ring_with b.k start) 0 d.book × AreFresh seats d.clients → Climbs 0 sorted → IsPermutation surveys sorted → Awaits d (map event_of events) given
+started d b seats start surveys sorted given events s v g e c ring fresh climbs same =
+    subst (λ (xs : List SavedEvent). Awaits d (map event_of xs) given) (sym e)
+    (subst (λ (xs : List SavedSurvey). Awaits d (history b) xs) (sym g)
+    (opened_awaits d b seats sorted c ring (subst (λ (xs : List ℕ). IsFresh (ring_with b.k xs) 0 d.book) s fresh.0) fresh.1 climbs
+    (subst (λ (xs : List SavedSurvey). IsPermutation xs sorted) v same)))
+
+pub not_both : (b : Bool) → b ≡ true → b ≡ false → ⊥
+not_both true e f = absurd (cc)
+not_both false e f = absurd (cc)
