@@ -7,3 +7,4 @@ pub mod Heads
 pub mod Orders
 pub mod LineEnds
 pub mod Cutting
+pub mod Savings

@@ -2,13 +2,15 @@
 use Rattle.std.specs.Prelude.{◌≡◌, ℕ, ◌<◌, ◌≤◌, List, ◌++◌, length, Result, Ok, Err}
 use Rattle.ring_saved.specs.declared.saved.Saved.{Saved}
 use Rattle.ring_saved.specs.Content.{Content, content}
+use Rattle.ring_saved.specs.Spelling.{HasNoMember}
+use Rattle.ring_saved.specs.Versions.{first_version, IsVersion}
 use Rattle.ring_check.specs.Legal.{IsLegalText}
 use Rattle.ring_journal.specs.declared.calls.Recorded.{Recorded}
 use Rattle.ring_journal.specs.declared.errors.RecoverError.{RecoverError}
 use Rattle.ring_journal.specs.declared.errors.RecoverError.TheVariants.{Truncated, Syntax, Bad, OutOfMemory}
 use Rattle.ring_journal.specs.Spelling.{Journal, JournalFits, head_text, journal_text}
 use Rattle.ring_journal.specs.Told.{told}
-use Rattle.ring_journal.specs.Recovery.{IsRightRecovery}
+use Rattle.ring_journal.specs.Recovery.{IsRecovered, IsRightRecovery}
 
 -- a journal is right if what it began with is legal, and what its calls tell was legal at each moment, of whole groups
 pub record IsRightJournal (j : Journal) : Type 0 where
@@ -39,3 +41,15 @@ IsAnswerOfBeginning j bytes (Err OutOfMemory) = Unit {0}
 -- A right journal that was cut anywhere gives its own history: no other answer to a beginning of its text is right.
 abbrev pub BeginningsAreRecovered : Type 0
 BeginningsAreRecovered = (j : Journal) (bytes more : List ℕ) (answer : Result Saved RecoverError) → IsRightJournal j → bytes ++ more ≡ journal_text j → IsRightRecovery bytes answer → IsAnswerOfBeginning j bytes answer
+
+-- ---- what is recovered can be saved
+
+-- what the writer of saved texts asks of a value: a ring at least, a version that there is, and no member of a group in the first one
+pub record CanBeSaved (c : Content) : Type 0 where
+  pub some : 0 < length c.rings
+  pub version : IsVersion c.version
+  pub members : c.version ≡ first_version → HasNoMember c
+
+-- what is recovered is such a value
+abbrev pub RecoveredCanBeSaved : Type 0
+RecoveredCanBeSaved = (bytes : List ℕ) (c : Content) → IsRecovered bytes c → CanBeSaved c
