@@ -253,3 +253,28 @@ beginnings_recovered j bytes more (Err (Syntax line)) right cut (inr a) = no_cal
 beginnings_recovered j bytes more (Err (Bad line kind)) right cut (inl a) = no_bad_beginning j bytes more right cut line kind a
 beginnings_recovered j bytes more (Err (Bad line kind)) right cut (inr a) = no_bad_call j bytes more right cut line kind a
 beginnings_recovered j bytes more (Err OutOfMemory) right cut a = tt
+
+-- ---- one history
+
+same_calls : (version rings : ℕ) (xs ys : List Recorded) (t u : List ℕ) → AllByRecursion (RecordedFits version rings) xs → AllByRecursion (RecordedFits version rings) ys → BeginsNone (RecordedFits version rings) recorded_line t → BeginsNone (RecordedFits version rings) recorded_line u
+    → lines_of xs ++ t ≡ lines_of ys ++ u → xs ≡ ys
+same_calls version rings [] [] t u f g n m e = refl
+same_calls version rings [] (y ∷ ys) t u f g n m e = absurd (n y (lines_of ys ++ u) g.0 (e ∙ append_assoc (recorded_line y) (lines_of ys) u))
+same_calls version rings (x ∷ xs) [] t u f g n m e = absurd (m x (lines_of xs ++ t) f.0 (sym e ∙ append_assoc (recorded_line x) (lines_of xs) t))
+same_calls version rings (x ∷ xs) (y ∷ ys) t u f g n m e =
+    let p = line_same version rings x y (lines_of xs ++ t) (lines_of ys ++ u) f.0 g.0 (sym (append_assoc (recorded_line x) (lines_of xs) t) ∙ e ∙ append_assoc (recorded_line y) (lines_of ys) u) in
+    ap (λ (z : Recorded). z ∷ xs) p.0 ∙ ap (λ (zs : List Recorded). y ∷ zs) (same_calls version rings xs ys t u f.1 g.1 n m p.1)
+
+same_told : (a b : Content) (xs ys : List Recorded) → a ≡ b → xs ≡ ys → told a xs ≡ told b ys
+same_told a b xs ys e f = ap (λ (c : Content). told c xs) e ∙ ap (told b) f
+
+pub one_recovered : (bytes : List ℕ) (c d : Content) → IsRecovered bytes c → IsRecovered bytes d → c ≡ d
+one_recovered bytes c d r s =
+    let j = r.journal in
+    let k = s.journal in
+    let p = same_heads j.began k.began (lines_of j.calls ++ r.tail) (lines_of k.calls ++ s.tail) r.lines.fits.began s.lines.fits.began
+    (sym (append_assoc (head_text j.began) (lines_of j.calls) r.tail) ∙ sym r.lines.spelled ∙ s.lines.spelled ∙ append_assoc (head_text k.began) (lines_of k.calls) s.tail) in
+    let fit : FitIn k.began j.calls = subst (λ (x : Content). FitIn x j.calls) p.0 r.lines.fits.calls in
+    let none : NoneIn k.began r.tail = subst (λ (x : Content). NoneIn x r.tail) p.0 r.lines.behind in
+    let q = same_calls k.began.version (length k.began.rings) j.calls k.calls r.tail s.tail fit s.lines.fits.calls none s.lines.behind p.1 in
+    r.told ∙ same_told j.began k.began j.calls k.calls p.0 q ∙ sym s.told

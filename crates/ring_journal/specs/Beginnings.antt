@@ -53,3 +53,7 @@ pub record CanBeSaved (c : Content) : Type 0 where
 -- what is recovered is such a value
 abbrev pub RecoveredCanBeSaved : Type 0
 RecoveredCanBeSaved = (bytes : List ℕ) (c : Content) → IsRecovered bytes c → CanBeSaved c
+
+-- of some bytes one history is recovered, and no other
+abbrev pub OneIsRecovered : Type 0
+OneIsRecovered = (bytes : List ℕ) (c d : Content) → IsRecovered bytes c → IsRecovered bytes d → c ≡ d
