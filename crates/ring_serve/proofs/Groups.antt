@@ -1,13 +1,12 @@
 -- Groups as tests that compute, and the block that a group's call determines.
-use Rattle.std.proofs.Common.{◌≡◌, ◌≢◌, ℕ, zero, suc, ◌+◌, ◌<◌, ◌≤◌, Bool, true, false, not, cond, ◌&&◌, ◌||◌, ◌==◌, eqb, ltb, leb, nat_lt, nat_le, List, [], ◌∷◌, length, Option, Some, None, find, refl, sym, ap, subst, ◌∙◌, ◌⊎◌, inl, inr, arith}
-use Rattle.std.proofs.lemmas.Bool.{false≢true, eqb-true, ne_eqb, eq-eqb, leb-true, ltb-true, le-leb, lt-ltb}
+use Rattle.std.proofs.Common.{◌≡◌, ℕ, suc, ◌+◌, ◌≤◌, Bool, true, false, ◌&&◌, ◌||◌, eqb, ltb, leb, List, [], ◌∷◌, length, Some, None, refl, sym, ap, subst, ◌∙◌, ◌⊎◌, inl, inr, arith}
+use Rattle.std.proofs.lemmas.Bool.{false≢true, eqb-true, eq-eqb, leb-true, ltb-true, le-leb, lt-ltb}
 use Rattle.ring_model.specs.Ring.{is_privileged}
-use Rattle.ring_model.specs.History.{Works, State, next, reply, Step, IsLegal}
+use Rattle.ring_model.specs.History.{Works, State, next, reply, IsLegal}
 use Rattle.ring_model.specs.Groups.{has, Rises, AreMembers}
 use Rattle.ring_model.specs.GroupLaws.{AreAllPrivileged, block_of}
 use Rattle.ring_model.specs.declared.events.Op.{Op}
 use Rattle.ring_model.specs.declared.events.Op.TheVariants as op
-use Rattle.ring_model.specs.declared.events.Reply.{Reply}
 use Rattle.ring_model.specs.declared.events.Event.{Event}
 use Rattle.ring_model.proofs.Histories.{StepOf-reply}
 use Rattle.ring_book.specs.GroupView.{IsLeastWithout}

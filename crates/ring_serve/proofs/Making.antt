@@ -1,25 +1,16 @@
 -- What a call of a ring leaves, as a turn.
-use Rattle.std.proofs.Common.{◌≡◌, ℕ, List, [], ◌∷◌, ◌++◌, length, drop, refl, sym, ap, subst, ◌∙◌}
-use Rattle.ring_model.specs.Ring.{Ring}
-use Rattle.ring_model.specs.History.{State, reply, after, opening, IsLegal}
+use Rattle.std.proofs.Common.{◌≡◌, ℕ, List, ◌++◌, length, drop, sym, ap, ◌∙◌}
+use Rattle.ring_model.specs.History.{State}
 use Rattle.ring_model.specs.Groups.{move_order}
 use Rattle.ring_model.specs.GroupLaws.{block_of}
 use Rattle.ring_model.specs.Resources.{till}
-use Rattle.ring_model.specs.declared.events.Op.{Op}
-use Rattle.ring_model.specs.declared.events.Reply.{Reply}
 use Rattle.ring_model.specs.declared.events.Event.{Event}
-use Rattle.ring_model.specs.declared.events.Receipt.{Receipt}
-use Rattle.ring_model.specs.declared.events.Entry.{Entry}
-use Rattle.ring_model.specs.declared.events.Entry.TheVariants as entry
-use Rattle.ring_model.proofs.Histories.{StepOf-reply}
-use Rattle.ring_logs.specs.Told.{Told}
-use Rattle.ring_book.specs.BookView.{IsRecorded}
 use Rattle.ring_book.specs.GroupView.{IsGroupRecorded}
 use Rattle.ring_book.specs.declared.books.groups.GroupReceipt.{GroupReceipt}
 use Rattle.ring_shared.specs.Groups.{receipts_from}
 use Rattle.ring_shared.proofs.GroupLogs.{group_events}
 use Rattle.ring_desk.specs.Rings.{RingView, IsOneThreadRing, told_more}
-use Rattle.ring_serve.specs.Standings.{Standing, standing_of, state_of, event_now, block_now, with_events}
+use Rattle.ring_serve.specs.Standings.{standing_of, state_of, block_now, with_events}
 use Rattle.ring_serve.proofs.Groups.{members_block}
 
 -- the state of a ring is that at the end of its history

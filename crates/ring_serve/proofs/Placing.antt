@@ -1,17 +1,16 @@
 -- A turn of one ring among all rings.
-use Rattle.std.proofs.Common.{◌≡◌, ℕ, ◌<◌, ◌≤◌, subst, length-set, List, [], ◌∷◌, length, get_or, map, Option, Some, None, Result, Ok, Err, slice_get, slice_set, drop, refl, sym, ap, ◌∙◌, ◌⊎◌, inl, inr, arith}
+use Rattle.std.proofs.Common.{◌≡◌, ℕ, ◌<◌, ◌≤◌, subst, length-set, List, [], ◌∷◌, length, get_or, map, Option, Some, None, Result, Ok, Err, slice_get, slice_set, drop, refl, sym, ap, ◌∙◌, inl, inr, arith}
 use Rattle.std.proofs.lemmas.List.{map-set, set-get_or, get_or-set_same, get_or-set_other}
 use Rattle.std.proofs.lemmas.Bool.{cases_eq, lt-ltb, le-ltb}
 use Rattle.std.proofs.lemmas.Option.{slice_get-map, slice_get-get_or, slice_get_past}
 use Rattle.std.specs.Prelude.{option_map}
 use Rattle.ring_model.specs.Resources.{till}
-use Rattle.ring_model.specs.declared.events.Event.{Event}
 use Rattle.text_lines.specs.declared.fault.Fault.{Fault}
 use Rattle.text_lines.specs.Reading.{whole_at}
 use Rattle.ring_desk.specs.Rings.{RingView, IsOneThreadRing}
 use Rattle.ring_serve.specs.Calls.{Call, ring_of, line_limit, call_at}
 use Rattle.ring_serve.specs.Standings.{Standing, standing_of, AreRight}
-use Rattle.ring_serve.specs.Turns.{line_turn, read_turn, IsTurnOfLine, Turn, Record, events, surveyed, refused, placed, turn_among, turn_at, turn_of, recorded_seen, recorded_among, turn_seen, turn_seen_among, history_of, IsTurnAt, IsTurn}
+use Rattle.ring_serve.specs.Turns.{line_turn, read_turn, IsTurnOfLine, Turn, events, refused, placed, turn_among, recorded_seen, recorded_among, turn_seen, turn_seen_among, history_of, IsTurnAt, IsTurn}
 use Rattle.ring_serve.specs.declared.answers.Answer.TheVariants as answer
 use Rattle.ring_serve.specs.declared.served.Turned.{Turned}
 use Rattle.ring_serve.specs.declared.answers.Refusal.{Refusal}

@@ -1,11 +1,9 @@
 -- The first refusal that applies, by the refusals that a ring promises.
-use Rattle.std.proofs.Common.{◌≡◌, ◌≢◌, ℕ, ◌+◌, ◌<◌, ◌≤◌, Bool, true, false, cond, not, ◌&&◌, ◌==◌, nat_le, nat_lt, List, [], ◌∷◌, ◌++◌, length, drop, Option, Some, None, Result, Ok, Err, refl, sym, ap, ◌∙◌, ◌⊎◌, inl, inr, arith}
+use Rattle.std.proofs.Common.{◌≡◌, ◌≢◌, ℕ, ◌+◌, ◌<◌, ◌≤◌, Bool, true, false, cond, not, ◌&&◌, ◌==◌, nat_le, nat_lt, List, [], ◌∷◌, ◌++◌, length, drop, Option, Some, None, Ok, Err, refl, sym, ap, ◌∙◌, inl, inr, arith}
 use Rattle.std.proofs.lemmas.Bool.{false≢true, ltb-true, le-leb, lt-leb, lt-ltb, le-ltb, eq-eqb, ne_eqb, cases_lt, cases_eq}
 use Rattle.std.proofs.lemmas.List.{drop_at}
 use Rattle.ring_model.specs.Limits.{event_limit}
-use Rattle.ring_model.specs.Ring.{Ring}
 use Rattle.ring_model.specs.History.{State}
-use Rattle.ring_model.specs.Groups.{Rises}
 use Rattle.ring_model.specs.GroupLaws.{CanMove, AreAllPrivileged}
 use Rattle.ring_model.specs.Resources.{till}
 use Rattle.ring_model.specs.declared.events.Event.{Event}
@@ -19,7 +17,7 @@ use Rattle.ring_serve.specs.Calls.{group}
 use Rattle.ring_serve.specs.declared.answers.Answer.TheVariants as answer
 use Rattle.ring_serve.specs.declared.turns.Made.{Made}
 use Rattle.ring_serve.specs.declared.turns.Recorded.TheVariants as made
-use Rattle.ring_serve.specs.Standings.{Standing, standing_of, state_of, block_now}
+use Rattle.ring_serve.specs.Standings.{Standing, standing_of, block_now}
 use Rattle.ring_serve.specs.Turns.{Turn, refused, unless, group_refusal, move_refusal, rise, first_without, grouped, turn_seen, IsTurnAt, events}
 use Rattle.ring_serve.specs.declared.answers.Refusal.{Refusal}
 use Rattle.ring_serve.specs.declared.answers.Refusal.TheVariants as refusal

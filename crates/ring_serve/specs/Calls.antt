@@ -1,5 +1,5 @@
 -- The calls, and the lines that they are (this project's own).
-use Rattle.std.specs.Prelude.{ℕ, ◌+◌, ◌^◌, min, List, [], ◌∷◌, ◌++◌, ◌==◌, length, codes, if◌then◌else◌, Result, Ok, Err}
+use Rattle.std.specs.Prelude.{ℕ, ◌+◌, ◌^◌, min, List, [], ◌∷◌, ◌==◌, length, codes, if◌then◌else◌, Result, Ok, Err}
 use Rattle.text_lines.specs.declared.fault.Fault.{Fault}
 use Rattle.text_lines.specs.declared.fault.Fault.TheVariants.{Short, Bad}
 use Rattle.text_lines.specs.Reading.{Reader, ◌>>=◌, number_at, row_at, after_at, then_at, as_at, branch, choice_at}

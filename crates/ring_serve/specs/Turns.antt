@@ -1,5 +1,5 @@
 -- How each call is answered, at each state of the rings (this project's own).
-use Rattle.std.specs.Prelude.{◌≡◌, ℕ, suc, ◌+◌, List, [], ◌∷◌, length, drop, slice_get, slice_set, Bool, true, false, not, ◌&&◌, ◌==◌, nat_lt, nat_le, find, if◌then◌else◌, Option, Some, None, Result, Ok, Err, ◌⊎◌}
+use Rattle.std.specs.Prelude.{◌≡◌, ℕ, suc, ◌+◌, List, [], ◌∷◌, length, drop, slice_get, slice_set, Bool, true, not, ◌&&◌, ◌==◌, nat_lt, nat_le, find, if◌then◌else◌, Option, Some, None, Result, Ok, Err, ◌⊎◌}
 use Rattle.ring_model.specs.Limits.{event_limit}
 use Rattle.ring_model.specs.Ring.{is_privileged}
 use Rattle.ring_model.specs.History.{reply}

@@ -1,5 +1,4 @@
-use Rattle.std.proofs.Common.{◌≡◌, ◌+◌, drop, get_or, arith}
-use Rattle.ring_serve.specs.Calls.{gaps}
+use Rattle.std.proofs.Common.{arith}
 use Rattle.ring_serve.proofs.Steps.{gaps_end, gaps_space, gaps_other, gaps_none}
 use Rattle.ring_serve.proofs.calls.gaps.Goals as goal
 use Rattle.ring_serve.proofs.calls.gaps.Goals.{then-byte-eq32, else-byte-eq32}

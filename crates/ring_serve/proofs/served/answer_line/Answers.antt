@@ -1,4 +1,3 @@
-use Rattle.std.proofs.Common.{ap}
 use Rattle.ring_serve.specs.Calls.{seen}
 use Rattle.ring_serve.proofs.Placing.{long_line, bad_line, call_line}
 use Rattle.ring_serve.proofs.served.answer_line.Goals as goal

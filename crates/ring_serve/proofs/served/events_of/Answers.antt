@@ -1,4 +1,4 @@
-use Rattle.std.proofs.Common.{◌≡◌, ◌≤◌, List, length, drop, sym, ap, ◌∙◌, arith}
+use Rattle.std.proofs.Common.{◌≤◌, List, length, drop, sym, ap, ◌∙◌, arith}
 use Rattle.std.proofs.lemmas.List.{take_rest, drop_all}
 use Rattle.ring_model.specs.declared.events.Event.{Event}
 use Rattle.ring_serve.proofs.Placing.{history_at}
