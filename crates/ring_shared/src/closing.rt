@@ -99,7 +99,11 @@ impl<N: Name, R: Resource + Drop> Ring<N, R> {
         ensures mismatch { IfErr result (λ f. f.reason ≡ CloseReason.Mismatch → All (λ s. Fits R.works (opening N.start R.first) f.book.history s.number s.log) seats.items → ⊥) }
         ensures fault { IfErr result (λ f. (f.book.start ≡ N.start) × IsBook R.works R.first f.book × AreOfSeats N.seats f.book.history × (f.seats.items ≡ seats.items)) }
     {
-        let Ring { shared, seats: all } = self;
+        let Ring {
+            shared,
+            door: _door,
+            seats: all,
+        } = self;
         let (book, front, writer) = shared.into_inner().into_parts();
         writer.take(rt); // nobody looks now
         let logs = match room_for_logs(alloc, &book, all, seats.as_slice()) {

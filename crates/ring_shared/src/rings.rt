@@ -19,6 +19,7 @@ use crate::locked::{Locked, turn};
 use crate::names::Name;
 use crate::seats::{RingWriter, Seat};
 use crate::shown::{Operation, Shown};
+use crossbeam_utils::Backoff;
 use left_right::Absorb;
 use left_right::writer::Writer;
 use ring_book::{Book, BookError, GroupError, GroupReceipt, Resource};
@@ -113,6 +114,28 @@ impl<N: Name, R: Resource + Drop> OpenFault<N, R> {
     }
 }
 
+/// How often the call at the door tries for the lock before it sleeps.
+const TRIES: u32 = 100;
+
+/// Waits for the lock: at the door awake for a while, as the only one, and then asleep, with the door given back. So a
+/// holder that runs is soon followed without a call of the kernel, and for one that was put aside all sleep.
+fn take<'a, T, W: Wait>(rt: &W, door: &Mutex<()>, lock: &'a Mutex<T>) -> MutexGuard<'a, T> {
+    if let Some(guard) = lock.try_lock() {
+        return guard;
+    }
+    let first = door.lock(rt);
+    let backoff = Backoff::new();
+    for _ in 0..TRIES {
+        if let Some(guard) = lock.try_lock() {
+            MutexGuard::unlock(first);
+            return guard;
+        }
+        backoff.snooze();
+    }
+    MutexGuard::unlock(first);
+    lock.lock(rt)
+}
+
 /// A ring that threads share. It ends by `close`, and by nothing else.
 ///
 /// A pass, a group pass or a corruption waits for the lock; what it then does is one critical section. A survey and a
@@ -123,6 +146,8 @@ impl<N: Name, R: Resource + Drop> OpenFault<N, R> {
 /// has seen the whole list of events, and since the places for what is shown are taken when the ring is opened.
 pub struct Ring<N: Name, R: Resource + Drop> {
     pub(crate) shared: Mutex<Locked<N, R>>,
+    /// One call at most waits awake for the lock; those behind it sleep at this one.
+    pub(crate) door: Mutex<()>,
     pub(crate) seats: u32,
 }
 
@@ -289,6 +314,7 @@ impl<N: Name, R: Resource + Drop> Ring<N, R> {
             Ok((writer, seats)) => {
                 let ring = Ring {
                     shared: Mutex::new(Locked::new(alloc, book, head, front, writer)),
+                    door: Mutex::new(()),
                     seats: count,
                 };
                 Ok((ring, seats))
@@ -320,7 +346,7 @@ impl<N: Name, R: Resource + Drop> Ring<N, R> {
         ensures later { IsPrefix seat.old.seen seat.new.seen }
         ensures err { OnErr result (IsUnchanged seat.old seat.new) }
     {
-        let mut locked = self.shared.lock(rt);
+        let mut locked = take(rt, &self.door, &self.shared);
         let result = locked.call(rt, seat, Op::Pass { machine, order });
         MutexGuard::unlock(locked);
         result
@@ -346,7 +372,7 @@ impl<N: Name, R: Resource + Drop> Ring<N, R> {
         ensures later { IsPrefix seat.old.seen seat.new.seen }
         ensures err { OnErr result (IsUnchanged seat.old seat.new) }
     {
-        let mut locked = self.shared.lock(rt);
+        let mut locked = take(rt, &self.door, &self.shared);
         let result = locked.call(rt, seat, Op::Corrupt { machine, value });
         MutexGuard::unlock(locked);
         result
@@ -377,7 +403,7 @@ impl<N: Name, R: Resource + Drop> Ring<N, R> {
         ensures whole_only { IsErrOf result GroupError.WholeRing → length machines.now ≡ length N.start.values }
         ensures err { OnErr result (IsUnchanged seat.old seat.new) }
     {
-        let mut locked = self.shared.lock(rt);
+        let mut locked = take(rt, &self.door, &self.shared);
         let result = locked.pass_group(rt, seat, machines, order);
         MutexGuard::unlock(locked);
         result
