@@ -142,7 +142,7 @@ line_ended old bytes before mid new line b h after r new' line' line'' e kept a 
     let turn : IsTurnOfLine new (cut (h.0 ++ b ∷ [])) a.0 = subst (λ (x : List ℕ). IsTurnOfLine new x a.0) kept a.1 in
     let s : Serves r old (bytes ++ b ∷ []) before after a.0.leaves [] = line_more old bytes before mid new line b h after r a.0 e turn a.3 in
     subst (λ (x : List ℕ). Serves r old (bytes ++ b ∷ []) before after new' x) (sym empty)
-        (subst (λ (x : List Standing). Serves r old (bytes ++ b ∷ []) before after x []) a.2 s)
+    (subst (λ (x : List Standing). Serves r old (bytes ++ b ∷ []) before after x []) a.2 s)
 
 -- ---- the bytes of a block
 

@@ -1,7 +1,9 @@
 -- A turn of one ring among all rings.
-use Rattle.std.proofs.Common.{◌≡◌, ℕ, ◌<◌, ◌≤◌, subst, length-set, List, [], ◌∷◌, length, get_or, map, Option, Some, None, Result, Ok, Err, slice_get, slice_set, drop, refl, sym, ap, ◌∙◌, inl, inr, arith}
+use Rattle.std.proofs.Common.{◌≡◌, ℕ, ◌<◌, ◌≤◌, subst, length-set, List, [], ◌∷◌, length, get_or, map, Option, Some, None, Result, Ok, Err, slice_get, slice_set, drop, refl, sym, ap, ◌∙◌, inl, inr, arith, ◌+◌, ◌-◌, ◌++◌, length-append}
 use Rattle.std.proofs.lemmas.List.{map-set, set-get_or, get_or-set_same, get_or-set_other}
-use Rattle.std.proofs.lemmas.Bool.{cases_eq, lt-ltb, le-ltb}
+use Rattle.std.proofs.lemmas.List.{get_or_append_left}
+use Rattle.std.proofs.lemmas.List.{get_or-append_right}
+use Rattle.std.proofs.lemmas.Bool.{cases_lt, cases_eq, lt-ltb, le-ltb}
 use Rattle.std.proofs.lemmas.Option.{slice_get-map, slice_get-get_or, slice_get_past}
 use Rattle.std.specs.Prelude.{option_map}
 use Rattle.ring_model.specs.Resources.{till}
@@ -102,3 +104,18 @@ pub call_line : (rings rings' : List Standing) (line : List ℕ) (call : Call) (
 call_line rings rings' line call ring m l r e (inl t) =
     inl (ap (λ (k : ℕ). turn_seen_among k rings' m) e ∙ (t ∙ sym (short_turn rings line l ∙ ap (λ (x : Result Call Fault). read_turn rings x) r)))
 call_line rings rings' line call ring m l r e (inr t) = inr (ap (λ (k : ℕ). turn_seen_among k rings' m) e ∙ t)
+
+-- a ring more that is right
+pub right_more : (rings : List (RingView ℕ)) (r : RingView ℕ) → AreRight rings → IsOneThreadRing till 0 r → AreRight (rings ++ r ∷ [])
+right_more rings r all one j d l = elim (cases_lt j (length rings)) [
+  | inl lt ↦ subst (λ (x : RingView ℕ). IsOneThreadRing till 0 x) (sym (get_or_append_left rings (r ∷ []) d j lt)) (all j d lt)
+  | inr ge ↦
+      let same : j ≡ length rings = omega (arith, length-append rings (r ∷ [])) in
+      let nothing : length rings - length rings ≡ 0 = omega arith in
+      let there : get_or (rings ++ r ∷ []) (length rings) d ≡ r = get_or-append_right rings (r ∷ []) (length rings) (length rings) d refl (omega arith) ∙ ap (λ (k : ℕ). get_or (r ∷ []) k d) nothing in
+      subst (λ (x : RingView ℕ). IsOneThreadRing till 0 x) (sym (ap (λ (k : ℕ). get_or (rings ++ r ∷ []) k d) same ∙ there)) one
+]
+
+pub standings_more : (rings : List (RingView ℕ)) (r : RingView ℕ) → map standing_of (rings ++ r ∷ []) ≡ map standing_of rings ++ standing_of r ∷ []
+standings_more [] r = refl
+standings_more (x ∷ rings) r = ap (λ (xs : List Standing). standing_of x ∷ xs) (standings_more rings r)

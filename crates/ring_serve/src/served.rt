@@ -1,9 +1,11 @@
 //! The rings that are served.
 
-ghost use Rattle.std.specs.Prelude.{◌≡◌, map, drop, slice_get};
+ghost use Rattle.std.specs.Prelude.{◌≡◌, [], ◌∷◌, ◌++◌, map, drop, slice_get, OnOk, OnErr};
 ghost use Rattle.ring_serve.specs.declared.answers.Answer.TheVariants as answer;
 ghost use Rattle.ring_serve.specs.declared.turns.Recorded.TheVariants as recorded;
 ghost use Rattle.ring_serve.specs.Calls.{seen, ring_of};
+ghost use Rattle.ring_model.specs.Resources.{till};
+ghost use Rattle.ring_desk.specs.Rings.{IsOneThreadRing};
 ghost use Rattle.ring_serve.specs.Standings.{standing_of, AreRight};
 ghost use Rattle.ring_serve.specs.Turns.{IsTurn, IsTurnOfLine, turn_seen_among, history_of};
 
@@ -13,7 +15,7 @@ use crate::turns::{Made, make, refused};
 use ring_book::Till;
 use ring_desk::OneThreadRing;
 use ring_model::Event;
-use std::alloc::Global;
+use std::alloc::{AllocError, Global};
 use std::marker::Model;
 use text_lines::Stop;
 
@@ -82,7 +84,42 @@ fn events_of(rings: &[OneThreadRing<Till>], ring: usize, from: usize) -> &[Event
     &history[from..]
 }
 
+/// A ring more.
+fn add_to(rings: &mut Vec<OneThreadRing<Till>>, ring: OneThreadRing<Till>) -> Result<(), AllocError>
+    requires all { AreRight rings.old.items }
+    requires ring { IsOneThreadRing till 0 ring }
+    ensures right { AreRight rings.new.items }
+    ensures ok { OnOk result (map standing_of rings.new.items ≡ map standing_of rings.old.items ++ standing_of ring ∷ []) }
+    ensures err { OnErr result (rings.new.items ≡ rings.old.items) }
+{
+    rings.reserve(1)?;
+    rings.push_reserved(ring);
+    Ok(())
+}
+
 impl Served {
+    /// No ring.
+    pub fn none(alloc: Global) -> Served
+        ensures { result ≡ [] }
+    {
+        Served {
+            rings: Vec::new(alloc),
+        }
+    }
+
+    /// Serves this ring too, by the next number.
+    ///
+    /// # Errors
+    ///
+    /// Want of memory alone.
+    pub fn add(&mut self, ring: OneThreadRing<Till>) -> Result<(), AllocError>
+        requires { IsOneThreadRing till 0 ring }
+        ensures ok { OnOk result (self.new ≡ self.old ++ standing_of ring ∷ []) }
+        ensures err { OnErr result (self.new ≡ self.old) }
+    {
+        add_to(&mut self.rings, ring)
+    }
+
     /// These rings, in their order.
     pub fn new(rings: Vec<OneThreadRing<Till>>) -> Served
         requires { AreRight rings.items }
