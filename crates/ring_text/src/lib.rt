@@ -4,10 +4,12 @@
 #![tactic(auto)]
 
 mod counts;
+mod journals;
 mod laws;
 mod outcomes;
 mod report;
 
+pub use journals::{put_events, put_survey};
 pub use laws::{outcome_law, written_law};
 pub use outcomes::{saved_event, saved_survey, write_outcome};
 pub use report::{write_report, write_total};
