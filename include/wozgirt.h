@@ -45,7 +45,7 @@ enum wozgirt_code {
     WOZGIRT_SYNTAX = 48,
     WOZGIRT_TRUNCATED = 49,
     WOZGIRT_NO_RING = 50,       /* the text has no ring at this place */
-    WOZGIRT_DIFFERS = 51,       /* its history is not legal */
+    WOZGIRT_DIFFERS = 51,       /* its history or a survey of it is not legal */
     /* a saved text is not legal: what is wrong with its first bad line */
     WOZGIRT_PARAMETER = 64,
     WOZGIRT_RANGE = 65,
@@ -137,8 +137,8 @@ uint32_t wozgirt_open(struct wozgirt_ring *ring, uint32_t n, uint32_t k, const u
 uint32_t wozgirt_open_idle(struct wozgirt_ring *ring, uint32_t n, uint32_t k, const uint32_t *start, size_t start_length,
                            uint32_t seats);
 
-/* Opens a ring that goes on where the one at this place, from 0, of a saved text ended. Surveys are not told again. If one
- * of its calls is refused, the code of that call. */
+/* Opens a ring that goes on where the one at this place, from 0, of a saved text ended, with its surveys.
+ * If one of its calls is refused, the code of that call; a legal ring with enough seats is refused for want of memory alone. */
 uint32_t wozgirt_open_saved(struct wozgirt_ring *ring, const uint8_t *text, size_t length, uint32_t place, uint32_t seats);
 
 /* A seat asks for a machine's pass: WOZGIRT_DONE where it was granted, WOZGIRT_WAITS where the machine is not privileged. */

@@ -3,6 +3,7 @@
  *     four_threads HISTORY
  *
  * `ring_tool check HISTORY` judges it then; so does `wozgirt_check` here. */
+#include "patient_lock.h"
 #include "wozgirt.h"
 #include <pthread.h>
 #include <stdio.h>
@@ -38,7 +39,7 @@ static void *client(void *given)
     struct wozgirt_answer answer;
     uint64_t granted = 0;
     for (uint32_t turn = 0; turn < CALLS; turn++) {
-        pthread_mutex_lock(&lock);
+        patient_lock(&lock);
         const uint32_t code = wozgirt_pass(&ring, seat, (seat + turn) % MACHINES, 1, &answer);
         stop_on(code, "pass");
         if (code == WOZGIRT_DONE) {

@@ -1,5 +1,6 @@
 /* What calls from C cost: passes on one thread, on four threads under a mutex, and the checker on what they left. It saves
  * the history, so that the same text can be given to `ring_tool check`:  speed HISTORY */
+#include "patient_lock.h"
 #include "wozgirt.h"
 #include <pthread.h>
 #include <stdio.h>
@@ -31,7 +32,7 @@ static void *client(void *given)
     const uint32_t seat = (uint32_t)(uintptr_t)given;
     struct wozgirt_answer answer;
     for (uint32_t turn = 0; turn < CALLS; turn++) {
-        pthread_mutex_lock(&lock);
+        patient_lock(&lock);
         stop_on(wozgirt_pass(&ring, seat, turn % MACHINES, 1, &answer));
         pthread_mutex_unlock(&lock);
     }

@@ -18,8 +18,13 @@ returns-in-Ok-from_saved-clause-ok c =
       at = slice_get_read rings _ c.args.place ring refl found.3.0 found.1;
       start = c.in-Ok-from_saved.ensures.start;
       history = c.in-Ok-from_saved.ensures.history;
+      surveys = c.in-Ok-from_saved.ensures.surveys;
+      seated = c.in-Ok-from_saved.ensures.seats;
       right = c.in-Ok-from_saved.ensures.ring;
     }
+
+pub returns-in-Err-from_saved-clause-err : goal.returns-in-Err-from_saved-clause-err
+returns-in-Err-from_saved-clause-err c = ?
 
 pub returns-clause-err : goal.returns-clause-err
 returns-clause-err c =
