@@ -1,5 +1,6 @@
 /* What calls from C cost: passes on one thread, on four threads under a mutex, and the checker on what they left. It saves
  * the history, so that the same text can be given to `ring_tool check`:  speed HISTORY */
+#define _POSIX_C_SOURCE 200809L /* clock_gettime */
 #include "patient_lock.h"
 #include "wozgirt.h"
 #include <pthread.h>
