@@ -65,6 +65,8 @@ cp -r "$top/examples/rust" "$folder/rust"
 judge rust
 
 if [ -n "$measure" ]; then
+    program "$top" book_bench "$folder" --help
+    "$folder/book_bench"
     "$folder/speed" "$folder/speed.txt"
     judge speed
 fi

@@ -138,7 +138,7 @@ uint32_t wozgirt_open_idle(struct wozgirt_ring *ring, uint32_t n, uint32_t k, co
                            uint32_t seats);
 
 /* Opens a ring that goes on where the one at this place, from 0, of a saved text ended, with its surveys.
- * If one of its calls is refused, the code of that call. */
+ * If one of its calls is refused, the code of that call; a legal ring with enough seats is refused for want of memory alone. */
 uint32_t wozgirt_open_saved(struct wozgirt_ring *ring, const uint8_t *text, size_t length, uint32_t place, uint32_t seats);
 
 /* A seat asks for a machine's pass: WOZGIRT_DONE where it was granted, WOZGIRT_WAITS where the machine is not privileged. */

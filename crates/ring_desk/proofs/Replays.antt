@@ -36,7 +36,8 @@ use Rattle.ring_shared.specs.Holding.{AreOfSeats}
 use Rattle.ring_saved.specs.declared.saved.SavedSurvey.{SavedSurvey}
 use Rattle.ring_saved.specs.declared.saved.SavedEvent.{SavedEvent}
 use Rattle.ring_saved.specs.declared.saved.SavedEvent.TheVariants as saved
-use Rattle.ring_check.specs.Members.{least_of, machine_of}
+use Rattle.ring_model.specs.Replay.{machine_of}
+use Rattle.ring_check.specs.Members.{least_of}
 use Rattle.ring_check.specs.Table.{event_of}
 use Rattle.ring_text.specs.SavedOf.{entry_surveys, saved_survey}
 use Rattle.ring_desk.specs.declared.errors.CallError.{CallError}

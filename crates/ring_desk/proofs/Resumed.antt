@@ -66,7 +66,7 @@ opened_awaits d b seats sorted c ring fresh clients climbs same =
     let none : d.book.history ≡ [] = fresh.2 in
     record {
       ring = ring;
-      history = subst (λ (r : Ring). IsHistory till (opening r 0) (history b)) (sym start) c.right.legal;
+      history = subst (λ (r : Ring). IsHistory till (opening r 0) (history b)) (sym start) c.right.legal_and_whole;
       seats = subst (λ (n : ℕ). AreOfSeats n (history b)) (sym clients.0) c.callers;
       few = c.few;
       stands = ap (λ (xs : List Event). take (length xs) (history b)) none ∙ sym none;

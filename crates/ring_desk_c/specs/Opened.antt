@@ -8,10 +8,13 @@ use Rattle.ring_book.specs.BookView.{IsFresh}
 use Rattle.ring_book.specs.IdleWorks.{idle}
 use Rattle.ring_saved.specs.declared.saved.Saved.{Saved}
 use Rattle.ring_saved.specs.declared.saved.SavedRing.{SavedRing}
+use Rattle.ring_saved.specs.Content.{block_of}
 use Rattle.ring_saved.specs.Meaning.{IsRightRead}
 use Rattle.text_lines.specs.declared.answer.ReadError.{ReadError}
 use Rattle.ring_check.specs.Table.{event_of}
 use Rattle.ring_desk.specs.Rings.{RingView, IsOneThreadRing, IsSeatCount, IsOpenFault, AreFresh}
+use Rattle.ring_desk.specs.Texts.{surveys_told}
+use Rattle.ring_desk.specs.Resuming.{CanGoOnWith, IsWantOfMemory}
 use Rattle.ring_desk.specs.declared.errors.OpenError.{OpenError}
 use Rattle.ring_desk.specs.declared.resuming.ResumeError.{ResumeError}
 use Rattle.ring_desk_c.specs.declared.kept.Kept.{Kept}
@@ -39,24 +42,36 @@ IsOpenedIdle n k start seats (Till d) = ⊥
 abbrev pub IsOpenRefused : Size → List ℕ → ℕ → ℕ → Type 0
 IsOpenRefused size start seats code = (code ≡ no_memory) ⊎ ((e : OpenError) × IsOpenFault size start seats e × (code ≡ open_code e))
 
--- The ring goes on with the one at this place of the saved text that the bytes are: it started so, and its history is that one.
-pub record IsResumedFrom (bytes : List ℕ) (place : ℕ) (d : RingView ℕ) : Type 0 where
+-- The ring goes on with the one at this place of the saved text that the bytes are: it has so many seats, it started so, its history is that one,
+-- and it tells the same surveys.
+pub record IsResumedFrom (bytes : List ℕ) (place seats : ℕ) (d : RingView ℕ) : Type 0 where
   pub saved : Saved
   pub read : IsRightRead bytes (Ok saved)
   pub ring : SavedRing
   pub at : slice_get saved.rings.items place ≡ Some ring
   pub start : d.book.start ≡ ring_with ring.k ring.start.items
   pub history : d.book.history ≡ map event_of ring.events.items
+  pub surveys : surveys_told d.clients ≡ ring.surveys.items
+  pub seated : length d.clients ≡ seats
   pub right : IsOneThreadRing till 0 d
 
-abbrev pub IsResumed : List ℕ → ℕ → Kept → Type 0
-IsResumed bytes place (Till d) = IsResumedFrom bytes place d
-IsResumed bytes place (Idle d) = ⊥
+abbrev pub IsResumed : List ℕ → ℕ → ℕ → Kept → Type 0
+IsResumed bytes place seats (Till d) = IsResumedFrom bytes place seats d
+IsResumed bytes place seats (Idle d) = ⊥
+
+-- The ring at this place of the saved text that the bytes are is not gone on with, and none with so many seats could be: for want of memory alone a
+-- legal ring with enough seats is refused.
+pub record IsNotResumed (bytes : List ℕ) (place seats : ℕ) (e : ResumeError) : Type 0 where
+  pub saved : Saved
+  pub read : IsRightRead bytes (Ok saved)
+  pub ring : SavedRing
+  pub at : slice_get saved.rings.items place ≡ Some ring
+  pub not : CanGoOnWith seats (block_of ring) → IsWantOfMemory e
 
 -- the code of what is wrong with the bytes, with the place, or with the ring there, or of want of memory
-abbrev pub IsResumeRefused : List ℕ → ℕ → ℕ → Type 0
-IsResumeRefused bytes place code =
+abbrev pub IsResumeRefused : List ℕ → ℕ → ℕ → ℕ → Type 0
+IsResumeRefused bytes place seats code =
     (code ≡ no_memory)
     ⊎ (((e : ReadError) × IsRightRead bytes (Err e) × (code ≡ read_code e))
     ⊎ (((saved : Saved) × IsRightRead bytes (Ok saved) × (length saved.rings.items ≤ place) × (code ≡ no_ring))
-    ⊎ ((e : ResumeError) × (code ≡ resume_code e))))
+    ⊎ ((e : ResumeError) × IsNotResumed bytes place seats e × (code ≡ resume_code e))))

@@ -71,8 +71,8 @@ pub extern "C" fn wozgirt_open_idle(
 
 /// A ring that goes on where the one at this place of a saved text ended, or the code of why not.
 fn resumed(alloc: Global, bytes: &[u8], place: u32, seats: u32) -> Result<OneThreadRing<Till>, u32>
-    ensures ok { IfOk result (λ d. IsResumedFrom bytes.now place d) }
-    ensures err { IfErr result (λ code. (code ≢ 0) × IsResumeRefused bytes.now place code) }
+    ensures ok { IfOk result (λ d. IsResumedFrom bytes.now place seats d) }
+    ensures err { IfErr result (λ code. (code ≢ 0) × IsResumeRefused bytes.now place seats code) }
 {
     let saved = match read_saved(alloc, bytes) {
         Ok(saved) => saved,
@@ -97,8 +97,8 @@ pub extern "C" fn wozgirt_open_saved(
     place: u32,
     seats: u32,
 ) -> u32
-    ensures ok { result ≡ 0 → (ring.new.full ≡ true) × IsResumed bytes.now place ring.new.value }
-    ensures err { result ≢ 0 → IsResumeRefused bytes.now place result }
+    ensures ok { result ≡ 0 → (ring.new.full ≡ true) × IsResumed bytes.now place seats ring.new.value }
+    ensures err { result ≢ 0 → IsResumeRefused bytes.now place seats result }
     ensures same { result ≢ 0 → ring.new ≡ ring.old }
 {
     match resumed(alloc, bytes, place, seats) {

@@ -1,19 +1,27 @@
 //! Calls of a ring that is called by numbers, each broken: the real one with something wrong.
 
-ghost use Rattle.std.specs.Prelude.{◌≡◌, ◌≢◌, ◌+◌, ◌≤◌, ◌↔◌, [], ◌∷◌, length, map, IfOk, IfSome, OnErr, IsErrOf};
+ghost use Rattle.std.specs.Prelude.{◌≡◌, ◌≢◌, ◌+◌, ◌≤◌, ◌↔◌, [], ◌∷◌, All, length, map, IfOk, IfSome, OnOk, OnErr, IsErrOf};
 ghost use Rattle.ring_book.specs.BookView.{IsRecorded};
 ghost use Rattle.ring_book.specs.GroupView.{IsGroupRecorded};
 ghost use Rattle.ring_check.specs.Table.{event_of};
 ghost use Rattle.ring_model.specs.declared.events.Entry.TheVariants as entry;
 ghost use Rattle.ring_model.specs.declared.events.Op.TheVariants as op;
 ghost use Rattle.ring_desk.specs.Rings.{told_more};
+ghost use Rattle.ring_desk.specs.Texts.{surveys_told};
+ghost use Rattle.ring_saved.specs.Spelling.{text};
+ghost use Rattle.ring_settings.specs.Limits.{ring_limit};
+ghost use Rattle.ring_text.specs.SavedOf.{saved_of};
+ghost use Rattle.ring_text.specs.Written.{IsRightRun};
+ghost use Rattle.text_lines.specs.Writing.{Writes};
 
 use ring_book::{GroupReceipt, Resource, Till};
-use ring_desk::{CallError, OneThreadRing, OpenError};
-use ring_farm::RingOutcome;
+use ring_desk::{CallError, OneThreadRing, OpenError, ResumeError, from_saved, save};
+use ring_farm::{Outcome, RingOutcome};
 use ring_model::{Receipt, Survey};
 use ring_saved::SavedRing;
+use ring_text::WriteFault;
 use std::alloc::Global;
+use std::io::Write;
 
 /// A pass is recorded for the seat that asks: it is recorded for another one.
 pub fn pass_for_another_seat<R: Resource + Drop>(
@@ -86,6 +94,35 @@ pub fn saved_ring_that_begins_anew(
     ensures wrong { IfOk result (λ d. d.book.history ≡ map event_of saved.now.events.items → ⊥) }
 {
     OneThreadRing::open(alloc, saved.n, saved.k, &saved.start, seats, Till::new())
+}
+
+/// A ring of a saved text tells the surveys of that text: it goes on with one that has none.
+pub fn saved_ring_that_forgets_the_surveys(
+    alloc: Global,
+    saved: &SavedRing,
+    without: &SavedRing,
+    seats: u32,
+) -> Result<OneThreadRing<Till>, ResumeError>
+    requires some { 1 ≤ length saved.now.surveys.items }
+    requires none { without.now.surveys.items ≡ [] }
+    ensures wrong { IfOk result (λ d. surveys_told d.clients ≡ saved.now.surveys.items → ⊥) }
+{
+    from_saved(alloc, without, seats)
+}
+
+/// What is saved is the ring's own history: another one's is written, which has another text.
+pub fn save_of_another_rings_history<W: Write>(
+    outcome: &Outcome,
+    other: &Outcome,
+    out: &mut W,
+) -> Result<(), WriteFault>
+    requires some { 1 ≤ length other.now.rings.items }
+    requires most { length other.now.rings.items ≤ ring_limit }
+    requires right { All (λ o. IsRightRun o) other.now.rings.items }
+    requires another { text (saved_of other.now) ≢ text (saved_of outcome.now) }
+    ensures wrong { OnOk result (Writes (W.contents out.old) (W.contents out.new) result (text (saved_of outcome.now)) → ⊥) }
+{
+    save(other, out)
 }
 
 /// A survey stands in the log of its seat: it is answered, and kept nowhere.

@@ -1,6 +1,7 @@
 //! What the event lines of a saved ring tell of.
 ghost use Rattle.std.specs.Prelude.{◌≡◌, ◌↔◌, ◌+◌, ◌≤◌, ◌++◌, map, length, reverse, IsTrue, IfOk, vec_capacity};
-ghost use Rattle.ring_check.specs.Members.{least_of, machine_of};
+ghost use Rattle.ring_model.specs.Replay.{machine_of};
+ghost use Rattle.ring_check.specs.Members.{least_of};
 ghost use Rattle.ring_check.specs.Table.{event_of};
 ghost use Rattle.ring_desk.specs.Replaying.{named, rising_of};
 

@@ -1,4 +1,4 @@
-use Rattle.std.proofs.Common.{◌≡◌, ◌≤◌, ◌∙◌, false, Some, List, length, inl, inr, refl, sym, ap, subst, arith}
+use Rattle.std.proofs.Common.{rules, ◌≡◌, ◌≤◌, ◌∙◌, false, Some, List, length, inl, inr, refl, sym, ap, subst, arith}
 use Rattle.std.specs.Prelude.{nat_lt}
 use Rattle.std.proofs.lemmas.Bool.Decides.{nat_tests}
 use Rattle.std.specs.Slice.{IsItemAt}
@@ -18,8 +18,29 @@ returns-in-Ok-from_saved-clause-ok c =
       at = slice_get_read rings _ c.args.place ring refl found.3.0 found.1;
       start = c.in-Ok-from_saved.ensures.start;
       history = c.in-Ok-from_saved.ensures.history;
+      surveys = c.in-Ok-from_saved.ensures.surveys;
+      seated = c.in-Ok-from_saved.ensures.seats;
       right = c.in-Ok-from_saved.ensures.ring;
     }
+
+pub returns-in-Some-clause-err : goal.returns-in-Some-clause-err
+returns-in-Some-clause-err c =
+    let ring : SavedRing = c.in-Some.ring.now in
+    let rings : List SavedRing = c.in-Ok.saved.rings.items in
+    let found = subst (λ (xs : List SavedRing). IsItemAt xs c.args.place (Some c.in-Some.ring)) c.deref.ensures.value c.in-Some.ensures.lookup in (
+      search rules,
+      inr (inr (inr (
+        c.in-Err-from_saved.error,
+        record {
+          saved = c.in-Ok.saved;
+          read = c.in-Ok.ensures;
+          ring = ring;
+          at = slice_get_read rings _ c.args.place ring refl found.3.0 found.1;
+          not = c.in-Err-from_saved.ensures.legal;
+        },
+        search rules,
+      ))),
+    )
 
 pub returns-clause-err : goal.returns-clause-err
 returns-clause-err c =

@@ -9,7 +9,7 @@ use std::alloc::Global;
 use std::process::Abort;
 
 /// A ring over a till with one seat, and of as many values as machines.
-pub(crate) fn opened(
+pub(super) fn opened(
     rt: &impl Abort,
     alloc: Global,
     size: u32,
@@ -42,12 +42,12 @@ fn saves(rt: &impl Abort, alloc: Global, ring: OneThreadRing<Till>, text: &[u8])
 }
 
 /// A ring that goes on where the first of this text ended.
-fn gone_on(rt: &impl Abort, alloc: Global, text: &[u8]) -> OneThreadRing<Till> {
+fn gone_on(rt: &impl Abort, alloc: Global, text: &[u8], seats: u32) -> OneThreadRing<Till> {
     let Ok(saved) = read_saved(alloc, text) else {
         panic!(rt; "the text is read");
     };
     assert!(rt; !saved.rings.is_empty());
-    match from_saved(alloc, &saved.rings[0], 1) {
+    match from_saved(alloc, &saved.rings[0], seats) {
         Ok(ring) => ring,
         Err(_) => panic!(rt; "the saved ring is gone on with"),
     }
@@ -105,15 +105,25 @@ fn a_saved_ring_is_gone_on_with(rt: HostRuntime) {
     let mut ring = gone_on(
         &rt,
         rt.alloc(),
-        b"ringfarm 2\nring 0 4 4\nstart 0 2 1 0\nm 0 1 2 2 1 2\nm 0 0 2 1 2 4\nm 0 3 2 0 3 6\nend 3\ndone 1\n",
+        b"ringfarm 2\nring 0 4 4\nstart 0 2 1 0\nm 0 1 2 2 1 2\nm 0 0 2 1 2 4\nm 0 3 2 0 3 6\nend 3\ns 0 3 3 0 3 9\ndone 1\n",
+        1,
     );
     assert!(rt; ring.corrupt(0, 1, 3).map(|r| r.event.reply) == Ok(Reply::Corrupted { old: 0 }));
     saves(
         &rt,
         rt.alloc(),
         ring,
-        b"ringfarm 2\nring 0 4 4\nstart 0 2 1 0\nm 0 1 2 2 1 2\nm 0 0 2 1 2 4\nm 0 3 2 0 3 6\nc 0 1 3 0\nend 4\ndone 1\n",
+        b"ringfarm 2\nring 0 4 4\nstart 0 2 1 0\nm 0 1 2 2 1 2\nm 0 0 2 1 2 4\nm 0 3 2 0 3 6\nc 0 1 3 0\nend 4\ns 0 3 3 0 3 9\ndone 1\n",
     );
+}
+
+#[test]
+fn surveys_of_a_saved_ring_are_kept(rt: HostRuntime) {
+    let text = b"ringfarm 2\nring 0 3 3\nstart 0 2 0\np 1 0 5 g 1 5\np 0 0 1 n\np 1 2 4 g 2 9\nend 3\ns 0 1 2 1 1 3\ns 0 3 1 1 2 0\ns 1 0 3 0 0 6\ns 1 3 1 1 2 0\ndone 1\n";
+    let ring = gone_on(&rt, rt.alloc(), text, 2);
+    assert!(rt; ring.log(0).map(|log| log.len()) == Some(3));
+    assert!(rt; ring.log(1).map(|log| log.len()) == Some(4));
+    saves(&rt, rt.alloc(), ring, text);
 }
 
 #[test]

@@ -1,6 +1,6 @@
 //! Each refusal of a call, and that it leaves no event.
 
-use crate::scenes::opened;
+use super::scenes::opened;
 use ring_book::Till;
 use ring_desk::{CallError, OneThreadRing, OpenError, ResumeError, from_saved};
 use ring_saved::read_saved;
@@ -53,4 +53,21 @@ fn a_text_that_is_not_legal_is_not_gone_on_with(rt: HostRuntime) {
         from_saved(rt.alloc(), &saved.rings[0], 1).err()
             == Some(ResumeError::Call(CallError::NoSeat))
     );
+    assert!(rt;
+        from_saved(rt.alloc(), &saved.rings[0], 0).err() == Some(ResumeError::Open(OpenError::Seats))
+    );
+}
+
+#[test]
+fn surveys_that_are_not_the_rings_are_not_gone_on_with(rt: HostRuntime) {
+    for text in [
+        &b"ringfarm 2\nring 0 3 3\nstart 0 2 0\np 0 0 5 g 1 5\nend 1\ns 0 1 2 1 1 2\ndone 1\n"[..],
+        &b"ringfarm 2\nring 0 3 3\nstart 0 2 0\np 0 0 5 g 1 5\nend 1\ns 0 2 2 1 1 3\ndone 1\n"[..],
+    ] {
+        let Ok(saved) = read_saved(rt.alloc(), text) else {
+            panic!(rt; "the text is read");
+        };
+        assert!(rt; !saved.rings.is_empty());
+        assert!(rt; from_saved(rt.alloc(), &saved.rings[0], 1).err() == Some(ResumeError::Differs));
+    }
 }

@@ -1,0 +1,4 @@
+//! A ring that is called by numbers: texts that are known beforehand, and each refusal.
+
+mod refusals;
+mod scenes;
