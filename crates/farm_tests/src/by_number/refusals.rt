@@ -54,7 +54,8 @@ fn a_text_that_is_not_legal_is_not_gone_on_with(rt: HostRuntime) {
             == Some(ResumeError::Call(CallError::NoSeat))
     );
     assert!(rt;
-        from_saved(rt.alloc(), &saved.rings[0], 0).err() == Some(ResumeError::Open(OpenError::Seats))
+        from_saved(rt.alloc(), &saved.rings[0], 0).err()
+            == Some(ResumeError::Open(OpenError::Seats))
     );
 }
 

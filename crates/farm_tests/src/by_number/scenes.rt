@@ -119,7 +119,8 @@ fn a_saved_ring_is_gone_on_with(rt: HostRuntime) {
 
 #[test]
 fn surveys_of_a_saved_ring_are_kept(rt: HostRuntime) {
-    let text = b"ringfarm 2\nring 0 3 3\nstart 0 2 0\np 1 0 5 g 1 5\np 0 0 1 n\np 1 2 4 g 2 9\nend 3\ns 0 1 2 1 1 3\ns 0 3 1 1 2 0\ns 1 0 3 0 0 6\ns 1 3 1 1 2 0\ndone 1\n";
+    let text =
+        b"ringfarm 2\nring 0 3 3\nstart 0 2 0\np 1 0 5 g 1 5\np 0 0 1 n\np 1 2 4 g 2 9\nend 3\ns 0 1 2 1 1 3\ns 0 3 1 1 2 0\ns 1 0 3 0 0 6\ns 1 3 1 1 2 0\ndone 1\n";
     let ring = gone_on(&rt, rt.alloc(), text, 2);
     assert!(rt; ring.log(0).map(|log| log.len()) == Some(3));
     assert!(rt; ring.log(1).map(|log| log.len()) == Some(4));
