@@ -4,3 +4,4 @@ pub mod Blocks
 pub mod Farmed
 pub mod Turned
 pub mod Drawn
+pub mod Written

@@ -1,6 +1,6 @@
 //! Calls of a ring that is called by numbers, each broken: the real one with something wrong.
 
-ghost use Rattle.std.specs.Prelude.{◌≡◌, ◌≢◌, ◌+◌, ◌≤◌, ◌↔◌, [], ◌∷◌, All, length, map, IfOk, IfSome, OnOk, OnErr, IsErrOf};
+ghost use Rattle.std.specs.Prelude.{◌≡◌, ◌≢◌, ◌+◌, ◌≤◌, ◌↔◌, [], ◌∷◌, All, length, map, IsSome, IfOk, IfSome, OnErr, IsErrOf};
 ghost use Rattle.ring_book.specs.BookView.{IsRecorded};
 ghost use Rattle.ring_book.specs.GroupView.{IsGroupRecorded};
 ghost use Rattle.ring_check.specs.Table.{event_of};
@@ -119,10 +119,12 @@ pub fn save_of_another_rings_history<W: Write>(
     requires some { 1 ≤ length other.now.rings.items }
     requires most { length other.now.rings.items ≤ ring_limit }
     requires right { All (λ o. IsRightRun o) other.now.rings.items }
-    requires another { text (saved_of other.now) ≢ text (saved_of outcome.now) }
-    ensures wrong { OnOk result (Writes (W.contents out.old) (W.contents out.new) result (text (saved_of outcome.now)) → ⊥) }
+    requires known { IsSome (W.contents out.old) }
+    requires apart { text (saved_of other.now) ≢ text (saved_of outcome.now) }
+    ensures wrong { IfOk result (λ _. Writes (W.contents out.old) (W.contents out.new) result (text (saved_of outcome.now)) → ⊥) }
 {
-    save(other, out)
+    save(other, out)?;
+    Ok(())
 }
 
 /// A survey stands in the log of its seat: it is answered, and kept nowhere.
