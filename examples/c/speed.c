@@ -1,4 +1,4 @@
-/* What calls from C cost: passes on one thread, on four threads under a mutex, and the checker on what they left. It saves
+/* What calls from C cost: passes on one thread, without and under a mutex, on four threads, and the checker on what they left. It saves
  * the history, so that the same text can be given to `ring_tool check`:  speed HISTORY */
 #define _POSIX_C_SOURCE 200809L /* clock_gettime */
 #include "patient_lock.h"
@@ -28,13 +28,18 @@ static void stop_on(uint32_t code)
     }
 }
 
+static void pass(uint32_t seat, uint32_t turn)
+{
+    struct wozgirt_answer answer;
+    stop_on(wozgirt_pass(&ring, seat, turn % MACHINES, 1, &answer));
+}
+
 static void *client(void *given)
 {
     const uint32_t seat = (uint32_t)(uintptr_t)given;
-    struct wozgirt_answer answer;
     for (uint32_t turn = 0; turn < CALLS; turn++) {
         patient_lock(&lock);
-        stop_on(wozgirt_pass(&ring, seat, turn % MACHINES, 1, &answer));
+        pass(seat, turn);
         pthread_mutex_unlock(&lock);
     }
     return NULL;
@@ -51,6 +56,9 @@ int main(int count, char **words)
         return 2;
     }
     stop_on(wozgirt_open(&ring, MACHINES, MACHINES, start, MACHINES, THREADS));
+    const double first = now();
+    for (uint32_t turn = 0; turn < 2 * CALLS; turn++)
+        pass(0, turn);
     const double begin = now();
     client((void *)0);
     client((void *)0);
@@ -77,7 +85,8 @@ int main(int count, char **words)
     const double checked = now();
     free(text);
     const double one = 2 * CALLS / (alone - begin), four = THREADS * CALLS / (together - alone);
-    printf("a pass, one thread: %.0f ns\n", 1e9 / one);
+    printf("a pass, one thread, no mutex: %.0f ns\n", (begin - first) * 1e9 / (2 * CALLS));
+    printf("a pass, one thread, under a mutex: %.0f ns\n", 1e9 / one);
     printf("calls a second, four threads beside one: %.2f\n", four / one);
     printf("check of %llu events: %.3f s\n", (unsigned long long)sums.events, checked - saved);
     return 0;
