@@ -5,7 +5,8 @@ use Rattle.std.specs.List.{All, flat_map}
 use Rattle.std.proofs.lemmas.List.{length-map}
 use Rattle.std.proofs.lemmas.List.Elements.{All-cons, All-head, All-tail}
 use Rattle.std.proofs.lemmas.Option.{slice_get_within, get_or_from_slice_get}
-use Rattle.ring_model.specs.Limits.{seat_limit}
+use Rattle.ring_model.specs.Limits.{seat_limit, machine_limit, value_limit}
+use Rattle.ring_model.specs.Ring.{Ring, IsRing}
 use Rattle.ring_model.specs.declared.events.Op.{Op}
 use Rattle.ring_model.specs.declared.events.Op.TheVariants.{Pass, Member, Corrupt}
 use Rattle.ring_model.specs.declared.events.Reply.{Reply}
@@ -17,6 +18,7 @@ use Rattle.ring_model.specs.History.{State, StepOf, next, opening, IsLegal}
 use Rattle.ring_model.specs.Groups.{IsHistory}
 use Rattle.ring_model.specs.Resources.{till}
 use Rattle.ring_model.specs.Logs.{IsSurvey, IsFollowed, Fits}
+use Rattle.ring_farm.specs.Holding.{AreOfSeats}
 use Rattle.ring_farm.specs.Log.{Log}
 use Rattle.ring_farm.specs.declared.outcomes.RingOutcome.{RingOutcome}
 use Rattle.ring_saved.specs.declared.saved.SavedSurvey.{SavedSurvey}
@@ -60,58 +62,97 @@ log_order a h seat position front (entry.Survey s ∷ log) tail l fits more =
     let m = fits.0 in
     (inr (refl, omega arith), log_order a h seat s.position s.position log tail (omega arith) fits.2 more)
 
--- a log at its place among those from this seat on: it has its number, and its entries follow one another in the history
-abbrev IsPlaced : State ℕ → List Event → ℕ → Log → Type 0
-IsPlaced a h seat l = (l.seat ≡ seat) × IsFollowed till a h 0 l.entries.items
-
--- such logs
-abbrev ArePlaced : State ℕ → List Event → ℕ → List Log → Type 0
-ArePlaced a h seat logs = (i : ℕ) (l : Log) → slice_get logs i ≡ Some l → IsPlaced a h (seat + i) l
-
-first_placed : (a : State ℕ) (h : List Event) (seat : ℕ) (l : Log) (logs : List Log) → ArePlaced a h seat (l ∷ logs) → IsPlaced a h seat l
-first_placed a h seat l logs are = subst (λ (k : ℕ). IsPlaced a h k l) (omega arith) (are 0 l refl)
-
-others_placed : (a : State ℕ) (h : List Event) (seat : ℕ) (l : Log) (logs : List Log) → ArePlaced a h seat (l ∷ logs) → ArePlaced a h (seat + 1) logs
-others_placed a h seat l logs are i m at = subst (λ (k : ℕ). IsPlaced a h k m) (omega arith) (are (suc i) m at)
-
-logs_order : (a : State ℕ) (h : List Event) (seat : ℕ) (logs : List Log) → ArePlaced a h seat logs → AreOnward seat 0 (flat_map log_surveys logs)
-logs_order a h seat [] are = tt
-logs_order a h seat (l ∷ logs) are =
-    let one = first_placed a h seat l logs are in
-    let others = logs_order a h (seat + 1) logs (others_placed a h seat l logs are) in
-    subst (λ (k : ℕ). AreOnward seat 0 (entry_surveys k l.entries.items ++ flat_map log_surveys logs)) (sym one.0)
-    (log_order a h seat 0 0 l.entries.items (flat_map log_surveys logs) (omega arith) one.1
-    (λ p. later_seat seat (seat + 1) p 0 (flat_map log_surveys logs) (omega arith) others))
-
--- each survey is right
-module _ (place : ℕ) (r : RingOutcome) (legal : IsLegal till (opening r.book.start 0) r.book.history) where
-  told : history (block_at place r) ≡ r.book.history
-  told = lines_tell (opening r.book.start 0) r.book.history legal
-
-  log_right : (seat front : ℕ) (log : List Entry) (tail : List SavedSurvey) → seat < seat_limit → IsFollowed till (opening r.book.start 0) r.book.history front log →
-      All (IsRightSurvey (block_at place r)) tail → All (IsRightSurvey (block_at place r)) (entry_surveys seat log ++ tail)
-  log_right seat front [] tail l fits more = more
-  log_right seat front (entry.Receipt t ∷ log) tail l fits more = log_right seat (t.position + 1) log tail l fits.2 more
-  log_right seat front (entry.Survey s ∷ log) tail l fits more =
-      All-cons (IsRightSurvey (block_at place r)) (saved_survey seat s) (entry_surveys seat log ++ tail)
-      (record { seat = l; right = subst (λ (h : List Event). IsSurvey till (opening r.book.start 0) h s) (sym told) fits.1 })
-      (log_right seat s.position log tail l fits.2 more)
-
-  logs_right : (seat : ℕ) (logs : List Log) → seat + length logs ≤ seat_limit → ArePlaced (opening r.book.start 0) r.book.history seat logs →
-      All (IsRightSurvey (block_at place r)) (flat_map log_surveys logs)
-  logs_right seat [] l are = λ k d m. absurd (omega arith)
-  logs_right seat (log ∷ logs) l are =
-      let one = first_placed (opening r.book.start 0) r.book.history seat log logs are in
-      let same = one.0 in
-      log_right log.seat 0 log.entries.items (flat_map log_surveys logs) (omega arith) one.1
-      (logs_right (seat + 1) logs (omega arith) (others_placed (opening r.book.start 0) r.book.history seat log logs are))
-
 values_below : (k : ℕ) (s : List ℕ) → ((i : ℕ) → i < length s → get_or s i 0 < k) → All (λ v. v < k) s
 values_below k [] h = λ i d l. absurd (omega arith)
 values_below k (v ∷ s) h = All-cons (λ (x : ℕ). x < k) v s (h 0 (omega arith)) (values_below k s (λ i l. h (suc i) (omega arith)))
 
+-- ---- logs of any type, which tell their seats and their entries
+
+module _ (L : Type 0) (seat_of : L → ℕ) (entries_of : L → List Entry) where
+  -- a log at its place among those from this seat on: it has its number, and its entries follow one another in the history
+  abbrev pub IsPlaced : State ℕ → List Event → ℕ → L → Type 0
+  IsPlaced a h seat l = (seat_of l ≡ seat) × IsFollowed till a h 0 (entries_of l)
+
+  -- such logs
+  abbrev pub ArePlaced : State ℕ → List Event → ℕ → List L → Type 0
+  ArePlaced a h seat logs = (i : ℕ) (l : L) → slice_get logs i ≡ Some l → IsPlaced a h (seat + i) l
+
+  -- the surveys that they tell, log by log
+  abbrev pub surveys_of : List L → List SavedSurvey
+  surveys_of logs = flat_map (λ (l : L). entry_surveys (seat_of l) (entries_of l)) logs
+
+  first_placed : (a : State ℕ) (h : List Event) (seat : ℕ) (l : L) (logs : List L) → ArePlaced a h seat (l ∷ logs) → IsPlaced a h seat l
+  first_placed a h seat l logs are = subst (λ (k : ℕ). IsPlaced a h k l) (omega arith) (are 0 l refl)
+
+  others_placed : (a : State ℕ) (h : List Event) (seat : ℕ) (l : L) (logs : List L) → ArePlaced a h seat (l ∷ logs) → ArePlaced a h (seat + 1) logs
+  others_placed a h seat l logs are i m at = subst (λ (k : ℕ). IsPlaced a h k m) (omega arith) (are (suc i) m at)
+
+  logs_order : (a : State ℕ) (h : List Event) (seat : ℕ) (logs : List L) → ArePlaced a h seat logs → AreOnward seat 0 (surveys_of logs)
+  logs_order a h seat [] are = tt
+  logs_order a h seat (l ∷ logs) are =
+      let one = first_placed a h seat l logs are in
+      let others = logs_order a h (seat + 1) logs (others_placed a h seat l logs are) in
+      subst (λ (k : ℕ). AreOnward seat 0 (entry_surveys k (entries_of l) ++ surveys_of logs)) (sym one.0)
+      (log_order a h seat 0 0 (entries_of l) (surveys_of logs) (omega arith) one.1
+      (λ p. later_seat seat (seat + 1) p 0 (surveys_of logs) (omega arith) others))
+
+  -- the block of a ring that started so, with this history and these logs
+  abbrev pub block_by : ℕ → Ring → List Event → List L → Block
+  block_by place start h logs = record {
+    index = place;
+    n = length start.values;
+    k = start.k;
+    start = start.values;
+    events = map saved_event h;
+    events_said = length h;
+    surveys = surveys_of logs;
+  }
+
+  -- each survey is right
+  module _ (place : ℕ) (start : Ring) (h : List Event) (all : List L) (legal : IsLegal till (opening start 0) h) where
+    told : history (block_by place start h all) ≡ h
+    told = lines_tell (opening start 0) h legal
+
+    log_right : (seat front : ℕ) (log : List Entry) (tail : List SavedSurvey) → seat < seat_limit → IsFollowed till (opening start 0) h front log →
+        All (IsRightSurvey (block_by place start h all)) tail → All (IsRightSurvey (block_by place start h all)) (entry_surveys seat log ++ tail)
+    log_right seat front [] tail l fits more = more
+    log_right seat front (entry.Receipt t ∷ log) tail l fits more = log_right seat (t.position + 1) log tail l fits.2 more
+    log_right seat front (entry.Survey s ∷ log) tail l fits more =
+        All-cons (IsRightSurvey (block_by place start h all)) (saved_survey seat s) (entry_surveys seat log ++ tail)
+        (record { seat = l; right = subst (λ (es : List Event). IsSurvey till (opening start 0) es s) (sym told) fits.1 })
+        (log_right seat s.position log tail l fits.2 more)
+
+    logs_right : (seat : ℕ) (logs : List L) → seat + length logs ≤ seat_limit → ArePlaced (opening start 0) h seat logs →
+        All (IsRightSurvey (block_by place start h all)) (surveys_of logs)
+    logs_right seat [] l are = λ k d m. absurd (omega arith)
+    logs_right seat (log ∷ logs) l are =
+        let one = first_placed (opening start 0) h seat log logs are in
+        let same = one.0 in
+        log_right (seat_of log) 0 (entries_of log) (surveys_of logs) (omega arith) one.1
+        (logs_right (seat + 1) logs (omega arith) (others_placed (opening start 0) h seat log logs are))
+
+  -- the block is right if its ring is of an allowed size, its history is legal and whole with events of the logs' seats alone, and the logs are placed
+  pub parts_right : (place : ℕ) (start : Ring) (h : List Event) (logs : List L) → IsRing start → length start.values ≤ machine_limit → start.k ≤ value_limit →
+      IsHistory till (opening start 0) h → length logs ≤ seat_limit → AreOfSeats (length logs) h → ArePlaced (opening start 0) h 0 logs → IsRightBlock latest_version place (block_by place start h logs)
+  parts_right place start h logs ring machines values is few of_seats placed =
+      let same : history (block_by place start h logs) ≡ h = told place start h logs is.0 in
+      let seats : All (λ (e : Event). e.seat < seat_limit) h = λ k d l. let s = of_seats k d l in omega (arith, s, few) in
+      record {
+        index = refl;
+        two = ring.two;
+        enough = ring.enough;
+        most_machines = machines;
+        most = values;
+        below = values_below start.k start.values ring.below;
+        seats = subst (λ (x : List Event). All (λ (e : Event). e.seat < seat_limit) x) (sym same) seats;
+        legal_and_whole = subst (λ (x : List Event). IsHistory till (opening start 0) x) (sym same) is;
+        events_said = sym (length-map h saved_event);
+        surveys = logs_right place start h logs is.0 0 logs (omega (arith, few)) placed;
+        order = to_order (surveys_of logs) (logs_order (opening start 0) h 0 logs placed);
+      }
+
 -- each log of a right run is placed
-run_placed : (r : RingOutcome) → IsRightRun r → ArePlaced (opening r.book.start 0) r.book.history 0 r.logs.items
+run_placed : (r : RingOutcome) → IsRightRun r → ArePlaced Log (λ l. l.seat) (λ l. l.entries.items) (opening r.book.start 0) r.book.history 0 r.logs.items
 run_placed r h i l at =
     let fits : Fits till (opening r.book.start 0) r.book.history l.seat l.entries.items =
     subst (λ (x : Log). Fits till (opening r.book.start 0) r.book.history x.seat x.entries.items) (get_or_from_slice_get r.logs.items i l l at)
@@ -120,23 +161,7 @@ run_placed r h i l at =
     (omega arith, fits.entries)
 
 run_right : (place : ℕ) (r : RingOutcome) → IsRightRun r → IsRightBlock latest_version place (block_at place r)
-run_right place r h =
-    let same : history (block_at place r) ≡ r.book.history = told place r h.legal_and_whole.0 in
-    let few = h.few in
-    let seats : All (λ (e : Event). e.seat < seat_limit) r.book.history = λ k d l. let s = h.seats k d l in omega arith in
-    record {
-      index = refl;
-      two = h.ring.two;
-      enough = h.ring.enough;
-      most_machines = h.most_machines;
-      most = h.most;
-      below = values_below r.book.start.k r.book.start.values h.ring.below;
-      seats = subst (λ (x : List Event). All (λ (e : Event). e.seat < seat_limit) x) (sym same) seats;
-      legal_and_whole = subst (λ (x : List Event). IsHistory till (opening r.book.start 0) x) (sym same) h.legal_and_whole;
-      events_said = sym (length-map r.book.history saved_event);
-      surveys = logs_right place r h.legal_and_whole.0 0 r.logs.items (omega arith) (run_placed r h);
-      order = to_order (flat_map log_surveys r.logs.items) (logs_order (opening r.book.start 0) r.book.history 0 r.logs.items (run_placed r h));
-    }
+run_right place r h = parts_right Log (λ l. l.seat) (λ l. l.entries.items) place r.book.start r.book.history r.logs.items h.ring h.most_machines h.most h.legal_and_whole h.few h.seats (run_placed r h)
 
 runs_right : (place : ℕ) (rs : List RingOutcome) → All IsRightRun rs → AreRightBlocks latest_version place (blocks_from place rs)
 runs_right place [] h = tt

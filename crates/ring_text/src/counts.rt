@@ -55,7 +55,8 @@ impl Totals {
     }
 }
 
-fn granted(history: &[Event]) -> usize
+/// How many passes of a history were granted.
+pub fn granted(history: &[Event]) -> usize
     ensures { result ≡ granted_count history.now }
 {
     history
@@ -82,7 +83,8 @@ fn corrupted(history: &[Event]) -> usize
         .count()
 }
 
-fn surveys(entries: &[Entry]) -> usize
+/// How many surveys a log has.
+pub fn surveys(entries: &[Entry]) -> usize
     ensures { result ≡ survey_count entries.now }
 {
     entries

@@ -9,8 +9,11 @@ mod laws;
 mod outcomes;
 mod report;
 
+pub use counts::{Totals, granted, surveys};
 pub use journals::{put_events, put_survey};
 pub use laws::{outcome_law, written_law};
-pub use outcomes::{saved_event, saved_survey, write_outcome};
-pub use report::{write_report, write_total};
+pub use outcomes::{
+    put_history, put_size, put_start, put_surveys, saved_event, saved_survey, write_outcome,
+};
+pub use report::{put_total_line, write_report, write_total};
 pub use text_lines::WriteFault;

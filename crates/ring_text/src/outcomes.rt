@@ -108,8 +108,12 @@ fn put_values<W: Write>(out: &mut W, state: &RingState) -> Result<(), WriteFault
 }
 
 /// Writes the line of the values that a ring started from.
+///
+/// # Errors
+///
+/// As [`write_outcome`], with a beginning of the line; so do the other pieces of a block.
 #[tactic(auto, using(text_lines::proofs::Writing::writes_then))]
-fn put_start<W: Write>(out: &mut W, start: &RingState) -> Result<(), WriteFault>
+pub fn put_start<W: Write>(out: &mut W, start: &RingState) -> Result<(), WriteFault>
     ensures { Writes (W.contents out.old) (W.contents out.new) result (start_line start.now.values) }
 {
     match put(out, b"start ") {
@@ -152,7 +156,7 @@ fn put_entry<W: Write>(out: &mut W, seat: u32, entry: Entry) -> Result<(), Write
 }
 
 /// Writes a line for each survey among a seat's entries.
-fn put_surveys<W: Write>(out: &mut W, seat: u32, entries: &[Entry]) -> Result<(), WriteFault>
+pub fn put_surveys<W: Write>(out: &mut W, seat: u32, entries: &[Entry]) -> Result<(), WriteFault>
     ensures written { Writes (W.contents out.old) (W.contents out.new) result (flat_map survey_line (entry_surveys seat entries.now)) }
     ensures fits { IfOk result (λ _. AllByRecursion SurveyFits (entry_surveys seat entries.now)) }
 {
@@ -181,7 +185,7 @@ fn put_logs<W: Write>(out: &mut W, logs: &[Log]) -> Result<(), WriteFault>
 
 /// Writes the events, and the line that ends them.
 #[tactic(auto, using(text_lines::proofs::Writing::writes_then))]
-fn put_history<W: Write>(out: &mut W, history: &[Event]) -> Result<(), WriteFault>
+pub fn put_history<W: Write>(out: &mut W, history: &[Event]) -> Result<(), WriteFault>
     ensures written { Writes (W.contents out.old) (W.contents out.new) result (flat_map event_line (map saved_event history.now) ++ end_line (length history.now)) }
     ensures fits { IfOk result (λ _. AllByRecursion (EventFits latest_version) (map saved_event history.now)) }
 {
@@ -192,7 +196,7 @@ fn put_history<W: Write>(out: &mut W, history: &[Event]) -> Result<(), WriteFaul
 }
 
 /// Writes the first line of a ring, which says its place and its size.
-fn put_size<W: Write>(out: &mut W, place: u32, start: &RingState) -> Result<(), WriteFault>
+pub fn put_size<W: Write>(out: &mut W, place: u32, start: &RingState) -> Result<(), WriteFault>
     ensures { Writes (W.contents out.old) (W.contents out.new) result (ring_line place (length start.now.values) start.now.k) }
 {
     let size = start.params();

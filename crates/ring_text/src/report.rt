@@ -194,8 +194,12 @@ fn put_ring<W: Write>(
     }
 }
 
-/// The line of the farm.
-fn put_total_line<W: Write>(out: &mut W, rings: u32, totals: Totals) -> Result<(), WriteFault>
+/// Writes the line of the farm: how many rings there are, and what adds up over them.
+///
+/// # Errors
+///
+/// As [`write_report`], with a beginning of the line.
+pub fn put_total_line<W: Write>(out: &mut W, rings: u32, totals: Totals) -> Result<(), WriteFault>
     ensures { Writes (W.contents out.old) (W.contents out.new) result (total_line rings totals) }
 {
     let mut buffers = (Buffer::new(), Buffer::new(), Buffer::new(), Buffer::new());
