@@ -69,4 +69,8 @@ if [ -n "$measure" ]; then
     "$folder/book_bench"
     "$folder/speed" "$folder/speed.txt"
     judge speed
+    echo "the same with memory in huge pages, for which this setting has glibc ask (from 2.35 on):"
+    export GLIBC_TUNABLES=glibc.malloc.hugetlb=1
+    "$folder/book_bench"
+    "$folder/speed" "$folder/speed.txt"
 fi

@@ -3,6 +3,7 @@
  *     four_threads HISTORY
  *
  * `ring_tool check HISTORY` judges it then; so does `wozgirt_check` here. */
+#define _POSIX_C_SOURCE 200809L /* nanosleep */
 #include "patient_lock.h"
 #include "wozgirt.h"
 #include <pthread.h>

@@ -1,6 +1,6 @@
 -- A legal saved ring with enough seats is opened, and its surveys are told again.
 use Rattle.std.proofs.Common.{◌≡◌, ℕ, zero, suc, ◌<◌, ◌≤◌, Bool, true, false, cond, List, [], ◌∷◌, ◌++◌, length, get_or, take, filter, map, sym, ◌∙◌, ap, subst, refl, inl, inr, arith}
-use Rattle.std.specs.Prelude.{All, ◌==◌}
+use Rattle.std.specs.Prelude.{All, ◌==◌, Result, Ok, Err, IfOk, IfErr, OnOk}
 use Rattle.std.specs.List.Sorted.{IsPermutation}
 use Rattle.std.proofs.lemmas.Bool.{cases_lt}
 use Rattle.std.proofs.lemmas.List.Sorted.{All-permutation}
@@ -25,11 +25,12 @@ use Rattle.ring_check.specs.Meaning.{IsRightBlock, IsRightSurvey, survey_of}
 use Rattle.ring_text.specs.SavedOf.{entry_surveys}
 use Rattle.ring_desk.specs.declared.errors.OpenError.{OpenError}
 use Rattle.ring_desk.specs.declared.errors.OpenError.TheVariants as opens
+use Rattle.ring_desk.specs.declared.resuming.ResumeError.{ResumeError}
 use Rattle.ring_desk.specs.declared.resuming.ResumeError.TheVariants as resume
 use Rattle.ring_desk.specs.Rings.{RingView, IsOneThreadRing, AreFresh, IsOpenFault}
 use Rattle.ring_desk.specs.Texts.{surveys_told}
-use Rattle.ring_desk.specs.Resuming.{CanGoOnWith, IsWantOfMemory}
-use Rattle.ring_desk.specs.Replaying.{is_by, stands_at, Climbs, told_by, IsDue, Awaits, Surveyed}
+use Rattle.ring_desk.specs.Resuming.{CanGoOnWith, IsOpenedFor, Tells, IsWantOfMemory}
+use Rattle.ring_desk.specs.Replaying.{is_by, stands_at, Climbs, told_by, IsDue, Awaits, Keeps, Surveyed}
 use Rattle.ring_desk.proofs.Retold.{all_told}
 
 -- the limits of a version are no higher than those of rings
@@ -97,14 +98,30 @@ opened_tells first d b seats sorted c clients many ring climbs places told =
     all_told d b.surveys sorted ring c.right.order (subst (λ (n : ℕ). All (λ (s : SavedSurvey). s.seat < n) b.surveys) (sym (many ∙ clients.0)) c.surveyors) climbs places
     (λ seat. told seat ∙ ap (λ (xs : List SavedSurvey). xs ++ filter (is_by seat) sorted) (told_none seats first.clients seat clients))
 
--- the same, as the code has the lists
-pub started : (d : RingView ℕ) (b : Block) (seats : ℕ) (start : List ℕ) (surveys sorted given : List SavedSurvey) (events : List SavedEvent) → start ≡ b.start → surveys ≡ b.surveys → given ≡ sorted → events ≡ b.events →
-    CanGoOnWith seats b → IsOneThreadRing till 0 d → IsFresh (ring_with b.k start) 0 d.book × AreFresh seats d.clients → Climbs 0 sorted → IsPermutation surveys sorted → Awaits d (map event_of events) given
-started d b seats start surveys sorted given events s v g e c ring fresh climbs same =
-    subst (λ (xs : List SavedEvent). Awaits d (map event_of xs) given) (sym e)
-    (subst (λ (xs : List SavedSurvey). Awaits d (history b) xs) (sym g)
-    (opened_awaits d b seats sorted c ring (subst (λ (xs : List ℕ). IsFresh (ring_with b.k xs) 0 d.book) s fresh.0) fresh.1 climbs
-    (subst (λ (xs : List SavedSurvey). IsPermutation xs sorted) v same)))
+-- made once more, such a ring tells what the block does
+pub retold : (first d : RingView ℕ) (b : Block) (seats : ℕ) (surveys sorted given : List SavedSurvey) (events : List SavedEvent) (answer : Result (Unit {0}) ResumeError) → surveys ≡ b.surveys → given ≡ sorted → events ≡ b.events →
+    CanGoOnWith seats b → IsOpenedFor seats b first → Climbs 0 sorted → ((place : ℕ) → filter (stands_at place) sorted ≡ filter (stands_at place) surveys) → IsPermutation surveys sorted → OnOk answer (Keeps first d) →
+    (Awaits first (map event_of events) given → IfOk answer (λ _. (d.book.history ≡ map event_of events) × Surveyed first d given × IsOneThreadRing till 0 d) × IfErr answer (λ x. IsWantOfMemory x)) →
+    IfOk answer (λ _. Tells d b) × IfErr answer (λ x. IsWantOfMemory x)
+retold first d b seats surveys sorted given events (Ok u) v g e c o climbs places same kept made =
+    let ready : Awaits first (map event_of events) given =
+    subst (λ (xs : List SavedEvent). Awaits first (map event_of xs) given) (sym e)
+    (subst (λ (xs : List SavedSurvey). Awaits first (history b) xs) (sym g)
+    (opened_awaits first b seats sorted c o.ring o.fresh o.clients climbs (subst (λ (xs : List SavedSurvey). IsPermutation xs sorted) v same))) in
+    let done = (made ready).0 in
+    let told : Surveyed first d sorted = subst (λ (xs : List SavedSurvey). Surveyed first d xs) g done.1 in (
+      (
+        done.0 ∙ ap (λ (es : List SavedEvent). map event_of es) e,
+        opened_tells first d b seats sorted c o.clients kept.as_many done.2 climbs (subst (λ (xs : List SavedSurvey). (place : ℕ) → filter (stands_at place) sorted ≡ filter (stands_at place) xs) v places) told,
+      ),
+      tt,
+    )
+retold first d b seats surveys sorted given events (Err x) v g e c o climbs places same kept made =
+    let ready : Awaits first (map event_of events) given =
+    subst (λ (xs : List SavedEvent). Awaits first (map event_of xs) given) (sym e)
+    (subst (λ (xs : List SavedSurvey). Awaits first (history b) xs) (sym g)
+    (opened_awaits first b seats sorted c o.ring o.fresh o.clients climbs (subst (λ (xs : List SavedSurvey). IsPermutation xs sorted) v same))) in
+    (tt, (made ready).1)
 
 pub not_both : (b : Bool) → b ≡ true → b ≡ false → ⊥
 not_both true e f = absurd (cc)

@@ -93,6 +93,12 @@ IsGroupFault s events machines (Some (call.NotPrivileged m)) = (length machines 
 IsGroupFault s events machines (Some call.HistoryFull) = CanMove s machines × (event_limit < events + length machines)
 IsGroupFault s events machines (Some _) = ⊥
 
+-- the first refusal of a group pass that applies, memory aside
+abbrev pub IsFirstRefusal : {C : Type 0} → RingView C → ℕ → List ℕ → Option CallError → Type 0
+IsFirstRefusal d seat machines (Some call.NoSeat) = length d.clients ≤ seat
+IsFirstRefusal d seat machines (Some call.NotRising) = (seat < length d.clients) × (IsRisingGroup (length d.book.now.ring.values) machines → ⊥)
+IsFirstRefusal d seat machines fault = (seat < length d.clients) × IsRisingGroup (length d.book.now.ring.values) machines × IsGroupFault d.book.now.ring.values (length d.book.history) machines fault
+
 -- why a group pass is refused
 abbrev pub IsGroupRefusal : {C : Type 0} → RingView C → ℕ → List ℕ → CallError → Type 0
 IsGroupRefusal d seat machines call.NoSeat = length d.clients ≤ seat

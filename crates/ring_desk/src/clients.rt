@@ -47,7 +47,7 @@ impl Client {
     }
 
     /// The client's number.
-    pub(crate) fn number(&self) -> u32
+    pub fn number(&self) -> u32
         ensures is { result ≡ self.now.number }
         ensures most { result < seat_limit }
     {
@@ -96,6 +96,7 @@ impl Client {
 }
 
 /// Makes a client's call of the book.
+#[inline(always)] // the callers know which call it is
 fn make_call<R: Resource + Drop>(
     book: &mut Book<R>,
     seat: u32,
@@ -117,6 +118,7 @@ fn make_call<R: Resource + Drop>(
 }
 
 /// Grows a client's log, makes its call of the book, and logs the receipt.
+#[inline(always)] // the callers know which call it is
 pub(crate) fn log_call<R: Resource + Drop>(
     book: &mut Book<R>,
     client: &mut Client,

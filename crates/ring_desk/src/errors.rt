@@ -5,7 +5,7 @@ use ring_state::{ParamsError, StateError};
 use std::alloc::{AllocError, AllocFailed};
 
 /// Why a ring is not opened.
-#[derive(Clone, Copy, Debug, Drop, PartialEq, Eq)]
+#[derive(Clone, Copy, Drop, PartialEq, Eq)]
 pub enum OpenError {
     /// The size is none that a ring may have.
     Size(ParamsError),
@@ -19,7 +19,7 @@ pub enum OpenError {
 }
 
 /// Why a call is refused. Nothing has changed then.
-#[derive(Clone, Copy, Debug, Drop, PartialEq, Eq)]
+#[derive(Clone, Copy, Drop, PartialEq, Eq)]
 pub enum CallError {
     /// The ring has no seat of this number.
     NoSeat,

@@ -1,12 +1,13 @@
 //! A ring that goes on where a saved ring ended.
-ghost use Rattle.std.specs.Prelude.{◌≡◌, map, length, IfOk, IfErr};
+ghost use Rattle.std.specs.Prelude.{◌≡◌, ℕ, ◌↔◌, map, length, IsTrue, IfOk, IfErr, OnOk};
 ghost use Rattle.ring_model.specs.Ring.{ring_with};
 ghost use Rattle.ring_model.specs.Resources.{till};
 ghost use Rattle.ring_saved.specs.Content.{block_of};
 ghost use Rattle.ring_check.specs.Table.{event_of};
 ghost use Rattle.ring_desk.specs.Rings.{IsOneThreadRing};
 ghost use Rattle.ring_desk.specs.Texts.{surveys_told};
-ghost use Rattle.ring_desk.specs.Resuming.{CanGoOnWith, IsWantOfMemory};
+ghost use Rattle.ring_desk.specs.Replaying.{Keeps};
+ghost use Rattle.ring_desk.specs.Resuming.{CanGoOnWith, IsOpenedFor, Tells, IsWantOfMemory};
 
 mod lines;
 mod replays;
@@ -21,7 +22,7 @@ use std::alloc::{AllocError, Global};
 use surveys::{are_surveys, by_place, replay_all, surveys_of};
 
 /// Why a saved ring is not gone on with.
-#[derive(Clone, Copy, Debug, Drop, PartialEq, Eq)]
+#[derive(Clone, Copy, Drop, PartialEq, Eq)]
 pub enum ResumeError {
     /// There is no such ring, or no such seats.
     Open(OpenError),
@@ -65,6 +66,52 @@ impl From<AllocError> for ResumeError {
     }
 }
 
+/// Makes the calls and the surveys of a saved ring, in a ring that was opened for it.
+fn retell(
+    alloc: Global,
+    ring: &mut OneThreadRing<Till>,
+    saved: &SavedRing,
+) -> Result<(), ResumeError>
+    ensures kept { OnOk result (Keeps ring.old ring.new) }
+    ensures goes { (seats : ℕ) → CanGoOnWith seats (block_of saved.now) → IsOpenedFor seats (block_of saved.now) ring.old → IfOk result (λ _. Tells ring.new (block_of saved.now)) × IfErr result (λ e. IsWantOfMemory e) }
+{
+    let Ok(surveys) = by_place(alloc, &saved.surveys) else {
+        return Err(ResumeError::OutOfMemory);
+    };
+    replay_all(alloc, ring, &saved.events, surveys.as_slice())
+}
+
+/// Whether the ring has the history and the surveys of a saved one.
+fn tells(alloc: Global, ring: &OneThreadRing<Till>, saved: &SavedRing) -> Result<bool, AllocError>
+    ensures is { IfOk result (λ does. IsTrue does ↔ Tells ring.now (block_of saved.now)) }
+    ensures ring { IsOneThreadRing till 0 ring.now }
+{
+    let told = surveys_of(alloc, ring.clients())?;
+    Ok(are_events(ring.history(), &saved.events) && are_surveys(told.as_slice(), &saved.surveys))
+}
+
+/// Has a ring that was opened for a saved one make its calls and surveys, and sees that they are the same.
+fn follow(
+    alloc: Global,
+    ring: &mut OneThreadRing<Till>,
+    saved: &SavedRing,
+) -> Result<(), ResumeError>
+    ensures kept { OnOk result (Keeps ring.old ring.new) }
+    ensures ring { OnOk result (IsOneThreadRing till 0 ring.new) }
+    ensures tells { OnOk result (Tells ring.new (block_of saved.now)) }
+    ensures legal { (seats : ℕ) → CanGoOnWith seats (block_of saved.now) → IsOpenedFor seats (block_of saved.now) ring.old → IfErr result (λ e. IsWantOfMemory e) }
+{
+    match retell(alloc, ring, saved) {
+        Ok(()) => {}
+        Err(error) => return Err(error),
+    }
+    match tells(alloc, ring, saved) {
+        Ok(true) => Ok(()),
+        Ok(false) => Err(ResumeError::Differs),
+        Err(_) => Err(ResumeError::OutOfMemory),
+    }
+}
+
 /// A ring whose history and surveys are those of the saved ring: it goes on where that ended. Each client was told what it
 /// was told there.
 ///
@@ -84,26 +131,19 @@ pub fn from_saved(
     ensures surveys { IfOk result (λ d. surveys_told d.clients ≡ saved.now.surveys.items) }
     ensures legal { CanGoOnWith seats (block_of saved.now) → IfErr result (λ e. IsWantOfMemory e) }
 {
-    let till = Till::new();
-    let mut ring = match OneThreadRing::open(alloc, saved.n, saved.k, &saved.start, seats, till) {
+    let mut ring = match OneThreadRing::open(
+        alloc,
+        saved.n,
+        saved.k,
+        &saved.start,
+        seats,
+        Till::new(),
+    ) {
         Ok(ring) => ring,
         Err(error) => return Err(ResumeError::Open(error)),
     };
-    let Ok(surveys) = by_place(alloc, &saved.surveys) else {
-        return Err(ResumeError::OutOfMemory);
-    };
-    match replay_all(alloc, &mut ring, &saved.events, surveys.as_slice()) {
-        Ok(()) => {}
-        Err(error) => return Err(error),
+    match follow(alloc, &mut ring, saved) {
+        Ok(()) => Ok(ring),
+        Err(error) => Err(error),
     }
-    let Ok(told) = surveys_of(alloc, ring.clients()) else {
-        return Err(ResumeError::OutOfMemory);
-    };
-    if !are_events(ring.history(), &saved.events) {
-        return Err(ResumeError::Differs);
-    }
-    if !are_surveys(told.as_slice(), &saved.surveys) {
-        return Err(ResumeError::Differs);
-    }
-    Ok(ring)
 }

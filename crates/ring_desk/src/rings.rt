@@ -11,7 +11,7 @@ ghost use Rattle.ring_model.specs.Groups.{IsAlone, Rises};
 ghost use Rattle.ring_book.specs.GroupView.{IsGroupRecorded, IsLeastWithout};
 ghost use Rattle.ring_logs.specs.Replays.{IsCallOf};
 ghost use Rattle.ring_shared.specs.Groups.{receipts_from};
-ghost use Rattle.ring_desk.specs.Rings.{IsOneThreadRing, IsPassFault, IsCorruptFault, IsGroupRefusal, IsSurveyFault, IsRisingGroup, IsGroupFault, IsOpenFault, IsSeatCount, AreFresh, told_more};
+ghost use Rattle.ring_desk.specs.Rings.{IsOneThreadRing, IsPassFault, IsCorruptFault, IsGroupRefusal, IsSurveyFault, IsRisingGroup, IsGroupFault, IsFirstRefusal, IsOpenFault, IsSeatCount, AreFresh, told_more};
 
 mod closing;
 
@@ -58,6 +58,7 @@ fn fresh_clients(alloc: Global, count: u32) -> Result<Vec<Client>, AllocError>
 }
 
 /// A call of the book by the client of this number, which is told of it.
+#[inline(always)] // the callers know which call it is
 fn call_at<R: Resource + Drop>(
     book: &mut Book<R>,
     clients: &mut Vec<Client>,
@@ -198,6 +199,14 @@ impl<R: Resource + Drop> OneThreadRing<R> {
         self.book.state().params().k()
     }
 
+    /// The state that the ring started from.
+    pub fn start(&self) -> &RingState
+        ensures is { result.now ≡ self.now.book.start }
+        ensures ring { IsOneThreadRing R.works R.first self.now }
+    {
+        self.book.start()
+    }
+
     /// The history.
     pub fn history(&self) -> &[Event]
         ensures { result.now ≡ self.now.book.history }
@@ -213,8 +222,9 @@ impl<R: Resource + Drop> OneThreadRing<R> {
     }
 
     /// The clients, in the order of their seats.
-    pub(crate) fn clients(&self) -> &[Client]
-        ensures { result.now ≡ self.now.clients }
+    pub fn clients(&self) -> &[Client]
+        ensures are { result.now ≡ self.now.clients }
+        ensures ring { IsOneThreadRing R.works R.first self.now }
     {
         self.clients.as_slice()
     }
@@ -287,6 +297,19 @@ impl<R: Resource + Drop> OneThreadRing<R> {
         Ok(receipt)
     }
 
+    /// Why a pass by a group is refused, memory aside.
+    fn group_refusal(&self, seat: u32, machines: &[u32]) -> Option<CallError>
+        ensures { IsFirstRefusal self.now seat machines.now result }
+    {
+        if seat as usize >= self.clients.len() {
+            return Some(CallError::NoSeat);
+        }
+        if machines.is_empty() || !rise(machines, self.machines()) {
+            return Some(CallError::NotRising);
+        }
+        group_fault(&self.book, machines)
+    }
+
     /// A pass by a group of machines at once, for a seat.
     ///
     /// # Errors
@@ -310,13 +333,7 @@ impl<R: Resource + Drop> OneThreadRing<R> {
         ensures refused { IfErr result (λ e. IsGroupRefusal self.old seat machines.now e) }
         ensures err { OnErr result (self.new ≡ self.old) }
     {
-        if seat as usize >= self.clients.len() {
-            return Err(CallError::NoSeat);
-        }
-        if machines.is_empty() || !rise(machines, self.machines()) {
-            return Err(CallError::NotRising);
-        }
-        if let Some(fault) = group_fault(&self.book, machines) {
+        if let Some(fault) = self.group_refusal(seat, machines) {
             return Err(fault);
         }
         let receipt = group_at(&mut self.book, &mut self.clients, seat, machines, order)?;

@@ -41,9 +41,7 @@ pub extern "C" fn wozgirt_pass(
     ensures full { ring.new.full ≡ true }
     ensures told { (answer : Result Receipt CallError) × IsPassAnswer ring.old.value ring.new.value seat machine order answer × IsTold answer result out.old out.new }
 {
-    let answer = replace_with(ring, (seat, machine, order), |handle, call| {
-        passed(handle, call)
-    });
+    let answer = replace_with(ring, (seat, machine, order), passed);
     told(answer, out)
 }
 
@@ -71,9 +69,7 @@ pub extern "C" fn wozgirt_corrupt(
     ensures full { ring.new.full ≡ true }
     ensures told { (answer : Result Receipt CallError) × IsCorruptAnswer ring.old.value ring.new.value seat machine value answer × IsTold answer result out.old out.new }
 {
-    let answer = replace_with(ring, (seat, machine, value), |handle, call| {
-        corrupted(handle, call)
-    });
+    let answer = replace_with(ring, (seat, machine, value), corrupted);
     told(answer, out)
 }
 
@@ -130,12 +126,12 @@ pub extern "C" fn wozgirt_survey(ring: &mut Handle, seat: u32, out: &mut Sight) 
     ensures full { ring.new.full ≡ true }
     ensures told { (answer : Result Survey CallError) × IsSurveyAnswer ring.old.value ring.new.value seat answer × IsSightTold answer result out.old out.new }
 {
-    let answer = replace_with(ring, seat, |handle, seat| surveyed(handle, seat));
+    let answer = replace_with(ring, seat, surveyed);
     sight_told(answer, out)
 }
 
 /// A glance at a ring that C holds.
-fn glanced(handle: Handle) -> (Handle, Survey)
+fn glanced(handle: Handle, _call: ()) -> (Handle, Survey)
     requires { handle.full ≡ true }
     ensures full { result.0.full ≡ true }
     ensures same { result.0.value ≡ handle.value }
@@ -154,12 +150,12 @@ pub extern "C" fn wozgirt_glance(ring: &mut Handle, out: &mut Sight) -> u32
     ensures same { ring.new.value ≡ ring.old.value }
     ensures told { (survey : Survey) × IsGlance ring.old.value survey × (result ≡ 0) × (out.new ≡ sight_of survey) }
 {
-    let survey = replace_with(ring, (), |handle, _call| glanced(handle));
+    let survey = replace_with(ring, (), glanced);
     sight_told(Ok(survey), out)
 }
 
 /// How long the history of a ring that C holds is.
-fn measured(handle: Handle) -> (Handle, u64)
+fn measured(handle: Handle, _call: ()) -> (Handle, u64)
     requires { handle.full ≡ true }
     ensures full { result.0.full ≡ true }
     ensures same { result.0.value ≡ handle.value }
@@ -178,7 +174,7 @@ pub extern "C" fn wozgirt_history_length(ring: &mut Handle) -> u64
     ensures same { ring.new.value ≡ ring.old.value }
     ensures is { result ≡ length (history_of ring.old.value) }
 {
-    replace_with(ring, (), |handle, _call| measured(handle))
+    replace_with(ring, (), measured)
 }
 
 /// Frees what C holds.

@@ -40,9 +40,7 @@ pub extern "C" fn wozgirt_open(
     ensures same { result ≢ 0 → ring.new ≡ ring.old }
 {
     match OneThreadRing::open(alloc, n, k, start, seats, Till::new()) {
-        Ok(opened) => replace_with(ring, (Kept::Till(opened), alloc), |handle, given| {
-            boxed(handle, given)
-        }),
+        Ok(opened) => replace_with(ring, (Kept::Till(opened), alloc), boxed),
         Err(error) => open_code(error),
     }
 }
@@ -62,9 +60,7 @@ pub extern "C" fn wozgirt_open_idle(
     ensures same { result ≢ 0 → ring.new ≡ ring.old }
 {
     match OneThreadRing::open(alloc, n, k, start, seats, Idle) {
-        Ok(opened) => replace_with(ring, (Kept::Idle(opened), alloc), |handle, given| {
-            boxed(handle, given)
-        }),
+        Ok(opened) => replace_with(ring, (Kept::Idle(opened), alloc), boxed),
         Err(error) => open_code(error),
     }
 }
@@ -102,9 +98,7 @@ pub extern "C" fn wozgirt_open_saved(
     ensures same { result ≢ 0 → ring.new ≡ ring.old }
 {
     match resumed(alloc, bytes, place, seats) {
-        Ok(opened) => replace_with(ring, (Kept::Till(opened), alloc), |handle, given| {
-            boxed(handle, given)
-        }),
+        Ok(opened) => replace_with(ring, (Kept::Till(opened), alloc), boxed),
         Err(code) => code,
     }
 }

@@ -22,7 +22,7 @@ fn saved(handle: Handle, alloc: Global) -> (Handle, Result<Vec<u8>, TextError>)
     ensures text { IsTextAnswer handle.value result.1 }
 {
     let mut kept = loosen(handle).into_box();
-    let answer = replace_with(&mut *kept, alloc, |kept, alloc| text(kept, alloc));
+    let answer = replace_with(&mut *kept, alloc, text);
     (hold(Loose::of(kept)), answer)
 }
 
@@ -40,6 +40,6 @@ pub extern "C" fn wozgirt_save(
     ensures same { ring.new.value ≡ ring.old.value }
     ensures told { (answer : Result (Vec ℕ Global) TextError) × IsTextAnswer ring.old.value answer × IsSaveTold answer result out.old out.new size.old size.new }
 {
-    let answer = replace_with(ring, alloc, |handle, alloc| saved(handle, alloc));
+    let answer = replace_with(ring, alloc, saved);
     save_told(answer, out, size)
 }

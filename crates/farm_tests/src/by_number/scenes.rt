@@ -1,8 +1,10 @@
 //! Calls one after another, and the text that is saved of them.
+ghost use Rattle.std.specs.Prelude.{◌≡◌, ◌∷◌, []};
+ghost use Rattle.ring_text.specs.Written.{IsRightRun};
 
 use ring_book::{Idle, Till};
 use ring_desk::{OneThreadRing, from_saved, save};
-use ring_farm::Outcome;
+use ring_farm::{Outcome, RingOutcome};
 use ring_model::{Op, Reply};
 use ring_saved::read_saved;
 use std::alloc::Global;
@@ -21,21 +23,48 @@ pub(super) fn opened(
     }
 }
 
-/// The saved text of the ring is this one.
-fn saves(rt: &impl Abort, alloc: Global, ring: OneThreadRing<Till>, text: &[u8]) {
-    let (ring, whole) = ring.text(alloc);
-    let Ok(whole) = whole else {
-        panic!(rt; "there is memory");
-    };
-    assert!(rt; whole.as_slice() == text);
-    let Ok(run) = ring.close(alloc) else {
-        panic!(rt; "the ring is closed");
-    };
+/// The text of the ring is this one; the ring as it was.
+fn told(
+    rt: &impl Abort,
+    alloc: Global,
+    ring: OneThreadRing<Till>,
+    text: &[u8],
+) -> OneThreadRing<Till> {
+    match ring.text(alloc) {
+        (ring, Ok(whole)) => {
+            assert!(rt; whole.as_slice() == text);
+            ring
+        }
+        (_, Err(_)) => panic!(rt; "there is memory"),
+    }
+}
+
+/// What the ring hands out when it is closed.
+fn closed(rt: &impl Abort, alloc: Global, ring: OneThreadRing<Till>) -> RingOutcome
+    ensures { IsRightRun result }
+{
+    match ring.close(alloc) {
+        Ok(run) => run,
+        Err(_) => panic!(rt; "the ring is closed"),
+    }
+}
+
+/// The outcome of one ring alone.
+fn outcome_of(rt: &impl Abort, alloc: Global, run: RingOutcome) -> Outcome
+    ensures { result.rings.items ≡ run ∷ [] }
+{
     let Ok(mut rings) = Vec::with_capacity(alloc, 1) else {
         panic!(rt; "there is memory");
     };
     rings.push_reserved(run);
-    let outcome = Outcome { rings };
+    Outcome { rings }
+}
+
+/// The saved text of the ring is this one.
+fn saves(rt: &impl Abort, alloc: Global, ring: OneThreadRing<Till>, text: &[u8]) {
+    let ring = told(rt, alloc, ring, text);
+    let run = closed(rt, alloc, ring);
+    let outcome = outcome_of(rt, alloc, run);
     let mut out = Vec::new(alloc);
     assert!(rt; save(&outcome, &mut out).is_ok());
     assert!(rt; out.as_slice() == text);
