@@ -1,20 +1,24 @@
 //! What is done with files.
 
 ghost use Rattle.std.specs.Prelude.{◌≡◌, ℕ, List, Option, None, IfOk, IfSome, OnOk, OnErr, false};
-ghost use Rattle.disks.specs.Held.{Held, IsOneFile, Opens, Starts, Replaces};
+ghost use Rattle.disks.specs.Held.{Held, IsOneFile, Opens, Starts, Grows, Replaces};
 
 use std::io::{self, Read, Write};
 
 /// Files that are read by their names, and replaced as a whole.
 ///
 /// A file is made beside the one that it is to replace, which keeps what it holds until the new one is finished. A new
-/// file that is let go before that was never there. No call empties a file or changes one in place.
+/// file that is let go before that was never there. No call empties a file or changes what it holds in place; one that is
+/// grown has more at its end.
 pub trait Disk {
     /// A file that is open for reading.
     type Reader: Read + Drop;
 
     /// A file that is being made.
     type New: Write + Drop;
+
+    /// A file that is written at its end.
+    type Grown: Write + Drop;
 
     /// What the files hold, if that is known.
     ghost holds: { Self → Option Held } = { λ _. None };
@@ -39,5 +43,25 @@ pub trait Disk {
     /// It could not be put there, or it was made for another name. Every file is as it was then.
     fn finish(&mut self, made: Self::New, name: &str) -> io::Result<()>
         ensures replaced { OnOk result (Replaces (holds self.old) (holds self.new) name.now (Self.New.contents made)) }
+        ensures kept { OnErr result (holds self.new ≡ holds self.old) };
+
+    /// Opens a file to be written at its end; it is made, empty, if it is not there. Its writer has what the file holds. With
+    /// `synced` each flush has what was written on the disk.
+    ///
+    /// # Errors
+    ///
+    /// `WouldBlock` if somebody else has it open so; `InvalidInput` if it is no regular file; or it cannot be opened. What
+    /// files hold is not touched.
+    fn grow(&mut self, name: &str, synced: bool) -> io::Result<Self::Grown>
+        ensures opened { IfOk result (λ grown. Grows (holds self.old) name.now (Self.Grown.contents grown)) }
+        ensures kept { holds self.new ≡ holds self.old };
+
+    /// Ends writing to a file of this name: it holds what its writer has.
+    ///
+    /// # Errors
+    ///
+    /// It is not known to be on the disk.
+    fn settle(&mut self, grown: Self::Grown, name: &str) -> io::Result<()>
+        ensures settled { OnOk result (Replaces (holds self.old) (holds self.new) name.now (Self.Grown.contents grown)) }
         ensures kept { OnErr result (holds self.new ≡ holds self.old) };
 }

@@ -1,6 +1,7 @@
 //! Files in memory.
 
-ghost use Rattle.std.specs.Prelude.{◌≡◌, Some};
+ghost use Rattle.std.specs.Prelude.{◌≡◌, None, Some};
+ghost use Rattle.std.specs.Option.{option_map};
 ghost use Rattle.disks.specs.Held.{Held};
 ghost use Rattle.disks.specs.Entries.{found, held_of};
 
@@ -22,23 +23,32 @@ pub struct MemoryDisk {
     pub entries: Vec<Entry>,
 }
 
+/// The bytes of the last of these entries with this name.
+fn last<'e>(entries: &'e [Entry], name: &str) -> Option<&'e [u8]>
+    ensures { option_map (λ b. b.now) result ≡ found None entries.now name.now }
+{
+    let mut last = None;
+    for entry in entries {
+        if entry.name.as_str() == name {
+            last = Some(entry.bytes.as_slice());
+        }
+    }
+    last
+}
+
 impl Disk for MemoryDisk {
     type Reader = Cursor<Vec<u8>>;
 
     type New = Vec<u8>;
 
+    type Grown = Vec<u8>;
+
     ghost holds = { λ s. Some (held_of s.entries.items) };
 
     fn open(&self, name: &str) -> io::Result<Cursor<Vec<u8>>> {
-        let mut last = None;
-        for entry in &self.entries {
-            if entry.name.as_str() == name {
-                last = Some(&entry.bytes);
-            }
-        }
-        match last {
+        match last(&self.entries, name) {
             None => Err(io::Error::from(ErrorKind::NotFound)),
-            Some(bytes) => Ok(Cursor::new(Vec::from_slice(self.alloc, bytes.as_slice())?)),
+            Some(bytes) => Ok(Cursor::new(Vec::from_slice(self.alloc, bytes)?)),
         }
     }
 
@@ -53,6 +63,19 @@ impl Disk for MemoryDisk {
     fn finish(&mut self, made: Vec<u8>, name: &str) -> io::Result<()> {
         let name = String::from_str(self.alloc, name)?;
         self.entries.push(Entry { name, bytes: made })?;
+        Ok(())
+    }
+
+    fn grow(&mut self, name: &str, _synced: bool) -> io::Result<Vec<u8>> {
+        match last(&self.entries, name) {
+            None => Ok(Vec::new(self.alloc)),
+            Some(bytes) => Ok(Vec::from_slice(self.alloc, bytes)?),
+        }
+    }
+
+    fn settle(&mut self, grown: Vec<u8>, name: &str) -> io::Result<()> {
+        let name = String::from_str(self.alloc, name)?;
+        self.entries.push(Entry { name, bytes: grown })?;
         Ok(())
     }
 }

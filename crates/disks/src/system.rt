@@ -1,8 +1,9 @@
 //! The system's files.
 
 use crate::disk::Disk;
+use crate::grown::{GrownFile, grown};
 use crate::part::{NewFile, made_for};
-use std::fs;
+use std::fs::{self, File};
 use std::io::{self, ErrorKind};
 use std::os::unix::fs::MetadataExt;
 use std::rt::Files;
@@ -16,12 +17,14 @@ pub struct SystemDisk<'a, R> {
     pub files: &'a R,
 }
 
-impl<'a, R: Files + AllocGlobal> Disk for SystemDisk<'a, R> {
-    type Reader = R::File;
+impl<'a, R: Files<File = File> + AllocGlobal> Disk for SystemDisk<'a, R> {
+    type Reader = File;
 
     type New = NewFile<'a, R>;
 
-    fn open(&self, name: &str) -> io::Result<R::File> {
+    type Grown = GrownFile;
+
+    fn open(&self, name: &str) -> io::Result<File> {
         fs::open(self.files, name)
     }
 
@@ -40,5 +43,13 @@ impl<'a, R: Files + AllocGlobal> Disk for SystemDisk<'a, R> {
 
     fn finish(&mut self, made: NewFile<'a, R>, name: &str) -> io::Result<()> {
         made.put(name)
+    }
+
+    fn grow(&mut self, name: &str, synced: bool) -> io::Result<GrownFile> {
+        grown(self.files, name, synced)
+    }
+
+    fn settle(&mut self, grown: GrownFile, _name: &str) -> io::Result<()> {
+        grown.settle()
     }
 }

@@ -2,6 +2,8 @@
 #![tactic(auto)]
 
 #[cfg(test)]
+mod grown;
+#[cfg(test)]
 mod memory;
 #[cfg(test)]
 mod system;

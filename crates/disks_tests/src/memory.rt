@@ -21,7 +21,7 @@ pub fn bytes_of<D: Disk>(alloc: Global, disk: &D, name: &str) -> io::Result<Vec<
 }
 
 /// No files.
-fn no_files(alloc: Global) -> MemoryDisk {
+pub fn no_files(alloc: Global) -> MemoryDisk {
     MemoryDisk {
         alloc,
         entries: Vec::new(alloc),

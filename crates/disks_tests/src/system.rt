@@ -10,7 +10,7 @@ use std::rt::Files;
 use std::test::Fail;
 
 /// A new folder of this process. Each test gives its own another name.
-fn folder_of(rt: &HostRuntime, name: &str) -> io::Result<String> {
+pub fn folder_of(rt: &HostRuntime, name: &str) -> io::Result<String> {
     let folder = std::env::temp_dir(rt)?;
     let folder = folder.as_path().to_string_lossy();
     let number = process::id(rt.process());
@@ -20,12 +20,12 @@ fn folder_of(rt: &HostRuntime, name: &str) -> io::Result<String> {
 }
 
 /// The name of a file in a folder.
-fn within<R: AllocGlobal>(rt: &R, folder: &str, name: &str) -> io::Result<String> {
+pub fn within<R: AllocGlobal>(rt: &R, folder: &str, name: &str) -> io::Result<String> {
     Ok(format!(in rt.alloc(); "{folder}/{name}")?)
 }
 
 /// Compares what the file of this name holds, by the system's own call.
-fn expect_bytes<R: Abort + AllocGlobal + Files>(
+pub fn expect_bytes<R: Abort + AllocGlobal + Files>(
     rt: &R,
     name: &str,
     bytes: &[u8],
@@ -36,7 +36,7 @@ fn expect_bytes<R: Abort + AllocGlobal + Files>(
 }
 
 /// Compares how many files a folder has, and takes it away.
-fn expect_count<R: Abort + AllocGlobal + Files + Clone>(
+pub fn expect_count<R: Abort + AllocGlobal + Files + Clone>(
     rt: &R,
     folder: &str,
     want: usize,
