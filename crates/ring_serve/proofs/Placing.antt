@@ -1,5 +1,5 @@
 -- A turn of one ring among all rings.
-use Rattle.std.proofs.Common.{◌≡◌, ℕ, ◌<◌, ◌≤◌, subst, length-set, List, [], ◌∷◌, length, get_or, map, Option, Some, None, Result, Ok, Err, slice_get, slice_set, drop, refl, sym, ap, ◌∙◌, inl, inr, arith, ◌+◌, ◌-◌, ◌++◌, length-append}
+use Rattle.std.proofs.Common.{◌≡◌, ℕ, ◌<◌, ◌≤◌, subst, length-set, List, [], ◌∷◌, length, get_or, map, Option, Some, None, Result, Ok, Err, slice_get, slice_set, drop, refl, sym, ap, ◌∙◌, inl, inr, arith, ◌-◌, ◌++◌, length-append}
 use Rattle.std.proofs.lemmas.List.{map-set, set-get_or, get_or-set_same, get_or-set_other}
 use Rattle.std.proofs.lemmas.List.{get_or_append_left}
 use Rattle.std.proofs.lemmas.List.{get_or-append_right}

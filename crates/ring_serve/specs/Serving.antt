@@ -1,13 +1,21 @@
 -- Lines that are served one after the other (this project's own).
-use Rattle.std.specs.Prelude.{◌≡◌, ◌≢◌, ℕ, ◌+◌, List, [], ◌∷◌, ◌++◌, take, Option, Result, MatchResult}
+use Rattle.std.specs.Prelude.{◌≡◌, ◌≢◌, ℕ, ◌+◌, ◌-◌, Bool, cond, List, [], ◌∷◌, ◌++◌, length, take, drop, Option, Some, Result, MatchResult, ◌⊎◌}
 use Rattle.std.specs.List.{AllByRecursion}
-use Rattle.std.specs.Io.KnownBytes.{Consumes, IsAtEnd}
-use Rattle.text_lines.specs.declared.write.WriteFault.{WriteFault}
-use Rattle.text_lines.specs.Writing.{Wrote, Writes}
+use Rattle.std.specs.Io.KnownBytes.{Appends, Consumes, IsAtEnd}
+use Rattle.text_lines.specs.Writing.{Wrote}
+use Rattle.disks.specs.Held.{Held, Replaces}
+use Rattle.ring_saved.specs.Spelling.{text}
+use Rattle.ring_check.specs.Legal.{IsLegalText}
 use Rattle.ring_serve.specs.Calls.{line_limit}
 use Rattle.ring_serve.specs.Answers.{answer_line}
+use Rattle.ring_serve.specs.declared.answers.Answer.{Answer}
+use Rattle.ring_serve.specs.declared.answers.Answer.TheVariants as answer
+use Rattle.ring_serve.specs.declared.answers.Refusal.TheVariants as refusal
+use Rattle.ring_serve.specs.declared.serving.Pending.{Pending}
 use Rattle.ring_serve.specs.Standings.{Standing}
+use Rattle.ring_serve.specs.Saved.{content_of}
 use Rattle.ring_serve.specs.Turns.{Turn, IsTurnOfLine}
+use Rattle.ring_serve.specs.Notes.{notes_of}
 
 -- a line has its LF at its end, and nowhere else
 abbrev pub IsLine : List ℕ → Type 0
@@ -19,51 +27,117 @@ IsLine (b ∷ c ∷ bs) = (b ≢ 10) × IsLine (c ∷ bs)
 abbrev pub HasNoEnd : List ℕ → Type 0
 HasNoEnd begun = AllByRecursion (λ b. b ≢ 10) begun
 
+-- what a line names behind the word `save`: the bytes up to its LF
+abbrev pub name_in : List ℕ → List ℕ
+name_in line = drop 5 (take (length line - 1) line)
+
+-- A turn that asks for the rings to be saved is answered so if the file of that name holds their text, which is legal; if that was not done, no file has changed, and that is the
+-- refusal. Every other turn is answered as it says, and no file changes.
+abbrev pub IsGiven : Option Held → Option Held → List ℕ → List Standing → Answer → Answer → Type 0
+IsGiven was is name rings answer.Saved given =
+    ((given ≡ answer.Saved) × Replaces was is name (Some (text (content_of rings))) × IsLegalText (content_of rings)) ⊎ ((given ≡ answer.Refused refusal.File) × (is ≡ was))
+IsGiven was is name rings asked given = (given ≡ asked) × (is ≡ was)
+
+-- One line answered, from where the rings and the files stand to where they are left: by its turn. What it says is the answer's line, and what it notes, if a
+-- journal is kept, are the lines of what the turn recorded.
+pub record IsAnswered (keeps : Bool) (old : List Standing) (was : Option Held) (line said noted : List ℕ) (new : List Standing) (is : Option Held) : Type 0 where
+  pub turn : Turn (List Standing)
+  pub given : Answer
+  pub of_line : IsTurnOfLine old line turn
+  pub gives : IsGiven was is (name_in line) new turn.answer given
+  pub says : said ≡ answer_line given
+  pub notes : noted ≡ cond keeps (notes_of turn.recorded) []
+  pub leaves : turn.leaves ≡ new
+
+-- The rings answer these lines, one after the other, with this text, and these are the notes.
+abbrev pub Answers : Bool → List Standing → Option Held → List (List ℕ) → List ℕ → List ℕ → List Standing → Option Held → Type 0
+Answers keeps old was [] said noted new is = (said ≡ []) × (noted ≡ []) × (new ≡ old) × (is ≡ was)
+Answers keeps old was (line ∷ lines) said noted new is =
+    (mid : List Standing) × (between : Option Held) × (first : List ℕ) × (later : List ℕ) × (note : List ℕ) × (notes : List ℕ)
+    × IsAnswered keeps old was line first note mid between × (said ≡ first ++ later) × (noted ≡ note ++ notes) × Answers keeps mid between lines later notes new is
+
 abbrev pub joined_lines : List (List ℕ) → List ℕ
 joined_lines [] = []
 joined_lines (line ∷ lines) = line ++ joined_lines lines
 
--- The rings answer these lines with this text: each line's turn is its own at where the rings stand then, and the text is the answers' lines.
-abbrev pub Answers : List Standing → List (List ℕ) → List ℕ → List Standing → Type 0
-Answers old [] text new = (text ≡ []) × (new ≡ old)
-Answers old (line ∷ lines) text new =
-    (turn : Turn (List Standing)) × (more : List ℕ) × IsTurnOfLine old line turn × (text ≡ answer_line turn.answer ++ more) × Answers turn.leaves lines more new
-
--- Bytes were served: those of whole lines were answered, a line has begun behind them, and the writer has the answers' text but for what is left of it.
-pub record IsServed (old : List Standing) (bytes : List ℕ) (before after : Option (List ℕ)) (new : List Standing) (begun unread left : List ℕ) : Type 0 where
+-- The lines of these bytes, up to where this rest begins, were answered with this text, and these are the notes.
+pub record AreAnswered (keeps : Bool) (old : List Standing) (was : Option Held) (bytes rest said noted : List ℕ) (new : List Standing) (is : Option Held) : Type 0 where
   pub lines : List (List ℕ)
-  pub text : List ℕ
-  pub split : bytes ≡ joined_lines lines ++ (begun ++ unread)
+  pub split : bytes ≡ joined_lines lines ++ rest
   pub each : AllByRecursion IsLine lines
-  pub partial : HasNoEnd begun
-  pub answers : Answers old lines text new
-  pub wrote : Wrote before after text left
+  pub answers : Answers keeps old was lines said noted new is
+
+-- what a journal and an output hold, where it is known
+pub record Written : Type 0 where
+  pub journal : Option (List ℕ)
+  pub out : Option (List ℕ)
+
+-- The lines up to the rest were answered and told: the output has all of the answers' text, and the journal all notes.
+pub record AreTold (keeps : Bool) (old : List Standing) (was : Option Held) (before after : Written) (bytes rest : List ℕ) (new : List Standing) (is : Option Held) : Type 0 where
+  pub said : List ℕ
+  pub noted : List ℕ
+  pub answered : AreAnswered keeps old was bytes rest said noted new is
+  pub wrote : Appends before.out after.out said
+  pub journaled : Appends before.journal after.journal noted
+
+-- Served so far: some lines were told, those behind them were answered, and a beginning of the answers to the told ones is all that went out. The journal has
+-- all notes of the told lines, and a beginning of those of the others. So whatever was told is in the journal, wherever this ended.
+pub record Stops (keeps : Bool) (old : List Standing) (was : Option Held) (before after : Written) (bytes : List ℕ) (new : List Standing) (is : Option Held) : Type 0 where
+  pub mid : List Standing
+  pub between : Option Held
+  pub behind : List ℕ
+  pub rest : List ℕ
+  pub said : List ℕ
+  pub noted : List ℕ
+  pub unsaid : List ℕ
+  pub front : List ℕ
+  pub back : List ℕ
+  pub left : List ℕ
+  pub told : AreAnswered keeps old was bytes behind said noted mid between
+  pub untold : AreAnswered keeps mid between behind rest unsaid (front ++ back) new is
+  pub wrote : Wrote before.out after.out said left
+  pub journaled : Appends before.journal after.journal (noted ++ front)
 
 -- what is kept of a line that has begun: of one that is too long, one byte more than a line may have
 unfoldable pub cut : List ℕ → List ℕ
 cut begun = take (line_limit + 1) begun
 
--- all whole lines of the bytes were answered, and each answer was written
-abbrev pub GoesOn : List Standing → List ℕ → Option (List ℕ) → Option (List ℕ) → List Standing → List ℕ → Type 0
-GoesOn old bytes before after new line = (begun : List ℕ) × IsServed old bytes before after new begun [] [] × (line ≡ cut begun)
+-- All whole lines of the bytes were answered: some were told, and what the others say and note is pending. This is kept of the line that has begun.
+pub record GoesOn (keeps : Bool) (old : List Standing) (was : Option Held) (before after : Written) (bytes : List ℕ) (new : List Standing) (is : Option Held) (line : List ℕ) (pending : Pending) : Type 0 where
+  pub mid : List Standing
+  pub between : Option Held
+  pub behind : List ℕ
+  pub begun : List ℕ
+  pub told : AreTold keeps old was before after bytes behind mid between
+  pub untold : AreAnswered keeps mid between behind begun pending.answers.items pending.notes.items new is
+  pub partial : HasNoEnd begun
+  pub kept : line ≡ cut begun
 
--- some of the lines were answered, and some of the answers' text was written
-abbrev pub Stops : List Standing → List ℕ → Option (List ℕ) → Option (List ℕ) → List Standing → Type 0
-Stops old bytes before after new = (begun : List ℕ) × (unread : List ℕ) × (left : List ℕ) × IsServed old bytes before after new begun unread left
+-- it goes on, or after an error it has stopped
+abbrev pub Serves : {E : Type 0} → Result (Unit {0}) E → Bool → List Standing → Option Held → Written → Written → List ℕ → List Standing → Option Held → List ℕ → Pending → Type 0
+Serves result keeps old was before after bytes new is line pending =
+    MatchResult result (λ _. GoesOn keeps old was before after bytes new is line pending) (λ _. Stops keeps old was before after bytes new is)
 
-abbrev pub Serves : {E : Type 0} → Result (Unit {0}) E → List Standing → List ℕ → Option (List ℕ) → Option (List ℕ) → List Standing → List ℕ → Type 0
-Serves result old bytes before after new line = MatchResult result (λ _. GoesOn old bytes before after new line) (λ _. Stops old bytes before after new)
+-- All whole lines of the bytes were told, and this is kept of the line that has begun.
+pub record Rests (keeps : Bool) (old : List Standing) (was : Option Held) (before after : Written) (bytes : List ℕ) (new : List Standing) (is : Option Held) (line : List ℕ) : Type 0 where
+  pub begun : List ℕ
+  pub told : AreTold keeps old was before after bytes begun new is
+  pub partial : HasNoEnd begun
+  pub kept : line ≡ cut begun
 
--- a line, which may be cut, was answered by its turn, whose line was written
-abbrev pub IsAnsweredLine : List Standing → List Standing → List ℕ → Option (List ℕ) → Option (List ℕ) → Result (Unit {0}) WriteFault → Type 0
-IsAnsweredLine old new line before after result =
-    (turn : Turn (List Standing)) × IsTurnOfLine old line turn × (turn.leaves ≡ new) × Writes before after result (answer_line turn.answer)
+-- all that was answered is told, or after an error it has stopped
+abbrev pub Tells : {E : Type 0} → Result (Unit {0}) E → Bool → List Standing → Option Held → Written → Written → List ℕ → List Standing → Option Held → List ℕ → Type 0
+Tells result keeps old was before after bytes new is line = MatchResult result (λ _. Rests keeps old was before after bytes new is line) (λ _. Stops keeps old was before after bytes new is)
 
--- All that the reader gave was served: each whole line of it was answered, behind which no line ended, and each answer was written.
-abbrev pub ServesAll : List Standing → List Standing → Option (List ℕ) → Option (List ℕ) → Option (List ℕ) → Option (List ℕ) → Type 0
-ServesAll old new unread rest before after =
-    (bytes : List ℕ) × (begun : List ℕ) × Consumes unread rest bytes × IsAtEnd rest × IsServed old bytes before after new begun [] []
+-- All that the reader gave was served: each whole line of it was told, behind which no line ended.
+pub record ServesAll (keeps : Bool) (old new : List Standing) (was is : Option Held) (unread rest : Option (List ℕ)) (before after : Written) : Type 0 where
+  pub bytes : List ℕ
+  pub begun : List ℕ
+  pub read : Consumes unread rest bytes
+  pub ended : IsAtEnd rest
+  pub partial : HasNoEnd begun
+  pub told : AreTold keeps old was before after bytes begun new is
 
--- Of what the reader gave some lines were answered, and the writer holds a beginning of their answers.
-abbrev pub ServesSome : List Standing → List Standing → Option (List ℕ) → Option (List ℕ) → Option (List ℕ) → Option (List ℕ) → Type 0
-ServesSome old new unread rest before after = (bytes : List ℕ) × Consumes unread rest bytes × Stops old bytes before after new
+-- Of what the reader gave some lines were answered.
+abbrev pub ServesSome : Bool → List Standing → List Standing → Option Held → Option Held → Option (List ℕ) → Option (List ℕ) → Written → Written → Type 0
+ServesSome keeps old new was is unread rest before after = (bytes : List ℕ) × Consumes unread rest bytes × Stops keeps old was before after bytes new is

@@ -110,7 +110,7 @@ turn_at r (corrupt ring seat machine value) = unless (corrupt_refusal r seat mac
 turn_at r (group ring seat order machines) = unless (group_refusal r seat machines) r (grouped ring r seat order machines)
 turn_at r (survey ring seat) = unless (seat_refusal r seat) r (record { answer = answer.Survey (survey_now r); recorded = surveyed ring seat (survey_now r) ∷ []; leaves = with_survey r seat (survey_now r) })
 turn_at r (glance ring) = record { answer = answer.Survey (survey_now r); recorded = []; leaves = r }
-turn_at r save = refused r refusal.File
+turn_at r save = record { answer = answer.Saved; recorded = []; leaves = r }
 
 -- the same among all rings
 abbrev pub placed : List Standing → ℕ → Turn Standing → Turn (List Standing)

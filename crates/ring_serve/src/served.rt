@@ -1,6 +1,6 @@
 //! The rings that are served.
 
-ghost use Rattle.std.specs.Prelude.{◌≡◌, [], ◌∷◌, ◌++◌, map, drop, slice_get, OnOk, OnErr};
+ghost use Rattle.std.specs.Prelude.{◌≡◌, [], ◌∷◌, ◌++◌, length, map, drop, slice_get, OnOk, OnErr};
 ghost use Rattle.ring_serve.specs.declared.answers.Answer.TheVariants as answer;
 ghost use Rattle.ring_serve.specs.declared.turns.Recorded.TheVariants as recorded;
 ghost use Rattle.ring_serve.specs.Calls.{seen, ring_of};
@@ -136,6 +136,21 @@ impl Served {
         self.rings
     }
 
+    /// How many rings there are.
+    pub fn count(&self) -> usize
+        ensures { result ≡ length self.now }
+    {
+        self.rings.len()
+    }
+
+    /// The rings, in their order, as they stand.
+    pub(crate) fn rings(&self) -> &[OneThreadRing<Till>]
+        ensures same { map standing_of result.now ≡ self.now }
+        ensures right { AreRight result.now }
+    {
+        self.rings.as_slice()
+    }
+
     /// The events of a ring's history from a place on; none if there is no such ring.
     pub fn events(&self, ring: u32, from: usize) -> &[Event]
         ensures { result.now ≡ drop from (history_of (slice_get self.now ring)) }
@@ -152,7 +167,8 @@ impl Served {
 }
 
 /// Answers a line, which has its LF: as the one-thread ring answers to the call that it is, `refused syntax` where it is none or
-/// has more than 8 KiB. `refused memory` can come at any line, and changes nothing.
+/// has more than 8 KiB. `refused memory` can come at any line, and changes nothing. A `save` is answered `saved`: to save, or to
+/// answer that it was not done, is the caller's, as in [`serve`](crate::serve).
 pub fn answer_line(alloc: Global, served: &mut Served, line: &[u8]) -> Turned
     ensures { IsTurnOfLine served.old line.now (turn_seen_among result.ring served.new result.made) }
 {

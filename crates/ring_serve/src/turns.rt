@@ -160,6 +160,10 @@ pub(crate) fn make(ring: &mut OneThreadRing<Till>, call: &Call) -> Made
             answer: Answer::Survey(ring.glance()),
             recorded: Recorded::Nothing,
         },
-        Call::Save => refused(Refusal::File),
+        // that this is so is the caller's to see to
+        Call::Save => Made {
+            answer: Answer::Saved,
+            recorded: Recorded::Nothing,
+        },
     }
 }

@@ -1,14 +1,16 @@
 //! Lines and their answers.
 
 use crate::streams::{Drops, Narrow};
+use disks::MemoryDisk;
 use ring_book::Till;
 use ring_desk::OneThreadRing;
 use ring_serve::{ServeFault, Served, serve};
 use std::alloc::Global;
+use std::io::sink;
 use std::process::Abort;
 
 /// Two rings of one seat each: three machines with three values, and four with four.
-fn served(rt: &impl Abort, alloc: Global) -> Served {
+pub(crate) fn served(rt: &impl Abort, alloc: Global) -> Served {
     let mut served = Served::none(alloc);
     let Ok(ring) = OneThreadRing::open(alloc, 3, 3, &[0, 2, 0], 1, Till::new()) else {
         panic!(rt; "the first ring is opened");
@@ -21,12 +23,30 @@ fn served(rt: &impl Abort, alloc: Global) -> Served {
     served
 }
 
-/// The lines of the input are answered so.
+/// No file.
+pub(crate) fn no_files(alloc: Global) -> MemoryDisk {
+    MemoryDisk {
+        alloc,
+        entries: Vec::new(alloc),
+    }
+}
+
+/// The lines of the input are answered so, if no journal is kept.
 fn answers(rt: &impl Abort, alloc: Global, input: &[u8], want: &[u8]) {
     let mut served = served(rt, alloc);
     let mut lines = input;
     let mut out = Vec::new(alloc);
-    assert!(rt; serve(alloc, &mut served, &mut lines, &mut out) == Ok(()));
+    let mut disk = no_files(alloc);
+    let ended = serve(
+        alloc,
+        &mut served,
+        &mut disk,
+        None,
+        &mut lines,
+        &mut sink(),
+        &mut out,
+    );
+    assert!(rt; ended == Ok(()));
     assert!(rt; out.as_slice() == want);
 }
 
@@ -45,7 +65,7 @@ fn each_refusal_has_its_word(rt: HostRuntime) {
     answers(
         &rt,
         rt.alloc(),
-        b"pass 2 0 0 1\npass 0 1 9 1\npass 0 0 3 1\ncorrupt 0 0 0 3\ncorrupt 0 0 3 9\ncorrupt 0 1 0 0\nsurvey 0 1\nglance 2\ngroup 0 0 7 2 1\ngroup 0 0 7 0 3\ngroup 0 0 7 0 1 2\ngroup 1 0 7 0 2 3\nsave x\n",
+        b"pass 2 0 0 1\npass 0 1 9 1\npass 0 0 3 1\ncorrupt 0 0 0 3\ncorrupt 0 0 3 9\ncorrupt 0 1 0 0\nsurvey 0 1\nglance 2\ngroup 0 0 7 2 1\ngroup 0 0 7 0 3\ngroup 0 0 7 0 1 2\ngroup 1 0 7 0 2 3\nsave -\n",
         b"refused ring\nrefused seat\nrefused machine\nrefused value\nrefused machine\nrefused seat\nrefused seat\nrefused ring\nrefused group\nrefused group\nrefused whole\nrefused privileged 2\nrefused file\n",
     );
 }
@@ -76,7 +96,7 @@ fn a_line_may_have_8_kib(rt: HostRuntime) {
         &rt,
         alloc,
         input.as_slice(),
-        b"refused file\nrefused syntax\nrefused syntax\ngranted 1 5\n",
+        b"saved\nrefused syntax\nrefused syntax\ngranted 1 5\n",
     );
 }
 
@@ -97,7 +117,16 @@ fn a_byte_at_a_time_is_as_good(rt: HostRuntime) {
         };
         let mut served = served(&rt, alloc);
         let mut out = Vec::new(alloc);
-        let ended = serve(alloc, &mut served, &mut input, &mut out);
+        let mut disk = no_files(alloc);
+        let ended = serve(
+            alloc,
+            &mut served,
+            &mut disk,
+            None,
+            &mut input,
+            &mut sink(),
+            &mut out,
+        );
         let want = if fails { Err(ServeFault::Read) } else { Ok(()) };
         assert!(rt; ended == want);
         assert!(rt; out.as_slice() == b"granted 1 5\nsurvey 1 2 1 1 3\n".as_slice());
@@ -115,7 +144,17 @@ fn a_writer_that_fails_holds_a_beginning(rt: HostRuntime) {
         };
         let mut served = served(&rt, alloc);
         let mut input: &[u8] = b"pass 0 0 0 5\npass 0 0 0 1\n";
-        assert!(rt; serve(alloc, &mut served, &mut input, &mut out) == Err(ServeFault::Write));
+        let mut disk = no_files(alloc);
+        let ended = serve(
+            alloc,
+            &mut served,
+            &mut disk,
+            None,
+            &mut input,
+            &mut sink(),
+            &mut out,
+        );
+        assert!(rt; ended == Err(ServeFault::Write));
         assert!(rt; out.held.as_slice() == &want[..room]);
     }
 }

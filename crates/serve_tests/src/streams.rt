@@ -1,4 +1,4 @@
-//! A reader that gives a byte at a time, and a writer whose room ends.
+//! A reader that gives a byte at a time, a writer whose room ends, and one that keeps all back until it is flushed.
 
 use std::io::{self, ErrorKind, Read, Write};
 
@@ -46,6 +46,26 @@ impl Write for Narrow {
     }
 
     fn flush(&mut self) -> io::Result<()> {
+        Ok(())
+    }
+}
+
+/// Holds bytes only once it is flushed.
+#[derive(Drop)]
+pub(crate) struct Late {
+    pub(crate) held: Vec<u8>,
+    pub(crate) waits: Vec<u8>,
+}
+
+impl Write for Late {
+    fn write(&mut self, bytes: &[u8]) -> io::Result<usize> {
+        self.waits.extend_from_slice(bytes)?;
+        Ok(bytes.len())
+    }
+
+    fn flush(&mut self) -> io::Result<()> {
+        self.held.extend_from_slice(self.waits.as_slice())?;
+        self.waits.clear();
         Ok(())
     }
 }

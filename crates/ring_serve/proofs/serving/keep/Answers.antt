@@ -1,7 +1,7 @@
 use Rattle.std.proofs.Common.{◌≡◌, ◌<◌, ◌≤◌, [], ◌∷◌, ◌++◌, length, ◌∙◌, arith}
 use Rattle.std.proofs.lemmas.Grind.{common_steps}
 use Rattle.ring_serve.specs.Calls.{line_limit}
-use Rattle.ring_serve.proofs.Lines.{kept_byte, dropped_byte}
+use Rattle.ring_serve.proofs.LongLines.{kept_byte, dropped_byte}
 use Rattle.ring_serve.proofs.serving.keep.Goals as goal
 
 pub returns-then-len-gt-LINE_LIMIT : goal.returns-then-len-gt-LINE_LIMIT

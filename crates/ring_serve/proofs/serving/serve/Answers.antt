@@ -1,47 +1,67 @@
 use Rattle.std.proofs.Common.{List, ℕ, [], ◌++◌, take, subst, sym}
+use Rattle.std.specs.Prelude.{is_some}
 use Rattle.std.specs.Io.KnownBytes.{Consumes}
-use Rattle.ring_serve.specs.Serving.{GoesOn}
-use Rattle.ring_serve.proofs.Lines.{none_served, goes_stops, kept_on, consumes_nil, consumes_then}
+use Rattle.ring_serve.specs.Serving.{Written, Rests}
+use Rattle.ring_serve.proofs.Telling.{none_told, rests_stops, rests_goes, consumes_nil, consumes_then, consumes_kept}
 use Rattle.ring_serve.proofs.serving.serve.Goals as goal
 
 pub rounds-init : goal.rounds-init
 rounds-init g c =
-    let out = g.W.Write.contents c.args.out.now in (
+    let before : Written = record { journal = g.J.Write.contents c.args.journal.now; out = g.W.Write.contents c.args.out.now } in
+    let held = g.D.Disk.holds c.args.disk.now in (
       [],
       consumes_nil (g.I.Read.remaining c.args.input.now),
-      subst (λ (x : List ℕ). GoesOn c.args.served.now [] out out c.args.served.now x) (sym c.new-line.ensures.items) (none_served c.args.served.now out),
+      subst (λ (x : List ℕ). Rests (is_some c.args.keeping) c.args.served.now held before before [] c.args.served.now held x) (sym c.new-line.ensures.items) (none_told (is_some c.args.keeping) c.args.served.now held before),
+      c.new.ensures.items,
+      c.new-2.ensures.items,
+    )
+
+pub returns-in_default-clause-err : goal.returns-in_default-clause-err
+returns-in_default-clause-err g c =
+    let inv = c.rounds.invariant in (
+      inv.0,
+      consumes_kept (g.I.Read.remaining c.args.input.now) (g.I.Read.remaining c.rounds.input) (g.I.Read.remaining c.read.new.self) inv.0 inv.1 c.in_default.ensures.bytes,
+      rests_stops inv.2,
     )
 
 pub returns-in-Err-clause-err : goal.returns-in-Err-clause-err
 returns-in-Err-clause-err g c =
     let inv = c.rounds.invariant in
+    let before : Written = record { journal = g.J.Write.contents c.args.journal.now; out = g.W.Write.contents c.args.out.now } in
+    let after : Written = record { journal = g.J.Write.contents c.rounds.journal; out = g.W.Write.contents c.rounds.out } in
     let got : Consumes (g.I.Read.remaining c.rounds.input) (g.I.Read.remaining c.read.new.self) (take c.in-Ok.count c.read.new.buf) = c.in-Ok.ensures.bytes.0 in (
       inv.0 ++ take c.in-Ok.count c.read.new.buf,
       consumes_then (g.I.Read.remaining c.args.input.now) (g.I.Read.remaining c.rounds.input) (g.I.Read.remaining c.read.new.self) inv.0 (take c.in-Ok.count c.read.new.buf) inv.1 got,
-      c.in-Err.ensures c.args.served.now inv.0 (g.W.Write.contents c.args.out.now) inv.2,
+      c.in-Err.ensures c.args.served.now (g.D.Disk.holds c.args.disk.now) before after inv.0 (rests_goes c.rounds.pending inv.3 inv.4 inv.2),
     )
 
-pub returns-then-is_err-clause-err : goal.returns-then-is_err-clause-err
-returns-then-is_err-clause-err g c =
+pub returns-in-Err-commit-clause-err : goal.returns-in-Err-commit-clause-err
+returns-in-Err-commit-clause-err g c =
     let inv = c.rounds.invariant in
-    let before = g.W.Write.contents c.args.out.now in
+    let before : Written = record { journal = g.J.Write.contents c.args.journal.now; out = g.W.Write.contents c.args.out.now } in
+    let after : Written = record { journal = g.J.Write.contents c.rounds.journal; out = g.W.Write.contents c.rounds.out } in
     let bytes = inv.0 ++ take c.in-Ok.count c.read.new.buf in
     let got : Consumes (g.I.Read.remaining c.rounds.input) (g.I.Read.remaining c.read.new.self) (take c.in-Ok.count c.read.new.buf) = c.in-Ok.ensures.bytes.0 in (
       bytes,
       consumes_then (g.I.Read.remaining c.args.input.now) (g.I.Read.remaining c.rounds.input) (g.I.Read.remaining c.read.new.self) inv.0 (take c.in-Ok.count c.read.new.buf) inv.1 got,
-      goes_stops c.args.served.now bytes before (g.W.Write.contents c.flush.new.self) c.take_block.new.served c.take_block.new.line.items
-          (kept_on c.args.served.now bytes before (g.W.Write.contents c.take_block.new.out) (g.W.Write.contents c.flush.new.self) c.take_block.new.served c.take_block.new.line.items
-          (c.in-Ok-take_block.ensures c.args.served.now inv.0 before inv.2) c.flush.ensures.bytes),
+      c.in-Err-commit.ensures.told (is_some c.args.keeping) c.args.served.now c.take_block.new.served (g.D.Disk.holds c.args.disk.now) (g.D.Disk.holds c.take_block.new.disk) before bytes c.take_block.new.line.items
+          (c.in-Ok-take_block.ensures c.args.served.now (g.D.Disk.holds c.args.disk.now) before after inv.0 (rests_goes c.rounds.pending inv.3 inv.4 inv.2)),
     )
 
 pub rounds-preserved : goal.rounds-preserved
 rounds-preserved g c =
     let inv = c.rounds.invariant in
-    let before = g.W.Write.contents c.args.out.now in
+    let before : Written = record { journal = g.J.Write.contents c.args.journal.now; out = g.W.Write.contents c.args.out.now } in
+    let after : Written = record { journal = g.J.Write.contents c.rounds.journal; out = g.W.Write.contents c.rounds.out } in
     let bytes = inv.0 ++ take c.in-Ok.count c.read.new.buf in
     let got : Consumes (g.I.Read.remaining c.rounds.input) (g.I.Read.remaining c.read.new.self) (take c.in-Ok.count c.read.new.buf) = c.in-Ok.ensures.bytes.0 in (
       bytes,
       consumes_then (g.I.Read.remaining c.args.input.now) (g.I.Read.remaining c.rounds.input) (g.I.Read.remaining c.read.new.self) inv.0 (take c.in-Ok.count c.read.new.buf) inv.1 got,
-      kept_on c.args.served.now bytes before (g.W.Write.contents c.take_block.new.out) (g.W.Write.contents c.flush.new.self) c.take_block.new.served c.take_block.new.line.items
-          (c.in-Ok-take_block.ensures c.args.served.now inv.0 before inv.2) c.flush.ensures.bytes,
+      c.in-Ok-commit.ensures.told (is_some c.args.keeping) c.args.served.now c.take_block.new.served (g.D.Disk.holds c.args.disk.now) (g.D.Disk.holds c.take_block.new.disk) before bytes c.take_block.new.line.items
+          (c.in-Ok-take_block.ensures c.args.served.now (g.D.Disk.holds c.args.disk.now) before after inv.0 (rests_goes c.rounds.pending inv.3 inv.4 inv.2)),
+      c.in-Ok-commit.ensures.left.0,
+      c.in-Ok-commit.ensures.left.1,
     )
+
+pub returns-clause-err : goal.returns-clause-err
+returns-clause-err g c = let inv = c.rounds.invariant in (inv.0, inv.1, rests_stops inv.2)

@@ -1,0 +1,142 @@
+//! The saved text of all rings that are served. Writing it takes no memory.
+
+ghost use Rattle.std.specs.Prelude.{◌≡◌, ◌≤◌, ◌<◌, ◌^◌, IfOk, IfSome, IsTrue, IsFalse, length, map, Some};
+ghost use Rattle.std.specs.List.{flat_map, AllByRecursion};
+ghost use Rattle.std.specs.Io.KnownBytes.{Appends};
+ghost use Rattle.text_lines.specs.Writing.{Writes};
+ghost use Rattle.disks.specs.Held.{Replaces};
+ghost use Rattle.ring_model.specs.Resources.{till};
+ghost use Rattle.ring_saved.specs.Versions.{latest_version};
+ghost use Rattle.ring_saved.specs.Spelling.{survey_line, block_text, text, SurveyFits, BlockFits, Fits};
+ghost use Rattle.ring_check.specs.Legal.{IsLegalText};
+ghost use Rattle.ring_desk.specs.Rings.{IsOneThreadRing};
+ghost use Rattle.ring_desk.specs.Texts.{surveys_told};
+ghost use Rattle.ring_serve.specs.Standings.{standing_of, AreRight};
+ghost use Rattle.ring_serve.specs.Saved.{block_at, blocks_from, content_of};
+
+use crate::served::Served;
+use disks::Disk;
+use ring_book::Till;
+use ring_desk::{Client, OneThreadRing};
+use ring_saved::LATEST_VERSION;
+use ring_saved::put_lines::{put_done_line, put_first_line};
+use ring_text::{put_history, put_size, put_start, put_surveys};
+use std::alloc::Global;
+use std::io::{BufWriter, Write};
+use text_lines::WriteFault;
+
+/// Writes the surveys that the clients were told, client by client.
+fn put_clients<W: Write>(out: &mut W, clients: &[Client]) -> Result<(), WriteFault>
+    ensures written { Writes (W.contents out.old) (W.contents out.new) result (flat_map survey_line (surveys_told clients.now)) }
+    ensures fits { IfOk result (λ _. AllByRecursion SurveyFits (surveys_told clients.now)) }
+{
+    for client in clients {
+        match put_surveys(out, client.number(), client.log()) {
+            Ok(()) => {}
+            Err(fault) => return Err(fault),
+        }
+    }
+    Ok(())
+}
+
+/// Writes the block of a ring at its place.
+fn put_block<W: Write>(
+    out: &mut W,
+    place: u32,
+    ring: &OneThreadRing<Till>,
+) -> Result<(), WriteFault>
+    ensures written { Writes (W.contents out.old) (W.contents out.new) result (block_text (block_at place (standing_of ring.now))) }
+    ensures fits { IfOk result (λ _. BlockFits latest_version (block_at place (standing_of ring.now))) }
+{
+    let start = ring.start();
+    put_size(out, place, start)?;
+    put_start(out, start)?;
+    put_history(out, ring.history())?;
+    put_clients(out, ring.clients())?;
+    Ok(())
+}
+
+/// Writes the blocks of the rings, each with its place from 0.
+fn put_blocks<W: Write>(out: &mut W, rings: &[OneThreadRing<Till>]) -> Result<(), WriteFault>
+    requires { length rings.now < 2 ^ 32 }
+    ensures written { Writes (W.contents out.old) (W.contents out.new) result (flat_map block_text (blocks_from 0 (map standing_of rings.now))) }
+    ensures fits { IfOk result (λ _. AllByRecursion (BlockFits latest_version) (blocks_from 0 (map standing_of rings.now))) }
+{
+    for (place, ring) in rings.iter().enumerate() {
+        match put_block(out, place as u32, ring) {
+            Ok(()) => {}
+            Err(fault) => return Err(fault),
+        }
+    }
+    Ok(())
+}
+
+/// Writes the saved text of these rings, of which there is one at least.
+fn put_all_rings<W: Write>(out: &mut W, rings: &[OneThreadRing<Till>]) -> Result<(), WriteFault>
+    requires some { 1 ≤ length rings.now }
+    requires most { length rings.now < 2 ^ 32 }
+    ensures written { Writes (W.contents out.old) (W.contents out.new) result (text (content_of (map standing_of rings.now))) }
+    ensures fits { IfOk result (λ _. Fits (content_of (map standing_of rings.now))) }
+{
+    put_first_line(out, LATEST_VERSION)?;
+    put_blocks(out, rings)?;
+    put_done_line(out, rings.len() as u32)?;
+    Ok(())
+}
+
+/// Writes the saved text of all rings as they stand, in the latest version: for each its place, its start, its history and
+/// the surveys that its clients were told. The text is legal, whatever lines were answered.
+///
+/// # Errors
+///
+/// `WriteFault` at the first error of the writer: it holds a beginning of the text then.
+pub fn put_rings<W: Write>(out: &mut W, served: &Served) -> Result<(), WriteFault>
+    requires some { 1 ≤ length served.now }
+    requires most { length served.now < 2 ^ 32 }
+    ensures written { Writes (W.contents out.old) (W.contents out.new) result (text (content_of served.now)) }
+    ensures fits { IfOk result (λ _. Fits (content_of served.now)) }
+    ensures legal { IsLegalText (content_of served.now) }
+{
+    put_all_rings(out, served.rings())
+}
+
+/// Writes the saved text of all rings by this writer, through a buffer of which all leaves, and hands the writer back.
+fn save_by<W: Write + Drop>(alloc: Global, served: &Served, out: W) -> Option<W>
+    requires some { 1 ≤ length served.now }
+    requires most { length served.now < 2 ^ 32 }
+    ensures { IfSome result (λ after. Appends (W.contents out) (W.contents after) (text (content_of served.now))) }
+{
+    let Ok(mut buffer) = BufWriter::new(alloc, out) else {
+        return None;
+    };
+    let Ok(()) = put_rings(&mut buffer, served) else {
+        return None;
+    };
+    let Ok(mut after) = buffer.into_inner() else {
+        return None;
+    };
+    let Ok(()) = after.flush() else {
+        return None;
+    };
+    Some(after)
+}
+
+/// Puts a file with the saved text of all rings in the place of the one of this name, and says whether it did. If not, no
+/// file has changed: it could not be made, written or put there, or memory was wanting, or there is no ring or too many.
+pub fn save_rings<D: Disk>(alloc: Global, disk: &mut D, served: &Served, name: &str) -> bool
+    ensures saved { IsTrue result → Replaces (D.holds disk.old) (D.holds disk.new) name.now (Some (text (content_of served.now))) }
+    ensures kept { IsFalse result → D.holds disk.new ≡ D.holds disk.old }
+    ensures legal { IsTrue result → IsLegalText (content_of served.now) }
+{
+    let count = served.rings().len();
+    if count == 0 || count > u32::MAX as usize {
+        return false;
+    }
+    let Ok(made) = disk.make(name) else {
+        return false;
+    };
+    let Some(after) = save_by(alloc, served, made) else {
+        return false;
+    };
+    disk.finish(after, name).is_ok()
+}

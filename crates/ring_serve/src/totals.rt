@@ -1,0 +1,58 @@
+//! What adds up over rings that are served.
+
+ghost use Rattle.std.specs.Prelude.{◌≡◌, ◌+◌, IfSome, length, map};
+ghost use Rattle.ring_model.specs.Surveys.{granted_count};
+ghost use Rattle.ring_serve.specs.Standings.{standing_of};
+ghost use Rattle.ring_serve.specs.Totals.{surveys_among, totals_of};
+
+use crate::served::Served;
+use ring_book::Till;
+use ring_desk::{Client, OneThreadRing};
+use ring_text::{Totals, granted, surveys};
+
+/// How many surveys the clients were told.
+fn surveys_of(clients: &[Client]) -> Option<u64>
+    ensures { IfSome result (λ count. count ≡ surveys_among clients.now) }
+{
+    let mut all: u64 = 0;
+    for client in clients {
+        all = all.checked_add(surveys(client.log()) as u64)?;
+    }
+    Some(all)
+}
+
+/// What adds up over rings, with one ring more.
+fn with_ring(all: Totals, ring: &OneThreadRing<Till>) -> Option<Totals>
+    ensures { IfSome result (λ totals. totals ≡ record { events = all.events + length ring.now.book.history; granted = all.granted + granted_count ring.now.book.history; surveys = all.surveys + surveys_among ring.now.clients }) }
+{
+    let history = ring.history();
+    Some(Totals {
+        events: all.events.checked_add(history.len() as u64)?,
+        granted: all.granted.checked_add(granted(history) as u64)?,
+        surveys: all.surveys.checked_add(surveys_of(ring.clients())?)?,
+    })
+}
+
+/// What adds up over rings.
+fn added_up(rings: &[OneThreadRing<Till>]) -> Option<Totals>
+    ensures { IfSome result (λ totals. totals ≡ totals_of (map standing_of rings.now)) }
+{
+    let mut all = Totals {
+        events: 0,
+        granted: 0,
+        surveys: 0,
+    };
+    for ring in rings {
+        all = with_ring(all, ring)?;
+    }
+    Some(all)
+}
+
+impl Served {
+    /// The events, the granted passes and the surveys of all rings; none if one of these numbers has more than 64 bits.
+    pub fn totals(&self) -> Option<Totals>
+        ensures { IfSome result (λ totals. totals ≡ totals_of self.now) }
+    {
+        added_up(self.rings())
+    }
+}
