@@ -1,0 +1,5 @@
+pub mod Turning
+pub mod Effects
+pub mod Telling
+pub mod Ordering
+pub mod Journaling
