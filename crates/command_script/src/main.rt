@@ -13,7 +13,7 @@ mod tries;
 use crate::runs::run;
 use crate::texts::edit;
 use crate::tries::{run_cuts, run_hindered, run_other_bytes};
-use std::fs;
+use std::fs::{self, File};
 use std::io::{self, BufWriter, Write};
 use std::rt::Files;
 use std::sync::Wait;
@@ -34,7 +34,7 @@ fn show<R: AllocGlobal + Files, W: Write>(rt: &R, name: &str, out: &mut W) -> io
 }
 
 /// Plays a line that runs the program on the text at hand. Answers whether it is one.
-fn play_run<R: AllocGlobal + Files + Threads + Wait + Sync, W: Write>(
+fn play_run<R: AllocGlobal + Files<File = File> + Threads + Wait + Sync, W: Write>(
     rt: &R,
     line: &str,
     text: &[u8],
@@ -73,7 +73,7 @@ fn play_file<R: AllocGlobal + Files, W: Write>(
 }
 
 /// Plays a line of the script. The text at hand is used up by each line that is no part of it.
-fn play<R: AllocGlobal + Files + Threads + Wait + Sync, W: Write>(
+fn play<R: AllocGlobal + Files<File = File> + Threads + Wait + Sync, W: Write>(
     rt: &R,
     line: &str,
     text: &mut Vec<u8>,

@@ -4,6 +4,7 @@ use crate::paper::Paper;
 use disks::SystemDisk;
 use ring_program::run_tool_on;
 use std::alloc::{AllocError, Global};
+use std::fs::File;
 use std::io::{self, Read, Write};
 use std::rt::Files;
 use std::sync::Wait;
@@ -30,7 +31,7 @@ pub struct Ended {
 }
 
 /// Runs the program on these words, from this reader, over these two writers.
-pub fn run_over<R: AllocGlobal + Files + Threads + Wait + Sync, I: Read>(
+pub fn run_over<R: AllocGlobal + Files<File = File> + Threads + Wait + Sync, I: Read>(
     rt: &R,
     words: &[String],
     input: &mut I,
@@ -47,7 +48,7 @@ pub fn run_over<R: AllocGlobal + Files + Threads + Wait + Sync, I: Read>(
 }
 
 /// Runs the program on these words and this text, over writers that take all.
-pub fn run_plainly<R: AllocGlobal + Files + Threads + Wait + Sync>(
+pub fn run_plainly<R: AllocGlobal + Files<File = File> + Threads + Wait + Sync>(
     rt: &R,
     words: &[String],
     mut text: &[u8],
@@ -65,7 +66,7 @@ pub fn write_ended<W: Write>(ended: &Ended, out: &mut W) -> io::Result<()> {
 
 /// Runs the program on a line of words, with the text as its standard input, and writes what it did and, where it did not
 /// read all of the text, how many bytes of it are left.
-pub fn run<R: AllocGlobal + Files + Threads + Wait + Sync, W: Write>(
+pub fn run<R: AllocGlobal + Files<File = File> + Threads + Wait + Sync, W: Write>(
     rt: &R,
     line: &str,
     text: &[u8],

@@ -3,6 +3,7 @@
 use crate::paper::{Paper, Slow};
 use crate::runs::{Ended, run_over, run_plainly, words_of, write_ended};
 use std::alloc::{AllocError, Global};
+use std::fs::File;
 use std::io::{self, Write};
 use std::rt::Files;
 use std::sync::Wait;
@@ -35,7 +36,7 @@ fn is_cut_error(ended: &Ended, whole: &Ended, room: usize) -> bool {
 
 /// Whether the program does as it ought to where what it prints, or what it tells as an error where it prints nothing, goes to a
 /// writer with this room.
-fn is_cut_at<R: AllocGlobal + Files + Threads + Wait + Sync>(
+fn is_cut_at<R: AllocGlobal + Files<File = File> + Threads + Wait + Sync>(
     rt: &R,
     words: &[String],
     text: &[u8],
@@ -55,7 +56,7 @@ fn is_cut_at<R: AllocGlobal + Files + Threads + Wait + Sync>(
 }
 
 /// Whether a run that reads and writes a byte at a time does the same, and one whose output cannot leave its buffer says so.
-fn is_same_slowly<R: AllocGlobal + Files + Threads + Wait + Sync>(
+fn is_same_slowly<R: AllocGlobal + Files<File = File> + Threads + Wait + Sync>(
     rt: &R,
     words: &[String],
     text: &[u8],
@@ -83,7 +84,7 @@ fn is_same_slowly<R: AllocGlobal + Files + Threads + Wait + Sync>(
 /// Runs the program on a line of words and writes what it did. Then runs it again with a reader and writers of a byte at a
 /// time, with a standard output that cannot be flushed and, for each room that is too small, with both kinds of writer that do
 /// not take all; writes how many of these runs there were, and which of them did not end as they ought to.
-pub fn run_hindered<R: AllocGlobal + Files + Threads + Wait + Sync, W: Write>(
+pub fn run_hindered<R: AllocGlobal + Files<File = File> + Threads + Wait + Sync, W: Write>(
     rt: &R,
     line: &str,
     text: &[u8],
@@ -107,7 +108,7 @@ pub fn run_hindered<R: AllocGlobal + Files + Threads + Wait + Sync, W: Write>(
 }
 
 /// The runs of [`run_hindered`] with too little room.
-fn write_rooms<R: AllocGlobal + Files + Threads + Wait + Sync, W: Write>(
+fn write_rooms<R: AllocGlobal + Files<File = File> + Threads + Wait + Sync, W: Write>(
     rt: &R,
     words: &[String],
     text: &[u8],
@@ -156,7 +157,7 @@ fn write_answers<W: Write>(answers: &[Answer], out: &mut W) -> io::Result<()> {
 }
 
 /// Runs the program on a line of words with each beginning of the text, from none of it to all but its last byte.
-pub fn run_cuts<R: AllocGlobal + Files + Threads + Wait + Sync, W: Write>(
+pub fn run_cuts<R: AllocGlobal + Files<File = File> + Threads + Wait + Sync, W: Write>(
     rt: &R,
     line: &str,
     text: &[u8],
@@ -185,7 +186,7 @@ fn changed_at(alloc: Global, text: &[u8], place: usize, byte: u8) -> Result<Vec<
 const OTHERS: [u8; 8] = [b'\n', b'\r', b' ', b'0', b'1', b'9', b'g', 255];
 
 /// Runs the program on a line of words with each text that has one of [`OTHERS`] in the place of another byte.
-pub fn run_other_bytes<R: AllocGlobal + Files + Threads + Wait + Sync, W: Write>(
+pub fn run_other_bytes<R: AllocGlobal + Files<File = File> + Threads + Wait + Sync, W: Write>(
     rt: &R,
     line: &str,
     text: &[u8],

@@ -4,7 +4,7 @@ use crate::reading::Giver;
 use disks::SystemDisk;
 use ring_program::run_tool_on;
 use std::alloc::AllocError;
-use std::fs;
+use std::fs::{self, File};
 use std::io::{self, ErrorKind};
 use std::process::{self, Abort};
 use std::rt::Files;
@@ -43,7 +43,7 @@ fn path_of(rt: &HostRuntime, name: &str) -> io::Result<String> {
 
 /// Runs the program on a line of words with this standard input, compares its status and what it tells as an error, and
 /// answers what it prints.
-fn printed_on<R: Abort + AllocGlobal + Files + Threads + Wait + Sync>(
+fn printed_on<R: Abort + AllocGlobal + Files<File = File> + Threads + Wait + Sync>(
     rt: &R,
     line: &[&str],
     input: &mut Giver<'_>,
@@ -64,7 +64,7 @@ fn printed_on<R: Abort + AllocGlobal + Files + Threads + Wait + Sync>(
 }
 
 /// Runs the program, and compares its status and all that it prints.
-fn expect<R: Abort + AllocGlobal + Files + Threads + Wait + Sync>(
+fn expect<R: Abort + AllocGlobal + Files<File = File> + Threads + Wait + Sync>(
     rt: &R,
     line: &[&str],
     input: &mut Giver<'_>,
@@ -128,7 +128,7 @@ fn legal_line_of<R: Abort + AllocGlobal>(
 }
 
 /// Runs a farm with these settings and checks its history, which is legal with the sums of the report.
-fn expect_legal<R: Abort + AllocGlobal + Files + Threads + Wait + Sync>(
+fn expect_legal<R: Abort + AllocGlobal + Files<File = File> + Threads + Wait + Sync>(
     rt: &R,
     history: &str,
     settings: &str,

@@ -1,6 +1,7 @@
 //! The command line of the program, as `clap` reads it: from words to what is asked for.
 #![tactic(auto)]
 
+mod journals;
 mod picture;
 mod version;
 mod words;

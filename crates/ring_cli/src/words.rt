@@ -1,5 +1,6 @@
 //! The program's command line, as `clap` reads it.
 
+use crate::journals::{recover_command, recover_words, serve_command, serve_words};
 use crate::picture::{picture_command, picture_words};
 use crate::version::VERSION;
 use clap::error::ErrorKind;
@@ -242,9 +243,18 @@ fn with_readers<'a>(alloc: Global, program: Command<'a>) -> Result<Command<'a>, 
     with_command(program, upgrade_command(alloc))
 }
 
+/// The program with the commands that keep a journal, or read one.
+fn with_journals<'a>(alloc: Global, program: Command<'a>) -> Result<Command<'a>, Error> {
+    with_command(
+        with_command(program, serve_command(alloc))?,
+        recover_command(alloc),
+    )
+}
+
 /// All that the program understands.
 fn command_line<'a>(alloc: Global) -> Result<Command<'a>, Error> {
-    with_readers(alloc, with_runs(alloc, program_line(alloc)?)?)
+    let program = with_runs(alloc, program_line(alloc)?)?;
+    with_journals(alloc, with_readers(alloc, program)?)
 }
 
 /// `step`, where all its words are there.
@@ -290,6 +300,8 @@ fn request_of<'a>(matches: &ArgMatches<'a>) -> Option<Request<'a>> {
         "check" => check_words(words),
         "picture" => picture_words(words),
         "upgrade" => upgrade_words(words),
+        "recover" => recover_words(words),
+        "serve" => serve_words(words),
         _ => None,
     }
 }

@@ -4,5 +4,6 @@ pub mod Entries
 pub mod FirstFaults
 pub mod ListTexts
 pub mod NamedFiles
+pub mod Recoveries
 pub mod StepLemmas
 pub mod Upgrades

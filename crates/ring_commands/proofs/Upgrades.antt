@@ -1,11 +1,12 @@
--- What fits in a version of the saved text fits in the latest one.
-use Rattle.std.proofs.Common.{ℕ, List, [], ◌∷◌, rules}
+-- What fits in a version of the saved text fits in the latest one, and can be saved in it.
+use Rattle.std.proofs.Common.{◌≡◌, ℕ, List, [], ◌∷◌, rules, arith}
 use Rattle.std.specs.List.{AllByRecursion}
 use Rattle.ring_saved.specs.declared.saved.SavedEvent.{SavedEvent}
 use Rattle.ring_saved.specs.declared.saved.SavedEvent.TheVariants.{Granted, Refused, Member, Corrupted}
 use Rattle.ring_saved.specs.Content.{Block, Content, upgraded}
 use Rattle.ring_saved.specs.Spelling.{EventFits, BlockFits, Fits}
-use Rattle.ring_saved.specs.Versions.{IsVersion, HasGroups, latest_version}
+use Rattle.ring_journal.specs.Beginnings.{CanBeSaved}
+use Rattle.ring_saved.specs.Versions.{IsVersion, HasGroups, first_version, latest_version}
 
 has_groups : HasGroups latest_version
 has_groups = search rules
@@ -44,3 +45,9 @@ upgraded_fits s fits = record {
   rings = blocks_fit s.version s.rings fits.rings;
   rings_said = fits.rings_said;
 }
+
+apart : latest_version ≡ first_version → ⊥
+apart e = omega (arith, e)
+
+pub upgraded_saved : (s : Content) → Fits s → CanBeSaved (upgraded s)
+upgraded_saved s fits = record { some = fits.some; version = latest; members = λ e. absurd (apart e) }

@@ -8,6 +8,8 @@ use Rattle.ring_commands.specs.Ran.{IsRunRefusal}
 use Rattle.ring_commands.specs.Checked.{IsCheckAnswer, IsCheckRunRefusal}
 use Rattle.ring_commands.specs.Pictured.{IsPictureAnswer, IsPictureRefusal}
 use Rattle.ring_commands.specs.Reading.{is_dash}
+use Rattle.ring_commands.specs.Recovered.{IsRecoverAnswer, IsRecoverRefusal}
+use Rattle.ring_commands.specs.Served.{IsServeAnswer, IsServeRefusal}
 use Rattle.ring_commands.specs.Upgraded.{IsUpgradeAnswer, IsUpgradeRefusal}
 use Rattle.ring_commands.specs.declared.faults.ToolError.{ToolError}
 use Rattle.ring_requests.specs.declared.requests.Request.{Request}
@@ -20,6 +22,8 @@ IsAnswer (request.Run words) before after was is old new early late = IsRunAnswe
 IsAnswer (request.Check words) before after was is old new early late = IsCheckAnswer words before was is old new × (after ≡ before)
 IsAnswer (request.Picture words) before after was is old new early late = IsPictureAnswer words before after was is old new early late
 IsAnswer (request.Upgrade words) before after was is old new early late = IsUpgradeAnswer words before after was is old new early late
+IsAnswer (request.Serve words) before after was is old new early late = IsServeAnswer words before after was is old new early late
+IsAnswer (request.Recover words) before after was is old new early late = IsRecoverAnswer words before after was is old new early late
 
 -- a refusal of it
 abbrev pub IsRefusal : Request → Option Held → Option Held → Option (List ℕ) → Option (List ℕ) → Option (List ℕ) → Option (List ℕ) → Option (List ℕ) → Option (List ℕ) → ToolError → Type 0
@@ -28,6 +32,18 @@ IsRefusal (request.Run words) before after was is old new early late e = IsRunRe
 IsRefusal (request.Check words) before after was is old new early late e = IsCheckRunRefusal words before was is old new e × (after ≡ before)
 IsRefusal (request.Picture words) before after was is old new early late e = IsPictureRefusal words before after was is old new early late e
 IsRefusal (request.Upgrade words) before after was is old new early late e = IsUpgradeRefusal words before after was is old new early late e
+IsRefusal (request.Serve words) before after was is old new early late e = IsServeRefusal words was is old new e
+IsRefusal (request.Recover words) before after was is old new early late e = IsRecoverRefusal words before after was is old new early late e
+
+-- it serves lines, which may change files before it is refused
+abbrev pub IsOfLines : Request → Type 0
+IsOfLines (request.Step words) = ⊥
+IsOfLines (request.Run words) = ⊥
+IsOfLines (request.Check words) = ⊥
+IsOfLines (request.Picture words) = ⊥
+IsOfLines (request.Upgrade words) = ⊥
+IsOfLines (request.Recover words) = ⊥
+IsOfLines (request.Serve words) = Unit {0}
 
 -- it names a file, or nothing that is read, so standard input stays as it is
 abbrev pub IsOfFile : Request → Type 0
@@ -36,6 +52,8 @@ IsOfFile (request.Run words) = is_dash words.settings.now ≡ false
 IsOfFile (request.Check words) = is_dash words.file.now ≡ false
 IsOfFile (request.Picture words) = is_dash words.file.now ≡ false
 IsOfFile (request.Upgrade words) = is_dash words.file.now ≡ false
+IsOfFile (request.Serve words) = ⊥
+IsOfFile (request.Recover words) = is_dash words.file.now ≡ false
 
 -- it prints no text but the line or the report, so standard error stays as it is
 abbrev pub IsSilent : Request → Type 0
@@ -44,3 +62,5 @@ IsSilent (request.Run words) = Unit {0}
 IsSilent (request.Check words) = Unit {0}
 IsSilent (request.Picture words) = is_dash words.picture.now ≡ false
 IsSilent (request.Upgrade words) = is_dash words.new.now ≡ false
+IsSilent (request.Serve words) = ⊥
+IsSilent (request.Recover words) = is_dash words.new.now ≡ false

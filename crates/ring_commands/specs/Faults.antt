@@ -10,6 +10,7 @@ use Rattle.ring_settings.specs.declared.faults.SettingsError.{SettingsError}
 use Rattle.ring_farm.specs.declared.faults.FarmError.{FarmError}
 use Rattle.text_lines.specs.declared.answer.ReadError.{ReadError}
 use Rattle.ring_check.specs.declared.answers.CheckError.{CheckError}
+use Rattle.ring_journal.specs.declared.errors.RecoverError.{RecoverError}
 use Rattle.ring_commands.specs.ListWords.{IsNoList}
 use Rattle.ring_commands.specs.Reading.{most_bytes, IsWithin, IsOver}
 use Rattle.ring_commands.specs.declared.faults.ToolError.{ToolError}
@@ -20,6 +21,7 @@ use Rattle.ring_settings.specs.declared.faults.SettingsError.TheVariants as sett
 use Rattle.ring_farm.specs.declared.faults.FarmError.TheVariants as farm
 use Rattle.text_lines.specs.declared.answer.ReadError.TheVariants as read
 use Rattle.ring_check.specs.declared.answers.CheckError.TheVariants as check
+use Rattle.ring_journal.specs.declared.errors.RecoverError.TheVariants as recover
 use Rattle.ring_commands.specs.declared.faults.ToolError.TheVariants as tool
 
 -- whether a refusal is that of a list that cannot be read
@@ -77,6 +79,12 @@ fault_of_read read.OutOfMemory = tool.OutOfMemory
 abbrev pub fault_of_check : CheckError → ToolError
 fault_of_check (check.Bad line kind) = tool.Bad line kind
 fault_of_check check.OutOfMemory = tool.OutOfMemory
+
+abbrev pub fault_of_recovery : RecoverError → ToolError
+fault_of_recovery recover.Truncated = tool.Truncated
+fault_of_recovery (recover.Syntax line) = tool.Syntax line
+fault_of_recovery (recover.Bad line kind) = tool.Bad line kind
+fault_of_recovery recover.OutOfMemory = tool.OutOfMemory
 
 -- the first that is wrong with the numbers of machines and of values
 abbrev pub size_fault : ℕ → ℕ → Option ToolError

@@ -3,6 +3,7 @@
 use ring_book::BookError;
 use ring_check::{CheckError, Kind};
 use ring_farm::FarmError;
+use ring_journal::RecoverError;
 use ring_saved::ReadError;
 use ring_settings::{Field, RingCause, SettingsError};
 use ring_state::{ParamsError, StateError};
@@ -64,6 +65,10 @@ pub enum ToolError<'a> {
     NoPlace(u32),
     /// More events are to be drawn than a picture may have.
     ManyDrawn,
+    /// A journal's file is kept by another process.
+    InUse(&'a str),
+    /// The ring at this place has more events than a ring can go on with.
+    Full(u64),
 }
 
 impl ToolError<'_> {
@@ -135,6 +140,8 @@ impl ToolError<'_> {
             ToolError::Save(name) => write!(f, "cannot write {name}"),
             ToolError::SameFile(name) => write!(f, "{name} is the file that is read"),
             ToolError::NoRing(place) => write!(f, "there is no ring {place}"),
+            ToolError::InUse(name) => write!(f, "{name} is in use"),
+            ToolError::Full(place) => write!(f, "ring {place}: the history is full"),
             ToolError::NoPlace(place) => write!(f, "the ring has fewer than {place} events"),
             _ => Ok(()),
         }
@@ -265,6 +272,22 @@ impl From<CheckError> for ToolError<'_> {
         match error {
             CheckError::Bad { line, kind } => ToolError::Bad(line, kind),
             CheckError::OutOfMemory => ToolError::OutOfMemory,
+        }
+    }
+}
+
+impl From<RecoverError> for ToolError<'_> {
+    ghost use Rattle.std.specs.Prelude.{◌≡◌};
+    ghost use Rattle.ring_commands.specs.Faults.{fault_of_recovery};
+
+    ghost from_gives = { λ p e. e ≡ fault_of_recovery p };
+
+    fn from(error: RecoverError) -> Self {
+        match error {
+            RecoverError::Truncated => ToolError::Truncated,
+            RecoverError::Syntax(line) => ToolError::Syntax(line),
+            RecoverError::Bad { line, kind } => ToolError::Bad(line, kind),
+            RecoverError::OutOfMemory => ToolError::OutOfMemory,
         }
     }
 }

@@ -7,10 +7,13 @@
 pub mod check;
 pub mod endings;
 pub mod faults;
+mod handing;
 pub mod lists;
 pub mod picture;
 pub mod reading;
+pub mod recover;
 pub mod requests;
 pub mod run;
+pub mod serve;
 pub mod step;
 pub mod upgrade;

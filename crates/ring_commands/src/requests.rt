@@ -1,10 +1,10 @@
 //! Does what the program was asked for.
 
 ghost use Rattle.std.specs.Prelude.{◌≡◌, ◌≢◌, OnOk, IfErr};
-ghost use Rattle.ring_commands.specs.Answered.{IsAnswer, IsRefusal, IsOfFile, IsSilent};
+ghost use Rattle.ring_commands.specs.Answered.{IsAnswer, IsRefusal, IsOfLines, IsOfFile, IsSilent};
 
 use crate::faults::ToolError;
-use crate::{check, picture, run, step, upgrade};
+use crate::{check, picture, recover, run, serve, step, upgrade};
 use disks::Disk;
 use ring_requests::Request;
 use std::io::{Read, Write};
@@ -17,7 +17,7 @@ use std::thread::Threads;
 ///
 /// # Errors
 ///
-/// The refusals of the command. But for the fault of `out`, every file is as it was then.
+/// The refusals of the command. But for the fault of `out`, every file is as it was then, unless lines were served.
 pub fn answer<'a, R: AllocGlobal + Threads + Wait + Sync, D: Disk, I: Read, O: Write, E: Write>(
     rt: &R,
     disk: &mut D,
@@ -28,7 +28,7 @@ pub fn answer<'a, R: AllocGlobal + Threads + Wait + Sync, D: Disk, I: Read, O: W
 ) -> Result<(), ToolError<'a>>
     ensures ok { OnOk result (IsAnswer request.now (D.holds disk.old) (D.holds disk.new) (I.remaining input.old) (I.remaining input.new) (O.contents out.old) (O.contents out.new) (E.contents err.old) (E.contents err.new)) }
     ensures err { IfErr result (λ e. IsRefusal request.now (D.holds disk.old) (D.holds disk.new) (I.remaining input.old) (I.remaining input.new) (O.contents out.old) (O.contents out.new) (E.contents err.old) (E.contents err.new) e) }
-    ensures kept { IfErr result (λ e. e ≢ ToolError.Write → D.holds disk.new ≡ D.holds disk.old) }
+    ensures kept { (IsOfLines request.now → ⊥) → IfErr result (λ e. e ≢ ToolError.Write → D.holds disk.new ≡ D.holds disk.old) }
     ensures silent { IsSilent request.now → err.new ≡ err.old }
     ensures unread { IsOfFile request.now → input.new ≡ input.old }
 {
@@ -38,5 +38,7 @@ pub fn answer<'a, R: AllocGlobal + Threads + Wait + Sync, D: Disk, I: Read, O: W
         Request::Check(words) => check::run(rt.alloc(), disk, words, input, out),
         Request::Picture(words) => picture::run(rt.alloc(), disk, words, input, out, err),
         Request::Upgrade(words) => upgrade::run(rt.alloc(), disk, words, input, out, err),
+        Request::Recover(words) => recover::run(rt.alloc(), disk, words, input, out, err),
+        Request::Serve(words) => serve::run(rt.alloc(), disk, words, input, out, err),
     }
 }

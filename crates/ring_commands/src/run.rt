@@ -88,7 +88,10 @@ fn farm_of_words<'a, R: Threads + Wait + Sync, D: Disk, I: Read>(
     ensures unread { is_dash words.now.settings.now ≡ false → input.new ≡ input.old }
 {
     let bytes = read_named(alloc, disk, words.settings, input)?;
-    keep_history_apart(disk, words)?;
+    match keep_history_apart(disk, words) {
+        Ok(()) => {}
+        Err(fault) => return Err(fault),
+    }
     match farmed(rt, alloc, bytes) {
         Ok(outcome) => Ok(outcome),
         Err(fault) => Err(fault),

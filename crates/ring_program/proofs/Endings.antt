@@ -5,7 +5,8 @@ use Rattle.std.proofs.lemmas.Bool.{false≢true}
 use Rattle.std.specs.Io.KnownBytes.{Keeps}
 use Rattle.disks.specs.Held.{Held}
 use Rattle.ring_requests.specs.declared.requests.Request.{Request}
-use Rattle.ring_commands.specs.Answered.{IsAnswer, IsRefusal}
+use Rattle.ring_requests.specs.declared.requests.Request.TheVariants as asked
+use Rattle.ring_commands.specs.Answered.{IsAnswer, IsRefusal, IsOfLines}
 use Rattle.ring_commands.specs.Faults.{is_bad_list, end_status}
 use Rattle.ring_commands.specs.declared.faults.ToolError.{ToolError}
 use Rattle.ring_commands.specs.declared.faults.ToolError.TheVariants as tool
@@ -22,6 +23,50 @@ two false h = absurd (omega (arith, h))
 not_write : (e : ToolError) → is_bad_list e ≡ true → e ≢ tool.Write
 not_write e bad same = false≢true (sym (ap is_bad_list same) ∙ bad)
 
+bad_list : (e : ToolError) → is_bad_list e ≡ true → e ≡ tool.BadList
+bad_list tool.BadList h = refl
+bad_list tool.TooFew h = absurd (false≢true h)
+bad_list tool.TooMany h = absurd (false≢true h)
+bad_list tool.FewValues h = absurd (false≢true h)
+bad_list tool.ManyValues h = absurd (false≢true h)
+bad_list tool.Length h = absurd (false≢true h)
+bad_list (tool.Value a) h = absurd (false≢true h)
+bad_list (tool.Choice a) h = absurd (false≢true h)
+bad_list tool.Json h = absurd (false≢true h)
+bad_list (tool.Shape a) h = absurd (false≢true h)
+bad_list (tool.Limit a) h = absurd (false≢true h)
+bad_list (tool.Ring a b) h = absurd (false≢true h)
+bad_list (tool.Script a b) h = absurd (false≢true h)
+bad_list tool.Spawn h = absurd (false≢true h)
+bad_list tool.GateShut h = absurd (false≢true h)
+bad_list tool.NoSeat h = absurd (false≢true h)
+bad_list tool.HistoryFull h = absurd (false≢true h)
+bad_list tool.Mismatch h = absurd (false≢true h)
+bad_list (tool.Syntax a) h = absurd (false≢true h)
+bad_list tool.Truncated h = absurd (false≢true h)
+bad_list (tool.Bad a b) h = absurd (false≢true h)
+bad_list (tool.Read a) h = absurd (false≢true h)
+bad_list (tool.TooLarge a) h = absurd (false≢true h)
+bad_list (tool.Save a) h = absurd (false≢true h)
+bad_list (tool.SameFile a) h = absurd (false≢true h)
+bad_list tool.Write h = absurd (false≢true h)
+bad_list tool.OutOfMemory h = absurd (false≢true h)
+bad_list (tool.NoRing a) h = absurd (false≢true h)
+bad_list (tool.NoPlace a) h = absurd (false≢true h)
+bad_list tool.ManyDrawn h = absurd (false≢true h)
+bad_list (tool.InUse a) h = absurd (false≢true h)
+bad_list (tool.Full a) h = absurd (false≢true h)
+
+-- what serves lines is not refused for a list
+no_lines : (request : Request) (before after : Option Held) (was is old mid early told : Option (List ℕ)) (e : ToolError) → is_bad_list e ≡ true → IsRefusal request before after was is old mid early told e → IsOfLines request → ⊥
+no_lines (asked.Step words) before after was is old mid early told e bad refused lines = lines
+no_lines (asked.Run words) before after was is old mid early told e bad refused lines = lines
+no_lines (asked.Check words) before after was is old mid early told e bad refused lines = lines
+no_lines (asked.Picture words) before after was is old mid early told e bad refused lines = lines
+no_lines (asked.Upgrade words) before after was is old mid early told e bad refused lines = lines
+no_lines (asked.Recover words) before after was is old mid early told e bad refused lines = lines
+no_lines (asked.Serve words) before after was is old mid early told e bad refused lines = refused.0 (bad_list e bad)
+
 -- what is said of a value is said of a part of it
 pub silent_of : {A B : Type 0} {E F : Type 0} (part : A → B) (late early : A) (r : Result (Unit {0}) E) (f : Result (Unit {0}) F) → OnOk r (OnOk f (late ≡ early)) →
     OnOk r (OnOk f (part late ≡ part early))
@@ -31,7 +76,7 @@ silent_of part late early (Err e) f same = tt
 
 pub ended : {F : Type 0} (r : Result (Unit {0}) ToolError) (f : Result (Unit {0}) F) (request : Request) (before after : Option Held) (was is old mid new early told late : Option (List ℕ)) →
     OnOk r (IsAnswer request before after was is old mid early told) → IfErr r (λ e. IsRefusal request before after was is old mid early told e) →
-    IfErr r (λ e. e ≢ tool.Write → after ≡ before) → Keeps mid new → OnOk r (OnOk f (late ≡ told)) → HasEnded (end_status r f) before after was is old new early late
+    ((IsOfLines request → ⊥) → IfErr r (λ e. e ≢ tool.Write → after ≡ before)) → Keeps mid new → OnOk r (OnOk f (late ≡ told)) → HasEnded (end_status r f) before after was is old new early late
 ended (Ok u) (Ok v) request before after was is old mid new early told late answered refused kept keeps same = record {
   done = λ s. inl (mid, (request, subst (λ (l : Option (List ℕ)). IsAnswer request before after was is old mid early l) (sym same) answered), keeps);
   unread = λ s. absurd (omega (arith, s));
@@ -44,6 +89,8 @@ ended (Ok u) (Err e) request before after was is old mid new early told late ans
 }
 ended (Err e) f request before after was is old mid new early told late answered refused kept keeps same = record {
   done = λ s. absurd (some (is_bad_list e) s);
-  unread = λ s. kept (not_write e (two (is_bad_list e) s));
+  unread = λ s.
+      let bad = two (is_bad_list e) s in
+      kept (no_lines request before after was is old mid early told e bad refused) (not_write e bad);
   refused = λ s. inr (mid, told, inr (request, e, refused, kept));
 }

@@ -4,4 +4,6 @@
 
 mod requests;
 
-pub use requests::{CheckWords, PictureWords, Request, RunWords, StepWords, UpgradeWords};
+pub use requests::{
+    CheckWords, PictureWords, RecoverWords, Request, RunWords, ServeWords, StepWords, UpgradeWords,
+};

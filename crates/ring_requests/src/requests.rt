@@ -50,6 +50,26 @@ pub struct UpgradeWords<'a> {
     pub new: &'a str,
 }
 
+/// What `recover` was asked for.
+#[derive(Clone, Copy)]
+pub struct RecoverWords<'a> {
+    /// The name of the file with the journal; `-` is standard input.
+    pub file: &'a str,
+    /// The name of the file that is made for the history; `-` is standard output.
+    pub new: &'a str,
+}
+
+/// What `serve` was asked for.
+#[derive(Clone, Copy)]
+pub struct ServeWords<'a> {
+    /// The name of the file with the saved text from which the rings go on.
+    pub history: &'a str,
+    /// The name of the journal's file, if one is kept.
+    pub journal: Option<&'a str>,
+    /// Whether each call is on the disk before it is answered.
+    pub synced: bool,
+}
+
 /// A command, with its words.
 #[derive(Clone, Copy)]
 pub enum Request<'a> {
@@ -58,4 +78,6 @@ pub enum Request<'a> {
     Check(CheckWords<'a>),
     Picture(PictureWords<'a>),
     Upgrade(UpgradeWords<'a>),
+    Recover(RecoverWords<'a>),
+    Serve(ServeWords<'a>),
 }

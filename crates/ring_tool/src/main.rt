@@ -4,6 +4,7 @@
 use disks::{SystemDisk, take_low};
 use ring_program::tell;
 pub use ring_program::{ToolError, read_limited, run_tool, step_lines};
+use std::fs::File;
 use std::io::{self, BufWriter, ErrorKind, Input, Write};
 use std::process::ExitCode;
 use std::rt::{Env, Files};
@@ -27,7 +28,7 @@ fn words_of<R: AllocGlobal + Env>(rt: &R) -> Result<Option<Vec<String>>, ToolErr
 }
 
 /// The whole run: what it prints goes through a buffer to standard output.
-fn run<R: AllocGlobal + Env + Files + Input + Print + Threads + Wait + Sync, E: Write>(
+fn run<R: AllocGlobal + Env + Files<File = File> + Input + Print + Threads + Wait + Sync, E: Write>(
     rt: &R,
     err: &mut E,
 ) -> Result<u8, ToolError<'static>> {

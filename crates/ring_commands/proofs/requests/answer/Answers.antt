@@ -19,13 +19,13 @@ pub returns-in-Upgrade-clause-err : goal.returns-in-Upgrade-clause-err
 returns-in-Upgrade-clause-err g c = rw c.in-Upgrade.is c.run-in-Upgrade.ensures.err
 
 pub returns-in-Picture-clause-kept : goal.returns-in-Picture-clause-kept
-returns-in-Picture-clause-kept g c = c.run-in-Picture.ensures.kept
+returns-in-Picture-clause-kept g c = λ _. c.run-in-Picture.ensures.kept
 
 pub returns-in-Upgrade-clause-kept : goal.returns-in-Upgrade-clause-kept
-returns-in-Upgrade-clause-kept g c = c.run-in-Upgrade.ensures.kept
+returns-in-Upgrade-clause-kept g c = λ _. c.run-in-Upgrade.ensures.kept
 
 pub returns-in-Run-clause-kept : goal.returns-in-Run-clause-kept
-returns-in-Run-clause-kept g c = c.run-in-Run.ensures.kept
+returns-in-Run-clause-kept g c = λ _. c.run-in-Run.ensures.kept
 
 pub returns-in-Picture-clause-unread : goal.returns-in-Picture-clause-unread
 returns-in-Picture-clause-unread g c = rw c.in-Picture.is c.run-in-Picture.ensures.unread
@@ -44,3 +44,33 @@ returns-in-Picture-clause-silent g c = rw c.in-Picture.is c.run-in-Picture.ensur
 
 pub returns-in-Upgrade-clause-silent : goal.returns-in-Upgrade-clause-silent
 returns-in-Upgrade-clause-silent g c = rw c.in-Upgrade.is c.run-in-Upgrade.ensures.silent
+
+pub returns-in-Recover-clause-ok : goal.returns-in-Recover-clause-ok
+returns-in-Recover-clause-ok g c = rw c.in-Recover.is c.run-in-Recover.ensures.ok
+
+pub returns-in-Recover-clause-err : goal.returns-in-Recover-clause-err
+returns-in-Recover-clause-err g c = rw c.in-Recover.is c.run-in-Recover.ensures.err
+
+pub returns-in-Recover-clause-kept : goal.returns-in-Recover-clause-kept
+returns-in-Recover-clause-kept g c = λ _. c.run-in-Recover.ensures.kept
+
+pub returns-in-Recover-clause-unread : goal.returns-in-Recover-clause-unread
+returns-in-Recover-clause-unread g c = rw c.in-Recover.is c.run-in-Recover.ensures.unread
+
+pub returns-in-Recover-clause-silent : goal.returns-in-Recover-clause-silent
+returns-in-Recover-clause-silent g c = rw c.in-Recover.is c.run-in-Recover.ensures.silent
+
+pub returns-in-Serve-clause-ok : goal.returns-in-Serve-clause-ok
+returns-in-Serve-clause-ok g c = rw c.in-Serve.is c.run-in-Serve.ensures.ok
+
+pub returns-in-Serve-clause-err : goal.returns-in-Serve-clause-err
+returns-in-Serve-clause-err g c = rw c.in-Serve.is c.run-in-Serve.ensures.err
+
+pub returns-in-Serve-clause-kept : goal.returns-in-Serve-clause-kept
+returns-in-Serve-clause-kept g c = λ other. absurd (other (rw c.in-Serve.is tt))
+
+pub returns-in-Serve-clause-unread : goal.returns-in-Serve-clause-unread
+returns-in-Serve-clause-unread g c = rw c.in-Serve.is (λ none. absurd none)
+
+pub returns-in-Serve-clause-silent : goal.returns-in-Serve-clause-silent
+returns-in-Serve-clause-silent g c = rw c.in-Serve.is (λ none. absurd none)

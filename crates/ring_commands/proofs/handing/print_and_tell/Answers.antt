@@ -3,7 +3,7 @@ use Rattle.ring_saved.specs.Content.{content}
 use Rattle.ring_saved.specs.Spelling.{text}
 use Rattle.ring_commands.specs.CheckText.{legal_line}
 use Rattle.ring_commands.proofs.Buffers.{flushed, line_left}
-use Rattle.ring_commands.proofs.upgrade.print_and_tell.Goals as goal
+use Rattle.ring_commands.proofs.handing.print_and_tell.Goals as goal
 
 pub returns-in_default-clause-err : goal.returns-in_default-clause-err
 returns-in_default-clause-err g c =

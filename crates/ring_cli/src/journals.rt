@@ -1,0 +1,129 @@
+//! The words of what is done with journals.
+
+use crate::words::needed_text;
+use clap::{Arg, ArgAction, ArgMatches, Command, Error};
+use ring_requests::{RecoverWords, Request, ServeWords};
+use std::alloc::Global;
+
+const RECOVER_ABOUT: &str = "Saves the history that a journal tells, which may be cut off anywhere";
+
+const RECOVER_HELP: &str = "\
+FILE is a journal: the saved rings that it began with, and a line for each call since. If its writer was killed, it may
+end anywhere. What is recovered is what its whole lines tell: only the bytes behind the last end of a line are left out,
+and the members of a group that is not whole. FILE stays as it is. The history is written to NEW.part, which then takes
+the place of NEW: an old one is whole after a refusal or an interrupt. NEW cannot be FILE. Then it prints what `check`
+prints of NEW. Where NEW is `-`, the text goes to standard output, and the line to standard error.
+
+A FILE that is refused makes no NEW: it is cut off within what it began with; or it says which line is no journal's, as
+`syntax`, or which call cannot have been, as `reply` or `survey`, where the calls before it are legal.
+
+Example:
+  $ ring_tool recover journal.txt saved.txt
+  legal rings 1 events 3 granted 2 corrupted 0 surveys 1
+
+Exit status: 0 where NEW was written, 1 where nothing is recovered or a file fails, 2 where the words cannot be read.";
+
+const SERVE_ABOUT: &str =
+    "Serves saved rings to any program, by lines: each is a call, and has a line for its answer";
+
+const SERVE_HELP: &str = "\
+The rings of HISTORY, which has to be legal, go on where it ended, with ten seats each; HISTORY stays as it is. Each
+line of standard input is a call, of at most 8192 bytes with its end, and has one line for its answer:
+  pass RING SEAT MACHINE ORDER       granted NUMBER RESULT, or waits if the machine is not privileged
+  group RING SEAT ORDER MACHINE ..   block FIRST COUNT: all moved at once, from this place of the history on
+  corrupt RING SEAT MACHINE VALUE    corrupted OLD: the value was written over OLD, as a fault would
+  survey RING SEAT                   survey POSITION PRIVILEGED FIRST CALM REST, which the history keeps
+  glance RING                        the same, and nothing keeps it
+  save FILE                          saved: FILE holds all rings as they stand, and is whole at each moment
+Any other line, and a call that cannot be done, changes nothing: it is answered `refused` and why, as `syntax`, `ring`,
+`seat`, `machine`, `value`, `group`, `privileged MACHINE`, `whole`, `full`, `memory`, or `file` where FILE cannot be
+saved in, or is `-` or the journal. The answers leave before more is read, and what stands behind the last end of a line
+is no call. At the end of standard input the totals of all rings go to standard error.
+
+With `--journal` each call is in the journal before its answer leaves, so that whatever was told is there, wherever the
+process ends. If the journal tells something, the rings go on from what `recover` gives of it, and not from HISTORY; it
+is begun anew with these rings. A journal that is refused stays as it is. One process at a time keeps it.
+
+Example:
+  $ printf 'pass 0 0 0 5\npass 0 0 2 4\n' | ring_tool serve saved.txt --journal journal.txt
+
+Exit status: 0 at the end of standard input, 1 where HISTORY or the journal is refused or reading or writing fails, 2
+where the words cannot be read.";
+
+/// `recover` with its two files.
+fn with_files<'a>(alloc: Global, command: Command<'a>) -> Result<Command<'a>, Error> {
+    let file = needed_text(
+        alloc,
+        "FILE",
+        "The journal, of at most 1,073,741,824 bytes; `-` is standard input",
+    );
+    let new = needed_text(
+        alloc,
+        "NEW",
+        "The file that is made for the history; `-` is standard output",
+    );
+    Ok(command.arg(file)?.arg(new)?)
+}
+
+/// The words of `recover`.
+pub(crate) fn recover_command<'a>(alloc: Global) -> Result<Command<'a>, Error> {
+    let command = Command::new(alloc, "recover")
+        .about(RECOVER_ABOUT)
+        .after_help(RECOVER_HELP);
+    with_files(alloc, command)
+}
+
+/// `recover`, where both its words are there.
+pub(crate) fn recover_words<'a>(words: &ArgMatches<'a>) -> Option<Request<'a>> {
+    Some(Request::Recover(RecoverWords {
+        file: words.get_str("FILE")?,
+        new: words.get_str("NEW")?,
+    }))
+}
+
+/// The saved rings that `serve` goes on with.
+fn served_word<'a>(alloc: Global) -> Arg<'a> {
+    needed_text(
+        alloc,
+        "HISTORY",
+        "The saved history, as `run --history` writes it, of at most 1,073,741,824 bytes",
+    )
+}
+
+/// The journal's file, which may be left out.
+fn journal_word<'a>(alloc: Global) -> Arg<'a> {
+    Arg::new(alloc, "JOURNAL")
+        .long("journal")
+        .value_name("FILE")
+        .help("Keeps a journal of the calls in FILE, and goes on from it if it is there")
+}
+
+/// Whether each call is on the disk before it is answered.
+fn sync_word<'a>(alloc: Global) -> Arg<'a> {
+    Arg::new(alloc, "SYNC")
+        .long("sync")
+        .action(ArgAction::SetTrue)
+        .help("Has the journal on the disk before an answer leaves")
+}
+
+/// `serve` with its journal.
+fn with_journal<'a>(alloc: Global, command: Command<'a>) -> Result<Command<'a>, Error> {
+    Ok(command.arg(journal_word(alloc))?.arg(sync_word(alloc))?)
+}
+
+/// The words of `serve`.
+pub(crate) fn serve_command<'a>(alloc: Global) -> Result<Command<'a>, Error> {
+    let command = Command::new(alloc, "serve")
+        .about(SERVE_ABOUT)
+        .after_help(SERVE_HELP);
+    with_journal(alloc, command.arg(served_word(alloc))?)
+}
+
+/// `serve`, where the saved history is there.
+pub(crate) fn serve_words<'a>(words: &ArgMatches<'a>) -> Option<Request<'a>> {
+    Some(Request::Serve(ServeWords {
+        history: words.get_str("HISTORY")?,
+        journal: words.get_str("JOURNAL"),
+        synced: words.get_flag("SYNC"),
+    }))
+}

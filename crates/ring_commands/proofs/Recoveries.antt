@@ -1,0 +1,27 @@
+-- What is recovered has fewer lines than the journal has bytes.
+use Rattle.std.proofs.Common.{◌≡◌, ℕ, ◌+◌, ◌≤◌, List, [], ◌∷◌, ◌++◌, length, refl, ap, length-append, arith}
+use Rattle.std.specs.List.{flat_map}
+use Rattle.ring_saved.specs.Content.{Content}
+use Rattle.ring_saved.specs.Spelling.{text}
+use Rattle.ring_check.specs.Lines.{lines}
+use Rattle.ring_check.proofs.SavedLines.{lines_some}
+use Rattle.ring_journal.specs.Spelling.{first_line, head_text, recorded_line, journal_text}
+use Rattle.ring_journal.specs.Told.{told}
+use Rattle.ring_journal.specs.Recovery.{IsRecovered}
+use Rattle.ring_journal.proofs.Countings.{told_lines}
+use Rattle.ring_journal.proofs.Heads.{calls_within}
+
+pub recovered_lines : (bytes : List ℕ) (c : Content) → IsRecovered bytes c → length (lines c) + 1 ≤ length bytes
+recovered_lines bytes c r =
+    let began = r.journal.began in
+    let calls = r.journal.calls in
+    let few = told_lines began calls in
+    let same : length (lines c) ≡ length (lines (told began calls)) = ap (λ (s : Content). length (lines s)) r.told in
+    let some = lines_some began in
+    let head = length-append first_line (text began) in
+    let behind = length-append (head_text began) (flat_map recorded_line calls) in
+    let whole : length bytes ≡ length (journal_text r.journal ++ r.tail) = ap length r.lines.spelled in
+    let all = length-append (journal_text r.journal) r.tail in
+    let within = calls_within calls (flat_map recorded_line calls ++ r.tail) r.tail refl in
+    let more = length-append (flat_map recorded_line calls) r.tail in
+    omega arith

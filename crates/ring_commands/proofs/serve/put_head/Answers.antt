@@ -1,0 +1,8 @@
+use Rattle.text_lines.proofs.Writing.{writes_err}
+use Rattle.ring_saved.specs.Spelling.{text}
+use Rattle.ring_journal.specs.Spelling.{first_line}
+use Rattle.ring_serve.specs.Saved.{content_of}
+use Rattle.ring_commands.proofs.serve.put_head.Goals as goal
+
+pub returns-in-Err : goal.returns-in-Err
+returns-in-Err g c = writes_err (g.W.Write.contents c.args.out.now) (g.W.Write.contents c.put_first_line.new.out) c.in-Err.fault first_line (text (content_of c.args.served.now)) c.in-Err.ensures

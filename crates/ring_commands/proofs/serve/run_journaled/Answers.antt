@@ -1,0 +1,26 @@
+use Rattle.std.proofs.Common.{◌≡◌, ℕ, List, Option, Result, Ok, Err, IfOk, subst}
+use Rattle.disks.specs.Held.{Held}
+use Rattle.ring_saved.specs.declared.saved.Saved.{Saved}
+use Rattle.ring_serve.specs.Standings.{Standing}
+use Rattle.ring_serve.specs.Starting.{AreResumed}
+use Rattle.ring_commands.specs.declared.faults.ToolError.{ToolError}
+use Rattle.ring_commands.specs.Served.{IsNoted, IsServedNoted}
+use Rattle.ring_commands.proofs.serve.run_journaled.Goals as goal
+
+-- the files were as they are while the journal was opened
+journaled : (r : Result (List Standing) ToolError) (name : List ℕ) (given from : Saved) (before mid after : Option Held) (was is old new : Option (List ℕ)) → mid ≡ before → IsNoted mid name given from →
+    IfOk r (λ end. (start : List Standing) × AreResumed start from.rings.items × IsServedNoted name start end mid after was is old new) →
+    IfOk r (λ end. (x : Saved) × IsNoted before name given x × (start : List Standing) × AreResumed start x.rings.items × IsServedNoted name start end before after was is old new)
+journaled (Err e) name given from before mid after was is old new same f h = tt
+journaled (Ok end) name given from before mid after was is old new same f h = (
+  from,
+  subst (λ (x : Option Held). IsNoted x name given from) same f,
+  h.0,
+  h.1,
+  subst (λ (x : Option Held). IsServedNoted name h.0 end x after was is old new) same h.2,
+)
+
+pub returns-clause-ok : goal.returns-clause-ok
+returns-clause-ok g c =
+    journaled c.run_noted-end.result c.args.name.now c.args.saved c.in-Ok-noted.saved (g.D.Disk.holds c.args.disk.now) (g.D.Disk.holds c.opened.new.disk) (g.D.Disk.holds c.run_noted-end.new.disk)
+    (g.I.Read.remaining c.args.input.now) (g.I.Read.remaining c.run_noted-end.new.input) (g.W.Write.contents c.args.out.now) (g.W.Write.contents c.run_noted-end.new.out) c.opened.ensures.kept c.in-Ok-noted.ensures.ok c.run_noted-end.ensures.ok

@@ -1,0 +1,358 @@
+//! `serve`: rings that go on from a saved text, driven by the lines of standard input.
+
+ghost use Rattle.std.specs.Prelude.{◌≡◌, ◌≢◌, ℕ, List, Some, Option, true, false, OnOk, IfOk, IfErr, IfSome, length, ◌⊎◌, ◌≤◌, ◌<◌, ◌^◌};
+ghost use Rattle.std.specs.Io.KnownBytes.{Appends};
+ghost use Rattle.text_lines.specs.Writing.{Writes};
+ghost use Rattle.disks.specs.Held.{Held, Grows, Replaces};
+ghost use Rattle.ring_saved.specs.declared.saved.Saved.{Saved};
+ghost use Rattle.ring_journal.specs.Spelling.{head_text};
+ghost use Rattle.ring_serve.specs.Standings.{Standing};
+ghost use Rattle.ring_serve.specs.Saved.{content_of};
+ghost use Rattle.ring_serve.specs.Starting.{AreResumed};
+ghost use Rattle.ring_serve.specs.Totals.{totals_of};
+ghost use Rattle.ring_text.specs.Report.{total_line};
+ghost use Rattle.ring_commands.specs.Served.{IsHistory, IsNoted, IsServedPlain, IsServedOn, IsServedNoted, IsServedFrom, IsServeAnswer, IsUnserved, IsBrokenOff, IsServeRefusal};
+
+use crate::check::legal_saved;
+use crate::faults::ToolError;
+use crate::reading::read_file;
+use disks::Disk;
+use ring_journal::{put_first_line, recovered};
+use ring_requests::ServeWords;
+use ring_saved::Saved;
+use ring_serve::{ServeFault, Served, StartError, put_rings, serve};
+use ring_text::put_total_line;
+use std::alloc::Global;
+use std::io::{BufWriter, ErrorKind, Read, Write, sink};
+use text_lines::WriteFault;
+
+/// The rings of a saved text, as they stood in the end.
+///
+/// # Errors
+///
+/// `Full` if one of them has too many events, and `OutOfMemory`.
+fn started(alloc: Global, saved: &Saved) -> Result<Served, ToolError<'static>>
+    ensures ok { IfOk result (λ served. AreResumed served saved.now.rings.items) }
+    ensures err { IfErr result (λ e. e ≢ ToolError.BadList) }
+{
+    match Served::from_saved(alloc, saved) {
+        Ok(served) => Ok(served),
+        Err(StartError::Full(place)) => Err(ToolError::Full(place)),
+        Err(StartError::OutOfMemory) => Err(ToolError::OutOfMemory),
+    }
+}
+
+/// What is told of a fault while lines were served.
+fn told<'a>(fault: ServeFault, journal: &'a str) -> ToolError<'a>
+    ensures { result ≢ ToolError.BadList }
+{
+    match fault {
+        ServeFault::Read => ToolError::Read("-"),
+        ServeFault::Journal => ToolError::Save(journal),
+        ServeFault::Write => ToolError::Write,
+        ServeFault::OutOfMemory => ToolError::OutOfMemory,
+    }
+}
+
+/// The value of the legal saved text that the file of this name holds.
+fn history<'a, D: Disk>(alloc: Global, disk: &D, name: &'a str) -> Result<Saved, ToolError<'a>>
+    ensures ok { IfOk result (λ saved. IsHistory (D.holds disk.now) name.now saved) }
+    ensures err { IfErr result (λ e. e ≢ ToolError.BadList) }
+{
+    let bytes = read_file(alloc, disk, name)?;
+    let (saved, _) = legal_saved(alloc, bytes.as_slice())?;
+    Ok(saved)
+}
+
+/// What is recovered of the journal of this name, if that tells something; else the value that is given.
+fn noted<'a, D: Disk>(
+    alloc: Global,
+    disk: &D,
+    name: &'a str,
+    saved: Saved,
+) -> Result<Saved, ToolError<'a>>
+    ensures ok { IfOk result (λ now. IsNoted (D.holds disk.now) name.now saved now) }
+    ensures err { IfErr result (λ e. e ≢ ToolError.BadList) }
+{
+    let bytes = read_file(alloc, disk, name)?;
+    if bytes.is_empty() {
+        return Ok(saved);
+    }
+    let saved = recovered(alloc, bytes.as_slice())?;
+    Ok(saved)
+}
+
+/// Opens the journal's file to write at its end.
+fn opened<'a, D: Disk>(disk: &mut D, name: &'a str, synced: bool) -> Result<D::Grown, ToolError<'a>>
+    ensures ok { IfOk result (λ grown. Grows (D.holds disk.old) name.now (D.Grown.contents grown)) }
+    ensures kept { D.holds disk.new ≡ D.holds disk.old }
+    ensures err { IfErr result (λ e. e ≢ ToolError.BadList) }
+{
+    match disk.grow(name, synced) {
+        Ok(grown) => Ok(grown),
+        Err(error) if error.kind() == ErrorKind::WouldBlock => Err(ToolError::InUse(name)),
+        Err(_) => Err(ToolError::Save(name)),
+    }
+}
+
+/// Writes the beginning of a journal of these rings.
+#[tactic(auto, using(text_lines::proofs::Writing::writes_then))]
+fn put_head<W: Write>(out: &mut W, served: &Served) -> Result<(), WriteFault>
+    requires some { 1 ≤ length served.now }
+    requires most { length served.now < 2 ^ 32 }
+    ensures { Writes (W.contents out.old) (W.contents out.new) result (head_text (content_of served.now)) }
+{
+    match put_first_line(out) {
+        Ok(()) => put_rings(out, served),
+        Err(fault) => Err(fault),
+    }
+}
+
+/// Writes it through a buffer, of which all leaves, and hands the writer back.
+fn begun<W: Write + Drop>(alloc: Global, served: &Served, out: W) -> Option<W>
+    ensures { IfSome result (λ after. Appends (W.contents out) (W.contents after) (head_text (content_of served.now))) }
+{
+    let count = served.count();
+    if count == 0 || count > u32::MAX as usize {
+        return None;
+    }
+    let Ok(mut buffer) = BufWriter::new(alloc, out) else {
+        return None;
+    };
+    let Ok(()) = put_head(&mut buffer, served) else {
+        return None;
+    };
+    let Ok(mut after) = buffer.into_inner() else {
+        return None;
+    };
+    let Ok(()) = after.flush() else {
+        return None;
+    };
+    Some(after)
+}
+
+/// Puts a file with the beginning of a journal of these rings in the place of the one of this name.
+fn put_beginning<'a, D: Disk>(
+    alloc: Global,
+    disk: &mut D,
+    served: &Served,
+    name: &'a str,
+) -> Result<(), ToolError<'a>>
+    ensures ok { OnOk result (Replaces (D.holds disk.old) (D.holds disk.new) name.now (Some (head_text (content_of served.now)))) }
+    ensures err { IfErr result (λ e. e ≢ ToolError.BadList) }
+{
+    let Ok(made) = disk.make(name) else {
+        return Err(ToolError::Save(name));
+    };
+    let Some(after) = begun(alloc, served, made) else {
+        return Err(ToolError::Save(name));
+    };
+    let Ok(()) = disk.finish(after, name) else {
+        return Err(ToolError::Save(name));
+    };
+    Ok(())
+}
+
+/// Writes the line of what adds up over the rings.
+fn tell_totals<W: Write>(served: &Served, err: &mut W) -> Result<(), ToolError<'static>>
+    ensures ok { OnOk result (Appends (W.contents err.old) (W.contents err.new) (total_line (length served.now) (totals_of served.now))) }
+    ensures err { IfErr result (λ e. e ≡ ToolError.Write) }
+{
+    let Ok(count) = u32::try_from(served.count()) else {
+        return Err(ToolError::Write);
+    };
+    let Some(totals) = served.totals() else {
+        return Err(ToolError::Write);
+    };
+    put_total_line(err, count, totals)?;
+    Ok(())
+}
+
+/// Serves without a journal.
+fn serve_plain<D: Disk, I: Read, W: Write>(
+    alloc: Global,
+    disk: &mut D,
+    served: &mut Served,
+    input: &mut I,
+    out: &mut W,
+) -> Result<(), ToolError<'static>>
+    ensures ok { OnOk result (IsServedPlain served.old served.new (D.holds disk.old) (D.holds disk.new) (I.remaining input.old) (I.remaining input.new) (W.contents out.old) (W.contents out.new)) }
+    ensures err { IfErr result (λ e. (e ≢ ToolError.BadList) × IsBrokenOff false (I.remaining input.old) (I.remaining input.new) (W.contents out.old) (W.contents out.new)) }
+{
+    match serve(alloc, served, disk, None, input, &mut sink(), out) {
+        Ok(()) => Ok(()),
+        Err(fault) => Err(told(fault, "-")),
+    }
+}
+
+/// Serves with a journal in the file of this name, which has been begun.
+fn serve_noted<'a, D: Disk, I: Read, W: Write>(
+    alloc: Global,
+    disk: &mut D,
+    served: &mut Served,
+    name: &'a str,
+    mut journal: D::Grown,
+    input: &mut I,
+    out: &mut W,
+) -> Result<(), ToolError<'a>>
+    ensures ok { OnOk result (IsServedOn name.now served.old served.new (D.holds disk.old) (D.holds disk.new) (D.Grown.contents journal) (I.remaining input.old) (I.remaining input.new) (W.contents out.old) (W.contents out.new)) }
+    ensures err { IfErr result (λ e. (e ≢ ToolError.BadList) × IsBrokenOff true (I.remaining input.old) (I.remaining input.new) (W.contents out.old) (W.contents out.new)) }
+{
+    match serve(alloc, served, disk, Some(name), input, &mut journal, out) {
+        Ok(()) => {}
+        Err(fault) => return Err(told(fault, name)),
+    }
+    match disk.settle(journal, name) {
+        Ok(()) => Ok(()),
+        Err(_) => Err(ToolError::Save(name)),
+    }
+}
+
+/// Begins a journal of these rings in the file of this name, or begins it anew, and opens it.
+fn begin_journal<'a, D: Disk>(
+    alloc: Global,
+    disk: &mut D,
+    served: &Served,
+    name: &'a str,
+    synced: bool,
+) -> Result<D::Grown, ToolError<'a>>
+    ensures ok { IfOk result (λ grown. Replaces (D.holds disk.old) (D.holds disk.new) name.now (Some (head_text (content_of served.now))) × Grows (D.holds disk.new) name.now (D.Grown.contents grown)) }
+    ensures err { IfErr result (λ e. e ≢ ToolError.BadList) }
+{
+    put_beginning(alloc, disk, served, name)?;
+    match opened(disk, name, synced) {
+        Ok(grown) => Ok(grown),
+        Err(fault) => Err(fault),
+    }
+}
+
+/// The rings that are served without a journal, when all lines have been.
+fn run_plain<D: Disk, I: Read, W: Write>(
+    alloc: Global,
+    disk: &mut D,
+    saved: &Saved,
+    input: &mut I,
+    out: &mut W,
+) -> Result<Served, ToolError<'static>>
+    ensures ok { IfOk result (λ end. (start : List Standing) × AreResumed start saved.now.rings.items × IsServedPlain start end (D.holds disk.old) (D.holds disk.new) (I.remaining input.old) (I.remaining input.new) (W.contents out.old) (W.contents out.new)) }
+    ensures err { IfErr result (λ e. (e ≢ ToolError.BadList) × (IsUnserved (I.remaining input.old) (I.remaining input.new) (W.contents out.old) (W.contents out.new) ⊎ IsBrokenOff false (I.remaining input.old) (I.remaining input.new) (W.contents out.old) (W.contents out.new))) }
+{
+    let mut served = match started(alloc, saved) {
+        Ok(served) => served,
+        Err(fault) => return Err(fault),
+    };
+    match serve_plain(alloc, disk, &mut served, input, out) {
+        Ok(()) => Ok(served),
+        Err(fault) => Err(fault),
+    }
+}
+
+/// The rings that are served with a journal in the file of this name, which is locked, when all lines have been.
+fn run_noted<'a, D: Disk, I: Read, W: Write>(
+    alloc: Global,
+    disk: &mut D,
+    saved: &Saved,
+    name: &'a str,
+    synced: bool,
+    input: &mut I,
+    out: &mut W,
+) -> Result<Served, ToolError<'a>>
+    ensures ok { IfOk result (λ end. (start : List Standing) × AreResumed start saved.now.rings.items × IsServedNoted name.now start end (D.holds disk.old) (D.holds disk.new) (I.remaining input.old) (I.remaining input.new) (W.contents out.old) (W.contents out.new)) }
+    ensures err { IfErr result (λ e. (e ≢ ToolError.BadList) × (IsUnserved (I.remaining input.old) (I.remaining input.new) (W.contents out.old) (W.contents out.new) ⊎ IsBrokenOff true (I.remaining input.old) (I.remaining input.new) (W.contents out.old) (W.contents out.new))) }
+{
+    let mut served = match started(alloc, saved) {
+        Ok(served) => served,
+        Err(fault) => return Err(fault),
+    };
+    let journal = match begin_journal(alloc, disk, &served, name, synced) {
+        Ok(journal) => journal,
+        Err(fault) => return Err(fault),
+    };
+    match serve_noted(alloc, disk, &mut served, name, journal, input, out) {
+        Ok(()) => Ok(served),
+        Err(fault) => Err(fault),
+    }
+}
+
+/// The rings that are served with a journal, when all lines have been. Its file is locked from before it is read.
+fn run_journaled<'a, D: Disk, I: Read, W: Write>(
+    alloc: Global,
+    disk: &mut D,
+    saved: Saved,
+    name: &'a str,
+    synced: bool,
+    input: &mut I,
+    out: &mut W,
+) -> Result<Served, ToolError<'a>>
+    ensures ok { IfOk result (λ end. (from : Saved) × IsNoted (D.holds disk.old) name.now saved from × (start : List Standing) × AreResumed start from.rings.items × IsServedNoted name.now start end (D.holds disk.old) (D.holds disk.new) (I.remaining input.old) (I.remaining input.new) (W.contents out.old) (W.contents out.new)) }
+    ensures err { IfErr result (λ e. (e ≢ ToolError.BadList) × (IsUnserved (I.remaining input.old) (I.remaining input.new) (W.contents out.old) (W.contents out.new) ⊎ IsBrokenOff true (I.remaining input.old) (I.remaining input.new) (W.contents out.old) (W.contents out.new))) }
+{
+    let lock = match opened(disk, name, false) {
+        Ok(lock) => lock,
+        Err(fault) => return Err(fault),
+    };
+    let saved = match noted(alloc, disk, name, saved) {
+        Ok(saved) => saved,
+        Err(fault) => return Err(fault),
+    };
+    let end = run_noted(alloc, disk, &saved, name, synced, input, out);
+    drop(lock);
+    end
+}
+
+/// The rings that are served, when all lines have been, with a journal if one is kept.
+fn run_on<'a, D: Disk, I: Read, W: Write>(
+    alloc: Global,
+    disk: &mut D,
+    words: &ServeWords<'a>,
+    saved: Saved,
+    input: &mut I,
+    out: &mut W,
+) -> Result<Served, ToolError<'a>>
+    ensures ok { IfOk result (λ end. IsServedFrom words.now saved end (D.holds disk.old) (D.holds disk.new) (I.remaining input.old) (I.remaining input.new) (W.contents out.old) (W.contents out.new)) }
+    ensures err { IfErr result (λ e. IsServeRefusal words.now (I.remaining input.old) (I.remaining input.new) (W.contents out.old) (W.contents out.new) e) }
+{
+    match words.journal {
+        None => match run_plain(alloc, disk, &saved, input, out) {
+            Ok(end) => Ok(end),
+            Err(fault) => Err(fault),
+        },
+        Some(name) => match run_journaled(alloc, disk, saved, name, words.synced, input, out) {
+            Ok(end) => Ok(end),
+            Err(fault) => Err(fault),
+        },
+    }
+}
+
+/// `serve`, from its words: the rings of the history, or of the journal if that tells something, answer the lines of `input` on
+/// `out`; when all have been, what adds up over the rings is told on `err`.
+///
+/// # Errors
+///
+/// Those of reading the history, and what is wrong with it; `InUse` if the journal is kept by another process, `Save` if it
+/// cannot be opened, begun or written, and what is wrong with it; `Full`, `OutOfMemory`: no line was read then, unless memory
+/// or the journal's file failed while lines were served. `Read` if standard input fails, `Write` if standard output does.
+pub fn run<'a, D: Disk, I: Read, W: Write, E: Write>(
+    alloc: Global,
+    disk: &mut D,
+    words: &ServeWords<'a>,
+    input: &mut I,
+    out: &mut W,
+    err: &mut E,
+) -> Result<(), ToolError<'a>>
+    ensures ok { OnOk result (IsServeAnswer words.now (D.holds disk.old) (D.holds disk.new) (I.remaining input.old) (I.remaining input.new) (W.contents out.old) (W.contents out.new) (E.contents err.old) (E.contents err.new)) }
+    ensures err { IfErr result (λ e. IsServeRefusal words.now (I.remaining input.old) (I.remaining input.new) (W.contents out.old) (W.contents out.new) e) }
+{
+    let saved = match history(alloc, disk, words.history) {
+        Ok(saved) => saved,
+        Err(fault) => return Err(fault),
+    };
+    let end = match run_on(alloc, disk, words, saved, input, out) {
+        Ok(end) => end,
+        Err(fault) => return Err(fault),
+    };
+    match tell_totals(&end, err) {
+        Ok(()) => Ok(()),
+        Err(fault) => Err(fault),
+    }
+}
