@@ -45,7 +45,7 @@ process ends. If the journal tells something, the rings go on from what `recover
 is begun anew with these rings. A journal that is refused stays as it is. One process at a time keeps it.
 
 Example:
-  $ printf 'pass 0 0 0 5\npass 0 0 2 4\n' | ring_tool serve saved.txt --journal journal.txt
+  $ printf 'pass 0 0 0 5\\npass 0 0 2 4\\n' | ring_tool serve saved.txt --journal journal.txt
 
 Exit status: 0 at the end of standard input, 1 where HISTORY or the journal is refused or reading or writing fails, 2
 where the words cannot be read.";
