@@ -1,22 +1,10 @@
-//! What a journal has of the lines that were answered.
+//! What a journal has of the lines that were answered if it, the output or the input fails.
 
-use crate::dialogues::{no_files, served};
+use crate::scenes::{no_files, served};
 use crate::streams::{Drops, Late, Narrow};
 use ring_serve::{ServeFault, serve};
 use std::alloc::Global;
 use std::process::Abort;
-
-/// A dialogue with every kind of call, and some that are refused.
-const CALLS: &[u8] =
-    b"pass 0 0 0 5\npass 0 0 0 1\npass 0 0 9 1\npass 0 0 2 4\nsurvey 0 0\nsurvey 0 1\nglance 0\ncorrupt 0 0 0 2\ngroup 0 0 7 0\npass 0 0 1 3\nglance 1\nsave kept\ngroup 1 0 2 0 1\nhello\n";
-
-/// What it is answered.
-const ANSWERS: &[u8] =
-    b"granted 1 5\nwaits\nrefused machine\ngranted 2 9\nsurvey 3 1 1 2 0\nrefused seat\nsurvey 3 1 1 2 0\ncorrupted 1\nblock 4 1\ngranted 4 19\nsurvey 0 3 0 0 8\nsaved\nblock 0 2\nrefused syntax\n";
-
-/// What the journal gets: a line for each event and survey; a refused call, a glance and a save have none.
-const NOTES: &[u8] =
-    b"0 p 0 0 5 g 1 5\n0 p 0 0 1 n\n0 p 0 2 4 g 2 9\n0 s 0 3 1 1 2 0\n0 c 0 0 2 1\n0 m 0 0 7 0 3 16\n0 p 0 1 3 g 4 19\n1 m 0 1 2 1 1 2\n1 m 0 0 2 0 2 4\n";
 
 /// A grant, a glance that is not recorded, and a wait.
 const SHORT: &[u8] = b"pass 0 0 0 5\nglance 0\npass 0 0 0 1\n";
@@ -57,50 +45,6 @@ fn late(alloc: Global) -> Late {
         held: Vec::new(alloc),
         waits: Vec::new(alloc),
     }
-}
-
-#[test]
-fn the_journal_has_what_was_recorded(rt: HostRuntime) {
-    let alloc = rt.alloc();
-    let mut served = served(&rt, alloc);
-    let mut disk = no_files(alloc);
-    let mut input = CALLS;
-    let mut journal = Vec::new(alloc);
-    let mut out = Vec::new(alloc);
-    let ended = serve(
-        alloc,
-        &mut served,
-        &mut disk,
-        Some("j"),
-        &mut input,
-        &mut journal,
-        &mut out,
-    );
-    assert!(rt; ended == Ok(()));
-    assert!(rt; out.as_slice() == ANSWERS);
-    assert!(rt; journal.as_slice() == NOTES);
-}
-
-#[test]
-fn no_journal_is_kept_unless_it_is_named(rt: HostRuntime) {
-    let alloc = rt.alloc();
-    let mut served = served(&rt, alloc);
-    let mut disk = no_files(alloc);
-    let mut input = CALLS;
-    let mut journal = narrow(alloc, 0);
-    let mut out = Vec::new(alloc);
-    let ended = serve(
-        alloc,
-        &mut served,
-        &mut disk,
-        None,
-        &mut input,
-        &mut journal,
-        &mut out,
-    );
-    assert!(rt; ended == Ok(()));
-    assert!(rt; out.as_slice() == ANSWERS);
-    assert!(rt; journal.held.is_empty());
 }
 
 #[test]

@@ -1,14 +1,12 @@
-//! Tests of `ring_serve` by its public items alone: dialogues that are known beforehand, with what the journal has of them and
-//! what is saved, and readers, writers and files that fail.
+//! Tests of `ring_serve` by its public items alone: readers, writers and files that fail. What a dialogue is answered, and what
+//! its journal has, is a row of `command_script`.
 #![tactic(auto)]
 
 #[cfg(test)]
-mod dialogues;
+mod files;
 #[cfg(test)]
 mod journals;
 #[cfg(test)]
-mod resumes;
-#[cfg(test)]
-mod saves;
+mod scenes;
 #[cfg(test)]
 mod streams;

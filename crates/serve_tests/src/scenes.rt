@@ -1,0 +1,26 @@
+//! The rings that are served.
+
+use disks::MemoryDisk;
+use ring_book::Till;
+use ring_desk::OneThreadRing;
+use ring_serve::Served;
+use std::alloc::Global;
+use std::process::Abort;
+
+/// A ring of three machines with three values, and one seat.
+pub(crate) fn served(rt: &impl Abort, alloc: Global) -> Served {
+    let mut served = Served::none(alloc);
+    let Ok(ring) = OneThreadRing::open(alloc, 3, 3, &[0, 2, 0], 1, Till::new()) else {
+        panic!(rt; "the ring is opened");
+    };
+    assert!(rt; served.add(ring).is_ok());
+    served
+}
+
+/// No file.
+pub(crate) fn no_files(alloc: Global) -> MemoryDisk {
+    MemoryDisk {
+        alloc,
+        entries: Vec::new(alloc),
+    }
+}
