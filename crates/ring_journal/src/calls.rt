@@ -3,14 +3,14 @@
 use ring_saved::{SavedEvent, SavedSurvey};
 
 /// A call with its reply, as a saved text tells of it.
-#[derive(Clone, Copy, Debug, PartialEq, Eq)]
+#[derive(Clone, Copy)]
 pub enum Call {
     Event(SavedEvent),
     Survey(SavedSurvey),
 }
 
 /// A call of one of the rings.
-#[derive(Clone, Copy, Debug, PartialEq, Eq)]
+#[derive(Clone, Copy)]
 pub struct Recorded {
     /// The ring's number, from 0.
     pub ring: u32,

@@ -4,7 +4,7 @@ use ring_check::Kind;
 use thiserror::Error;
 
 /// Why nothing is recovered of some bytes.
-#[derive(Clone, Copy, Debug, PartialEq, Eq, Error)]
+#[derive(Clone, Copy, Debug, Error)]
 pub enum RecoverError {
     /// The bytes end within what a journal begins with, so they tell of no call.
     #[error("truncated")]

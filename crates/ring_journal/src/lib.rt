@@ -18,4 +18,4 @@ pub use calls::{Call, Recorded};
 pub use errors::RecoverError;
 pub use laws::{beginnings_law, one_history_law, saving_law};
 pub use recover::recovered;
-pub use write::{put_all_recorded, put_first_line, put_recorded};
+pub use write::{put_first_line, put_recorded};

@@ -16,7 +16,7 @@ use std::alloc::{AllocError, AllocFailed, Global};
 use text_lines::{Stop, number32, word};
 
 /// There was no room.
-#[derive(Clone, Copy, Debug)]
+#[derive(Clone, Copy)]
 pub(crate) struct NoRoom;
 
 impl From<AllocError> for NoRoom {

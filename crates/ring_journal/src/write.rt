@@ -1,7 +1,5 @@
 //! The writers of a journal's lines. They take no memory.
 
-ghost use Rattle.std.specs.Prelude.{ℕ, ◌≤◌};
-ghost use Rattle.std.specs.List.{flat_map};
 ghost use Rattle.text_lines.specs.Writing.{Writes};
 ghost use Rattle.text_lines.specs.Spelling.{spaced};
 ghost use Rattle.ring_journal.specs.Spelling.{first_line, call_line, recorded_line};
@@ -50,21 +48,4 @@ pub fn put_recorded<W: Write>(out: &mut W, recorded: Recorded) -> Result<(), Wri
         Ok(()) => put_call(out, recorded.call),
         Err(fault) => Err(fault),
     }
-}
-
-/// Writes the lines of some calls, one after the other.
-///
-/// # Errors
-///
-/// As [`put_recorded`], with a beginning of these lines.
-pub fn put_all_recorded<W: Write>(out: &mut W, calls: &[Recorded]) -> Result<(), WriteFault>
-    ensures { Writes (W.contents out.old) (W.contents out.new) result (flat_map recorded_line calls.now) }
-{
-    for recorded in calls {
-        match put_recorded(out, *recorded) {
-            Ok(()) => {}
-            Err(fault) => return Err(fault),
-        }
-    }
-    Ok(())
 }

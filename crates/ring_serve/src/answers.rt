@@ -9,7 +9,7 @@ use ring_model::Survey;
 use text_lines::Line;
 
 /// Why a call is refused. Nothing has changed then.
-#[derive(Clone, Copy, Debug, PartialEq, Eq)]
+#[derive(Clone, Copy)]
 pub enum Refusal {
     /// The line is no call, or has more than 8 KiB.
     Syntax,
@@ -35,7 +35,7 @@ pub enum Refusal {
 }
 
 /// What a call is answered.
-#[derive(Clone, Copy, Debug, PartialEq, Eq)]
+#[derive(Clone, Copy)]
 pub enum Answer {
     /// The machine was privileged: the number of the grant, and what the resource answered.
     Granted { number: u64, result: u64 },

@@ -37,7 +37,7 @@ impl Model for Served {
 }
 
 /// A line that was answered: the number of the ring that it calls, and what was made of it.
-#[derive(Clone, Copy, Debug, PartialEq, Eq)]
+#[derive(Clone, Copy)]
 pub struct Turned {
     pub ring: u32,
     pub made: Made,
@@ -118,22 +118,6 @@ impl Served {
         ensures err { OnErr result (self.new ≡ self.old) }
     {
         add_to(&mut self.rings, ring)
-    }
-
-    /// These rings, in their order.
-    pub fn new(rings: Vec<OneThreadRing<Till>>) -> Served
-        requires { AreRight rings.items }
-        ensures { result ≡ map standing_of rings.items }
-    {
-        Served { rings }
-    }
-
-    /// The rings, in their order.
-    pub fn into_rings(self) -> Vec<OneThreadRing<Till>>
-        ensures same { map standing_of result.items ≡ self }
-        ensures right { AreRight result.items }
-    {
-        self.rings
     }
 
     /// How many rings there are.

@@ -10,7 +10,7 @@ use ring_saved::Saved;
 use std::alloc::Global;
 
 /// Why saved rings are not served.
-#[derive(Clone, Copy, Debug, PartialEq, Eq)]
+#[derive(Clone, Copy, Debug)]
 pub enum StartError {
     /// The ring of this number, the first, has more events than a ring can go on with.
     Full(u64),

@@ -14,7 +14,7 @@ use ring_desk::{CallError, OneThreadRing};
 use ring_model::{Reply, Survey};
 
 /// What is to be recorded of a call.
-#[derive(Clone, Copy, Debug, PartialEq, Eq)]
+#[derive(Clone, Copy)]
 pub enum Recorded {
     Nothing,
     /// The events of the ring's history, from this place on.
@@ -24,7 +24,7 @@ pub enum Recorded {
 }
 
 /// A call that was made: its answer, and what is to be recorded of it.
-#[derive(Clone, Copy, Debug, PartialEq, Eq)]
+#[derive(Clone, Copy)]
 pub struct Made {
     pub answer: Answer,
     pub recorded: Recorded,
