@@ -106,16 +106,13 @@ try_program() {
     row "requests for memory refused in turn: ring_tool $*" "$((number - 1))" "$differ"
 }
 
-crates=${*:-ring_tests shared_tests farm_tests ring_tool}
+crates=${*:-ring_tests farm_tests ring_tool}
 for crate in $crates; do
     case $crate in
     ring_tests)
         try_crate "$crate" "^(book|settle)::|memory"
         try_mark "$crate" book::calls_with_room_and_surveys_take_no_memory
         try_mark "$crate" settle::following_takes_no_memory
-        ;;
-    shared_tests)
-        try_crate "$crate" want_of_memory
         try_mark "$crate" shared::want_of_memory_changes_nothing
         ;;
     farm_tests)

@@ -5,12 +5,14 @@
 //! The program ends with an error at a line that cannot be played.
 #![tactic(auto)]
 
+mod farms;
 mod paper;
 mod runs;
 mod texts;
 mod tries;
 
-use crate::runs::run;
+use crate::farms::run_farm;
+use crate::runs::{run, run_broken};
 use crate::texts::edit;
 use crate::tries::{run_cuts, run_hindered, run_other_bytes};
 use std::fs::{self, File};
@@ -44,6 +46,10 @@ fn play_run<R: AllocGlobal + Files<File = File> + Threads + Wait + Sync, W: Writ
         run(rt, words, text, out)?;
     } else if let Some(words) = line.strip_prefix('%') {
         run_hindered(rt, words, text, out)?;
+    } else if let Some(words) = line.strip_prefix('?') {
+        run_broken(rt, words, text, out)?;
+    } else if let Some(words) = line.strip_prefix('&') {
+        run_farm(rt, words, text, out)?;
     } else if let Some(words) = line.strip_prefix('<') {
         run_cuts(rt, words, text, out)?;
     } else if let Some(words) = line.strip_prefix('^') {

@@ -1,4 +1,4 @@
-//! A writer into memory that can fail, and a reader that gives little at a time.
+//! A writer into memory that can fail, and readers that give little at a time or fail.
 
 use std::alloc::Global;
 use std::io::{self, ErrorKind, Read, Write};
@@ -53,9 +53,22 @@ pub struct Slow<'a> {
 
 impl Read for Slow<'_> {
     fn read(&mut self, buf: &mut [u8]) -> io::Result<usize> {
-        let count = self.rest.len().min(buf.len()).min(1);
-        buf[..count].copy_from_slice(&self.rest[..count]);
-        self.rest = &self.rest[count..];
-        Ok(count)
+        let count = buf.len().min(1);
+        self.rest.read(&mut buf[..count])
+    }
+}
+
+/// A reader that gives what it has, and then fails.
+#[derive(Drop)]
+pub struct Broken<'a> {
+    pub rest: &'a [u8],
+}
+
+impl Read for Broken<'_> {
+    fn read(&mut self, buf: &mut [u8]) -> io::Result<usize> {
+        if self.rest.is_empty() {
+            return Err(io::Error::from(ErrorKind::BrokenPipe));
+        }
+        self.rest.read(buf)
     }
 }

@@ -1,6 +1,6 @@
 //! One run of the program.
 
-use crate::paper::Paper;
+use crate::paper::{Broken, Paper};
 use disks::SystemDisk;
 use ring_program::run_tool_on;
 use std::alloc::{AllocError, Global};
@@ -82,4 +82,19 @@ pub fn run<R: AllocGlobal + Files<File = File> + Threads + Wait + Sync, W: Write
         return Ok(());
     }
     writeln!(out, "unread {}", input.len())
+}
+
+/// Runs the program on a line of words, with a standard input that gives the text and then fails, and writes what it did.
+pub fn run_broken<R: AllocGlobal + Files<File = File> + Threads + Wait + Sync, W: Write>(
+    rt: &R,
+    line: &str,
+    text: &[u8],
+    out: &mut W,
+) -> io::Result<()> {
+    let words = words_of(rt.alloc(), line)?;
+    let mut input = Broken { rest: text };
+    let (printed, told) = (Paper::new(rt.alloc()), Paper::new(rt.alloc()));
+    let ended = run_over(rt, &words, &mut input, printed, told);
+    writeln!(out, "?{line}")?;
+    write_ended(&ended, out)
 }

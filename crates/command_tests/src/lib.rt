@@ -1,5 +1,5 @@
-//! Tests of the program and of its commands that are no row of the script of `command_script`: readers that fail or give too
-//! much, faults that no words lead to, and runs whose outcome the threads decide.
+//! Tests of the commands that are no row of the script of `command_script`: readers that fail or give too much, and faults that
+//! no words lead to.
 #![tactic(auto)]
 
 #[cfg(test)]
@@ -8,5 +8,3 @@ mod faults;
 mod lists;
 #[cfg(test)]
 mod reading;
-#[cfg(test)]
-mod runs;

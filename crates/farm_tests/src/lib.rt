@@ -1,8 +1,9 @@
-//! Tests of farms, of a ring that is called by numbers, and of the texts that are written of them, by their public calls
-//! alone. Settings and rings that threads
-//! share have crates of tests of their own.
+//! Tests of settings, of farms, of rings that are called by numbers and by lines, and of the texts that are written of them, by
+//! their public calls alone.
 #![tactic(auto)]
 
+#[cfg(test)]
+mod by_line;
 #[cfg(test)]
 mod by_number;
 #[cfg(test)]
@@ -11,5 +12,7 @@ mod events;
 mod farm;
 #[cfg(test)]
 mod scripted;
+#[cfg(test)]
+mod settings;
 #[cfg(test)]
 mod texts;

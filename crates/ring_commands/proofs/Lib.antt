@@ -5,5 +5,6 @@ pub mod FirstFaults
 pub mod ListTexts
 pub mod NamedFiles
 pub mod Recoveries
+pub mod ServeRefusals
 pub mod StepLemmas
 pub mod Upgrades

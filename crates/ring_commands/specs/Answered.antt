@@ -32,7 +32,7 @@ IsRefusal (request.Run words) before after was is old new early late e = IsRunRe
 IsRefusal (request.Check words) before after was is old new early late e = IsCheckRunRefusal words before was is old new e × (after ≡ before)
 IsRefusal (request.Picture words) before after was is old new early late e = IsPictureRefusal words before after was is old new early late e
 IsRefusal (request.Upgrade words) before after was is old new early late e = IsUpgradeRefusal words before after was is old new early late e
-IsRefusal (request.Serve words) before after was is old new early late e = IsServeRefusal words was is old new e
+IsRefusal (request.Serve words) before after was is old new early late e = IsServeRefusal words before was is old new e
 IsRefusal (request.Recover words) before after was is old new early late e = IsRecoverRefusal words before after was is old new early late e
 
 -- it serves lines, which may change files before it is refused

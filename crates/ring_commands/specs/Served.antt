@@ -1,5 +1,5 @@
 -- What `serve` answers.
-use Rattle.std.specs.Prelude.{◌≡◌, ◌≢◌, ℕ, ◌⊎◌, List, [], length, Bool, true, false, Option, None, Some}
+use Rattle.std.specs.Prelude.{◌≡◌, ℕ, ◌⊎◌, List, [], length, codes, Bool, true, false, Option, None, Some}
 use Rattle.std.specs.Option.{option_map, is_some}
 use Rattle.std.specs.Io.KnownBytes.{Appends}
 use Rattle.disks.specs.Held.{Held, Grows, Replaces}
@@ -9,15 +9,17 @@ use Rattle.ring_saved.specs.Content.{content}
 use Rattle.ring_check.specs.declared.answers.Summary.{Summary}
 use Rattle.ring_journal.specs.Spelling.{head_text}
 use Rattle.ring_journal.specs.Recovery.{IsRecovered}
-use Rattle.ring_text.specs.declared.counts.Totals.{Totals}
 use Rattle.ring_text.specs.Report.{total_line}
 use Rattle.ring_serve.specs.Standings.{Standing}
 use Rattle.ring_serve.specs.Saved.{content_of}
-use Rattle.ring_serve.specs.Starting.{AreResumed}
+use Rattle.ring_serve.specs.declared.starting.StartError.{StartError}
+use Rattle.ring_serve.specs.Starting.{AreResumed, IsStartFault}
 use Rattle.ring_serve.specs.Totals.{totals_of}
-use Rattle.ring_serve.specs.Serving.{Written, ServesAll, ServesSome}
-use Rattle.ring_commands.specs.Checked.{IsLegalSavedText}
-use Rattle.ring_commands.specs.Named.{IsHeld}
+use Rattle.ring_serve.specs.Serving.{ServesAll, ServesSome}
+use Rattle.ring_commands.specs.Checked.{IsLegalSavedText, IsSavedTextRefusal}
+use Rattle.ring_commands.specs.Faults.{fault_of_start}
+use Rattle.ring_commands.specs.Named.{IsHeld, IsFileRefusal}
+use Rattle.ring_commands.specs.Recovered.{IsRecoveryRefusal}
 use Rattle.ring_requests.specs.declared.requests.ServeWords.{ServeWords}
 use Rattle.ring_commands.specs.declared.faults.ToolError.{ToolError}
 use Rattle.ring_commands.specs.declared.faults.ToolError.TheVariants as tool
@@ -94,13 +96,40 @@ pub record IsServeAnswer (words : ServeWords) (before after : Option Held) (was 
   pub served : IsServedFrom words saved end before after was is old new
   pub told : Appends early late (total_line (length end) (totals_of end))
 
--- A refusal that comes before a line is read: standard input and output are as they were.
+-- ---- refusals
+
+-- no line was read or answered: standard input and output are as they were
 abbrev pub IsUnserved : Option (List ℕ) → Option (List ℕ) → Option (List ℕ) → Option (List ℕ) → Type 0
 IsUnserved was is old new = (is ≡ was) × (new ≡ old)
 
--- One that comes while lines are served, or when they have been: some of them were answered, and the journal, if one is kept, holds what was noted of each that was told.
-pub record IsBrokenOff (keeps : Bool) (was is old new : Option (List ℕ)) : Type 0 where
-  pub start : List Standing
+-- the history is refused: its file cannot be read, or does not hold a legal saved text
+abbrev pub IsHistoryRefusal : Option Held → List ℕ → ToolError → Type 0
+IsHistoryRefusal files name e = IsFileRefusal files name e ⊎ ((bytes : List ℕ) × IsHeld files name bytes × IsSavedTextRefusal bytes e)
+
+-- the journal's file cannot be kept: another process has it, or it cannot be opened, or begun anew
+abbrev pub IsUnkept : List ℕ → ToolError → Type 0
+IsUnkept name (tool.InUse named) = named.now ≡ name
+IsUnkept name (tool.Save named) = named.now ≡ name
+IsUnkept name _ = ⊥
+
+-- the journal is refused: its file cannot be kept or read, or nothing is recovered of what it holds
+abbrev pub IsJournalRefusal : Option Held → List ℕ → ToolError → Type 0
+IsJournalRefusal files name e = IsUnkept name e ⊎ (IsFileRefusal files name e ⊎ ((bytes : List ℕ) × IsHeld files name bytes × IsRecoveryRefusal bytes e))
+
+-- these rings do not go on: one has more events than a ring can go on with, or there is no memory
+abbrev pub IsStartRefusal : List SavedRing → ToolError → Type 0
+IsStartRefusal rings e = (fault : StartError) × IsStartFault rings fault × (e ≡ fault_of_start fault)
+
+-- what ends it while lines are served, or when all have been: standard input, the journal if one is kept, a standard output or memory fails
+abbrev pub IsServingFault : Option (List ℕ) → ToolError → Type 0
+IsServingFault journal (tool.Read named) = named.now ≡ codes "-"
+IsServingFault journal (tool.Save named) = Some named.now ≡ journal
+IsServingFault journal tool.Write = Unit {0}
+IsServingFault journal tool.OutOfMemory = Unit {0}
+IsServingFault journal _ = ⊥
+
+-- Some of the lines were answered, or all of them, from where the rings began; and the journal, if one is kept, holds what was noted of each that was told.
+pub record IsServedPart (keeps : Bool) (start : List Standing) (was is old new : Option (List ℕ)) : Type 0 where
   pub end : List Standing
   pub files : Option Held
   pub now : Option Held
@@ -109,6 +138,21 @@ pub record IsBrokenOff (keeps : Bool) (was is old new : Option (List ℕ)) : Typ
   pub served : ServesSome keeps start end files now was is (record { journal = first; out = old }) (record { journal = last; out = new })
       ⊎ ServesAll keeps start end files now was is (record { journal = first; out = old }) (record { journal = last; out = new })
 
--- Which refusals `serve` may meet: none of a list.
-abbrev pub IsServeRefusal : ServeWords → Option (List ℕ) → Option (List ℕ) → Option (List ℕ) → Option (List ℕ) → ToolError → Type 0
-IsServeRefusal words was is old new e = (e ≢ tool.BadList) × (IsUnserved was is old new ⊎ IsBrokenOff (is_some words.journal) was is old new)
+-- these rings do not go on, and no line is read; or they did, and were broken off
+abbrev pub IsUnfinished : Option (List ℕ) → List SavedRing → Option (List ℕ) → Option (List ℕ) → Option (List ℕ) → Option (List ℕ) → ToolError → Type 0
+IsUnfinished journal rings was is old new e =
+    (IsUnserved was is old new × IsStartRefusal rings e)
+    ⊎ (IsServingFault journal e × ((start : List Standing) × AreResumed start rings × IsServedPart (is_some journal) start was is old new))
+
+-- with this history: the journal, if one is kept, is refused, and no line is read; or the rings that begin where they have to are not served to the end
+abbrev pub IsRefusedFrom : Option Held → Option (List ℕ) → Saved → Option (List ℕ) → Option (List ℕ) → Option (List ℕ) → Option (List ℕ) → ToolError → Type 0
+IsRefusedFrom files None saved was is old new e = IsUnfinished None saved.rings.items was is old new e
+IsRefusedFrom files (Some name) saved was is old new e =
+    (IsUnserved was is old new × IsJournalRefusal files name e)
+    ⊎ ((from : Saved) × IsNoted files name saved from × IsUnfinished (Some name) from.rings.items was is old new e)
+
+-- Which refusals `serve` may meet: those of the history, before a line is read, and those that come with it.
+abbrev pub IsServeRefusal : ServeWords → Option Held → Option (List ℕ) → Option (List ℕ) → Option (List ℕ) → Option (List ℕ) → ToolError → Type 0
+IsServeRefusal words files was is old new e =
+    (IsUnserved was is old new × IsHistoryRefusal files words.history.now e)
+    ⊎ ((saved : Saved) × IsHistory files words.history.now saved × IsRefusedFrom files (journal_of words) saved was is old new e)

@@ -1,6 +1,7 @@
 //! `serve`: rings that go on from a saved text, driven by the lines of standard input.
 
-ghost use Rattle.std.specs.Prelude.{◌≡◌, ◌≢◌, ℕ, List, Some, Option, true, false, OnOk, IfOk, IfErr, IfSome, length, ◌⊎◌, ◌≤◌, ◌<◌, ◌^◌};
+ghost use Rattle.std.specs.Prelude.{◌≡◌, ℕ, List, None, Some, Option, true, false, OnOk, IfOk, IfErr, IfSome, length, ◌⊎◌, ◌≤◌, ◌<◌, ◌^◌};
+ghost use Rattle.std.specs.Option.{option_map};
 ghost use Rattle.std.specs.Io.KnownBytes.{Appends};
 ghost use Rattle.text_lines.specs.Writing.{Writes};
 ghost use Rattle.disks.specs.Held.{Held, Grows, Replaces};
@@ -11,7 +12,7 @@ ghost use Rattle.ring_serve.specs.Saved.{content_of};
 ghost use Rattle.ring_serve.specs.Starting.{AreResumed};
 ghost use Rattle.ring_serve.specs.Totals.{totals_of};
 ghost use Rattle.ring_text.specs.Report.{total_line};
-ghost use Rattle.ring_commands.specs.Served.{IsHistory, IsNoted, IsServedPlain, IsServedOn, IsServedNoted, IsServedFrom, IsServeAnswer, IsUnserved, IsBrokenOff, IsServeRefusal};
+ghost use Rattle.ring_commands.specs.Served.{IsHistory, IsNoted, IsServedPlain, IsServedOn, IsServedNoted, IsServedFrom, IsServeAnswer, journal_of, IsUnserved, IsHistoryRefusal, IsUnkept, IsJournalRefusal, IsStartRefusal, IsServingFault, IsServedPart, IsUnfinished, IsRefusedFrom, IsServeRefusal};
 
 use crate::check::legal_saved;
 use crate::faults::ToolError;
@@ -20,7 +21,7 @@ use disks::Disk;
 use ring_journal::{put_first_line, recovered};
 use ring_requests::ServeWords;
 use ring_saved::Saved;
-use ring_serve::{ServeFault, Served, StartError, put_rings, serve};
+use ring_serve::{ServeFault, Served, put_rings, serve};
 use ring_text::put_total_line;
 use std::alloc::Global;
 use std::io::{BufWriter, ErrorKind, Read, Write, sink};
@@ -33,31 +34,29 @@ use text_lines::WriteFault;
 /// `Full` if one of them has too many events, and `OutOfMemory`.
 fn started(alloc: Global, saved: &Saved) -> Result<Served, ToolError<'static>>
     ensures ok { IfOk result (λ served. AreResumed served saved.now.rings.items) }
-    ensures err { IfErr result (λ e. e ≢ ToolError.BadList) }
+    ensures err { IfErr result (λ e. IsStartRefusal saved.now.rings.items e) }
 {
-    match Served::from_saved(alloc, saved) {
-        Ok(served) => Ok(served),
-        Err(StartError::Full(place)) => Err(ToolError::Full(place)),
-        Err(StartError::OutOfMemory) => Err(ToolError::OutOfMemory),
-    }
+    let served = Served::from_saved(alloc, saved)?;
+    Ok(served)
 }
 
 /// What is told of a fault while lines were served.
-fn told<'a>(fault: ServeFault, journal: &'a str) -> ToolError<'a>
-    ensures { result ≢ ToolError.BadList }
+fn told<'a>(fault: ServeFault, journal: Option<&'a str>) -> ToolError<'a>
+    ensures { IsServingFault (option_map (λ name. name.now) journal.entry) result }
 {
-    match fault {
-        ServeFault::Read => ToolError::Read("-"),
-        ServeFault::Journal => ToolError::Save(journal),
-        ServeFault::Write => ToolError::Write,
-        ServeFault::OutOfMemory => ToolError::OutOfMemory,
+    match (fault, journal) {
+        (ServeFault::Read, _) => ToolError::Read("-"),
+        (ServeFault::OutOfMemory, _) => ToolError::OutOfMemory,
+        (ServeFault::Journal, Some(name)) => ToolError::Save(name),
+        // without a journal none fails
+        (ServeFault::Journal | ServeFault::Write, _) => ToolError::Write,
     }
 }
 
 /// The value of the legal saved text that the file of this name holds.
 fn history<'a, D: Disk>(alloc: Global, disk: &D, name: &'a str) -> Result<Saved, ToolError<'a>>
     ensures ok { IfOk result (λ saved. IsHistory (D.holds disk.now) name.now saved) }
-    ensures err { IfErr result (λ e. e ≢ ToolError.BadList) }
+    ensures err { IfErr result (λ e. IsHistoryRefusal (D.holds disk.now) name.now e) }
 {
     let bytes = read_file(alloc, disk, name)?;
     let (saved, _) = legal_saved(alloc, bytes.as_slice())?;
@@ -72,7 +71,7 @@ fn noted<'a, D: Disk>(
     saved: Saved,
 ) -> Result<Saved, ToolError<'a>>
     ensures ok { IfOk result (λ now. IsNoted (D.holds disk.now) name.now saved now) }
-    ensures err { IfErr result (λ e. e ≢ ToolError.BadList) }
+    ensures err { IfErr result (λ e. IsJournalRefusal (D.holds disk.now) name.now e) }
 {
     let bytes = read_file(alloc, disk, name)?;
     if bytes.is_empty() {
@@ -86,7 +85,7 @@ fn noted<'a, D: Disk>(
 fn opened<'a, D: Disk>(disk: &mut D, name: &'a str, synced: bool) -> Result<D::Grown, ToolError<'a>>
     ensures ok { IfOk result (λ grown. Grows (D.holds disk.old) name.now (D.Grown.contents grown)) }
     ensures kept { D.holds disk.new ≡ D.holds disk.old }
-    ensures err { IfErr result (λ e. e ≢ ToolError.BadList) }
+    ensures err { IfErr result (λ e. IsUnkept name.now e) }
 {
     match disk.grow(name, synced) {
         Ok(grown) => Ok(grown),
@@ -139,7 +138,7 @@ fn put_beginning<'a, D: Disk>(
     name: &'a str,
 ) -> Result<(), ToolError<'a>>
     ensures ok { OnOk result (Replaces (D.holds disk.old) (D.holds disk.new) name.now (Some (head_text (content_of served.now)))) }
-    ensures err { IfErr result (λ e. e ≢ ToolError.BadList) }
+    ensures err { IfErr result (λ e. IsUnkept name.now e) }
 {
     let Ok(made) = disk.make(name) else {
         return Err(ToolError::Save(name));
@@ -177,11 +176,11 @@ fn serve_plain<D: Disk, I: Read, W: Write>(
     out: &mut W,
 ) -> Result<(), ToolError<'static>>
     ensures ok { OnOk result (IsServedPlain served.old served.new (D.holds disk.old) (D.holds disk.new) (I.remaining input.old) (I.remaining input.new) (W.contents out.old) (W.contents out.new)) }
-    ensures err { IfErr result (λ e. (e ≢ ToolError.BadList) × IsBrokenOff false (I.remaining input.old) (I.remaining input.new) (W.contents out.old) (W.contents out.new)) }
+    ensures err { IfErr result (λ e. IsServingFault None e × IsServedPart false served.old (I.remaining input.old) (I.remaining input.new) (W.contents out.old) (W.contents out.new)) }
 {
     match serve(alloc, served, disk, None, input, &mut sink(), out) {
         Ok(()) => Ok(()),
-        Err(fault) => Err(told(fault, "-")),
+        Err(fault) => Err(told(fault, None)),
     }
 }
 
@@ -196,11 +195,11 @@ fn serve_noted<'a, D: Disk, I: Read, W: Write>(
     out: &mut W,
 ) -> Result<(), ToolError<'a>>
     ensures ok { OnOk result (IsServedOn name.now served.old served.new (D.holds disk.old) (D.holds disk.new) (D.Grown.contents journal) (I.remaining input.old) (I.remaining input.new) (W.contents out.old) (W.contents out.new)) }
-    ensures err { IfErr result (λ e. (e ≢ ToolError.BadList) × IsBrokenOff true (I.remaining input.old) (I.remaining input.new) (W.contents out.old) (W.contents out.new)) }
+    ensures err { IfErr result (λ e. IsServingFault (Some name.now) e × IsServedPart true served.old (I.remaining input.old) (I.remaining input.new) (W.contents out.old) (W.contents out.new)) }
 {
     match serve(alloc, served, disk, Some(name), input, &mut journal, out) {
         Ok(()) => {}
-        Err(fault) => return Err(told(fault, name)),
+        Err(fault) => return Err(told(fault, Some(name))),
     }
     match disk.settle(journal, name) {
         Ok(()) => Ok(()),
@@ -217,7 +216,7 @@ fn begin_journal<'a, D: Disk>(
     synced: bool,
 ) -> Result<D::Grown, ToolError<'a>>
     ensures ok { IfOk result (λ grown. Replaces (D.holds disk.old) (D.holds disk.new) name.now (Some (head_text (content_of served.now))) × Grows (D.holds disk.new) name.now (D.Grown.contents grown)) }
-    ensures err { IfErr result (λ e. e ≢ ToolError.BadList) }
+    ensures err { IfErr result (λ e. IsUnkept name.now e) }
 {
     put_beginning(alloc, disk, served, name)?;
     match opened(disk, name, synced) {
@@ -235,7 +234,7 @@ fn run_plain<D: Disk, I: Read, W: Write>(
     out: &mut W,
 ) -> Result<Served, ToolError<'static>>
     ensures ok { IfOk result (λ end. (start : List Standing) × AreResumed start saved.now.rings.items × IsServedPlain start end (D.holds disk.old) (D.holds disk.new) (I.remaining input.old) (I.remaining input.new) (W.contents out.old) (W.contents out.new)) }
-    ensures err { IfErr result (λ e. (e ≢ ToolError.BadList) × (IsUnserved (I.remaining input.old) (I.remaining input.new) (W.contents out.old) (W.contents out.new) ⊎ IsBrokenOff false (I.remaining input.old) (I.remaining input.new) (W.contents out.old) (W.contents out.new))) }
+    ensures err { IfErr result (λ e. IsUnfinished None saved.now.rings.items (I.remaining input.old) (I.remaining input.new) (W.contents out.old) (W.contents out.new) e) }
 {
     let mut served = match started(alloc, saved) {
         Ok(served) => served,
@@ -258,7 +257,7 @@ fn run_noted<'a, D: Disk, I: Read, W: Write>(
     out: &mut W,
 ) -> Result<Served, ToolError<'a>>
     ensures ok { IfOk result (λ end. (start : List Standing) × AreResumed start saved.now.rings.items × IsServedNoted name.now start end (D.holds disk.old) (D.holds disk.new) (I.remaining input.old) (I.remaining input.new) (W.contents out.old) (W.contents out.new)) }
-    ensures err { IfErr result (λ e. (e ≢ ToolError.BadList) × (IsUnserved (I.remaining input.old) (I.remaining input.new) (W.contents out.old) (W.contents out.new) ⊎ IsBrokenOff true (I.remaining input.old) (I.remaining input.new) (W.contents out.old) (W.contents out.new))) }
+    ensures err { IfErr result (λ e. (IsUnserved (I.remaining input.old) (I.remaining input.new) (W.contents out.old) (W.contents out.new) × IsUnkept name.now e) ⊎ IsUnfinished (Some name.now) saved.now.rings.items (I.remaining input.old) (I.remaining input.new) (W.contents out.old) (W.contents out.new) e) }
 {
     let mut served = match started(alloc, saved) {
         Ok(served) => served,
@@ -285,7 +284,7 @@ fn run_journaled<'a, D: Disk, I: Read, W: Write>(
     out: &mut W,
 ) -> Result<Served, ToolError<'a>>
     ensures ok { IfOk result (λ end. (from : Saved) × IsNoted (D.holds disk.old) name.now saved from × (start : List Standing) × AreResumed start from.rings.items × IsServedNoted name.now start end (D.holds disk.old) (D.holds disk.new) (I.remaining input.old) (I.remaining input.new) (W.contents out.old) (W.contents out.new)) }
-    ensures err { IfErr result (λ e. (e ≢ ToolError.BadList) × (IsUnserved (I.remaining input.old) (I.remaining input.new) (W.contents out.old) (W.contents out.new) ⊎ IsBrokenOff true (I.remaining input.old) (I.remaining input.new) (W.contents out.old) (W.contents out.new))) }
+    ensures err { IfErr result (λ e. IsRefusedFrom (D.holds disk.old) (Some name.now) saved (I.remaining input.old) (I.remaining input.new) (W.contents out.old) (W.contents out.new) e) }
 {
     let lock = match opened(disk, name, false) {
         Ok(lock) => lock,
@@ -310,7 +309,7 @@ fn run_on<'a, D: Disk, I: Read, W: Write>(
     out: &mut W,
 ) -> Result<Served, ToolError<'a>>
     ensures ok { IfOk result (λ end. IsServedFrom words.now saved end (D.holds disk.old) (D.holds disk.new) (I.remaining input.old) (I.remaining input.new) (W.contents out.old) (W.contents out.new)) }
-    ensures err { IfErr result (λ e. IsServeRefusal words.now (I.remaining input.old) (I.remaining input.new) (W.contents out.old) (W.contents out.new) e) }
+    ensures err { IfErr result (λ e. IsRefusedFrom (D.holds disk.old) (journal_of words.now) saved (I.remaining input.old) (I.remaining input.new) (W.contents out.old) (W.contents out.new) e) }
 {
     match words.journal {
         None => match run_plain(alloc, disk, &saved, input, out) {
@@ -341,7 +340,7 @@ pub fn run<'a, D: Disk, I: Read, W: Write, E: Write>(
     err: &mut E,
 ) -> Result<(), ToolError<'a>>
     ensures ok { OnOk result (IsServeAnswer words.now (D.holds disk.old) (D.holds disk.new) (I.remaining input.old) (I.remaining input.new) (W.contents out.old) (W.contents out.new) (E.contents err.old) (E.contents err.new)) }
-    ensures err { IfErr result (λ e. IsServeRefusal words.now (I.remaining input.old) (I.remaining input.new) (W.contents out.old) (W.contents out.new) e) }
+    ensures err { IfErr result (λ e. IsServeRefusal words.now (D.holds disk.old) (I.remaining input.old) (I.remaining input.new) (W.contents out.old) (W.contents out.new) e) }
 {
     let saved = match history(alloc, disk, words.history) {
         Ok(saved) => saved,

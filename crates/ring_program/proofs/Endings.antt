@@ -7,6 +7,8 @@ use Rattle.disks.specs.Held.{Held}
 use Rattle.ring_requests.specs.declared.requests.Request.{Request}
 use Rattle.ring_requests.specs.declared.requests.Request.TheVariants as asked
 use Rattle.ring_commands.specs.Answered.{IsAnswer, IsRefusal, IsOfLines}
+use Rattle.ring_commands.specs.Served.{IsServeRefusal}
+use Rattle.ring_commands.proofs.ServeRefusals.{no_list}
 use Rattle.ring_commands.specs.Faults.{is_bad_list, end_status}
 use Rattle.ring_commands.specs.declared.faults.ToolError.{ToolError}
 use Rattle.ring_commands.specs.declared.faults.ToolError.TheVariants as tool
@@ -65,7 +67,8 @@ no_lines (asked.Check words) before after was is old mid early told e bad refuse
 no_lines (asked.Picture words) before after was is old mid early told e bad refused lines = lines
 no_lines (asked.Upgrade words) before after was is old mid early told e bad refused lines = lines
 no_lines (asked.Recover words) before after was is old mid early told e bad refused lines = lines
-no_lines (asked.Serve words) before after was is old mid early told e bad refused lines = refused.0 (bad_list e bad)
+no_lines (asked.Serve words) before after was is old mid early told e bad refused lines =
+    no_list words before was is old mid (subst (λ (x : ToolError). IsServeRefusal words before was is old mid x) (bad_list e bad) refused)
 
 -- what is said of a value is said of a part of it
 pub silent_of : {A B : Type 0} {E F : Type 0} (part : A → B) (late early : A) (r : Result (Unit {0}) E) (f : Result (Unit {0}) F) → OnOk r (OnOk f (late ≡ early)) →

@@ -1,9 +1,11 @@
-//! Tests of the crates from `ring_model` to `ring_logs`, by their public items alone. They stand here so that those
-//! crates are not proved once more with their tests; each module is named after what it tests.
+//! Tests of the crates from `ring_model` to `ring_turns`, by their public items alone. They stand here so that those crates are
+//! not proved once more with their tests; each module is named after what it tests.
 #![tactic(auto)]
 
 #[cfg(test)]
 mod book;
+#[cfg(test)]
+mod events;
 #[cfg(test)]
 mod groups;
 #[cfg(test)]
@@ -17,6 +19,10 @@ mod rings;
 #[cfg(test)]
 mod settle;
 #[cfg(test)]
+mod shared;
+#[cfg(test)]
 mod states;
+#[cfg(test)]
+mod turns;
 #[cfg(test)]
 mod wide_lanes;

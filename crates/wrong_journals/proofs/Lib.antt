@@ -1,1 +1,2 @@
 pub mod Spoiled
+pub mod Unnoted

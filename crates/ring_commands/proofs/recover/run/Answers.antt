@@ -1,7 +1,6 @@
 use Rattle.std.proofs.Common.{inl, inr, sym, subst}
 use Rattle.std.proofs.lemmas.Result.{err_from_is_err_and}
 use Rattle.ring_saved.specs.Content.{content}
-use Rattle.ring_check.specs.Legal.{summary_of}
 use Rattle.ring_saved.specs.Spelling.{text}
 use Rattle.ring_commands.specs.CheckText.{legal_line}
 use Rattle.ring_commands.specs.Handed.{IsHanded, IsHandRefusal}

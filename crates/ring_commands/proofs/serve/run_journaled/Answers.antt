@@ -1,10 +1,10 @@
-use Rattle.std.proofs.Common.{◌≡◌, ℕ, List, Option, Result, Ok, Err, IfOk, subst}
+use Rattle.std.proofs.Common.{◌≡◌, ◌⊎◌, ℕ, List, Option, Some, Result, Ok, Err, IfOk, IfErr, refl, inl, inr, subst}
 use Rattle.disks.specs.Held.{Held}
 use Rattle.ring_saved.specs.declared.saved.Saved.{Saved}
 use Rattle.ring_serve.specs.Standings.{Standing}
 use Rattle.ring_serve.specs.Starting.{AreResumed}
 use Rattle.ring_commands.specs.declared.faults.ToolError.{ToolError}
-use Rattle.ring_commands.specs.Served.{IsNoted, IsServedNoted}
+use Rattle.ring_commands.specs.Served.{IsNoted, IsServedNoted, IsUnserved, IsUnkept, IsJournalRefusal, IsUnfinished, IsRefusedFrom}
 use Rattle.ring_commands.proofs.serve.run_journaled.Goals as goal
 
 -- the files were as they are while the journal was opened
@@ -24,3 +24,18 @@ pub returns-clause-ok : goal.returns-clause-ok
 returns-clause-ok g c =
     journaled c.run_noted-end.result c.args.name.now c.args.saved c.in-Ok-noted.saved (g.D.Disk.holds c.args.disk.now) (g.D.Disk.holds c.opened.new.disk) (g.D.Disk.holds c.run_noted-end.new.disk)
     (g.I.Read.remaining c.args.input.now) (g.I.Read.remaining c.run_noted-end.new.input) (g.W.Write.contents c.args.out.now) (g.W.Write.contents c.run_noted-end.new.out) c.opened.ensures.kept c.in-Ok-noted.ensures.ok c.run_noted-end.ensures.ok
+
+refused : (r : Result (List Standing) ToolError) (name : List ℕ) (given from : Saved) (before mid : Option Held) (was is old new : Option (List ℕ)) → mid ≡ before → IsNoted mid name given from →
+    IfErr r (λ e. (IsUnserved was is old new × IsUnkept name e) ⊎ IsUnfinished (Some name) from.rings.items was is old new e) →
+    IfErr r (λ e. IsRefusedFrom before (Some name) given was is old new e)
+refused (Ok end) name given from before mid was is old new same f h = tt
+refused (Err e) name given from before mid was is old new same f (inl u) = inl (u.0, inl u.1)
+refused (Err e) name given from before mid was is old new same f (inr u) = inr (from, subst (λ (x : Option Held). IsNoted x name given from) same f, u)
+
+pub returns-clause-err : goal.returns-clause-err
+returns-clause-err g c =
+    refused c.run_noted-end.result c.args.name.now c.args.saved c.in-Ok-noted.saved (g.D.Disk.holds c.args.disk.now) (g.D.Disk.holds c.opened.new.disk)
+    (g.I.Read.remaining c.args.input.now) (g.I.Read.remaining c.run_noted-end.new.input) (g.W.Write.contents c.args.out.now) (g.W.Write.contents c.run_noted-end.new.out) c.opened.ensures.kept c.in-Ok-noted.ensures.ok c.run_noted-end.ensures.err
+
+pub returns-in-Err-noted-clause-err : goal.returns-in-Err-noted-clause-err
+returns-in-Err-noted-clause-err g c = inl ((refl, refl), subst (λ (x : Option Held). IsJournalRefusal x c.args.name.now c.in-Err-noted.fault) c.opened.ensures.kept c.in-Err-noted.ensures.err)

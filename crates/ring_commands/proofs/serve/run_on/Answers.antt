@@ -5,7 +5,8 @@ use Rattle.ring_saved.specs.declared.saved.Saved.{Saved}
 use Rattle.ring_requests.specs.declared.requests.ServeWords.{ServeWords}
 use Rattle.ring_serve.specs.Standings.{Standing}
 use Rattle.ring_serve.specs.Starting.{AreResumed}
-use Rattle.ring_commands.specs.Served.{journal_of, IsNoted, BeginsAt, IsServedPlain, IsServedNoted, IsServed, IsServedFrom}
+use Rattle.ring_commands.specs.declared.faults.ToolError.{ToolError}
+use Rattle.ring_commands.specs.Served.{journal_of, IsNoted, BeginsAt, IsServedPlain, IsServedNoted, IsServed, IsServedFrom, IsRefusedFrom}
 use Rattle.ring_commands.proofs.serve.run_on.Goals as goal
 
 plain : (words : ServeWords) (saved : Saved) (end : List Standing) (before after : Option Held) (was is old new : Option (List ℕ)) → journal_of words ≡ None →
@@ -38,3 +39,17 @@ pub returns-in-Ok-run_journaled-clause-ok : goal.returns-in-Ok-run_journaled-cla
 returns-in-Ok-run_journaled-clause-ok g c =
     noted c.args.words.now c.args.saved c.in-Some.name.now c.in-Ok-run_journaled.end (g.D.Disk.holds c.args.disk.now) (g.D.Disk.holds c.run_journaled.new.disk) (g.I.Read.remaining c.args.input.now) (g.I.Read.remaining c.run_journaled.new.input) (g.W.Write.contents c.args.out.now) (g.W.Write.contents c.run_journaled.new.out)
     (ap (λ (j : Option _). option_map (λ name. name.now) j) c.in-Some.is) c.in-Ok-run_journaled.ensures.ok
+
+refused : (words : ServeWords) (journal : Option (List ℕ)) (saved : Saved) (files : Option Held) (was is old new : Option (List ℕ)) (e : ToolError) → journal_of words ≡ journal →
+    IsRefusedFrom files journal saved was is old new e → IsRefusedFrom files (journal_of words) saved was is old new e
+refused words journal saved files was is old new e same h = subst (λ (j : Option (List ℕ)). IsRefusedFrom files j saved was is old new e) (sym same) h
+
+pub returns-in-None-clause-err : goal.returns-in-None-clause-err
+returns-in-None-clause-err g c =
+    refused c.args.words.now None c.args.saved (g.D.Disk.holds c.args.disk.now) (g.I.Read.remaining c.args.input.now) (g.I.Read.remaining c.run_plain.new.input) (g.W.Write.contents c.args.out.now) (g.W.Write.contents c.run_plain.new.out)
+    c.in-Err.fault (ap (λ (j : Option _). option_map (λ name. name.now) j) c.in-None.is) c.in-Err.ensures.err
+
+pub returns-clause-err : goal.returns-clause-err
+returns-clause-err g c =
+    refused c.args.words.now (Some c.in-Some.name.now) c.args.saved (g.D.Disk.holds c.args.disk.now) (g.I.Read.remaining c.args.input.now) (g.I.Read.remaining c.run_journaled.new.input) (g.W.Write.contents c.args.out.now) (g.W.Write.contents c.run_journaled.new.out)
+    c.in-Err-run_journaled.fault (ap (λ (j : Option _). option_map (λ name. name.now) j) c.in-Some.is) c.in-Err-run_journaled.ensures.err

@@ -1,0 +1,22 @@
+//! Rings that lines drive: readers, writers and files that fail. What a dialogue is answered, and what its journal has, is a row
+//! of `command_script`.
+
+mod files;
+mod journals;
+mod streams;
+
+use ring_book::Till;
+use ring_desk::OneThreadRing;
+use ring_serve::Served;
+use std::alloc::Global;
+use std::process::Abort;
+
+/// A ring of three machines with three values, and one seat.
+fn served(rt: &impl Abort, alloc: Global) -> Served {
+    let mut served = Served::none(alloc);
+    let Ok(ring) = OneThreadRing::open(alloc, 3, 3, &[0, 2, 0], 1, Till::new()) else {
+        panic!(rt; "the ring is opened");
+    };
+    assert!(rt; served.add(ring).is_ok());
+    served
+}

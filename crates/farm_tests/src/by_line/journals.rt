@@ -1,0 +1,135 @@
+//! What a journal has of the lines that were answered if it, the output or the input fails.
+
+use super::files::Stuck;
+use super::served;
+use super::streams::{Drops, Late, Narrow};
+use ring_serve::{ServeFault, serve};
+use std::alloc::Global;
+
+/// A grant, a glance that is not recorded, and a wait.
+const SHORT: &[u8] = b"pass 0 0 0 5\nglance 0\npass 0 0 0 1\n";
+
+/// What they are answered: the first two, and all.
+const SHORT_ANSWERS: &[u8] = b"granted 1 5\nsurvey 1 2 1 1 3\nwaits\n";
+
+const TWO_ANSWERS: &[u8] = b"granted 1 5\nsurvey 1 2 1 1 3\n";
+
+/// What the journal gets of them: 16 bytes of the grant, and 12 of the wait.
+const SHORT_NOTES: &[u8] = b"0 p 0 0 5 g 1 5\n0 p 0 0 1 n\n";
+
+const FIRST_NOTE: usize = 16;
+
+/// A writer with room for so many bytes.
+fn narrow(alloc: Global, room: usize) -> Narrow {
+    Narrow {
+        held: Vec::new(alloc),
+        room,
+    }
+}
+
+/// A writer that has to be flushed.
+fn late(alloc: Global) -> Late {
+    Late {
+        held: Vec::new(alloc),
+        waits: Vec::new(alloc),
+    }
+}
+
+#[test]
+fn no_answer_leaves_before_its_call_is_in_the_journal(rt: HostRuntime) {
+    let alloc = rt.alloc();
+    for room in 0..SHORT_NOTES.len() {
+        let mut served = served(&rt, alloc);
+        let mut disk = Stuck { alloc };
+        let mut input = Drops {
+            left: SHORT,
+            fails: false,
+        };
+        let mut journal = narrow(alloc, room);
+        let mut out = Vec::new(alloc);
+        let ended = serve(
+            alloc,
+            &mut served,
+            &mut disk,
+            Some("j"),
+            &mut input,
+            &mut journal,
+            &mut out,
+        );
+        assert!(rt; ended == Err(ServeFault::Journal));
+        assert!(rt; journal.held.as_slice() == &SHORT_NOTES[..room]);
+        let told: &[u8] = if room < FIRST_NOTE { b"" } else { TWO_ANSWERS };
+        assert!(rt; out.as_slice() == told);
+    }
+}
+
+#[test]
+fn an_output_that_fails_leaves_the_journal_whole(rt: HostRuntime) {
+    let alloc = rt.alloc();
+    for room in 0..SHORT_ANSWERS.len() {
+        let mut served = served(&rt, alloc);
+        let mut disk = Stuck { alloc };
+        let mut input = SHORT;
+        let mut journal = Vec::new(alloc);
+        let mut out = narrow(alloc, room);
+        let ended = serve(
+            alloc,
+            &mut served,
+            &mut disk,
+            Some("j"),
+            &mut input,
+            &mut journal,
+            &mut out,
+        );
+        assert!(rt; ended == Err(ServeFault::Write));
+        assert!(rt; out.held.as_slice() == &SHORT_ANSWERS[..room]);
+        assert!(rt; journal.as_slice() == SHORT_NOTES);
+    }
+}
+
+#[test]
+fn the_journal_is_flushed_before_an_answer_leaves(rt: HostRuntime) {
+    let alloc = rt.alloc();
+    let mut served = served(&rt, alloc);
+    let mut disk = Stuck { alloc };
+    let mut input = SHORT;
+    let mut journal = late(alloc);
+    let mut out = narrow(alloc, 0);
+    let ended = serve(
+        alloc,
+        &mut served,
+        &mut disk,
+        Some("j"),
+        &mut input,
+        &mut journal,
+        &mut out,
+    );
+    assert!(rt; ended == Err(ServeFault::Write));
+    assert!(rt; journal.held.as_slice() == SHORT_NOTES);
+    assert!(rt; journal.waits.is_empty());
+}
+
+#[test]
+fn what_was_answered_leaves_before_more_is_read(rt: HostRuntime) {
+    let alloc = rt.alloc();
+    let mut served = served(&rt, alloc);
+    let mut disk = Stuck { alloc };
+    let mut input = Drops {
+        left: SHORT,
+        fails: true,
+    };
+    let mut journal = late(alloc);
+    let mut out = late(alloc);
+    let ended = serve(
+        alloc,
+        &mut served,
+        &mut disk,
+        Some("j"),
+        &mut input,
+        &mut journal,
+        &mut out,
+    );
+    assert!(rt; ended == Err(ServeFault::Read));
+    assert!(rt; journal.held.as_slice() == SHORT_NOTES);
+    assert!(rt; out.held.as_slice() == SHORT_ANSWERS);
+}

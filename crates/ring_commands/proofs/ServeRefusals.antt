@@ -1,0 +1,50 @@
+-- What serves lines is never refused for a list.
+use Rattle.std.proofs.Common.{◌≡◌, ℕ, List, Option, None, Some, inl, inr}
+use Rattle.disks.specs.Held.{Held}
+use Rattle.ring_saved.specs.declared.saved.Saved.{Saved}
+use Rattle.ring_saved.specs.declared.saved.SavedRing.{SavedRing}
+use Rattle.ring_journal.specs.declared.errors.RecoverError.{RecoverError}
+use Rattle.ring_journal.specs.declared.errors.RecoverError.TheVariants as recover
+use Rattle.ring_serve.specs.declared.starting.StartError.{StartError}
+use Rattle.ring_serve.specs.declared.starting.StartError.TheVariants as start
+use Rattle.ring_requests.specs.declared.requests.ServeWords.{ServeWords}
+use Rattle.ring_commands.specs.Faults.{fault_of_recovery, fault_of_start}
+use Rattle.ring_commands.specs.Named.{IsFileRefusal}
+use Rattle.ring_commands.specs.Served.{journal_of, IsHistoryRefusal, IsJournalRefusal, IsUnfinished, IsRefusedFrom, IsServeRefusal}
+use Rattle.ring_commands.specs.declared.faults.ToolError.TheVariants as tool
+
+of_start : (fault : StartError) → tool.BadList ≡ fault_of_start fault → ⊥
+of_start (start.Full place) e = cc
+of_start start.OutOfMemory e = cc
+
+of_recovery : (error : RecoverError) → tool.BadList ≡ fault_of_recovery error → ⊥
+of_recovery recover.Truncated e = cc
+of_recovery (recover.Syntax line) e = cc
+of_recovery (recover.Bad line kind) e = cc
+of_recovery recover.OutOfMemory e = cc
+
+of_file : (files : Option Held) (name : List ℕ) → IsFileRefusal files name tool.BadList → ⊥
+of_file files name (inl h) = h
+of_file files name (inr h) = h.3
+
+of_history : (files : Option Held) (name : List ℕ) → IsHistoryRefusal files name tool.BadList → ⊥
+of_history files name (inl h) = of_file files name h
+of_history files name (inr h) = h.2
+
+of_journal : (files : Option Held) (name : List ℕ) → IsJournalRefusal files name tool.BadList → ⊥
+of_journal files name (inl h) = h
+of_journal files name (inr (inl h)) = of_file files name h
+of_journal files name (inr (inr h)) = of_recovery h.2.0 h.2.2
+
+of_rings : (journal : Option (List ℕ)) (rings : List SavedRing) (was is old new : Option (List ℕ)) → IsUnfinished journal rings was is old new tool.BadList → ⊥
+of_rings journal rings was is old new (inl h) = of_start h.1.0 h.1.2
+of_rings journal rings was is old new (inr h) = h.0
+
+of_value : (files : Option Held) (journal : Option (List ℕ)) (saved : Saved) (was is old new : Option (List ℕ)) → IsRefusedFrom files journal saved was is old new tool.BadList → ⊥
+of_value files None saved was is old new h = of_rings None saved.rings.items was is old new h
+of_value files (Some name) saved was is old new (inl h) = of_journal files name h.1
+of_value files (Some name) saved was is old new (inr h) = of_rings (Some name) h.0.rings.items was is old new h.2
+
+pub no_list : (words : ServeWords) (files : Option Held) (was is old new : Option (List ℕ)) → IsServeRefusal words files was is old new tool.BadList → ⊥
+no_list words files was is old new (inl h) = of_history files words.history.now h.1
+no_list words files was is old new (inr h) = of_value files (journal_of words) h.0 was is old new h.2

@@ -1,0 +1,148 @@
+-- A line that is granted is noted.
+use Rattle.std.proofs.Common.{◌≡◌, ◌∙◌, ◌⊎◌, ℕ, ◌<◌, ◌≤◌, ltb, List, [], ◌∷◌, ◌++◌, length, get_or, Bool, true, false, cond, Option, None, Some, Result, Ok, Err, inl, inr, refl, sym, ap, subst, arith}
+use Rattle.disks.specs.Held.{Held}
+use Rattle.ring_model.specs.declared.events.Event.{Event}
+use Rattle.ring_model.specs.declared.events.Op.TheVariants as op
+use Rattle.text_lines.specs.declared.fault.Fault.{Fault}
+use Rattle.text_lines.specs.Reading.{whole_at}
+use Rattle.text_lines.specs.Spelling.{spaced}
+use Rattle.ring_serve.specs.Calls.{Call, pass, group, corrupt, survey, glance, save, line_limit, call_at}
+use Rattle.ring_serve.specs.Standings.{Standing, event_now}
+use Rattle.ring_serve.specs.declared.answers.Answer.{Answer}
+use Rattle.ring_serve.specs.declared.answers.Answer.TheVariants as answer
+use Rattle.ring_serve.specs.declared.answers.Refusal.{Refusal}
+use Rattle.ring_serve.specs.declared.answers.Refusal.TheVariants as refusal
+use Rattle.ring_serve.specs.Answers.{answer_line}
+use Rattle.ring_serve.specs.Turns.{Turn, events, refused, unless, seat_refusal, pass_refusal, corrupt_refusal, group_refusal, turn_at, turn_among, read_turn, line_turn, IsTurnOfLine}
+use Rattle.ring_serve.specs.Notes.{notes_of}
+use Rattle.ring_serve.specs.Serving.{name_in, IsGiven, IsAnswered, Answers, ServesAll}
+
+some_front : (a b : List ℕ) → 1 ≤ length a → 1 ≤ length (a ++ b)
+some_front [] b h = absurd (omega arith)
+some_front (x ∷ a) b h = omega arith
+
+some_back : (a : List ℕ) (x : ℕ) → 1 ≤ length (a ++ x ∷ [])
+some_back [] x = omega arith
+some_back (y ∷ a) x = omega arith
+
+-- ---- a turn that is granted has notes
+
+abbrev IsNoted : {S : Type 0} → Turn S → Type 0
+IsNoted turn = (number result : ℕ) → turn.answer ≡ answer.Granted number result → 1 ≤ length (notes_of turn.recorded)
+
+call_noted : (ring : ℕ) (e : Event) → 1 ≤ length (notes_of (events ring (e ∷ []) ∷ []))
+call_noted ring e = some_front _ [] (some_front _ [] (some_front (spaced ring) _ (some_back _ 32)))
+
+refused_noted : {S : Type 0} (s : S) (why : Refusal) → IsNoted (refused s why)
+refused_noted s why number result e = absurd (no e)
+  where
+    no : answer.Refused why ≡ answer.Granted number result → ⊥
+    no p = cc
+
+unless_noted : {S : Type 0} (x : Option Refusal) (s : S) (turn : Turn S) → IsNoted turn → IsNoted (unless x s turn)
+unless_noted None s turn h = h
+unless_noted (Some why) s turn h = refused_noted s why
+
+turn_noted : (r : Standing) (call : Call) → IsNoted (turn_at r call)
+turn_noted r (pass ring seat machine order) = unless_noted (pass_refusal r seat machine) r _ (λ n x e. call_noted ring (event_now r seat (op.Pass machine order)))
+turn_noted r (corrupt ring seat machine value) = unless_noted (corrupt_refusal r seat machine value) r _ (λ n x e. call_noted ring (event_now r seat (op.Corrupt machine value)))
+turn_noted r (group ring seat order machines) = unless_noted (group_refusal r seat machines) r _ (λ n x e. absurd (no _ _ n x e))
+  where
+    no : (a b n x : ℕ) → answer.Block a b ≡ answer.Granted n x → ⊥
+    no a b n x p = cc
+turn_noted r (survey ring seat) = unless_noted (seat_refusal r seat) r _ (λ n x e. absurd (no _ n x e))
+  where
+    no : (s : _) (n x : ℕ) → answer.Survey s ≡ answer.Granted n x → ⊥
+    no s n x p = cc
+turn_noted r (glance ring) = λ n x e. absurd (no _ n x e)
+  where
+    no : (s : _) (n x : ℕ) → answer.Survey s ≡ answer.Granted n x → ⊥
+    no s n x p = cc
+turn_noted r save = λ n x e. absurd (no n x e)
+  where
+    no : (n x : ℕ) → answer.Saved ≡ answer.Granted n x → ⊥
+    no n x p = cc
+
+among_noted : (rings : List Standing) (call : Call) (x : Option Standing) → IsNoted (turn_among rings call x)
+among_noted rings call None = refused_noted rings refusal.NoRing
+among_noted rings call (Some r) = turn_noted r call
+
+line_noted : (rings : List Standing) (line : List ℕ) → IsNoted (line_turn rings line)
+unfolding line_turn
+line_noted rings line = go (ltb line_limit (length line)) (whole_at call_at line)
+  where
+    go : (b : Bool) (x : Result Call Fault) → IsNoted (cond b (refused rings refusal.Syntax) (read_turn rings x))
+    go true x = refused_noted rings refusal.Syntax
+    go false (Ok call) = among_noted rings call _
+    go false (Err f) = refused_noted rings refusal.Syntax
+
+of_line : (rings : List Standing) (line : List ℕ) (turn : Turn (List Standing)) → IsTurnOfLine rings line turn → IsNoted turn
+of_line rings line turn (inl e) = subst (λ (t : Turn (List Standing)). IsNoted t) (sym e) (line_noted rings line)
+of_line rings line turn (inr e) = subst (λ (t : Turn (List Standing)). IsNoted t) (sym e) (refused_noted rings refusal.OutOfMemory)
+
+-- ---- an answer that is told as granted is one
+
+asked_granted : (was is : Option Held) (name : List ℕ) (rings : List Standing) (asked given : Answer) (n x : ℕ) → IsGiven was is name rings asked given → given ≡ answer.Granted n x → asked ≡ answer.Granted n x
+asked_granted was is name rings answer.Saved given n x (inl h) e = absurd (no (sym h.0 ∙ e))
+  where
+    no : answer.Saved ≡ answer.Granted n x → ⊥
+    no p = cc
+asked_granted was is name rings answer.Saved given n x (inr h) e = absurd (no (sym h.0 ∙ e))
+  where
+    no : answer.Refused refusal.File ≡ answer.Granted n x → ⊥
+    no p = cc
+asked_granted was is name rings (answer.Granted a b) given n x h e = sym h.0 ∙ e
+asked_granted was is name rings answer.Waits given n x h e = sym h.0 ∙ e
+asked_granted was is name rings (answer.Corrupted a) given n x h e = sym h.0 ∙ e
+asked_granted was is name rings (answer.Survey a) given n x h e = sym h.0 ∙ e
+asked_granted was is name rings (answer.Block a b) given n x h e = sym h.0 ∙ e
+asked_granted was is name rings (answer.Refused a) given n x h e = sym h.0 ∙ e
+
+abbrev head : List ℕ → ℕ
+head [] = 0
+head (b ∷ bs) = b
+
+-- only this word begins with a g
+granted_of : (given : Answer) (later : List ℕ) → head (answer_line given ++ later) ≡ 103 → (n : ℕ) × (x : ℕ) × (given ≡ answer.Granted n x)
+granted_of (answer.Granted n x) later e = (n, x, refl)
+granted_of answer.Waits later e = let h : ◌≡◌ {A = ℕ} 119 103 = e in absurd (omega arith)
+granted_of (answer.Corrupted a) later e = let h : ◌≡◌ {A = ℕ} 99 103 = e in absurd (omega arith)
+granted_of (answer.Survey s) later e = let h : ◌≡◌ {A = ℕ} 115 103 = e in absurd (omega arith)
+granted_of (answer.Block a b) later e = let h : ◌≡◌ {A = ℕ} 98 103 = e in absurd (omega arith)
+granted_of answer.Saved later e = let h : ◌≡◌ {A = ℕ} 115 103 = e in absurd (omega arith)
+granted_of (answer.Refused why) later e = let h : ◌≡◌ {A = ℕ} 114 103 = e in absurd (omega arith)
+
+-- ---- where the first line's answer is told as granted, the journal gets something
+
+first_noted : (old : List Standing) (was : Option Held) (lines : List (List ℕ)) (said noted : List ℕ) (new : List Standing) (is : Option Held) → Answers true old was lines said noted new is → head said ≡ 103 → 1 ≤ length noted
+first_noted old was [] said noted new is h e =
+    let none : head [] ≡ 103 = subst (λ (x : List ℕ). head x ≡ 103) h.0 e in
+    absurd (omega arith)
+first_noted old was (line ∷ lines) said noted new is h e =
+    let a : IsAnswered true old was line h.2 h.4 h.0 h.1 = h.6 in
+    let g = granted_of a.given h.3 (subst (λ (x : List ℕ). head (x ++ h.3) ≡ 103) a.says (subst (λ (x : List ℕ). head x ≡ 103) h.7 e)) in
+    let asked = asked_granted was h.1 (name_in line) h.0 a.turn.answer a.given g.0 g.1 a.gives g.2 in
+    let many : 1 ≤ length (notes_of a.turn.recorded) = of_line old line a.turn a.of_line g.0 g.1 asked in
+    subst (λ (x : List ℕ). 1 ≤ length x) (sym h.8) (some_front h.4 h.5 (subst (λ (x : List ℕ). 1 ≤ length x) (sym a.notes) many))
+
+same_length : (a b : List ℕ) → a ≡ a ++ b → length b ≡ 0
+same_length [] b e = sym (ap (λ (x : List ℕ). length x) e)
+same_length (x ∷ a) b e = same_length a b (ap (λ (x : List ℕ). rest x) e)
+  where
+    rest : List ℕ → List ℕ
+    rest [] = []
+    rest (b ∷ bs) = bs
+
+starts : (out : List ℕ) (y : ℕ) → y ≡ get_or out 0 y → 0 < length out → y ≡ 103 → head out ≡ 103
+starts [] y e some g = absurd (omega arith)
+starts (x ∷ out) y e some g = sym e ∙ g
+
+-- so an output that begins so was not written with a journal that stayed as it was
+pub unnoted : (old new : List Standing) (was is : Option Held) (unread rest : Option (List ℕ)) (journal out : List ℕ) (y : ℕ) → y ≡ get_or out 0 y → 0 < length out → y ≡ 103
+    → ServesAll true old new was is unread rest (record { journal = Some journal; out = Some [] }) (record { journal = Some journal; out = Some out }) → ⊥
+unnoted old new was is unread rest journal out y e some g h =
+    let t = h.told in
+    let said : out ≡ t.said = t.wrote in
+    let many = first_noted old was t.answered.lines t.said t.noted new is t.answered.answers (subst (λ (x : List ℕ). head x ≡ 103) said (starts out y e some g)) in
+    let none = same_length journal t.noted t.journaled in
+    absurd (omega arith)

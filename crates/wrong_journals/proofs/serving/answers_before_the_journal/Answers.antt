@@ -1,0 +1,16 @@
+use Rattle.std.proofs.Common.{◌∙◌, ◌<◌, length, sym, arith}
+use Rattle.std.proofs.lemmas.Bool.{eqb-false}
+use Rattle.wrong_journals.proofs.Unnoted.{unnoted}
+use Rattle.wrong_journals.proofs.serving.answers_before_the_journal.Goals as goal
+
+pub returns : goal.returns
+returns g c = record {
+  wrong = λ h.
+      let out = c.serve.new.out.items in
+      let y = c.index.result.now in
+      let full = c.serve.new.out.ok in
+      let many = eqb-false c.serve.new.out.len 0 (sym c.is_empty.ensures ∙ c.if-is_empty.false) in
+      let some : 0 < length out = omega (arith, many, full) in
+      let letter = c.if-index-ne103.false in
+      unnoted c.args.served.now c.serve.new.served (g.D.Disk.holds c.args.disk.now) (g.D.Disk.holds c.serve.new.disk) (g.I.Read.remaining c.args.input.now) (g.I.Read.remaining c.serve.new.input) c.args.journal.now.items out y c.index.ensures some (omega (arith, letter)) h;
+}
