@@ -3,6 +3,7 @@
 use ring_check::{CheckError, Kind};
 use ring_commands::endings::tell;
 use ring_commands::faults::ToolError;
+use ring_journal::RecoverError;
 use ring_settings::{Field, RingCause};
 use std::test::Fail;
 
@@ -75,6 +76,34 @@ fn each_fault_has_its_line(rt: HostRuntime) {
             ToolError::ManyDrawn,
             1,
             "a picture has at most 20000 events\n",
+        ),
+        (ToolError::InUse("kept.txt"), 1, "kept.txt is in use\n"),
+        (ToolError::Full(15), 1, "ring 15: the history is full\n"),
+        (
+            ToolError::Journal("kept.txt", RecoverError::Truncated),
+            1,
+            "kept.txt: truncated\n",
+        ),
+        (
+            ToolError::Journal("kept.txt", RecoverError::Syntax(7)),
+            1,
+            "kept.txt: line 7: syntax\n",
+        ),
+        (
+            ToolError::Journal(
+                "kept.txt",
+                RecoverError::Bad {
+                    line: 8,
+                    kind: Kind::Reply,
+                },
+            ),
+            1,
+            "kept.txt: line 8: reply\n",
+        ),
+        (
+            ToolError::Journal("kept.txt", RecoverError::OutOfMemory),
+            1,
+            "kept.txt: out of memory\n",
         ),
     ];
     for (fault, status, text) in table {

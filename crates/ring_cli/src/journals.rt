@@ -35,10 +35,10 @@ line of standard input is a call, of at most 8192 bytes with its end, and has on
   survey RING SEAT                   survey POSITION PRIVILEGED FIRST CALM REST, which the history keeps
   glance RING                        the same, and nothing keeps it
   save FILE                          saved: FILE holds all rings as they stand, and is whole at each moment
-Any other line, and a call that cannot be done, changes nothing: it is answered `refused` and why, as `syntax`, `ring`,
-`seat`, `machine`, `value`, `group`, `privileged MACHINE`, `whole`, `full`, `memory`, or `file` where FILE cannot be
-saved in, or is `-` or the journal. The answers leave before more is read, and what stands behind the last end of a line
-is no call. At the end of standard input the totals of all rings go to standard error.
+Any other line, and a call that cannot be done, changes nothing: it is answered `refused` and why, as `syntax`, `order`,
+`ring`, `seat`, `machine`, `value`, `group`, `privileged MACHINE`, `whole`, `full`, `memory`, or `file` where FILE
+cannot be saved in, or is `-` or the journal. The answers leave before more is read, and what stands behind the last end
+of a line is no call. At the end of standard input the totals of all rings go to standard error.
 
 With `--journal` each call is in the journal before its answer leaves, so that whatever was told is there, wherever the
 process ends. If the journal tells something, the rings go on from what `recover` gives of it, and not from HISTORY; it

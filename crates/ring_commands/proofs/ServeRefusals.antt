@@ -3,12 +3,10 @@ use Rattle.std.proofs.Common.{◌≡◌, ℕ, List, Option, None, Some, inl, inr
 use Rattle.disks.specs.Held.{Held}
 use Rattle.ring_saved.specs.declared.saved.Saved.{Saved}
 use Rattle.ring_saved.specs.declared.saved.SavedRing.{SavedRing}
-use Rattle.ring_journal.specs.declared.errors.RecoverError.{RecoverError}
-use Rattle.ring_journal.specs.declared.errors.RecoverError.TheVariants as recover
 use Rattle.ring_serve.specs.declared.starting.StartError.{StartError}
 use Rattle.ring_serve.specs.declared.starting.StartError.TheVariants as start
 use Rattle.ring_requests.specs.declared.requests.ServeWords.{ServeWords}
-use Rattle.ring_commands.specs.Faults.{fault_of_recovery, fault_of_start}
+use Rattle.ring_commands.specs.Faults.{fault_of_start}
 use Rattle.ring_commands.specs.Named.{IsFileRefusal}
 use Rattle.ring_commands.specs.Served.{journal_of, IsHistoryRefusal, IsJournalRefusal, IsUnfinished, IsRefusedFrom, IsServeRefusal}
 use Rattle.ring_commands.specs.declared.faults.ToolError.TheVariants as tool
@@ -16,12 +14,6 @@ use Rattle.ring_commands.specs.declared.faults.ToolError.TheVariants as tool
 of_start : (fault : StartError) → tool.BadList ≡ fault_of_start fault → ⊥
 of_start (start.Full place) e = cc
 of_start start.OutOfMemory e = cc
-
-of_recovery : (error : RecoverError) → tool.BadList ≡ fault_of_recovery error → ⊥
-of_recovery recover.Truncated e = cc
-of_recovery (recover.Syntax line) e = cc
-of_recovery (recover.Bad line kind) e = cc
-of_recovery recover.OutOfMemory e = cc
 
 of_file : (files : Option Held) (name : List ℕ) → IsFileRefusal files name tool.BadList → ⊥
 of_file files name (inl h) = h
@@ -34,7 +26,7 @@ of_history files name (inr h) = h.2
 of_journal : (files : Option Held) (name : List ℕ) → IsJournalRefusal files name tool.BadList → ⊥
 of_journal files name (inl h) = h
 of_journal files name (inr (inl h)) = of_file files name h
-of_journal files name (inr (inr h)) = of_recovery h.2.0 h.2.2
+of_journal files name (inr (inr h)) = h.2
 
 of_rings : (journal : Option (List ℕ)) (rings : List SavedRing) (was is old new : Option (List ℕ)) → IsUnfinished journal rings was is old new tool.BadList → ⊥
 of_rings journal rings was is old new (inl h) = of_start h.1.0 h.1.2

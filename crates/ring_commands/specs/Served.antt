@@ -1,5 +1,5 @@
 -- What `serve` answers.
-use Rattle.std.specs.Prelude.{◌≡◌, ℕ, ◌⊎◌, List, [], length, codes, Bool, true, false, Option, None, Some}
+use Rattle.std.specs.Prelude.{◌≡◌, ℕ, ◌⊎◌, List, [], length, codes, Bool, true, false, Option, None, Some, Err}
 use Rattle.std.specs.Option.{option_map, is_some}
 use Rattle.std.specs.Io.KnownBytes.{Appends}
 use Rattle.disks.specs.Held.{Held, Grows, Replaces}
@@ -8,7 +8,7 @@ use Rattle.ring_saved.specs.declared.saved.SavedRing.{SavedRing}
 use Rattle.ring_saved.specs.Content.{content}
 use Rattle.ring_check.specs.declared.answers.Summary.{Summary}
 use Rattle.ring_journal.specs.Spelling.{head_text}
-use Rattle.ring_journal.specs.Recovery.{IsRecovered}
+use Rattle.ring_journal.specs.Recovery.{IsRecovered, IsRightRecovery}
 use Rattle.ring_text.specs.Report.{total_line}
 use Rattle.ring_serve.specs.Standings.{Standing}
 use Rattle.ring_serve.specs.Saved.{content_of}
@@ -19,7 +19,6 @@ use Rattle.ring_serve.specs.Serving.{ServesAll, ServesSome}
 use Rattle.ring_commands.specs.Checked.{IsLegalSavedText, IsSavedTextRefusal}
 use Rattle.ring_commands.specs.Faults.{fault_of_start}
 use Rattle.ring_commands.specs.Named.{IsHeld, IsFileRefusal}
-use Rattle.ring_commands.specs.Recovered.{IsRecoveryRefusal}
 use Rattle.ring_requests.specs.declared.requests.ServeWords.{ServeWords}
 use Rattle.ring_commands.specs.declared.faults.ToolError.{ToolError}
 use Rattle.ring_commands.specs.declared.faults.ToolError.TheVariants as tool
@@ -112,9 +111,14 @@ IsUnkept name (tool.InUse named) = named.now ≡ name
 IsUnkept name (tool.Save named) = named.now ≡ name
 IsUnkept name _ = ⊥
 
+-- nothing is recovered of the journal in the file of this name, which held these bytes, for the right reason
+abbrev pub IsUnrecovered : List ℕ → List ℕ → ToolError → Type 0
+IsUnrecovered name bytes (tool.Journal named error) = (named.now ≡ name) × IsRightRecovery bytes (Err error)
+IsUnrecovered name bytes _ = ⊥
+
 -- the journal is refused: its file cannot be kept or read, or nothing is recovered of what it holds
 abbrev pub IsJournalRefusal : Option Held → List ℕ → ToolError → Type 0
-IsJournalRefusal files name e = IsUnkept name e ⊎ (IsFileRefusal files name e ⊎ ((bytes : List ℕ) × IsHeld files name bytes × IsRecoveryRefusal bytes e))
+IsJournalRefusal files name e = IsUnkept name e ⊎ (IsFileRefusal files name e ⊎ ((bytes : List ℕ) × IsHeld files name bytes × IsUnrecovered name bytes e))
 
 -- these rings do not go on: one has more events than a ring can go on with, or there is no memory
 abbrev pub IsStartRefusal : List SavedRing → ToolError → Type 0

@@ -70,6 +70,8 @@ pub enum ToolError<'a> {
     InUse(&'a str),
     /// The ring at this place has more events than a ring can go on with.
     Full(u64),
+    /// Nothing is recovered of the journal in this file.
+    Journal(&'a str, RecoverError),
 }
 
 impl ToolError<'_> {
@@ -142,6 +144,7 @@ impl ToolError<'_> {
             ToolError::SameFile(name) => write!(f, "{name} is the file that is read"),
             ToolError::NoRing(place) => write!(f, "there is no ring {place}"),
             ToolError::InUse(name) => write!(f, "{name} is in use"),
+            ToolError::Journal(name, error) => write!(f, "{name}: {error}"),
             ToolError::Full(place) => write!(f, "ring {place}: the history is full"),
             ToolError::NoPlace(place) => write!(f, "the ring has fewer than {place} events"),
             _ => Ok(()),

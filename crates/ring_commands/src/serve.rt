@@ -77,8 +77,10 @@ fn noted<'a, D: Disk>(
     if bytes.is_empty() {
         return Ok(saved);
     }
-    let saved = recovered(alloc, bytes.as_slice())?;
-    Ok(saved)
+    match recovered(alloc, bytes.as_slice()) {
+        Ok(now) => Ok(now),
+        Err(error) => Err(ToolError::Journal(name, error)),
+    }
 }
 
 /// Opens the journal's file to write at its end.
@@ -329,8 +331,9 @@ fn run_on<'a, D: Disk, I: Read, W: Write>(
 /// # Errors
 ///
 /// Those of reading the history, and what is wrong with it; `InUse` if the journal is kept by another process, `Save` if it
-/// cannot be opened, begun or written, and what is wrong with it; `Full`, `OutOfMemory`: no line was read then, unless memory
-/// or the journal's file failed while lines were served. `Read` if standard input fails, `Write` if standard output does.
+/// cannot be opened, begun or written, `Journal` if nothing is recovered of it; `Full`, `OutOfMemory`: no line was read then,
+/// unless memory or the journal's file failed while lines were served. `Read` if standard input fails, `Write` if standard output
+/// does.
 pub fn run<'a, D: Disk, I: Read, W: Write, E: Write>(
     alloc: Global,
     disk: &mut D,

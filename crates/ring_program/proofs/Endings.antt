@@ -58,6 +58,7 @@ bad_list (tool.NoPlace a) h = absurd (false≢true h)
 bad_list tool.ManyDrawn h = absurd (false≢true h)
 bad_list (tool.InUse a) h = absurd (false≢true h)
 bad_list (tool.Full a) h = absurd (false≢true h)
+bad_list (tool.Journal a b) h = absurd (false≢true h)
 
 -- what serves lines is not refused for a list
 no_lines : (request : Request) (before after : Option Held) (was is old mid early told : Option (List ℕ)) (e : ToolError) → is_bad_list e ≡ true → IsRefusal request before after was is old mid early told e → IsOfLines request → ⊥

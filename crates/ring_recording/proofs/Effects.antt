@@ -265,9 +265,10 @@ line_effect : (rings : List Standing) (line : List ℕ) → AllByRecursion IsRig
 unfolding line_turn
 line_effect rings line all = go (ltb line_limit (length line)) (whole_at call_at line)
   where
-    go : (b : Bool) (x : Result Call Fault) → EffectAmong rings (cond b (refused rings refusal.Syntax) (read_turn rings x))
+    go : (b : Bool) (x : Result (Option Call) Fault) → EffectAmong rings (cond b (refused rings refusal.Syntax) (read_turn rings x))
     go true x = inl (refl, refl)
-    go false (Ok call) = among rings call (slice_get rings (ring_of call)) all refl
+    go false (Ok (Some call)) = among rings call (slice_get rings (ring_of call)) all refl
+    go false (Ok None) = inl (refl, refl)
     go false (Err f) = inl (refl, refl)
 
 pub turn_effect : (rings : List Standing) (line : List ℕ) (turn : Turn (List Standing)) → AllByRecursion IsRight rings → IsTurnOfLine rings line turn → EffectAmong rings turn

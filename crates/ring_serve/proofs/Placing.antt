@@ -97,12 +97,15 @@ pub long_line : (rings : List Standing) (line : List ℕ) (t : Turned) → t ≡
 long_line rings line t e l = inl (no_call_turn rings refusal.Syntax t e ∙ sym (long_turn rings line l))
 
 pub bad_line : (rings : List Standing) (line : List ℕ) (t : Turned) (f : Fault) → t ≡ refused_line refusal.Syntax → length line ≤ line_limit → whole_at call_at line ≡ Err f → IsTurnOfLine rings line (turn_seen_among t.ring rings t.made)
-bad_line rings line t f e l r = inl (no_call_turn rings refusal.Syntax t e ∙ sym (short_turn rings line l ∙ ap (λ (x : Result Call Fault). read_turn rings x) r))
+bad_line rings line t f e l r = inl (no_call_turn rings refusal.Syntax t e ∙ sym (short_turn rings line l ∙ ap (λ (x : Result (Option Call) Fault). read_turn rings x) r))
 
-pub call_line : (rings rings' : List Standing) (line : List ℕ) (call : Call) (ring : ℕ) (m : Made) → length line ≤ line_limit → whole_at call_at line ≡ Ok call → ring ≡ ring_of call →
+pub order_line : (rings : List Standing) (line : List ℕ) (t : Turned) → t ≡ refused_line refusal.NoOrder → length line ≤ line_limit → whole_at call_at line ≡ Ok None → IsTurnOfLine rings line (turn_seen_among t.ring rings t.made)
+order_line rings line t e l r = inl (no_call_turn rings refusal.NoOrder t e ∙ sym (short_turn rings line l ∙ ap (λ (x : Result (Option Call) Fault). read_turn rings x) r))
+
+pub call_line : (rings rings' : List Standing) (line : List ℕ) (call : Call) (ring : ℕ) (m : Made) → length line ≤ line_limit → whole_at call_at line ≡ Ok (Some call) → ring ≡ ring_of call →
     IsTurn rings call (turn_seen_among (ring_of call) rings' m) → IsTurnOfLine rings line (turn_seen_among ring rings' m)
 call_line rings rings' line call ring m l r e (inl t) =
-    inl (ap (λ (k : ℕ). turn_seen_among k rings' m) e ∙ (t ∙ sym (short_turn rings line l ∙ ap (λ (x : Result Call Fault). read_turn rings x) r)))
+    inl (ap (λ (k : ℕ). turn_seen_among k rings' m) e ∙ (t ∙ sym (short_turn rings line l ∙ ap (λ (x : Result (Option Call) Fault). read_turn rings x) r)))
 call_line rings rings' line call ring m l r e (inr t) = inr (ap (λ (k : ℕ). turn_seen_among k rings' m) e ∙ t)
 
 -- a ring more that is right

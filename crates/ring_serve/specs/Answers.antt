@@ -9,6 +9,7 @@ use Rattle.ring_serve.specs.declared.answers.Refusal.TheVariants as refusal
 -- the word of a refusal
 abbrev pub refusal_text : Refusal → List ℕ
 refusal_text refusal.Syntax = codes "syntax\n"
+refusal_text refusal.NoOrder = codes "order\n"
 refusal_text refusal.NoRing = codes "ring\n"
 refusal_text refusal.NoSeat = codes "seat\n"
 refusal_text refusal.NoMachine = codes "machine\n"

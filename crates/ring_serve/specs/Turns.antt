@@ -154,10 +154,11 @@ turn_seen_among ring rings m = record { answer = m.answer; recorded = recorded_a
 abbrev pub IsTurn : List Standing → Call → Turn (List Standing) → Type 0
 IsTurn rings call turn = (turn ≡ turn_of rings call) ⊎ (turn ≡ refused rings refusal.OutOfMemory)
 
--- ---- the turn of a line: that of the call that it is, where it is one and not too long
+-- ---- the turn of a line: that of the call that it is, where it is one, has an order that there is, and is not too long
 
-abbrev pub read_turn : List Standing → Result Call Fault → Turn (List Standing)
-read_turn rings (Ok call) = turn_of rings call
+abbrev pub read_turn : List Standing → Result (Option Call) Fault → Turn (List Standing)
+read_turn rings (Ok (Some call)) = turn_of rings call
+read_turn rings (Ok None) = refused rings refusal.NoOrder
 read_turn rings (Err e) = refused rings refusal.Syntax
 
 unfoldable pub line_turn : List Standing → List ℕ → Turn (List Standing)

@@ -13,6 +13,8 @@ use text_lines::Line;
 pub enum Refusal {
     /// The line is no call, or has more than 8 KiB.
     Syntax,
+    /// The order is 2 to the power 64 or more.
+    NoOrder,
     /// There is no ring of this number.
     NoRing,
     /// The ring has no seat of this number.
@@ -123,6 +125,7 @@ fn refusal_line(why: Refusal) -> Line
 {
     match why {
         Refusal::Syntax => only(b"refused syntax\n"),
+        Refusal::NoOrder => only(b"refused order\n"),
         Refusal::NoRing => only(b"refused ring\n"),
         Refusal::NoSeat => only(b"refused seat\n"),
         Refusal::NoMachine => only(b"refused machine\n"),

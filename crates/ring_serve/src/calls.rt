@@ -1,11 +1,13 @@
 //! The calls, as lines.
 
 ghost use Rattle.std.specs.Prelude.{◌≡◌};
+ghost use Rattle.std.specs.Option.{option_map};
 ghost use Rattle.text_lines.specs.Reading.{Gives, whole_at};
 ghost use Rattle.ring_serve.specs.Calls.{seen, pass_at, corrupt_at, survey_at, glance_at, group_at, machines_at, gaps, name_at, end_of_line, save_at, g_at, s_at, call_at};
 
+use crate::numbers::{decimal, place, places};
 use std::alloc::Global;
-use text_lines::{Fault, Stop, nothing_more, number32, number64, row32, word};
+use text_lines::{Fault, Stop, nothing_more, word};
 
 /// The most bytes of a line, with its LF.
 pub const LINE_LIMIT: usize = 8192;
@@ -48,39 +50,42 @@ pub enum Call {
 }
 
 #[tactic(auto, unfolding(crate::specs::Calls::pass_at))]
-fn pass(bytes: &[u8]) -> Result<(Call, &[u8]), Stop>
-    ensures { Gives (λ x. (seen x.0, x.1.now)) result (pass_at bytes.now) }
+fn pass(bytes: &[u8]) -> Result<(Option<Call>, &[u8]), Stop>
+    ensures { Gives (λ x. (option_map seen x.0, x.1.now)) result (pass_at bytes.now) }
 {
     let rest = word(bytes, b"pass ")?;
-    let (ring, rest) = number32(rest, b' ')?;
-    let (seat, rest) = number32(rest, b' ')?;
-    let (machine, rest) = number32(rest, b' ')?;
-    let (order, rest) = number64(rest, b'\n')?;
+    let (ring, rest) = place(rest, b' ')?;
+    let (seat, rest) = place(rest, b' ')?;
+    let (machine, rest) = place(rest, b' ')?;
+    let (order, rest) = decimal(rest, b'\n')?;
+    let Some(order) = order else {
+        return Ok((None, rest));
+    };
     let call = Call::Pass {
         ring,
         seat,
         machine,
         order,
     };
-    Ok((call, rest))
+    Ok((Some(call), rest))
 }
 
 #[tactic(auto, unfolding(crate::specs::Calls::corrupt_at))]
-fn corrupt(bytes: &[u8]) -> Result<(Call, &[u8]), Stop>
-    ensures { Gives (λ x. (seen x.0, x.1.now)) result (corrupt_at bytes.now) }
+fn corrupt(bytes: &[u8]) -> Result<(Option<Call>, &[u8]), Stop>
+    ensures { Gives (λ x. (option_map seen x.0, x.1.now)) result (corrupt_at bytes.now) }
 {
     let rest = word(bytes, b"corrupt ")?;
-    let (ring, rest) = number32(rest, b' ')?;
-    let (seat, rest) = number32(rest, b' ')?;
-    let (machine, rest) = number32(rest, b' ')?;
-    let (value, rest) = number32(rest, b'\n')?;
+    let (ring, rest) = place(rest, b' ')?;
+    let (seat, rest) = place(rest, b' ')?;
+    let (machine, rest) = place(rest, b' ')?;
+    let (value, rest) = place(rest, b'\n')?;
     let call = Call::Corrupt {
         ring,
         seat,
         machine,
         value,
     };
-    Ok((call, rest))
+    Ok((Some(call), rest))
 }
 
 /// How many spaces stand before the end of the line.
@@ -105,44 +110,47 @@ fn machines(alloc: Global, bytes: &[u8]) -> Result<(Vec<u32>, &[u8]), Stop>
     ensures { Gives (λ x. (x.0.items, x.1.now)) result (machines_at bytes.now) }
 {
     let count = gaps(bytes).min(LINE_LIMIT) as u32 + 1;
-    row32(alloc, count, bytes)
+    places(alloc, count, bytes)
 }
 
 #[tactic(auto, unfolding(crate::specs::Calls::group_at))]
-fn group(alloc: Global, bytes: &[u8]) -> Result<(Call, &[u8]), Stop>
-    ensures { Gives (λ x. (seen x.0, x.1.now)) result (group_at bytes.now) }
+fn group(alloc: Global, bytes: &[u8]) -> Result<(Option<Call>, &[u8]), Stop>
+    ensures { Gives (λ x. (option_map seen x.0, x.1.now)) result (group_at bytes.now) }
 {
     let rest = word(bytes, b"roup ")?;
-    let (ring, rest) = number32(rest, b' ')?;
-    let (seat, rest) = number32(rest, b' ')?;
-    let (order, rest) = number64(rest, b' ')?;
+    let (ring, rest) = place(rest, b' ')?;
+    let (seat, rest) = place(rest, b' ')?;
+    let (order, rest) = decimal(rest, b' ')?;
     let (machines, rest) = machines(alloc, rest)?;
+    let Some(order) = order else {
+        return Ok((None, rest));
+    };
     let call = Call::Group {
         ring,
         seat,
         order,
         machines,
     };
-    Ok((call, rest))
+    Ok((Some(call), rest))
 }
 
 #[tactic(auto, unfolding(crate::specs::Calls::glance_at))]
-fn glance(bytes: &[u8]) -> Result<(Call, &[u8]), Stop>
-    ensures { Gives (λ x. (seen x.0, x.1.now)) result (glance_at bytes.now) }
+fn glance(bytes: &[u8]) -> Result<(Option<Call>, &[u8]), Stop>
+    ensures { Gives (λ x. (option_map seen x.0, x.1.now)) result (glance_at bytes.now) }
 {
     let rest = word(bytes, b"lance ")?;
-    let (ring, rest) = number32(rest, b'\n')?;
-    Ok((Call::Glance { ring }, rest))
+    let (ring, rest) = place(rest, b'\n')?;
+    Ok((Some(Call::Glance { ring }), rest))
 }
 
 #[tactic(auto, unfolding(crate::specs::Calls::survey_at))]
-fn survey(bytes: &[u8]) -> Result<(Call, &[u8]), Stop>
-    ensures { Gives (λ x. (seen x.0, x.1.now)) result (survey_at bytes.now) }
+fn survey(bytes: &[u8]) -> Result<(Option<Call>, &[u8]), Stop>
+    ensures { Gives (λ x. (option_map seen x.0, x.1.now)) result (survey_at bytes.now) }
 {
     let rest = word(bytes, b"urvey ")?;
-    let (ring, rest) = number32(rest, b' ')?;
-    let (seat, rest) = number32(rest, b'\n')?;
-    Ok((Call::Survey { ring, seat }, rest))
+    let (ring, rest) = place(rest, b' ')?;
+    let (seat, rest) = place(rest, b'\n')?;
+    Ok((Some(Call::Survey { ring, seat }), rest))
 }
 
 /// What stands behind the end of the line.
@@ -170,17 +178,17 @@ fn name(bytes: &[u8]) -> Result<&[u8], Stop>
 }
 
 #[tactic(auto, unfolding(crate::specs::Calls::save_at))]
-fn save(bytes: &[u8]) -> Result<(Call, &[u8]), Stop>
-    ensures { Gives (λ x. (seen x.0, x.1.now)) result (save_at bytes.now) }
+fn save(bytes: &[u8]) -> Result<(Option<Call>, &[u8]), Stop>
+    ensures { Gives (λ x. (option_map seen x.0, x.1.now)) result (save_at bytes.now) }
 {
     let rest = word(bytes, b"ave ")?;
     let rest = name(rest)?;
-    Ok((Call::Save, rest))
+    Ok((Some(Call::Save), rest))
 }
 
 #[tactic(auto, unfolding(crate::specs::Calls::g_at))]
-fn begins_with_g(alloc: Global, bytes: &[u8]) -> Result<(Call, &[u8]), Stop>
-    ensures { Gives (λ x. (seen x.0, x.1.now)) result (g_at bytes.now) }
+fn begins_with_g(alloc: Global, bytes: &[u8]) -> Result<(Option<Call>, &[u8]), Stop>
+    ensures { Gives (λ x. (option_map seen x.0, x.1.now)) result (g_at bytes.now) }
 {
     let rest = word(bytes, b"g")?;
     match rest {
@@ -192,8 +200,8 @@ fn begins_with_g(alloc: Global, bytes: &[u8]) -> Result<(Call, &[u8]), Stop>
 }
 
 #[tactic(auto, unfolding(crate::specs::Calls::s_at))]
-fn begins_with_s(bytes: &[u8]) -> Result<(Call, &[u8]), Stop>
-    ensures { Gives (λ x. (seen x.0, x.1.now)) result (s_at bytes.now) }
+fn begins_with_s(bytes: &[u8]) -> Result<(Option<Call>, &[u8]), Stop>
+    ensures { Gives (λ x. (option_map seen x.0, x.1.now)) result (s_at bytes.now) }
 {
     let rest = word(bytes, b"s")?;
     match rest {
@@ -205,8 +213,8 @@ fn begins_with_s(bytes: &[u8]) -> Result<(Call, &[u8]), Stop>
 }
 
 #[tactic(auto, unfolding(crate::specs::Calls::call_at))]
-fn front_call(alloc: Global, bytes: &[u8]) -> Result<(Call, &[u8]), Stop>
-    ensures { Gives (λ x. (seen x.0, x.1.now)) result (call_at bytes.now) }
+fn front_call(alloc: Global, bytes: &[u8]) -> Result<(Option<Call>, &[u8]), Stop>
+    ensures { Gives (λ x. (option_map seen x.0, x.1.now)) result (call_at bytes.now) }
 {
     match bytes {
         [] => Err(Stop::Fault(Fault::Short)),
@@ -218,14 +226,14 @@ fn front_call(alloc: Global, bytes: &[u8]) -> Result<(Call, &[u8]), Stop>
     }
 }
 
-/// The call that a line is, its LF included.
+/// The call that a line is, its LF included; none if its order is 2 to the power 64 or more, so that no call has it.
 ///
 /// # Errors
 ///
 /// A fault where it is none; `Memory` where there was no room for a group's machines.
 #[tactic(auto, unfolding(text_lines::specs::Reading::whole_at))]
-pub fn read_call(alloc: Global, line: &[u8]) -> Result<Call, Stop>
-    ensures { Gives (λ c. seen c) result (whole_at call_at line.now) }
+pub fn read_call(alloc: Global, line: &[u8]) -> Result<Option<Call>, Stop>
+    ensures { Gives (λ c. option_map seen c) result (whole_at call_at line.now) }
 {
     let (call, rest) = front_call(alloc, line)?;
     nothing_more(rest)?;

@@ -3,6 +3,7 @@
 
 mod answers;
 mod calls;
+mod numbers;
 mod saving;
 mod served;
 mod serving;

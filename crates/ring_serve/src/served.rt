@@ -151,7 +151,7 @@ impl Served {
 }
 
 /// Answers a line, which has its LF: as the one-thread ring answers to the call that it is, `refused syntax` where it is none or
-/// has more than 8 KiB. `refused memory` can come at any line, and changes nothing. A `save` is answered `saved`: to save, or to
+/// has more than 8 KiB, `refused order` where its order is 2 to the power 64 or more. `refused memory` can come at any line, and changes nothing. A `save` is answered `saved`: to save, or to
 /// answer that it was not done, is the caller's, as in [`serve`](crate::serve).
 pub fn answer_line(alloc: Global, served: &mut Served, line: &[u8]) -> Turned
     ensures { IsTurnOfLine served.old line.now (turn_seen_among result.ring served.new result.made) }
@@ -160,10 +160,11 @@ pub fn answer_line(alloc: Global, served: &mut Served, line: &[u8]) -> Turned
         return no_call(Refusal::Syntax);
     }
     match read_call(alloc, line) {
-        Ok(call) => Turned {
+        Ok(Some(call)) => Turned {
             ring: ring_of(&call),
             made: served.make(&call),
         },
+        Ok(None) => no_call(Refusal::NoOrder),
         Err(Stop::Memory) => no_call(Refusal::OutOfMemory),
         Err(Stop::Fault(_)) => no_call(Refusal::Syntax),
     }

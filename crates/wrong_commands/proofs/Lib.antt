@@ -3,3 +3,5 @@ pub mod Reports
 pub mod Checked
 pub mod Readings
 pub mod Makings
+pub mod Spoiled
+pub mod Unnoted

@@ -1,6 +1,5 @@
 use Rattle.std.proofs.Common.{◌≡◌, ◌<◌, length, List, get_or, Some, refl, sym, ap, ◌∙◌, arith, subst}
 use Rattle.std.proofs.lemmas.Option.{slice_get-get_or}
-use Rattle.ring_model.specs.Limits.{event_limit}
 use Rattle.ring_saved.specs.declared.saved.SavedRing.{SavedRing}
 use Rattle.ring_serve.specs.Standings.{standing_of}
 use Rattle.ring_serve.proofs.Resuming.{resumed_more}

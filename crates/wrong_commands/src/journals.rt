@@ -1,9 +1,4 @@
-//! Wrong bodies of what is recovered of a journal, of what a line is answered, and of how lines are served. Each calls the real
-//! function and spoils its answer, and its contract says that what it answers does not meet the clause which the real one promises.
-#![tactic(auto)]
-
-pub mod serving;
-pub mod turns;
+//! Wrong recoveries of a journal.
 
 ghost use Rattle.std.specs.Prelude.{◌≡◌, ◌≢◌, ◌+◌, ◌<◌, List, ◌∷◌, ◌++◌, [], Ok, IfOk, OnOk, length, vec_len, slice_index_or, slice_set};
 ghost use Rattle.ring_saved.specs.Content.{content};

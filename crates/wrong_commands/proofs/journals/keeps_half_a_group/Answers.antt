@@ -1,6 +1,6 @@
 use Rattle.std.proofs.Common.{◌<◌, length, arith}
-use Rattle.wrong_journals.proofs.Spoiled.{spoiled}
-use Rattle.wrong_journals.proofs.keeps_half_a_group.Goals as goal
+use Rattle.wrong_commands.proofs.Spoiled.{spoiled}
+use Rattle.wrong_commands.proofs.journals.keeps_half_a_group.Goals as goal
 
 pub returns : goal.returns
 returns c = record {

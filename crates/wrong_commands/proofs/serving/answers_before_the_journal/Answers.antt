@@ -1,7 +1,7 @@
 use Rattle.std.proofs.Common.{◌∙◌, ◌<◌, length, sym, arith}
 use Rattle.std.proofs.lemmas.Bool.{eqb-false}
-use Rattle.wrong_journals.proofs.Unnoted.{unnoted}
-use Rattle.wrong_journals.proofs.serving.answers_before_the_journal.Goals as goal
+use Rattle.wrong_commands.proofs.Unnoted.{unnoted}
+use Rattle.wrong_commands.proofs.serving.answers_before_the_journal.Goals as goal
 
 pub returns : goal.returns
 returns g c = record {

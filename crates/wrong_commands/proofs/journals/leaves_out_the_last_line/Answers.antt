@@ -1,6 +1,6 @@
 use Rattle.std.proofs.Common.{◌<◌, length, arith}
-use Rattle.wrong_journals.proofs.Spoiled.{spoiled}
-use Rattle.wrong_journals.proofs.leaves_out_the_last_line.Goals as goal
+use Rattle.wrong_commands.proofs.Spoiled.{spoiled}
+use Rattle.wrong_commands.proofs.journals.leaves_out_the_last_line.Goals as goal
 
 pub returns : goal.returns
 returns c = record {

@@ -71,9 +71,10 @@ line_noted : (rings : List Standing) (line : List ℕ) → IsNoted (line_turn ri
 unfolding line_turn
 line_noted rings line = go (ltb line_limit (length line)) (whole_at call_at line)
   where
-    go : (b : Bool) (x : Result Call Fault) → IsNoted (cond b (refused rings refusal.Syntax) (read_turn rings x))
+    go : (b : Bool) (x : Result (Option Call) Fault) → IsNoted (cond b (refused rings refusal.Syntax) (read_turn rings x))
     go true x = refused_noted rings refusal.Syntax
-    go false (Ok call) = among_noted rings call _
+    go false (Ok (Some call)) = among_noted rings call _
+    go false (Ok None) = refused_noted rings refusal.NoOrder
     go false (Err f) = refused_noted rings refusal.Syntax
 
 of_line : (rings : List Standing) (line : List ℕ) (turn : Turn (List Standing)) → IsTurnOfLine rings line turn → IsNoted turn

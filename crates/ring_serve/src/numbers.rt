@@ -1,0 +1,103 @@
+//! Decimals of any size, so that a call of what there is not is told so, however great its number is.
+
+ghost use Rattle.std.specs.Prelude.{◌≡◌, ◌≤◌, Some};
+ghost use Rattle.text_lines.specs.Reading.{Gives, stop_of};
+ghost use Rattle.ring_serve.specs.Numbers.{with_digit, grown, digits_at, decimal_at, named, place_at, places_at};
+
+use std::alloc::Global;
+use text_lines::{Fault, Stop};
+
+/// The number with a digit more; none from 2 to the power 64 on.
+fn with_digit(number: Option<u64>, digit: u8) -> Option<u64>
+    requires { digit ≤ 9 }
+    ensures { result ≡ with_digit number digit }
+{
+    match number {
+        Some(n) if n <= (u64::MAX - digit as u64) / 10 => Some(n * 10 + digit as u64),
+        _ => None,
+    }
+}
+
+/// The number with the byte behind it, if it goes on so: no digit follows a leading 0.
+fn grown(number: Option<u64>, b: u8) -> Option<Option<u64>>
+    ensures { result ≡ grown number b }
+{
+    match (number, b) {
+        (Some(0), _) => None,
+        (_, b'0'..=b'9') => Some(with_digit(number, b - b'0')),
+        _ => None,
+    }
+}
+
+/// The rest of a number of which `first` was read.
+fn digits(first: u64, stop: u8, bytes: &[u8]) -> Result<(Option<u64>, &[u8]), Stop>
+    ensures { Gives (λ x. (x.0, x.1.now)) result (digits_at stop (Some first) bytes.now) }
+{
+    let mut number = Some(first);
+    for (i, b) in bytes.iter().enumerate() {
+        if *b == stop {
+            return Ok((number, &bytes[i + 1..]));
+        }
+        let Some(more) = grown(number, *b) else {
+            return Err(Stop::Fault(Fault::Bad(bytes.len() - i)));
+        };
+        number = more;
+    }
+    Err(Stop::Fault(Fault::Short))
+}
+
+/// A decimal without signs or leading zeros, and what stands behind the byte that ends it: the number, or none if it is 2 to
+/// the power 64 or more.
+#[tactic(auto, unfolding(crate::specs::Numbers::decimal_at))]
+pub(crate) fn decimal(bytes: &[u8], stop: u8) -> Result<(Option<u64>, &[u8]), Stop>
+    ensures { Gives (λ x. (x.0, x.1.now)) result (decimal_at stop bytes.now) }
+{
+    match bytes {
+        [] => Err(Stop::Fault(Fault::Short)),
+        [b @ b'0'..=b'9', rest @ ..] => digits((*b - b'0') as u64, stop, rest),
+        [_, ..] => Err(Stop::Fault(Fault::Bad(bytes.len()))),
+    }
+}
+
+/// What a decimal names of 32 bits.
+fn named(number: Option<u64>) -> u32
+    ensures { result ≡ named number }
+{
+    match number {
+        Some(n) if n < u32::MAX as u64 => n as u32,
+        _ => u32::MAX,
+    }
+}
+
+/// The number of a ring, a seat or a machine, or a value: one that is too great for any of them is the greatest of 32 bits.
+#[tactic(auto, unfolding(crate::specs::Numbers::place_at))]
+pub(crate) fn place(bytes: &[u8], stop: u8) -> Result<(u32, &[u8]), Stop>
+    ensures { Gives (λ x. (x.0, x.1.now)) result (place_at stop bytes.now) }
+{
+    let (number, rest) = decimal(bytes, stop)?;
+    Ok((named(number), rest))
+}
+
+/// The byte that ends a number with so many behind it on the line.
+fn stop_byte(left: u32) -> u8
+    ensures { result ≡ stop_of left }
+{
+    match left {
+        0 => b'\n',
+        _ => b' ',
+    }
+}
+
+/// So many of them on one line. Room is asked for as they are read.
+pub(crate) fn places(alloc: Global, count: u32, bytes: &[u8]) -> Result<(Vec<u32>, &[u8]), Stop>
+    ensures { Gives (λ x. (x.0.items, x.1.now)) result (places_at count bytes.now) }
+{
+    let mut found = Vec::new(alloc);
+    let mut rest = bytes;
+    for i in 0..count {
+        let (number, after) = place(rest, stop_byte(count - i - 1))?;
+        found.push(number)?;
+        rest = after;
+    }
+    Ok((found, rest))
+}

@@ -1,2 +1,0 @@
-pub mod Spoiled
-pub mod Unnoted
