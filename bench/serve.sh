@@ -73,7 +73,7 @@ printf 'ringjournal 1\nnothing\n' >wrong
 cp wrong was
 status=0
 "$tool" serve fresh.txt --journal wrong </dev/null >answers 2>told || status=$?
-holds 'a wrong journal' ends 1 'line 2: syntax'
+holds 'a wrong journal' ends 1 'wrong: line 2: syntax'
 holds 'it stays as it was' cmp -s wrong was
 echo "$tried tries, $failed failed"
 

@@ -1,19 +1,12 @@
 -- What serves lines is never refused for a list.
-use Rattle.std.proofs.Common.{◌≡◌, ℕ, List, Option, None, Some, inl, inr}
+use Rattle.std.proofs.Common.{ℕ, List, Option, None, Some, inl, inr}
 use Rattle.disks.specs.Held.{Held}
 use Rattle.ring_saved.specs.declared.saved.Saved.{Saved}
 use Rattle.ring_saved.specs.declared.saved.SavedRing.{SavedRing}
-use Rattle.ring_serve.specs.declared.starting.StartError.{StartError}
-use Rattle.ring_serve.specs.declared.starting.StartError.TheVariants as start
 use Rattle.ring_requests.specs.declared.requests.ServeWords.{ServeWords}
-use Rattle.ring_commands.specs.Faults.{fault_of_start}
 use Rattle.ring_commands.specs.Named.{IsFileRefusal}
 use Rattle.ring_commands.specs.Served.{journal_of, IsHistoryRefusal, IsJournalRefusal, IsUnfinished, IsRefusedFrom, IsServeRefusal}
 use Rattle.ring_commands.specs.declared.faults.ToolError.TheVariants as tool
-
-of_start : (fault : StartError) → tool.BadList ≡ fault_of_start fault → ⊥
-of_start (start.Full place) e = cc
-of_start start.OutOfMemory e = cc
 
 of_file : (files : Option Held) (name : List ℕ) → IsFileRefusal files name tool.BadList → ⊥
 of_file files name (inl h) = h
@@ -29,7 +22,7 @@ of_journal files name (inr (inl h)) = of_file files name h
 of_journal files name (inr (inr h)) = h.2
 
 of_rings : (journal : Option (List ℕ)) (rings : List SavedRing) (was is old new : Option (List ℕ)) → IsUnfinished journal rings was is old new tool.BadList → ⊥
-of_rings journal rings was is old new (inl h) = of_start h.1.0 h.1.2
+of_rings journal rings was is old new (inl h) = h.1
 of_rings journal rings was is old new (inr h) = h.0
 
 of_value : (files : Option Held) (journal : Option (List ℕ)) (saved : Saved) (was is old new : Option (List ℕ)) → IsRefusedFrom files journal saved was is old new tool.BadList → ⊥

@@ -11,7 +11,6 @@ use Rattle.ring_farm.specs.declared.faults.FarmError.{FarmError}
 use Rattle.text_lines.specs.declared.answer.ReadError.{ReadError}
 use Rattle.ring_check.specs.declared.answers.CheckError.{CheckError}
 use Rattle.ring_journal.specs.declared.errors.RecoverError.{RecoverError}
-use Rattle.ring_serve.specs.declared.starting.StartError.{StartError}
 use Rattle.ring_commands.specs.ListWords.{IsNoList}
 use Rattle.ring_commands.specs.Reading.{most_bytes, IsWithin, IsOver}
 use Rattle.ring_commands.specs.declared.faults.ToolError.{ToolError}
@@ -23,7 +22,6 @@ use Rattle.ring_farm.specs.declared.faults.FarmError.TheVariants as farm
 use Rattle.text_lines.specs.declared.answer.ReadError.TheVariants as read
 use Rattle.ring_check.specs.declared.answers.CheckError.TheVariants as check
 use Rattle.ring_journal.specs.declared.errors.RecoverError.TheVariants as recover
-use Rattle.ring_serve.specs.declared.starting.StartError.TheVariants as start
 use Rattle.ring_commands.specs.declared.faults.ToolError.TheVariants as tool
 
 -- whether a refusal is that of a list that cannot be read
@@ -87,10 +85,6 @@ fault_of_recovery recover.Truncated = tool.Truncated
 fault_of_recovery (recover.Syntax line) = tool.Syntax line
 fault_of_recovery (recover.Bad line kind) = tool.Bad line kind
 fault_of_recovery recover.OutOfMemory = tool.OutOfMemory
-
-abbrev pub fault_of_start : StartError → ToolError
-fault_of_start (start.Full place) = tool.Full place
-fault_of_start start.OutOfMemory = tool.OutOfMemory
 
 -- the first that is wrong with the numbers of machines and of values
 abbrev pub size_fault : ℕ → ℕ → Option ToolError

@@ -12,12 +12,11 @@ use Rattle.ring_journal.specs.Recovery.{IsRecovered, IsRightRecovery}
 use Rattle.ring_text.specs.Report.{total_line}
 use Rattle.ring_serve.specs.Standings.{Standing}
 use Rattle.ring_serve.specs.Saved.{content_of}
-use Rattle.ring_serve.specs.declared.starting.StartError.{StartError}
+use Rattle.ring_serve.specs.declared.starting.StartError.TheVariants as start
 use Rattle.ring_serve.specs.Starting.{AreResumed, IsStartFault}
 use Rattle.ring_serve.specs.Totals.{totals_of}
 use Rattle.ring_serve.specs.Serving.{ServesAll, ServesSome}
 use Rattle.ring_commands.specs.Checked.{IsLegalSavedText, IsSavedTextRefusal}
-use Rattle.ring_commands.specs.Faults.{fault_of_start}
 use Rattle.ring_commands.specs.Named.{IsHeld, IsFileRefusal}
 use Rattle.ring_requests.specs.declared.requests.ServeWords.{ServeWords}
 use Rattle.ring_commands.specs.declared.faults.ToolError.{ToolError}
@@ -122,7 +121,9 @@ IsJournalRefusal files name e = IsUnkept name e ⊎ (IsFileRefusal files name e 
 
 -- these rings do not go on: one has more events than a ring can go on with, or there is no memory
 abbrev pub IsStartRefusal : List SavedRing → ToolError → Type 0
-IsStartRefusal rings e = (fault : StartError) × IsStartFault rings fault × (e ≡ fault_of_start fault)
+IsStartRefusal rings (tool.Full ring) = IsStartFault rings (start.Full ring)
+IsStartRefusal rings tool.OutOfMemory = IsStartFault rings start.OutOfMemory
+IsStartRefusal rings _ = ⊥
 
 -- what ends it while lines are served, or when all have been: standard input, the journal if one is kept, a standard output or memory fails
 abbrev pub IsServingFault : Option (List ℕ) → ToolError → Type 0

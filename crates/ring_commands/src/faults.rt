@@ -5,7 +5,6 @@ use ring_check::{CheckError, Kind};
 use ring_farm::FarmError;
 use ring_journal::RecoverError;
 use ring_saved::ReadError;
-use ring_serve::StartError;
 use ring_settings::{Field, RingCause, SettingsError};
 use ring_state::{ParamsError, StateError};
 use std::error::Error;
@@ -292,20 +291,6 @@ impl From<RecoverError> for ToolError<'_> {
             RecoverError::Syntax(line) => ToolError::Syntax(line),
             RecoverError::Bad { line, kind } => ToolError::Bad(line, kind),
             RecoverError::OutOfMemory => ToolError::OutOfMemory,
-        }
-    }
-}
-
-impl From<StartError> for ToolError<'_> {
-    ghost use Rattle.std.specs.Prelude.{◌≡◌};
-    ghost use Rattle.ring_commands.specs.Faults.{fault_of_start};
-
-    ghost from_gives = { λ p e. e ≡ fault_of_start p };
-
-    fn from(error: StartError) -> Self {
-        match error {
-            StartError::Full(place) => ToolError::Full(place),
-            StartError::OutOfMemory => ToolError::OutOfMemory,
         }
     }
 }

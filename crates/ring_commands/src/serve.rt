@@ -21,7 +21,7 @@ use disks::Disk;
 use ring_journal::{put_first_line, recovered};
 use ring_requests::ServeWords;
 use ring_saved::Saved;
-use ring_serve::{ServeFault, Served, put_rings, serve};
+use ring_serve::{ServeFault, Served, StartError, put_rings, serve};
 use ring_text::put_total_line;
 use std::alloc::Global;
 use std::io::{BufWriter, ErrorKind, Read, Write, sink};
@@ -36,8 +36,11 @@ fn started(alloc: Global, saved: &Saved) -> Result<Served, ToolError<'static>>
     ensures ok { IfOk result (λ served. AreResumed served saved.now.rings.items) }
     ensures err { IfErr result (λ e. IsStartRefusal saved.now.rings.items e) }
 {
-    let served = Served::from_saved(alloc, saved)?;
-    Ok(served)
+    match Served::from_saved(alloc, saved) {
+        Ok(served) => Ok(served),
+        Err(StartError::Full(ring)) => Err(ToolError::Full(ring)),
+        Err(StartError::OutOfMemory) => Err(ToolError::OutOfMemory),
+    }
 }
 
 /// What is told of a fault while lines were served.
@@ -58,9 +61,14 @@ fn history<'a, D: Disk>(alloc: Global, disk: &D, name: &'a str) -> Result<Saved,
     ensures ok { IfOk result (λ saved. IsHistory (D.holds disk.now) name.now saved) }
     ensures err { IfErr result (λ e. IsHistoryRefusal (D.holds disk.now) name.now e) }
 {
-    let bytes = read_file(alloc, disk, name)?;
-    let (saved, _) = legal_saved(alloc, bytes.as_slice())?;
-    Ok(saved)
+    let bytes = match read_file(alloc, disk, name) {
+        Ok(bytes) => bytes,
+        Err(fault) => return Err(fault),
+    };
+    match legal_saved(alloc, bytes.as_slice()) {
+        Ok((saved, _)) => Ok(saved),
+        Err(fault) => Err(fault),
+    }
 }
 
 /// What is recovered of the journal of this name, if that tells something; else the value that is given.
@@ -73,7 +81,10 @@ fn noted<'a, D: Disk>(
     ensures ok { IfOk result (λ now. IsNoted (D.holds disk.now) name.now saved now) }
     ensures err { IfErr result (λ e. IsJournalRefusal (D.holds disk.now) name.now e) }
 {
-    let bytes = read_file(alloc, disk, name)?;
+    let bytes = match read_file(alloc, disk, name) {
+        Ok(bytes) => bytes,
+        Err(fault) => return Err(fault),
+    };
     if bytes.is_empty() {
         return Ok(saved);
     }
@@ -91,13 +102,14 @@ fn opened<'a, D: Disk>(disk: &mut D, name: &'a str, synced: bool) -> Result<D::G
 {
     match disk.grow(name, synced) {
         Ok(grown) => Ok(grown),
-        Err(error) if error.kind() == ErrorKind::WouldBlock => Err(ToolError::InUse(name)),
-        Err(_) => Err(ToolError::Save(name)),
+        Err(error) => match error.kind() {
+            ErrorKind::WouldBlock => Err(ToolError::InUse(name)),
+            _ => Err(ToolError::Save(name)),
+        },
     }
 }
 
 /// Writes the beginning of a journal of these rings.
-#[tactic(auto, using(text_lines::proofs::Writing::writes_then))]
 fn put_head<W: Write>(out: &mut W, served: &Served) -> Result<(), WriteFault>
     requires some { 1 ≤ length served.now }
     requires most { length served.now < 2 ^ 32 }

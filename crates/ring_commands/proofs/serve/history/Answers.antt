@@ -16,6 +16,6 @@ is_history files name bytes now sums saved held e ok =
     subst (λ (x : List ℕ). (legal : IsLegalSavedText x sums) × (legal.content ≡ content saved) × IsLegalText (content saved)) e ok in
     record { bytes = bytes; held = held; sums = sums; legal = here.0; value = here.1 }
 
-pub returns-clause-ok : goal.returns-clause-ok
-returns-clause-ok g c =
-    is_history (g.D.Disk.holds c.args.disk.now) c.args.name.now c.in_ok-bytes.bytes.items c.as_slice.result.now c.in_ok-saved.field-0-1 c.in_ok-saved.saved c.in_ok-bytes.ensures.ok c.as_slice.ensures.value c.in_ok-saved.ensures.ok
+pub returns-in-Ok-legal_saved-clause-ok : goal.returns-in-Ok-legal_saved-clause-ok
+returns-in-Ok-legal_saved-clause-ok g c =
+    is_history (g.D.Disk.holds c.args.disk.now) c.args.name.now c.in-Ok.bytes.items c.as_slice.result.now c.in-Ok-legal_saved.field-0-1 c.in-Ok-legal_saved.saved c.in-Ok.ensures.ok c.as_slice.ensures.value c.in-Ok-legal_saved.ensures.ok
