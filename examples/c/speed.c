@@ -1,5 +1,7 @@
-/* What calls from C cost: passes on one thread, without and under a mutex, on four threads, the checker on what they left, and how
- * long a thread waits for its turn. It saves the history, so that the same text can be given to `ring_tool check`:  speed HISTORY */
+/* What calls from C cost: passes on one thread, without and under a mutex, on four threads, the checker on what one left, and how
+ * long a thread waits for its turn. Each round is on a ring of its own, which takes its memory anew, and the rounds are made in
+ * turn; the middle one counts. It saves the longest history, so that the same text can be given to `ring_tool check`:
+ * speed HISTORY */
 #define _POSIX_C_SOURCE 200809L /* clock_gettime, nanosleep */
 #include "patient_lock.h"
 #include "wozgirt.h"
@@ -8,7 +10,7 @@
 #include <stdlib.h>
 #include <time.h>
 
-enum { MACHINES = 16, THREADS = 4, CALLS = 400000 };
+enum { MACHINES = 16, THREADS = 4, CALLS = 200000, ALL = THREADS * CALLS, CHECKED = 3200000, ROUNDS = 9 };
 
 static const uint32_t start[MACHINES] = {0};
 
@@ -35,6 +37,13 @@ static void pass(uint32_t seat, uint32_t turn)
 {
     struct wozgirt_answer answer;
     stop_on(wozgirt_pass(&ring, seat, turn % MACHINES, 1, &answer));
+}
+
+/* Passes by one thread, which needs no lock. */
+static void pass_freely(void)
+{
+    for (uint32_t turn = 0; turn < ALL; turn++)
+        pass(0, turn);
 }
 
 static void *client(void *given)
@@ -64,61 +73,110 @@ static void *patient_client(void *given)
     return NULL;
 }
 
-static void on_threads(void *(*work)(void *))
+/* All passes by one client, of the first seat. */
+static void *lone_client(void *given)
+{
+    for (int part = 0; part < THREADS; part++)
+        client(given);
+    return NULL;
+}
+
+/* Has so many threads work, each for a seat. */
+static void on_threads(int count, void *(*work)(void *))
 {
     pthread_t threads[THREADS];
-    for (uintptr_t seat = 0; seat < THREADS; seat++)
+    for (intptr_t seat = 0; seat < count; seat++)
         if (pthread_create(&threads[seat], NULL, work, (void *)seat) != 0)
             exit(1);
-    for (int seat = 0; seat < THREADS; seat++)
+    for (int seat = 0; seat < count; seat++)
         pthread_join(threads[seat], NULL);
+}
+
+static void pass_alone(void)
+{
+    on_threads(1, lone_client);
+}
+
+static void pass_together(void)
+{
+    on_threads(THREADS, client);
+}
+
+static void pass_patiently(void)
+{
+    on_threads(THREADS, patient_client);
+}
+
+/* The nanoseconds of a pass, where all are made so on a ring of their own. */
+static double nanoseconds(void (*passes)(void))
+{
+    stop_on(wozgirt_open(&ring, MACHINES, MACHINES, start, MACHINES, THREADS));
+    const double begin = now();
+    passes();
+    const double end = now();
+    wozgirt_close(ring);
+    return (end - begin) * 1e9 / ALL;
+}
+
+static int by_size(const void *one, const void *other)
+{
+    const double a = *(const double *)one, b = *(const double *)other;
+    return (a > b) - (a < b);
+}
+
+static double middle(double *rounds)
+{
+    qsort(rounds, ROUNDS, sizeof *rounds, by_size);
+    return rounds[ROUNDS / 2];
+}
+
+/* Saves a history of many passes to the file, and tells how long the check of it takes. */
+static void check_saved(const char *name)
+{
+    uint64_t size = 0;
+    uint8_t none;
+    stop_on(wozgirt_open(&ring, MACHINES, MACHINES, start, MACHINES, THREADS));
+    for (uint32_t turn = 0; turn < CHECKED; turn++)
+        pass(turn % THREADS, turn);
+    if (wozgirt_save(&ring, &none, 0, &size) != WOZGIRT_TOO_SMALL)
+        exit(1);
+    uint8_t *text = malloc(size);
+    if (!text)
+        exit(1);
+    stop_on(wozgirt_save(&ring, text, size, &size));
+    wozgirt_close(ring);
+    FILE *file = fopen(name, "wb");
+    if (!file || fwrite(text, 1, size, file) != size || fclose(file) != 0)
+        exit(1);
+    struct wozgirt_sums sums;
+    const double begin = now();
+    stop_on(wozgirt_check(text, size, &sums));
+    const double end = now();
+    free(text);
+    printf("check of %llu events: %.3f s\n", (unsigned long long)sums.events, end - begin);
 }
 
 int main(int count, char **words)
 {
-    uint64_t size = 0;
-    uint8_t none;
+    double freely[ROUNDS], alone[ROUNDS], together[ROUNDS], beside[ROUNDS], most = 0;
     if (count != 2) {
         fprintf(stderr, "usage: speed HISTORY\n");
         return 2;
     }
-    stop_on(wozgirt_open(&ring, MACHINES, MACHINES, start, MACHINES, THREADS));
-    const double first = now();
-    for (uint32_t turn = 0; turn < 2 * CALLS; turn++)
-        pass(0, turn);
-    const double begin = now();
-    client((void *)0);
-    client((void *)0);
-    const double alone = now();
-    on_threads(client);
-    const double together = now();
-    if (wozgirt_save(&ring, &none, 0, &size) != WOZGIRT_TOO_SMALL)
-        return 1;
-    uint8_t *text = malloc(size);
-    if (!text)
-        return 1;
-    stop_on(wozgirt_save(&ring, text, size, &size));
-    wozgirt_close(ring);
-    FILE *file = fopen(words[1], "wb");
-    if (!file || fwrite(text, 1, size, file) != size || fclose(file) != 0)
-        return 1;
-    struct wozgirt_sums sums;
-    const double saved = now();
-    stop_on(wozgirt_check(text, size, &sums));
-    const double checked = now();
-    free(text);
-    stop_on(wozgirt_open(&ring, MACHINES, MACHINES, start, MACHINES, THREADS));
-    on_threads(patient_client);
-    wozgirt_close(ring);
-    double most = 0;
+    for (int round = 0; round < ROUNDS; round++) {
+        freely[round] = nanoseconds(pass_freely);
+        alone[round] = nanoseconds(pass_alone);
+        together[round] = nanoseconds(pass_together);
+        beside[round] = alone[round] / together[round];
+    }
+    nanoseconds(pass_patiently);
     for (int seat = 0; seat < THREADS; seat++)
         if (longest[seat] > most)
             most = longest[seat];
-    const double one = 2 * CALLS / (alone - begin), four = THREADS * CALLS / (together - alone);
-    printf("a pass, one thread, no mutex: %.0f ns\n", (begin - first) * 1e9 / (2 * CALLS));
-    printf("a pass, one thread, under a mutex: %.0f ns\n", 1e9 / one);
-    printf("calls a second, four threads beside one: %.2f\n", four / one);
+    printf("a pass, one thread, no mutex: %.0f ns\n", middle(freely));
+    printf("a pass, one thread, under a mutex: %.0f ns\n", middle(alone));
+    printf("calls a second, four threads beside one: %.2f\n", middle(beside));
     printf("longest wait of one of four threads: %.1f ms\n", most * 1e3);
-    printf("check of %llu events: %.3f s\n", (unsigned long long)sums.events, checked - saved);
+    check_saved(words[1]);
     return 0;
 }

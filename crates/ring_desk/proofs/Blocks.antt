@@ -1,18 +1,16 @@
 -- A block's machines, rising: they can move, and in the order of the moves they are the block's. And a block is determined by them.
-use Rattle.std.proofs.Common.{◌≡◌, ℕ, zero, suc, ◌+◌, ◌-◌, ◌<◌, ◌≤◌, Bool, true, false, cond, List, [], ◌∷◌, ◌++◌, length, get_or, take, drop, reverse, length-append, refl, sym, ◌∙◌, ap, subst, inl, inr, arith, eqb}
+use Rattle.std.proofs.Common.{◌≡◌, ℕ, zero, suc, ◌+◌, ◌<◌, ◌≤◌, Bool, false, cond, List, [], ◌∷◌, ◌++◌, length, get_or, take, drop, reverse, length-append, refl, sym, ◌∙◌, ap, subst, inl, inr, arith, eqb}
 use Rattle.std.specs.Prelude.{◌||◌}
 use Rattle.std.proofs.lemmas.Bool.{cond-true, cond-false, eq-eqb, ne_eqb}
 use Rattle.std.proofs.lemmas.Bool.Decides.{nat_tests}
 use Rattle.std.proofs.lemmas.List.{reverse-append, length-reverse, take-append-le, take_all, reverse-reverse}
-use Rattle.std.proofs.Math.Seq.{take-append-add, drop-append-add}
-use Rattle.ring_model.specs.Ring.{Ring, is_privileged}
+use Rattle.std.proofs.Math.Seq.{drop-append-add}
 use Rattle.ring_model.specs.History.{Works, State, StepOf, next, reply, IsLegal}
-use Rattle.ring_model.specs.Groups.{has, down_from, Falls, IsInOrder, Rises, least_left_out, move_order, AreMembers, IsBlockOf, IsAlone, IsPiece, ArePieces, joined, IsWhole, left_of}
+use Rattle.ring_model.specs.Groups.{has, down_from, Falls, IsInOrder, Rises, least_left_out, move_order, AreMembers, IsBlockOf, IsAlone, ArePieces, joined, IsWhole, left_of}
 use Rattle.ring_model.specs.GroupLaws.{CanMove}
 use Rattle.ring_model.specs.declared.events.Op.{Op}
 use Rattle.ring_model.specs.declared.events.Op.TheVariants.{Pass, Member, Corrupt}
 use Rattle.ring_model.specs.declared.events.Event.{Event}
-use Rattle.ring_model.specs.declared.events.Reply.{Reply}
 use Rattle.ring_model.proofs.Histories.{StepOf-reply}
 use Rattle.ring_model.proofs.Groups.{has_append, walk_start}
 use Rattle.ring_model.proofs.Orders.{has_reverse, down_length}

@@ -1,17 +1,12 @@
 -- What a call leaves of a ring with its clients.
-use Rattle.std.proofs.Common.{◌≡◌, ℕ, ◌+◌, ◌<◌, ◌≤◌, List, [], ◌∷◌, ◌++◌, length, get_or, take, drop, subst, ap, sym, ◌∙◌, refl, arith, inl, inr, get_or-set_same, get_or-set_other}
-use Rattle.std.proofs.lemmas.List.{length-set, take_all}
+use Rattle.std.proofs.Common.{◌≡◌, ℕ, ◌+◌, ◌-◌, ◌<◌, ◌≤◌, List, [], ◌∷◌, ◌++◌, length, length-append, get_or, take, drop, subst, ap, sym, ◌∙◌, refl, arith, inl, inr, get_or-set_same, get_or-set_other}
+use Rattle.std.proofs.lemmas.Bool.{cases_eq, cases_lt}
+use Rattle.std.proofs.lemmas.List.{length-map, length-set, get_or-map, get_or_append_left, get_or-append_right, take_all}
 use Rattle.std.proofs.lemmas.List.Elements.{All-append, All-cons}
-use Rattle.std.proofs.lemmas.Bool.{cases_eq}
-use Rattle.std.proofs.lemmas.Option.{slice_get_within, get_or_from_slice_get}
 use Rattle.ring_model.specs.Ring.{Ring}
 use Rattle.ring_model.specs.Limits.{seat_limit}
-use Rattle.ring_model.specs.Resources.{till}
 use Rattle.ring_model.specs.History.{Works, opening}
 use Rattle.ring_model.specs.Groups.{move_order, AreMembers, left_after}
-use Rattle.ring_book.specs.GroupView.{IsGroupRecorded}
-use Rattle.ring_book.specs.declared.books.groups.GroupReceipt.{GroupReceipt}
-use Rattle.ring_shared.proofs.GroupLogs.{group_events}
 use Rattle.ring_model.specs.Logs.{Fits}
 use Rattle.ring_model.specs.Surveys.{survey_at}
 use Rattle.ring_model.specs.declared.events.Event.{Event}
@@ -21,21 +16,17 @@ use Rattle.ring_model.specs.declared.events.Op.{Op}
 use Rattle.ring_model.specs.declared.events.Entry.{Entry}
 use Rattle.ring_model.specs.declared.events.Entry.TheVariants as entry
 use Rattle.ring_model.proofs.Wholes.{whole_left}
+use Rattle.ring_book.specs.BookView.{BookView, IsBook, IsFresh, IsRecorded}
+use Rattle.ring_book.specs.GroupView.{IsGroupRecorded}
+use Rattle.ring_book.specs.declared.books.groups.GroupReceipt.{GroupReceipt}
 use Rattle.ring_logs.specs.Told.{Told}
-use Rattle.ring_book.specs.BookView.{BookView, IsBook, IsRecorded}
-use Rattle.ring_shared.specs.Holding.{AreOfSeats}
 use Rattle.ring_shared.specs.Groups.{receipts_from}
-use Rattle.std.proofs.lemmas.List.{get_or_append_left, get_or-append_right}
-use Rattle.std.proofs.lemmas.Bool.{cases_lt}
-use Rattle.std.proofs.Common.{length-append, suc, zero, ◌-◌}
-use Rattle.ring_shared.specs.declared.seats.Log.{Log}
-use Rattle.ring_farm.specs.declared.outcomes.RingOutcome.{RingOutcome}
-use Rattle.ring_text.specs.Written.{IsRightRun}
-use Rattle.ring_book.specs.BookView.{IsFresh}
-use Rattle.ring_desk.specs.Rings.{IsClient, IsOneThreadRing, grown, told_more, AreFresh, AreLogsOf}
-use Rattle.std.proofs.Common.{Result, Ok, Err, IfOk}
-use Rattle.ring_desk.specs.Texts.{IsTextOf, IsTextOfRun}
+use Rattle.ring_shared.specs.Holding.{AreOfSeats}
+use Rattle.ring_shared.proofs.GroupLogs.{group_events}
+use Rattle.ring_desk.specs.Clients.{ClientView, told_of, told_all, with_survey_at, StandInOrder, AllStandInOrder, AreNew}
+use Rattle.ring_desk.specs.Rings.{IsClient, IsOneThreadRing, IsKeptBy, grown, told_more, AreFresh}
 use Rattle.ring_desk.proofs.Growing.{AreOf, own_fits, other_fits, survey_fits}
+use Rattle.ring_desk.proofs.Telling.{AreNumbered, told_grown, told_surveyed, order_surveyed, all_longer}
 
 of_seats_all : (n seat : ℕ) (es : List Event) → seat < n → AreOf seat es → AreOfSeats n es
 of_seats_all n seat [] l o = λ k d m. absurd (omega arith)
@@ -140,20 +131,36 @@ surveyed_ring w first b cs seat s d within is =
     }
 
 -- a client more that was told nothing
-pub fresh_more : (n : ℕ) (cs : List Told) → AreFresh n cs → AreFresh (n + 1) (cs ++ record { number = n; log = [] } ∷ [])
-fresh_more n cs f =
+pub new_more : (n : ℕ) (cs : List ClientView) → AreNew n cs → AreNew (n + 1) (cs ++ record { number = n; surveys = [] } ∷ [])
+new_more n cs f =
     let count = f.0 in
-    let one : List Told = record { number = n; log = [] } ∷ [] in (
+    let one : List ClientView = record { number = n; surveys = [] } ∷ [] in (
       omega (arith, length-append cs one),
       λ i c l. elim (cases_lt i n) [
         | inl lt ↦ get_or_append_left cs one c i (omega arith) ∙ f.1 i c lt
         | inr ge ↦
             let same : i ≡ n = omega arith in
             let nothing : n - n ≡ 0 = omega arith in
-            subst (λ (k : ℕ). get_or (cs ++ one) k c ≡ record { number = k; log = [] }) (sym same)
+            subst (λ (k : ℕ). get_or (cs ++ one) k c ≡ record { number = k; surveys = [] }) (sym same)
             (get_or-append_right cs one n n c count (omega arith) ∙ ap (λ (k : ℕ). get_or one k c) nothing)
       ],
     )
+
+-- clients that were told nothing have empty logs while there is no history
+pub new_fresh : (n : ℕ) (h : List Event) (cs : List ClientView) → h ≡ [] → AreNew n cs → AreFresh n (told_all h cs)
+new_fresh n h cs none f = (
+  length-map cs (told_of h) ∙ f.0,
+  λ i c l.
+      let count = f.0 in
+      let nobody : ClientView = record { number = i; surveys = [] } in
+      get_or-map (told_of h) cs i nobody c (omega (arith, l, count))
+      ∙ (ap (told_of h) (f.1 i nobody l) ∙ ap (λ (h : List Event). told_of h nobody) none),
+)
+
+new_in_order : (n end : ℕ) (cs : List ClientView) → AreNew n cs → AllStandInOrder end cs
+new_in_order n end cs f = λ k d l.
+    let count = f.0 in
+    subst (λ (c : ClientView). StandInOrder 0 end c.surveys) (sym (f.1 k d (omega (arith, l, count)))) (omega arith)
 
 -- a ring that is opened
 pub fresh_ring : {C : Type 0} (w : Works C) (first : C) (start : Ring) (b : BookView C) (cs : List Told) (seats : ℕ) → seats ≤ seat_limit → IsBook w first b → IsFresh start first b → AreFresh seats cs →
@@ -171,76 +178,84 @@ fresh_ring w first start b cs seats most book fresh f =
           (record { number = refl; fits = subst (λ (h : List Event). Fits w (opening b.start first) h i []) (sym none) (record { calls = refl; entries = tt }) });
     }
 
--- the logs that a ring hands out
-pub AreLogsOf-push : (cs : List Told) (ls : List Log) (c : Told) (l : Log) → AreLogsOf cs ls → (l.seat ≡ c.number) × (l.entries.items ≡ c.log) → AreLogsOf (cs ++ c ∷ []) (ls ++ l ∷ [])
-AreLogsOf-push [] [] c l h is = (is, refl)
-AreLogsOf-push [] (x ∷ ls) c l h is = cc
-AreLogsOf-push (d ∷ cs) [] c l h is = absurd h
-AreLogsOf-push (d ∷ cs) (x ∷ ls) c l h is = (h.0, AreLogsOf-push cs ls c l h.1 is)
+-- ---- a ring that is kept by its clients
 
--- as many logs as clients
-pub logs_long : (cs : List Told) (ls : List Log) → AreLogsOf cs ls → length ls ≡ length cs
-logs_long [] ls h = ap length h
-logs_long (c ∷ cs) [] h = absurd h
-logs_long (c ∷ cs) (l ∷ ls) h = ap suc (logs_long cs ls h.1)
+pub numbered : {C : Type 0} (w : Works C) (first : C) (b : BookView C) (cs : List ClientView) → IsKeptBy w first b cs → AreNumbered cs
+numbered w first b cs k i c l =
+    let nobody : Told = record { number = i; log = [] } in
+    let there : get_or (told_all b.history cs) i nobody ≡ told_of b.history (get_or cs i c) = get_or-map (told_of b.history) cs i c nobody l in
+    sym (ap (λ (t : Told). t.number) there) ∙ (k.ring.each i nobody (subst (λ (n : ℕ). i < n) (sym (length-map cs (told_of b.history))) l)).number
 
-log_at : (cs : List Told) (ls : List Log) (i : ℕ) (d : Told) (l : Log) → AreLogsOf cs ls → i < length cs → ((get_or ls i l).seat ≡ (get_or cs i d).number) × ((get_or ls i l).entries.items ≡ (get_or cs i d).log)
-log_at [] ls i d l h lt = absurd (omega arith)
-log_at (c ∷ cs) [] i d l h lt = absurd h
-log_at (c ∷ cs) (x ∷ ls) zero d l h lt = h.0
-log_at (c ∷ cs) (x ∷ ls) (suc i) d l h lt = log_at cs ls i d l h.1 (omega (arith, lt))
+module _ {C : Type 0} (w : Works C) (first : C) (b b' : BookView C) (cs : List ClientView) (seat : ℕ) (es : List Event) (log : List Entry)
+    (k : IsKeptBy w first b cs) (book : IsBook w first b') (within : seat < length cs) (of : AreOf seat es)
+    (start : b'.start ≡ b.start) (grew : b'.history ≡ b.history ++ es) (is : log ≡ receipts_from (length b.history) es) where
+  grew_told : told_all b'.history cs ≡ told_more (told_all b.history cs) seat log
+  grew_told =
+      ap (λ (h : List Event). told_all h cs) grew ∙ (told_grown b.history es cs seat (numbered w first b cs k) within of k.in_order
+      ∙ ap (λ (more : List Entry). told_more (told_all b.history cs) seat more) (sym is))
 
--- what a ring hands out is a right run
-pub right_run : (r : RingOutcome) (cs : List Told) → IsOneThreadRing till 0 (record { book = r.book; clients = cs }) → AreLogsOf cs r.logs.items → IsRightRun r
-right_run r cs d of =
-    let long : length r.logs.items ≡ length cs = logs_long cs r.logs.items of in
-    let client : (i : ℕ) (l : Log) → i < length r.logs.items → ((get_or r.logs.items i l).seat ≡ i) × Fits till (opening r.book.start 0) r.book.history i (get_or r.logs.items i l).entries.items =
-    λ i l lt.
-    let c : Told = record { number = i; log = [] } in
-    let same = log_at cs r.logs.items i c l of (omega (arith, long)) in
-    let is = d.each i c (omega (arith, long)) in
-    (same.0 ∙ is.number, subst (λ (log : List Entry). Fits till (opening r.book.start 0) r.book.history i log) (sym same.1) is.fits) in
-    record {
-      ring = d.book.start_ring.ring;
-      most_machines = d.book.start_ring.most_machines;
-      most = d.book.start_ring.most;
-      legal_and_whole = (d.book.legal, d.book.whole);
-      few = let few = d.few in omega arith;
-      by_number = λ seat l at.
-          let lt = slice_get_within r.logs.items seat l at in
-          subst (λ (x : Log). x.seat ≡ seat) (get_or_from_slice_get r.logs.items seat l l at) (client seat l lt).0;
-      seats = subst (λ (n : ℕ). AreOfSeats n r.book.history) (sym long) d.of_seats;
-      fits = λ k l lt.
-          let one = client k l lt in
-          subst (λ (n : ℕ). Fits till (opening r.book.start 0) r.book.history n (get_or r.logs.items k l).entries.items) (sym one.0) one.1;
-    }
+  grew_kept : IsKeptBy w first b' cs
+  grew_kept =
+      let long : length b'.history ≡ length b.history + length es = ap length grew ∙ length-append b.history es in
+      let inside : seat < length (told_all b.history cs) = subst (λ (n : ℕ). seat < n) (sym (length-map cs (told_of b.history))) within in
+      record {
+        ring = subst (λ (ts : List Told). IsOneThreadRing w first (record { book = b'; clients = ts })) (sym grew_told)
+            (grew_ring w first b b' (told_all b.history cs) seat es log k.ring book inside of start grew is);
+        in_order = all_longer (length b.history) (length b'.history) cs (omega (arith, long)) k.in_order;
+      }
 
--- the seats of the logs are seats
-pub logs_seats : (b : BookView ℕ) (cs : List Told) (ls : List Log) → IsOneThreadRing till 0 (record { book = b; clients = cs }) → AreLogsOf cs ls → (k : ℕ) (x : Log) → k < length ls → (get_or ls k x).seat < seat_limit
-logs_seats b cs ls d of k x lt =
-    let long : length ls ≡ length cs = logs_long cs ls of in
-    let c : Told = record { number = k; log = [] } in
-    let same : (get_or ls k x).seat ≡ (get_or cs k c).number = (log_at cs ls k c x of (omega (arith, long))).0 in
-    let is : (get_or cs k c).number ≡ k = (d.each k c (omega (arith, long))).number in
-    let few : length cs ≤ seat_limit = d.few in
-    omega (arith, same, is, few, long)
+-- after a call
+module _ {C : Type 0} (w : Works C) (first : C) (b b' : BookView C) (cs : List ClientView) (seat : ℕ) (op : Op) (r : Receipt)
+    (k : IsKeptBy w first b cs) (book : IsBook w first b') (within : seat < length cs) (rec : IsRecorded w b b' seat op r) where
+  receipt_is : entry.Receipt r ∷ [] ≡ receipts_from (length b.history) (r.event ∷ [])
+  receipt_is = ap (λ (n : ℕ). entry.Receipt (record { position = n; event = r.event }) ∷ []) rec.position
 
--- clients are known by their logs
-pub same_clients : (cs ds : List Told) (ls : List Log) → AreLogsOf cs ls → AreLogsOf ds ls → ds ≡ cs
-same_clients [] [] ls h k = refl
-same_clients [] (d ∷ ds) [] h k = absurd k
-same_clients [] (d ∷ ds) (l ∷ ls) h k = cc
-same_clients (c ∷ cs) [] [] h k = absurd h
-same_clients (c ∷ cs) [] (l ∷ ls) h k = cc
-same_clients (c ∷ cs) (d ∷ ds) [] h k = absurd h
-same_clients (c ∷ cs) (d ∷ ds) (l ∷ ls) h k =
-    let number : d.number ≡ c.number = sym k.0.0 ∙ h.0.0 in
-    let log : d.log ≡ c.log = sym k.0.1 ∙ h.0.1 in
-    let more : ds ≡ cs = same_clients cs ds ls h.1 k.1 in
-    λ i. record { number = number i; log = log i } ∷ more i
+  pub called_told : told_all b'.history cs ≡ told_more (told_all b.history cs) seat (entry.Receipt r ∷ [])
+  called_told = grew_told w first b b' cs seat (r.event ∷ []) (entry.Receipt r ∷ []) k book within (rec.of_seat, tt) rec.same_start rec.grown receipt_is
 
--- the text of what a ring hands out is its text
-pub text_of_ring : {T E : Type 0} (answer : Result T E) (bytes : T → List ℕ) (run : RingOutcome) (b : BookView ℕ) (cs : List Told) → run.book ≡ b → AreLogsOf cs run.logs.items →
-    IfOk answer (λ t. IsTextOfRun run (bytes t)) → IfOk answer (λ t. IsTextOf (record { book = b; clients = cs }) (bytes t))
-text_of_ring (Ok t) bytes run b cs book logs is = record { run = run; book = book; logs = logs; text = is }
-text_of_ring (Err e) bytes run b cs book logs is = is
+  pub called_kept : IsKeptBy w first b' cs
+  called_kept = grew_kept w first b b' cs seat (r.event ∷ []) (entry.Receipt r ∷ []) k book within (rec.of_seat, tt) rec.same_start rec.grown receipt_is
+
+-- after a group
+module _ {C : Type 0} (w : Works C) (first : C) (b b' : BookView C) (cs : List ClientView) (seat order : ℕ) (machines : List ℕ) (r : GroupReceipt)
+    (k : IsKeptBy w first b cs) (book : IsBook w first b') (within : seat < length cs) (g : IsGroupRecorded w b b' seat order machines r) where
+  abbrev block : List Entry
+  block = receipts_from r.first (drop r.first b'.history)
+
+  block_is : block ≡ receipts_from (length b.history) g.moved.events
+  block_is = ap (λ (es : List Event). receipts_from r.first es) (group_events w b b' seat order machines r g) ∙ ap (λ (n : ℕ). receipts_from n g.moved.events) g.first
+
+  by_seat : AreOf seat g.moved.events
+  by_seat = members_are seat order (move_order machines) g.moved.events g.moved.block.members
+
+  pub grouped_told : told_all b'.history cs ≡ told_more (told_all b.history cs) seat block
+  grouped_told = grew_told w first b b' cs seat g.moved.events block k book within by_seat g.moved.same_start g.moved.grown block_is
+
+  pub grouped_kept : IsKeptBy w first b' cs
+  grouped_kept = grew_kept w first b b' cs seat g.moved.events block k book within by_seat g.moved.same_start g.moved.grown block_is
+
+-- after a survey
+module _ {C : Type 0} (w : Works C) (first : C) (b : BookView C) (cs : List ClientView) (seat : ℕ) (s : Survey)
+    (k : IsKeptBy w first b cs) (within : seat < length cs) (is : s ≡ survey_at w (opening b.start first) b.history (length b.history)) where
+  at_end : s.position ≡ length b.history
+  at_end = ap (λ (x : Survey). x.position) is
+
+  pub surveyed_told : told_all b.history (with_survey_at cs seat s) ≡ told_more (told_all b.history cs) seat (entry.Survey s ∷ [])
+  surveyed_told = told_surveyed b.history cs seat s within at_end k.in_order
+
+  pub surveyed_kept : IsKeptBy w first b (with_survey_at cs seat s)
+  surveyed_kept =
+      let inside : seat < length (told_all b.history cs) = subst (λ (n : ℕ). seat < n) (sym (length-map cs (told_of b.history))) within in
+      record {
+        ring = subst (λ (ts : List Told). IsOneThreadRing w first (record { book = b; clients = ts })) (sym surveyed_told)
+            (surveyed_ring w first b (told_all b.history cs) seat s k.ring inside is);
+        in_order = order_surveyed b.history cs seat s within at_end k.in_order;
+      }
+
+-- a ring that is opened
+pub opened_kept : {C : Type 0} (w : Works C) (first : C) (start : Ring) (b : BookView C) (cs : List ClientView) (seats : ℕ) → seats ≤ seat_limit → IsBook w first b → IsFresh start first b → AreNew seats cs →
+    IsKeptBy w first b cs
+opened_kept w first start b cs seats most book fresh f = record {
+  ring = fresh_ring w first start b (told_all b.history cs) seats most book fresh (new_fresh seats b.history cs fresh.2 f);
+  in_order = new_in_order seats (length b.history) cs f;
+}

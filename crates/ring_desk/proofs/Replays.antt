@@ -1,35 +1,29 @@
 -- A ring that makes the calls of a legal history once more makes that history.
-use Rattle.std.proofs.Common.{◌≡◌, ℕ, zero, suc, ◌+◌, ◌-◌, ◌<◌, ◌≤◌, Bool, true, false, List, [], ◌∷◌, ◌++◌, length, get_or, take, drop, map, filter, length-append, append_assoc, refl, sym, ◌∙◌, ap, subst, inl, inr, arith, get_or-set_same, get_or-set_other}
-use Rattle.std.specs.Prelude.{◌⊎◌, All, Option, Some, None, Result, Ok, Err, IfOk, IfErr, reverse, min}
+use Rattle.std.proofs.Common.{◌≡◌, ℕ, ◌+◌, ◌-◌, ◌<◌, ◌≤◌, true, false, List, [], ◌∷◌, ◌++◌, length, get_or, take, drop, map, length-append, append_assoc, refl, sym, ◌∙◌, ap, subst, inl, inr, arith, get_or-set_same, get_or-set_other}
+use Rattle.std.specs.Prelude.{Result, Ok, Err, IfOk, IfErr, reverse, min}
 use Rattle.std.proofs.lemmas.Bool.{cases_eq}
-use Rattle.std.proofs.lemmas.List.{append-nil, length-set, take_all, take-append-le, length-take, length-drop, length-map, take-map, drop-map, drop-drop, drop_all, drop-take, take-append-drop}
-use Rattle.std.proofs.lemmas.List.Elements.{All-tail, All-cons}
-use Rattle.std.proofs.Math.Seq.{take-append-add, drop-append-add, take-take}
-use Rattle.ring_model.specs.Ring.{Ring, is_privileged}
-use Rattle.ring_model.specs.Limits.{event_limit}
+use Rattle.std.proofs.lemmas.List.{append-nil, length-set, take_all, length-take, length-drop, length-map, take-map, drop-map, drop-drop, drop_all, drop-take, take-append-drop}
+use Rattle.std.proofs.lemmas.List.Elements.{All-tail}
+use Rattle.ring_model.specs.Ring.{Ring}
 use Rattle.ring_model.specs.Resources.{till}
-use Rattle.ring_model.specs.History.{Works, State, StepOf, opening, next, after, IsLegal}
+use Rattle.ring_model.specs.History.{State, StepOf, next, after, IsLegal}
 use Rattle.ring_model.specs.HistoryLaws.{between}
-use Rattle.ring_model.specs.Groups.{has, IsAlone, IsWhole, IsHistory, IsBlockOf, AreMembers, move_order, left_of, left_after}
+use Rattle.ring_model.specs.Groups.{IsAlone, IsWhole, IsBlockOf, AreMembers, move_order}
 use Rattle.ring_model.specs.GroupLaws.{CanMove}
-use Rattle.ring_model.specs.Steps.{IsInRange}
-use Rattle.ring_model.specs.Surveys.{survey_at}
 use Rattle.ring_model.specs.declared.events.Op.{Op}
 use Rattle.ring_model.specs.declared.events.Op.TheVariants.{Pass, Member, Corrupt}
 use Rattle.ring_model.specs.declared.events.Event.{Event}
 use Rattle.ring_model.specs.declared.events.Receipt.{Receipt}
-use Rattle.ring_model.specs.declared.events.Survey.{Survey}
 use Rattle.ring_model.specs.declared.events.Reply.{Reply}
 use Rattle.ring_model.specs.declared.events.Reply.TheVariants.{Granted, NotPrivileged, Corrupted}
 use Rattle.ring_model.specs.declared.events.Entry.{Entry}
 use Rattle.ring_model.specs.declared.events.Entry.TheVariants as entry
-use Rattle.ring_model.proofs.Histories.{StepOf-next, IsLegal-back, after-append}
-use Rattle.ring_model.proofs.Places.{cut, between_legal}
+use Rattle.ring_model.proofs.Histories.{StepOf-next, IsLegal-back}
 use Rattle.ring_state.specs.Sizes.{Size}
-use Rattle.ring_model.proofs.Wholes.{whole_places, whole_left, alone_none, members_length}
+use Rattle.ring_model.proofs.Wholes.{whole_places, alone_none, members_length}
 use Rattle.ring_logs.specs.Told.{Told}
-use Rattle.ring_book.specs.BookView.{BookView, IsRecorded}
-use Rattle.ring_book.specs.GroupView.{IsLeastWithout, IsGroupRecorded}
+use Rattle.ring_book.specs.BookView.{IsRecorded}
+use Rattle.ring_book.specs.GroupView.{IsGroupRecorded}
 use Rattle.ring_book.specs.declared.books.groups.GroupReceipt.{GroupReceipt}
 use Rattle.ring_shared.specs.Groups.{receipts_from}
 use Rattle.ring_shared.specs.Holding.{AreOfSeats}
@@ -39,22 +33,18 @@ use Rattle.ring_saved.specs.declared.saved.SavedEvent.TheVariants as saved
 use Rattle.ring_model.specs.Replay.{machine_of}
 use Rattle.ring_check.specs.Members.{least_of}
 use Rattle.ring_check.specs.Table.{event_of}
-use Rattle.ring_text.specs.SavedOf.{entry_surveys, saved_survey}
+use Rattle.ring_text.specs.SavedOf.{entry_surveys}
 use Rattle.ring_desk.specs.declared.errors.CallError.{CallError}
 use Rattle.ring_desk.specs.declared.errors.CallError.TheVariants as call
 use Rattle.ring_desk.specs.declared.resuming.ResumeError.{ResumeError}
 use Rattle.ring_desk.specs.declared.resuming.ResumeError.TheVariants as resume
-use Rattle.ring_desk.specs.Rings.{RingView, IsOneThreadRing, IsPassFault, IsCorruptFault, IsSurveyFault, IsGroupRefusal, IsRisingGroup, grown, told_more}
+use Rattle.ring_desk.specs.Rings.{RingView, IsOneThreadRing, IsPassFault, IsCorruptFault, IsGroupRefusal, grown, told_more}
 use Rattle.ring_desk.specs.Resuming.{IsWantOfMemory}
-use Rattle.ring_desk.specs.Replaying.{named, rising_of, told_by, Keeps, Goes, Went}
+use Rattle.ring_desk.specs.Replaying.{named, rising_of, told_by, Goes, Went}
+use Rattle.ring_desk.proofs.Telling.{entry_surveys-append}
 use Rattle.ring_desk.proofs.Blocks.{begins_with, turned_order, order_few, block_can_move, same_event, same_block}
 
 -- what a client's log tells
-
-surveys_append : (seat : ℕ) (xs ys : List Entry) → entry_surveys seat (xs ++ ys) ≡ entry_surveys seat xs ++ entry_surveys seat ys
-surveys_append seat [] ys = refl
-surveys_append seat (entry.Receipt r ∷ xs) ys = surveys_append seat xs ys
-surveys_append seat (entry.Survey s ∷ xs) ys = ap (λ (ss : List SavedSurvey). saved_survey seat s ∷ ss) (surveys_append seat xs ys)
 
 receipts_tell_none : (seat n : ℕ) (es : List Event) → entry_surveys seat (receipts_from n es) ≡ []
 receipts_tell_none seat n [] = refl
@@ -69,7 +59,7 @@ told_besides cs seat es i l e =
     let nobody : Told = record { number = i; log = [] } in
     let same : told_more cs seat es ≡ told_more cs i es = ap (λ (k : ℕ). told_more cs k es) (sym e) in
     let there : get_or (told_more cs i es) i nobody ≡ grown (get_or cs i nobody) es = get_or-set_same cs i (grown (get_or cs i nobody) es) nobody (omega (arith, l, e)) in
-    ap (λ (ts : List Told). told_by ts i) same ∙ (ap (λ (t : Told). entry_surveys i t.log) there ∙ surveys_append i (get_or cs i nobody).log es)
+    ap (λ (ts : List Told). told_by ts i) same ∙ (ap (λ (t : Told). entry_surveys i t.log) there ∙ entry_surveys-append i (get_or cs i nobody).log es)
 
 pub told_others : (cs : List Told) (seat : ℕ) (es : List Entry) (i : ℕ) → (i ≡ seat → ⊥) → told_by (told_more cs seat es) i ≡ told_by cs i
 told_others cs seat es i ne =

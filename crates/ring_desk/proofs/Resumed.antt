@@ -1,17 +1,15 @@
 -- A legal saved ring with enough seats is opened, and its surveys are told again.
-use Rattle.std.proofs.Common.{◌≡◌, ℕ, zero, suc, ◌<◌, ◌≤◌, Bool, true, false, cond, List, [], ◌∷◌, ◌++◌, length, get_or, take, filter, map, sym, ◌∙◌, ap, subst, refl, inl, inr, arith}
-use Rattle.std.specs.Prelude.{All, ◌==◌, Result, Ok, Err, IfOk, IfErr, OnOk}
+use Rattle.std.proofs.Common.{◌≡◌, ℕ, zero, suc, ◌<◌, ◌≤◌, Bool, true, false, List, [], ◌∷◌, ◌++◌, length, get_or, take, filter, map, sym, ◌∙◌, ap, subst, refl, inl, inr, arith}
+use Rattle.std.specs.Prelude.{All, Result, Ok, Err, IfOk, IfErr, OnOk}
 use Rattle.std.specs.List.Sorted.{IsPermutation}
 use Rattle.std.proofs.lemmas.Bool.{cases_lt}
 use Rattle.std.proofs.lemmas.List.Sorted.{All-permutation}
 use Rattle.ring_model.specs.Ring.{Ring, ring_with}
-use Rattle.ring_model.specs.Limits.{machine_limit, value_limit}
 use Rattle.ring_model.specs.Resources.{till}
 use Rattle.ring_model.specs.History.{opening}
 use Rattle.ring_model.specs.Groups.{IsHistory}
 use Rattle.ring_model.specs.Logs.{IsSurvey}
 use Rattle.ring_model.specs.declared.events.Event.{Event}
-use Rattle.ring_state.specs.declared.sizes.ParamsError.TheVariants as params
 use Rattle.ring_logs.specs.Told.{Told}
 use Rattle.ring_book.specs.BookView.{IsFresh}
 use Rattle.ring_shared.specs.Holding.{AreOfSeats}
@@ -20,44 +18,14 @@ use Rattle.ring_saved.specs.declared.saved.SavedSurvey.{SavedSurvey}
 use Rattle.ring_check.specs.Table.{event_of}
 use Rattle.ring_saved.specs.Content.{Block}
 use Rattle.ring_check.specs.Legal.{history}
-use Rattle.ring_check.specs.Limits.{machine_limit_of, value_limit_of}
-use Rattle.ring_check.specs.Meaning.{IsRightBlock, IsRightSurvey, survey_of}
+use Rattle.ring_check.specs.Meaning.{survey_of}
 use Rattle.ring_text.specs.SavedOf.{entry_surveys}
-use Rattle.ring_desk.specs.declared.errors.OpenError.{OpenError}
-use Rattle.ring_desk.specs.declared.errors.OpenError.TheVariants as opens
 use Rattle.ring_desk.specs.declared.resuming.ResumeError.{ResumeError}
-use Rattle.ring_desk.specs.declared.resuming.ResumeError.TheVariants as resume
-use Rattle.ring_desk.specs.Rings.{RingView, IsOneThreadRing, AreFresh, IsOpenFault}
+use Rattle.ring_desk.specs.Rings.{RingView, IsOneThreadRing, AreFresh}
 use Rattle.ring_desk.specs.Texts.{surveys_told}
 use Rattle.ring_desk.specs.Resuming.{CanGoOnWith, IsOpenedFor, Tells, IsWantOfMemory}
 use Rattle.ring_desk.specs.Replaying.{is_by, stands_at, Climbs, told_by, IsDue, Awaits, Keeps, Surveyed}
 use Rattle.ring_desk.proofs.Retold.{all_told}
-
--- the limits of a version are no higher than those of rings
-
-at_most : (b : Bool) (x y : ℕ) → x ≤ y → cond b x y ≤ y
-at_most true x y l = l
-at_most false x y l = omega arith
-
-pub machines_few : (version : ℕ) → machine_limit_of version ≤ machine_limit
-machines_few version = at_most _ 256 machine_limit (omega arith)
-
-pub values_few : (version : ℕ) → value_limit_of version ≤ value_limit
-values_few version = at_most _ 256 value_limit (omega arith)
-
-pub open_memory : (b : Block) (seats : ℕ) (x : OpenError) → length b.start ≡ b.n → CanGoOnWith seats b → IsOpenFault (record { n = b.n; k = b.k }) b.start seats x → IsWantOfMemory (resume.Open x)
-open_memory b seats opens.Seats n c (inl z) = let l = c.count.0 in absurd (omega (arith, z, l))
-open_memory b seats opens.Seats n c (inr z) = let l = c.count.1 in absurd (omega (arith, z, l))
-open_memory b seats (opens.Size params.TooFew) n c f = let l = c.right.two in let z = f.1 in absurd (omega (arith, z, l))
-open_memory b seats (opens.Size params.TooMany) n c f = let l = c.right.most_machines in let m = machines_few c.version in let z = f.1 in absurd (omega (arith, z, l, m))
-open_memory b seats (opens.Size params.FewValues) n c f = let l = c.right.enough in let z = f.1.2 in absurd (omega (arith, z, l))
-open_memory b seats (opens.Size params.ManyValues) n c f = let l = c.right.most in let m = values_few c.version in let z = f.1.2 in absurd (omega (arith, z, l, m))
-open_memory b seats opens.Length n c f = absurd (f.2 n)
-open_memory b seats (opens.Value i) n c f =
-    let over = f.2.1.over in
-    let below : get_or b.start i 0 < b.k = c.right.below i 0 f.2.1.in_list in
-    absurd (omega (arith, over, below))
-open_memory b seats opens.OutOfMemory n c f = tt
 
 -- a ring that was opened awaits the history and the surveys of the block
 pub opened_awaits : (d : RingView ℕ) (b : Block) (seats : ℕ) (sorted : List SavedSurvey) → CanGoOnWith seats b → IsOneThreadRing till 0 d → IsFresh (ring_with b.k b.start) 0 d.book → AreFresh seats d.clients →

@@ -1,21 +1,18 @@
 -- A ring that makes the surveys of a legal text once more tells them again.
-use Rattle.std.proofs.Common.{◌≡◌, ℕ, zero, suc, ◌+◌, ◌-◌, ◌<◌, ◌≤◌, Bool, true, false, List, [], ◌∷◌, ◌++◌, length, get_or, take, drop, length-append, append_assoc, refl, sym, ◌∙◌, ap, subst, inl, inr, arith}
-use Rattle.std.specs.Prelude.{All, filter, map, ◌==◌, Result, Ok, Err, IfOk, IfErr}
-use Rattle.std.specs.List.{flat_map}
-use Rattle.std.proofs.lemmas.Bool.{cases_eq, cond-true, cond-false, eq-eqb, ne_eqb}
-use Rattle.std.proofs.lemmas.List.{append-nil, take_all, take-take, length-take, length-map, take-append-drop, drop_more, drop_all}
+use Rattle.std.proofs.Common.{◌≡◌, ℕ, zero, suc, ◌+◌, ◌-◌, ◌<◌, ◌≤◌, List, [], ◌∷◌, ◌++◌, length, get_or, take, drop, length-append, append_assoc, refl, sym, ◌∙◌, ap, subst, inl, inr, arith}
+use Rattle.std.specs.Prelude.{All, filter, map, Result, Ok, Err, IfOk, IfErr}
+use Rattle.std.proofs.lemmas.Bool.{cases_eq}
+use Rattle.std.proofs.lemmas.List.{append-nil, take_all, take-take, length-take, length-map, drop_more, drop_all}
 use Rattle.std.proofs.lemmas.List.Elements.{All-tail, All-take, filter-append}
 use Rattle.ring_model.specs.Ring.{Ring, privileged_count, first_privileged, rest}
-use Rattle.ring_model.specs.Limits.{event_limit}
 use Rattle.ring_model.specs.Resources.{till}
-use Rattle.ring_model.specs.History.{Works, State, opening, after, IsLegal}
+use Rattle.ring_model.specs.History.{State, opening, after, IsLegal}
 use Rattle.ring_model.specs.HistoryLaws.{between}
 use Rattle.ring_model.specs.Groups.{IsWhole, IsHistory, left_after}
 use Rattle.ring_model.specs.Logs.{IsSurvey}
 use Rattle.ring_model.specs.Surveys.{calm, survey_at}
 use Rattle.ring_model.specs.declared.events.Event.{Event}
 use Rattle.ring_model.specs.declared.events.Survey.{Survey}
-use Rattle.ring_model.specs.declared.events.Entry.{Entry}
 use Rattle.ring_model.specs.declared.events.Entry.TheVariants as entry
 use Rattle.ring_model.proofs.Places.{cut, between_legal}
 use Rattle.ring_model.proofs.Wholes.{whole_places, whole_left}

@@ -1,6 +1,6 @@
 -- Surveys in the order of their places, and seat by seat.
 use Rattle.std.proofs.Common.{◌≡◌, ℕ, zero, suc, ◌+◌, ◌<◌, ◌≤◌, Bool, true, false, cond, List, [], ◌∷◌, ◌++◌, length, get_or, refl, sym, ◌∙◌, ap, subst, inl, inr, arith, eqb}
-use Rattle.std.specs.Prelude.{◌⊎◌, filter, All, not, ◌&&◌, ◌==◌, nat_lt}
+use Rattle.std.specs.Prelude.{filter, All, not, ◌&&◌, ◌==◌, nat_lt}
 use Rattle.std.specs.List.Sorted.{IsNonDecreasingBy, IsStableByKey, ties}
 use Rattle.std.specs.Ordering.{is_lt, nat_cmp}
 use Rattle.std.specs.declared.cmp.Ordering.{Ordering}

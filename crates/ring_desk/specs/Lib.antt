@@ -1,3 +1,4 @@
+pub mod Clients
 pub mod Rings
 pub mod Texts
 pub mod Resuming

@@ -1,5 +1,5 @@
 -- A saved ring that is gone on with (this project's own).
-use Rattle.std.specs.Prelude.{◌≡◌, ℕ, ◌<◌, ◌≤◌, List, All, length}
+use Rattle.std.specs.Prelude.{◌≡◌, ℕ, ◌<◌, ◌≤◌, All, length}
 use Rattle.ring_model.specs.Ring.{ring_with}
 use Rattle.ring_model.specs.Resources.{till}
 use Rattle.ring_book.specs.BookView.{IsFresh}

@@ -1,5 +1,5 @@
 -- What contracts see of a ring that is called by numbers, on one thread (this project's own).
-use Rattle.std.specs.Prelude.{◌≡◌, ◌≢◌, ℕ, ◌+◌, ◌<◌, ◌≤◌, ◌↔◌, ◌⊎◌, List, [], ◌∷◌, ◌++◌, length, slice_set, slice_index_or, Option, Some, None, Result, IsErrOf, OnErr}
+use Rattle.std.specs.Prelude.{◌≡◌, ◌≢◌, ℕ, ◌+◌, ◌<◌, ◌≤◌, ◌⊎◌, List, [], ◌∷◌, ◌++◌, length, slice_set, slice_index_or}
 use Rattle.ring_model.specs.Limits.{event_limit, machine_limit, seat_limit, value_limit}
 use Rattle.ring_state.specs.Sizes.{Size, IsSize}
 use Rattle.ring_state.specs.StateFault.{IsFaultOf}
@@ -12,14 +12,16 @@ use Rattle.ring_model.specs.Groups.{Rises}
 use Rattle.ring_model.specs.GroupLaws.{CanMove}
 use Rattle.ring_model.specs.Logs.{Fits}
 use Rattle.ring_model.specs.declared.events.Entry.{Entry}
-use Rattle.ring_model.specs.declared.events.Receipt.{Receipt}
 use Rattle.ring_logs.specs.Told.{Told}
 use Rattle.ring_book.specs.BookView.{BookView, IsBook}
 use Rattle.ring_book.specs.GroupView.{IsLeastWithout}
 use Rattle.ring_book.specs.declared.events.BookError.{BookError}
 use Rattle.ring_book.specs.declared.events.BookError.TheVariants as book
+use Rattle.ring_book.specs.declared.books.groups.GroupError.{GroupError}
+use Rattle.ring_book.specs.declared.books.groups.GroupError.TheVariants as group
 use Rattle.ring_shared.specs.Holding.{AreOfSeats}
 use Rattle.ring_shared.specs.declared.seats.Log.{Log}
+use Rattle.ring_desk.specs.Clients.{ClientView, told_all, AllStandInOrder}
 use Rattle.ring_desk.specs.declared.errors.CallError.{CallError}
 use Rattle.ring_desk.specs.declared.errors.CallError.TheVariants as call
 use Rattle.ring_desk.specs.declared.errors.OpenError.{OpenError}
@@ -43,6 +45,11 @@ pub record IsOneThreadRing {C : Type 0} (w : Works C) (first : C) (d : RingView 
   pub of_seats : AreOfSeats (length d.clients) d.book.history
   pub each : (i : ℕ) (c : Told) → i < length d.clients → IsClient w first d.book i (slice_index_or d.clients i c)
 
+-- such a ring with what these clients were told of its history, each of whose surveys stand in their order
+pub record IsKeptBy {C : Type 0} (w : Works C) (first : C) (b : BookView C) (cs : List ClientView) : Type 0 where
+  pub ring : IsOneThreadRing w first (record { book = b; clients = told_all b.history cs })
+  pub in_order : AllStandInOrder (length b.history) cs
+
 -- a client that was told this besides
 abbrev pub grown : Told → List Entry → Told
 grown c es = record { number = c.number; log = c.log ++ es }
@@ -56,10 +63,11 @@ abbrev pub refusal_of : BookError → CallError
 refusal_of book.HistoryFull = call.HistoryFull
 refusal_of book.OutOfMemory = call.OutOfMemory
 
--- a refused call leaves book and client as they were; it is refused for a full history exactly where there is one
-abbrev pub IsCallRefused : {C : Type 0} → BookView C → BookView C → Told → Told → Result Receipt BookError → Type 0
-IsCallRefused old new before after result =
-    OnErr result ((new ≡ old) × (after ≡ before)) × (IsErrOf result book.HistoryFull ↔ (length old.history ≡ event_limit))
+abbrev pub group_refusal_of : GroupError → CallError
+group_refusal_of group.WholeRing = call.WholeRing
+group_refusal_of (group.NotPrivileged m) = call.NotPrivileged m
+group_refusal_of group.HistoryFull = call.HistoryFull
+group_refusal_of group.OutOfMemory = call.OutOfMemory
 
 -- why a pass is refused
 abbrev pub IsPassFault : {C : Type 0} → RingView C → ℕ → ℕ → CallError → Type 0
@@ -84,27 +92,15 @@ IsSurveyFault d seat _ = ⊥
 abbrev pub IsRisingGroup : ℕ → List ℕ → Type 0
 IsRisingGroup n machines = Rises 0 n machines × (1 ≤ length machines)
 
--- why a rising group that has a machine cannot move, memory aside: it is the whole ring; else this is its least machine that is not privileged; else the
--- history would have too many events
-abbrev pub IsGroupFault : List ℕ → ℕ → List ℕ → Option CallError → Type 0
-IsGroupFault s events machines None = CanMove s machines × (events + length machines ≤ event_limit)
-IsGroupFault s events machines (Some call.WholeRing) = length machines ≡ length s
-IsGroupFault s events machines (Some (call.NotPrivileged m)) = (length machines ≢ length s) × IsLeastWithout s machines m
-IsGroupFault s events machines (Some call.HistoryFull) = CanMove s machines × (event_limit < events + length machines)
-IsGroupFault s events machines (Some _) = ⊥
-
--- the first refusal of a group pass that applies, memory aside
-abbrev pub IsFirstRefusal : {C : Type 0} → RingView C → ℕ → List ℕ → Option CallError → Type 0
-IsFirstRefusal d seat machines (Some call.NoSeat) = length d.clients ≤ seat
-IsFirstRefusal d seat machines (Some call.NotRising) = (seat < length d.clients) × (IsRisingGroup (length d.book.now.ring.values) machines → ⊥)
-IsFirstRefusal d seat machines fault = (seat < length d.clients) × IsRisingGroup (length d.book.now.ring.values) machines × IsGroupFault d.book.now.ring.values (length d.book.history) machines fault
-
 -- why a group pass is refused
 abbrev pub IsGroupRefusal : {C : Type 0} → RingView C → ℕ → List ℕ → CallError → Type 0
 IsGroupRefusal d seat machines call.NoSeat = length d.clients ≤ seat
 IsGroupRefusal d seat machines call.NotRising = IsRisingGroup (length d.book.now.ring.values) machines → ⊥
+IsGroupRefusal d seat machines call.WholeRing = length machines ≡ length d.book.now.ring.values
+IsGroupRefusal d seat machines (call.NotPrivileged m) = (length machines ≢ length d.book.now.ring.values) × IsLeastWithout d.book.now.ring.values machines m
+IsGroupRefusal d seat machines call.HistoryFull = CanMove d.book.now.ring.values machines × (event_limit < length d.book.history + length machines)
 IsGroupRefusal d seat machines call.OutOfMemory = Unit {0}
-IsGroupRefusal d seat machines e = IsGroupFault d.book.now.ring.values (length d.book.history) machines (Some e)
+IsGroupRefusal d seat machines _ = ⊥
 
 -- so many clients, each with its place as its number, that were told nothing
 abbrev pub AreFresh : ℕ → List Told → Type 0

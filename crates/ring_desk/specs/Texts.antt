@@ -1,29 +1,44 @@
 -- The saved text of a ring that is called by numbers (this project's own).
-use Rattle.std.specs.Prelude.{◌≡◌, ℕ, List, [], ◌∷◌}
+use Rattle.std.specs.Prelude.{◌≡◌, ℕ, List, [], ◌∷◌, length, map}
 use Rattle.std.specs.List.{flat_map}
 use Rattle.ring_logs.specs.Told.{Told}
 use Rattle.ring_saved.specs.declared.saved.SavedSurvey.{SavedSurvey}
-use Rattle.ring_farm.specs.declared.outcomes.Outcome.{Outcome}
-use Rattle.ring_farm.specs.declared.outcomes.RingOutcome.{RingOutcome}
-use Rattle.ring_check.specs.Legal.{IsLegalText}
-use Rattle.ring_text.specs.SavedOf.{saved_of, entry_surveys}
+use Rattle.ring_saved.specs.Content.{Block, Content}
 use Rattle.ring_saved.specs.Spelling.{text}
-use Rattle.ring_desk.specs.Rings.{RingView, AreLogsOf}
-
--- the bytes are the saved text of this one run, and that text is legal
-pub record IsTextOfRun (run : RingOutcome) (bytes : List ℕ) : Type 0 where
-  pub outcome : Outcome
-  pub one : outcome.rings.items ≡ run ∷ []
-  pub spelled : bytes ≡ text (saved_of outcome)
-  pub legal : IsLegalText (saved_of outcome)
-
--- the bytes are the saved text of one run, with the ring's book and its clients' logs, and that text is legal
-pub record IsTextOf (d : RingView ℕ) (bytes : List ℕ) : Type 0 where
-  pub run : RingOutcome
-  pub book : run.book ≡ d.book
-  pub logs : AreLogsOf d.clients run.logs.items
-  pub text : IsTextOfRun run bytes
+use Rattle.ring_saved.specs.Versions.{latest_version}
+use Rattle.ring_check.specs.Legal.{IsLegalText}
+use Rattle.ring_text.specs.SavedOf.{saved_event, saved_survey, entry_surveys}
+use Rattle.ring_desk.specs.Clients.{ClientView}
+use Rattle.ring_desk.specs.Rings.{RingView}
 
 -- the surveys that the saved text of a ring tells: those of its clients' logs, client by client
 abbrev pub surveys_told : List Told → List SavedSurvey
 surveys_told cs = flat_map (λ (c : Told). entry_surveys c.number c.log) cs
+
+-- the same, by the surveys that each client keeps
+abbrev pub client_surveys : ClientView → List SavedSurvey
+client_surveys c = map (saved_survey c.number) c.surveys
+
+abbrev pub surveys_kept : List ClientView → List SavedSurvey
+surveys_kept cs = flat_map client_surveys cs
+
+-- the block of a ring at its place: its start, its history, and the surveys of its clients' logs, client by client
+abbrev pub saved_block : ℕ → RingView ℕ → Block
+saved_block place d = record {
+  index = place;
+  n = length d.book.start.values;
+  k = d.book.start.k;
+  start = d.book.start.values;
+  events = map saved_event d.book.history;
+  events_said = length d.book.history;
+  surveys = surveys_told d.clients;
+}
+
+-- what is saved of a ring by itself, in the latest version
+abbrev pub saved_alone : RingView ℕ → Content
+saved_alone d = record { version = latest_version; rings = saved_block 0 d ∷ []; rings_said = 1 }
+
+-- the bytes are the saved text of the ring, and that text is legal
+pub record IsTextOf (d : RingView ℕ) (bytes : List ℕ) : Type 0 where
+  pub spelled : bytes ≡ text (saved_alone d)
+  pub legal : IsLegalText (saved_alone d)

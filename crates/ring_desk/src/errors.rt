@@ -1,6 +1,6 @@
 //! Why a call is refused.
 
-use ring_book::BookError;
+use ring_book::{BookError, GroupError};
 use ring_state::{ParamsError, StateError};
 use std::alloc::{AllocError, AllocFailed};
 
@@ -47,6 +47,22 @@ impl From<BookError> for CallError {
         match error {
             BookError::HistoryFull => CallError::HistoryFull,
             BookError::OutOfMemory => CallError::OutOfMemory,
+        }
+    }
+}
+
+impl From<GroupError> for CallError {
+    ghost use Rattle.std.specs.Prelude.{◌≡◌};
+    ghost use Rattle.ring_desk.specs.Rings.{group_refusal_of};
+
+    ghost from_gives = { λ b e. e ≡ group_refusal_of b };
+
+    fn from(error: GroupError) -> CallError {
+        match error {
+            GroupError::WholeRing => CallError::WholeRing,
+            GroupError::NotPrivileged(machine) => CallError::NotPrivileged(machine),
+            GroupError::HistoryFull => CallError::HistoryFull,
+            GroupError::OutOfMemory => CallError::OutOfMemory,
         }
     }
 }

@@ -7,8 +7,10 @@ mod clients;
 mod errors;
 mod resuming;
 mod rings;
+mod saving;
 
 pub use clients::Client;
 pub use errors::{CallError, OpenError};
 pub use resuming::{ResumeError, from_saved};
-pub use rings::{OneThreadRing, save};
+pub use rings::OneThreadRing;
+pub use saving::put_ring;

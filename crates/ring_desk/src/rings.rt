@@ -1,26 +1,27 @@
 //! A ring with its clients, called by numbers.
-ghost use Rattle.std.specs.Prelude.{◌≡◌, ◌≢◌, ℕ, ◌<◌, ◌≤◌, ◌+◌, ◌↔◌, ◌∷◌, [], length, drop, slice_index_or, IsTrue, IfOk, IfErr, OnOk, OnErr, IsErrOf, IfSome, IsNone, vec_len, vec_capacity};
+ghost use Rattle.std.specs.Prelude.{◌≡◌, ◌≢◌, ℕ, ◌<◌, ◌≤◌, ◌+◌, ◌↔◌, ◌∷◌, [], length, drop, slice_index_or, IsTrue, IfOk, IfErr, OnOk, OnErr, IsErrOf};
 ghost use Rattle.ring_model.specs.History.{opening};
 ghost use Rattle.ring_model.specs.HistoryLaws.{Settlement};
 ghost use Rattle.ring_model.specs.Limits.{event_limit, seat_limit};
-ghost use Rattle.ring_model.specs.GroupLaws.{AreAllPrivileged, CanMove};
+ghost use Rattle.ring_model.specs.GroupLaws.{CanMove};
 ghost use Rattle.ring_model.specs.Surveys.{survey_at};
+ghost use Rattle.ring_model.specs.declared.events.Op.TheVariants as op;
 ghost use Rattle.ring_state.specs.Sizes.{IsSize};
-ghost use Rattle.ring_book.specs.BookView.{IsBook, IsFresh, IsRecorded};
-ghost use Rattle.ring_model.specs.Groups.{IsAlone, Rises};
+ghost use Rattle.ring_book.specs.BookView.{IsFresh, IsRecorded};
+ghost use Rattle.ring_model.specs.Groups.{Rises};
 ghost use Rattle.ring_book.specs.GroupView.{IsGroupRecorded, IsLeastWithout};
-ghost use Rattle.ring_logs.specs.Replays.{IsCallOf};
 ghost use Rattle.ring_shared.specs.Groups.{receipts_from};
-ghost use Rattle.ring_desk.specs.Rings.{IsOneThreadRing, IsPassFault, IsCorruptFault, IsGroupRefusal, IsSurveyFault, IsRisingGroup, IsGroupFault, IsFirstRefusal, IsOpenFault, IsSeatCount, AreFresh, told_more};
+ghost use Rattle.ring_desk.specs.Clients.{told_all, with_survey_at, AreNew};
+ghost use Rattle.ring_desk.specs.Texts.{surveys_told, surveys_kept};
+ghost use Rattle.ring_desk.specs.Rings.{IsOneThreadRing, IsPassFault, IsCorruptFault, IsGroupRefusal, IsSurveyFault, IsRisingGroup, IsOpenFault, IsSeatCount, AreFresh, told_more};
 
 mod closing;
 
-use crate::clients::{Client, log_call, log_group};
+use crate::clients::Client;
 use crate::errors::{CallError, OpenError};
-pub use closing::save;
-use ring_book::{Book, BookError, GroupReceipt, Resource};
-use ring_model::limits::{EVENT_LIMIT, SEAT_LIMIT};
-use ring_model::{Entry, Event, Op, Receipt, Survey};
+use ring_book::{Book, GroupReceipt, Resource};
+use ring_model::limits::SEAT_LIMIT;
+use ring_model::{Entry, Event, Receipt, Survey};
 use ring_state::{Params, RingState};
 use std::alloc::{AllocError, Global};
 use std::marker::Model;
@@ -36,19 +37,20 @@ pub struct OneThreadRing<R: Resource + Drop> {
 }
 
 impl<R: Resource + Drop> Model for OneThreadRing<R> {
-    ghost use Rattle.ring_desk.specs.Rings.{RingView, IsOneThreadRing};
+    ghost use Rattle.ring_desk.specs.Clients.{told_all};
+    ghost use Rattle.ring_desk.specs.Rings.{RingView, IsKeptBy};
 
     ghost Value = { RingView R };
 
-    ghost view = { λ d. record { book = d.book; clients = d.clients.items } };
+    ghost view = { λ d. record { book = d.book; clients = told_all d.book.history d.clients.items } };
 
-    ghost invariant = { λ d. IsOneThreadRing R.works R.first (record { book = d.book; clients = d.clients.items }) };
+    ghost invariant = { λ d. IsKeptBy R.works R.first d.book d.clients.items };
 }
 
 /// This many clients that were told nothing.
 fn fresh_clients(alloc: Global, count: u32) -> Result<Vec<Client>, AllocError>
     requires { count ≤ seat_limit }
-    ensures { IfOk result (λ v. AreFresh count v.items) }
+    ensures { IfOk result (λ v. AreNew count v.items) }
 {
     let mut clients = Vec::with_capacity(alloc, count as usize)?;
     for number in 0..count {
@@ -57,81 +59,10 @@ fn fresh_clients(alloc: Global, count: u32) -> Result<Vec<Client>, AllocError>
     Ok(clients)
 }
 
-/// A call of the book by the client of this number, which is told of it.
-#[inline(always)] // the callers know which call it is
-fn call_at<R: Resource + Drop>(
-    book: &mut Book<R>,
-    clients: &mut Vec<Client>,
-    seat: u32,
-    op: Op,
-) -> Result<Receipt, BookError>
-    requires seat { seat < length clients.old.items }
-    requires number { (slice_index_or clients.old.items seat (record { number = seat; log = [] })).number ≡ seat }
-    requires call { IsCallOf book.old.now.ring op }
-    requires alone { IsAlone op }
-    ensures ok { IfOk result (λ r. IsRecorded R.works book.old book.new seat op r) }
-    ensures book { IsBook R.works R.first book.new }
-    ensures told { IfOk result (λ r. clients.new.items ≡ told_more clients.old.items seat (Entry.Receipt r ∷ [])) }
-    ensures full { IsErrOf result BookError.HistoryFull ↔ (length book.old.history ≡ event_limit) }
-    ensures err { OnErr result ((book.new ≡ book.old) × (clients.new.items ≡ clients.old.items)) }
-{
-    log_call(book, &mut clients[seat as usize], op)
-}
-
-/// The least machine of a rising group that is not privileged.
-fn first_unprivileged(state: &RingState, machines: &[u32]) -> Option<u32>
-    requires { Rises 0 (length state.now.values) machines.now }
-    ensures some { IfSome result (λ m. IsLeastWithout state.now.values machines.now m) }
-    ensures none { IsNone result → AreAllPrivileged state.now.values machines.now }
-{
-    for machine in machines {
-        if !state.is_privileged(*machine) {
-            return Some(*machine);
-        }
-    }
-    None
-}
-
-/// Why a rising group that has a machine cannot move, memory aside.
-fn group_fault<R: Resource + Drop>(book: &Book<R>, machines: &[u32]) -> Option<CallError>
-    requires { IsRisingGroup (length book.now.now.ring.values) machines.now }
-    ensures { IsGroupFault book.now.now.ring.values (length book.now.history) machines.now result }
-{
-    if machines.len() == book.state().params().n() as usize {
-        return Some(CallError::WholeRing);
-    }
-    if let Some(machine) = first_unprivileged(book.state(), machines) {
-        return Some(CallError::NotPrivileged(machine));
-    }
-    if book.history().len() + machines.len() > EVENT_LIMIT {
-        return Some(CallError::HistoryFull);
-    }
-    None
-}
-
-/// A group pass of the book by the client of this number, which is told of each member.
-fn group_at<R: Resource + Drop>(
-    book: &mut Book<R>,
-    clients: &mut Vec<Client>,
-    seat: u32,
-    machines: &[u32],
-    order: u64,
-) -> Result<GroupReceipt, AllocError>
-    requires seat { seat < length clients.old.items }
-    requires number { (slice_index_or clients.old.items seat (record { number = seat; log = [] })).number ≡ seat }
-    requires rising { IsRisingGroup (length book.old.now.ring.values) machines.now }
-    ensures ok { IfOk result (λ r. IsGroupRecorded R.works book.old book.new seat order machines.now r) }
-    ensures book { IsBook R.works R.first book.new }
-    ensures told { IfOk result (λ r. clients.new.items ≡ told_more clients.old.items seat (receipts_from r.first (drop r.first book.new.history))) }
-    ensures err { OnErr result ((book.new ≡ book.old) × (clients.new.items ≡ clients.old.items)) }
-{
-    log_group(book, &mut clients[seat as usize], machines, order)
-}
-
 /// The client of this number is told a survey.
 fn tell_at(clients: &mut Vec<Client>, seat: u32, survey: Survey) -> Result<(), AllocError>
     requires seat { seat < length clients.old.items }
-    ensures told { OnOk result (clients.new.items ≡ told_more clients.old.items seat (Entry.Survey survey ∷ [])) }
+    ensures told { OnOk result (clients.new.items ≡ with_survey_at clients.old.items seat survey) }
     ensures err { OnErr result (clients.new.items ≡ clients.old.items) }
 {
     clients[seat as usize].tell(survey)
@@ -221,23 +152,31 @@ impl<R: Resource + Drop> OneThreadRing<R> {
         self.book.history().len() as u64
     }
 
-    /// The clients, in the order of their seats.
+    /// The clients, in the order of their seats, with the surveys that they were told. All that one was told is answered by
+    /// [`log`](OneThreadRing::log).
     pub fn clients(&self) -> &[Client]
-        ensures are { result.now ≡ self.now.clients }
+        ensures are { told_all self.now.book.history result.now ≡ self.now.clients }
+        ensures surveys { surveys_kept result.now ≡ surveys_told self.now.clients }
         ensures ring { IsOneThreadRing R.works R.first self.now }
     {
         self.clients.as_slice()
     }
 
-    /// What the client of a seat was told, in order; nothing if there is no such seat.
-    pub fn log(&self, seat: u32) -> Option<&[Entry]>
-        ensures some { IfSome result (λ log. log.now ≡ (slice_index_or self.now.clients seat (record { number = seat; log = [] })).log) }
-        ensures none { IsNone result ↔ length self.now.clients ≤ seat }
+    /// What the client of a seat was told, in order: the receipts of its calls, and the surveys.
+    ///
+    /// # Errors
+    ///
+    /// `NoSeat`, `OutOfMemory`.
+    pub fn log(&self, alloc: Global, seat: u32) -> Result<Vec<Entry>, CallError>
+        ensures ok { IfOk result (λ log. log.items ≡ (slice_index_or self.now.clients seat (record { number = seat; log = [] })).log) }
+        ensures seat { IsErrOf result CallError.NoSeat ↔ length self.now.clients ≤ seat }
+        ensures refused { IfErr result (λ e. IsSurveyFault self.now seat e) }
     {
         if seat as usize >= self.clients.len() {
-            return None;
+            return Err(CallError::NoSeat);
         }
-        Some(self.clients[seat as usize].log())
+        let log = self.clients[seat as usize].log(alloc, self.book.history())?;
+        Ok(log)
     }
 
     /// A pass by a machine, for a seat.
@@ -246,7 +185,7 @@ impl<R: Resource + Drop> OneThreadRing<R> {
     ///
     /// The first that applies: `NoSeat`, `NoMachine`; `HistoryFull`, `OutOfMemory`. Nothing has changed then.
     pub fn pass(&mut self, seat: u32, machine: u32, order: u64) -> Result<Receipt, CallError>
-        ensures ok { IfOk result (λ r. IsRecorded R.works self.old.book self.new.book seat (Op.Pass machine order) r) }
+        ensures ok { IfOk result (λ r. IsRecorded R.works self.old.book self.new.book seat (op.Pass machine order) r) }
         ensures told { IfOk result (λ r. self.new.clients ≡ told_more self.old.clients seat (Entry.Receipt r ∷ [])) }
         ensures ring { IsOneThreadRing R.works R.first self.new }
         ensures settlement { Settlement R.works (opening self.new.book.start R.first) self.new.book.history }
@@ -262,8 +201,7 @@ impl<R: Resource + Drop> OneThreadRing<R> {
         if machine >= self.machines() {
             return Err(CallError::NoMachine);
         }
-        let op = Op::Pass { machine, order };
-        let receipt = call_at(&mut self.book, &mut self.clients, seat, op)?;
+        let receipt = self.book.pass(seat, machine, order)?;
         Ok(receipt)
     }
 
@@ -273,7 +211,7 @@ impl<R: Resource + Drop> OneThreadRing<R> {
     ///
     /// The first that applies: `NoSeat`, `NoMachine`, `NoValue`; `HistoryFull`, `OutOfMemory`. Nothing has changed then.
     pub fn corrupt(&mut self, seat: u32, machine: u32, value: u32) -> Result<Receipt, CallError>
-        ensures ok { IfOk result (λ r. IsRecorded R.works self.old.book self.new.book seat (Op.Corrupt machine value) r) }
+        ensures ok { IfOk result (λ r. IsRecorded R.works self.old.book self.new.book seat (op.Corrupt machine value) r) }
         ensures told { IfOk result (λ r. self.new.clients ≡ told_more self.old.clients seat (Entry.Receipt r ∷ [])) }
         ensures ring { IsOneThreadRing R.works R.first self.new }
         ensures seat { IsErrOf result CallError.NoSeat ↔ length self.old.clients ≤ seat }
@@ -292,22 +230,8 @@ impl<R: Resource + Drop> OneThreadRing<R> {
         if value >= self.values() {
             return Err(CallError::NoValue);
         }
-        let op = Op::Corrupt { machine, value };
-        let receipt = call_at(&mut self.book, &mut self.clients, seat, op)?;
+        let receipt = self.book.corrupt(seat, machine, value)?;
         Ok(receipt)
-    }
-
-    /// Why a pass by a group is refused, memory aside.
-    fn group_refusal(&self, seat: u32, machines: &[u32]) -> Option<CallError>
-        ensures { IsFirstRefusal self.now seat machines.now result }
-    {
-        if seat as usize >= self.clients.len() {
-            return Some(CallError::NoSeat);
-        }
-        if machines.is_empty() || !rise(machines, self.machines()) {
-            return Some(CallError::NotRising);
-        }
-        group_fault(&self.book, machines)
     }
 
     /// A pass by a group of machines at once, for a seat.
@@ -333,10 +257,13 @@ impl<R: Resource + Drop> OneThreadRing<R> {
         ensures refused { IfErr result (λ e. IsGroupRefusal self.old seat machines.now e) }
         ensures err { OnErr result (self.new ≡ self.old) }
     {
-        if let Some(fault) = self.group_refusal(seat, machines) {
-            return Err(fault);
+        if seat as usize >= self.clients.len() {
+            return Err(CallError::NoSeat);
         }
-        let receipt = group_at(&mut self.book, &mut self.clients, seat, machines, order)?;
+        if machines.is_empty() || !rise(machines, self.machines()) {
+            return Err(CallError::NotRising);
+        }
+        let receipt = self.book.pass_group(seat, machines, order)?;
         Ok(receipt)
     }
 

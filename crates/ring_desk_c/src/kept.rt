@@ -98,16 +98,15 @@ pub(crate) fn history_length(kept: &Kept) -> u64
     }
 }
 
-/// The saved text of the ring as it is, if it is one over a till; and the ring, as it was.
-pub(crate) fn text(kept: Kept, alloc: Global) -> (Kept, Result<Vec<u8>, TextError>)
-    ensures same { result.0 ≡ kept }
-    ensures text { IsTextAnswer kept result.1 }
+/// The saved text of the ring as it is, if it is one over a till.
+pub(crate) fn text(kept: &Kept, alloc: Global) -> Result<Vec<u8>, TextError>
+    ensures { IsTextAnswer kept.now result }
 {
     match kept {
         Kept::Till(ring) => match ring.text(alloc) {
-            (ring, Ok(text)) => (Kept::Till(ring), Ok(text)),
-            (ring, Err(_)) => (Kept::Till(ring), Err(TextError::OutOfMemory)),
+            Ok(text) => Ok(text),
+            Err(_) => Err(TextError::OutOfMemory),
         },
-        Kept::Idle(ring) => (Kept::Idle(ring), Err(TextError::NoTill)),
+        Kept::Idle(_) => Err(TextError::NoTill),
     }
 }

@@ -21,8 +21,8 @@ fn saved(handle: Handle, alloc: Global) -> (Handle, Result<Vec<u8>, TextError>)
     ensures same { result.0.value ≡ handle.value }
     ensures text { IsTextAnswer handle.value result.1 }
 {
-    let mut kept = loosen(handle).into_box();
-    let answer = replace_with(&mut *kept, alloc, text);
+    let kept = loosen(handle).into_box();
+    let answer = text(&kept, alloc);
     (hold(Loose::of(kept)), answer)
 }
 

@@ -1,12 +1,11 @@
 -- What a turn does to the rings: nothing, a growth of one history, or a survey that a seat was told.
-use Rattle.std.proofs.Common.{◌≡◌, ◌≢◌, ℕ, zero, suc, ◌+◌, ◌<◌, ◌≤◌, Bool, true, false, cond, not, ◌&&◌, ◌||◌, leb, ltb, eqb, List, [], ◌∷◌, ◌++◌, length, map, Option, Some, None, Result, Ok, Err, refl, sym, ap, subst, ◌∙◌, ◌⊎◌, inl, inr, arith, slice_get, slice_set}
+use Rattle.std.proofs.Common.{◌≡◌, ℕ, zero, suc, ◌+◌, ◌<◌, ◌≤◌, Bool, true, false, cond, not, ◌&&◌, ◌||◌, leb, ltb, eqb, List, [], ◌∷◌, length, Option, Some, None, Result, Ok, Err, refl, sym, ap, subst, ◌∙◌, ◌⊎◌, inl, inr, arith, slice_get, slice_set}
 use Rattle.std.proofs.lemmas.Bool.{false≢true, leb-false, ltb-false, ltb-true, lt-ltb, eqb-false, eqb-true}
-use Rattle.std.specs.Prelude.{find}
 use Rattle.ring_model.specs.Limits.{event_limit}
 use Rattle.ring_model.specs.Resources.{till}
 use Rattle.ring_model.specs.Ring.{is_privileged}
 use Rattle.ring_model.specs.History.{State, StepOf, next, reply, IsLegal}
-use Rattle.ring_model.specs.Groups.{has, AreMembers, move_order}
+use Rattle.ring_model.specs.Groups.{has, move_order}
 use Rattle.ring_model.specs.GroupLaws.{CanMove, AreAllPrivileged, block_of}
 use Rattle.ring_model.specs.declared.events.Op.{Op}
 use Rattle.ring_model.specs.declared.events.Op.TheVariants as op
@@ -20,7 +19,7 @@ use Rattle.text_lines.specs.declared.fault.Fault.{Fault}
 use Rattle.text_lines.specs.Reading.{whole_at}
 use Rattle.ring_serve.specs.Calls.{Call, pass, group, corrupt, survey, glance, save, ring_of, line_limit, call_at}
 use Rattle.ring_serve.specs.Standings.{Standing, standing_of, state_of, with_events, with_survey, survey_now, block_now}
-use Rattle.ring_serve.specs.Turns.{Turn, Record, events, surveyed, refused, unless, pass_refusal, corrupt_refusal, group_refusal, move_refusal, seat_refusal, rise, first_without, turn_at, turn_among, turn_of, placed, read_turn, line_turn, IsTurnOfLine}
+use Rattle.ring_serve.specs.Turns.{Turn, events, surveyed, refused, unless, pass_refusal, corrupt_refusal, group_refusal, move_refusal, seat_refusal, rise, first_without, turn_at, turn_among, placed, read_turn, line_turn, IsTurnOfLine}
 use Rattle.ring_serve.specs.declared.answers.Refusal.{Refusal}
 use Rattle.ring_serve.proofs.Groups.{rise_is, rises_few, both}
 use Rattle.ring_serve.specs.Saved.{IsRight}

@@ -1,21 +1,17 @@
 -- The journal of rings that are served is right at each moment, and tells where they stand.
-use Rattle.std.proofs.Common.{◌≡◌, ℕ, zero, suc, ◌+◌, ◌<◌, ◌≤◌, Bool, true, false, cond, List, [], ◌∷◌, ◌++◌, length, get_or, drop, map, refl, sym, ap, subst, ◌∙◌, ◌⊎◌, inl, inr, arith, append_assoc, slice_get, slice_set, Some}
+use Rattle.std.proofs.Common.{◌≡◌, ℕ, ◌+◌, ◌<◌, Bool, true, false, cond, List, [], ◌∷◌, ◌++◌, length, get_or, drop, map, refl, sym, ap, subst, ◌∙◌, ◌⊎◌, inl, inr, arith, append_assoc, slice_get, slice_set, Some}
 use Rattle.std.specs.Prelude.{◌&&◌}
 use Rattle.std.specs.List.{AllByRecursion, flat_map}
 use Rattle.std.proofs.lemmas.List.{append-nil, length-set}
 use Rattle.std.proofs.lemmas.List.Folds.{list_all-append}
 use Rattle.std.proofs.lemmas.Grind.{flat_map-append}
-use Rattle.ring_model.specs.Limits.{seat_limit}
 use Rattle.ring_model.specs.declared.events.Event.{Event}
 use Rattle.ring_saved.specs.Versions.{latest_version}
 use Rattle.ring_saved.specs.Content.{Block, Content}
 use Rattle.ring_check.specs.Legal.{IsLegalText}
-use Rattle.ring_text.specs.SavedOf.{saved_event}
 use Rattle.ring_text.specs.Journals.{recorded_event, recorded_survey}
 use Rattle.ring_journal.specs.declared.calls.Recorded.{Recorded}
-use Rattle.ring_journal.specs.Spelling.{Journal, JournalFits}
-use Rattle.ring_journal.specs.Told.{is_open, event_is_open, are_open, whole, with_call_at, with_calls, in_order, told}
-use Rattle.ring_journal.specs.Beginnings.{IsRightJournal}
+use Rattle.ring_journal.specs.Told.{is_open, are_open, whole, with_call_at, with_calls, in_order, told}
 use Rattle.ring_desk.specs.Rings.{told_more}
 use Rattle.ring_desk.proofs.Replays.{told_besides, told_others}
 use Rattle.std.proofs.lemmas.Bool.{cases_eq}
@@ -25,10 +21,10 @@ use Rattle.ring_text.specs.SavedOf.{entry_surveys}
 use Rattle.ring_desk.specs.Replaying.{told_by}
 use Rattle.ring_shared.specs.Groups.{receipts_from}
 use Rattle.ring_serve.specs.Standings.{Standing, survey_now, with_events, with_survey}
-use Rattle.ring_serve.specs.Turns.{Turn, Record, events, surveyed, IsTurnOfLine}
-use Rattle.ring_serve.specs.Saved.{IsRight, block_at, blocks_from, content_of}
-use Rattle.ring_recording.specs.Recording.{calls_of, journal_of, AreTurns, JournalsAreRight}
-use Rattle.ring_recording.proofs.Effects.{Closes, Grew, Looked, Kept, Changed, EffectAmong, turn_effect, changed_right, right_at}
+use Rattle.ring_serve.specs.Turns.{Turn, Record, events, surveyed}
+use Rattle.ring_serve.specs.Saved.{IsRight, blocks_from, content_of}
+use Rattle.ring_recording.specs.Recording.{calls_of, AreTurns, JournalsAreRight}
+use Rattle.ring_recording.proofs.Effects.{Closes, Grew, Looked, Changed, EffectAmong, turn_effect, changed_right, right_at}
 use Rattle.ring_recording.proofs.Telling.{AllTell, all_saved_tell, grown_told, looked_told, right_numbered}
 use Rattle.ring_recording.proofs.Ordering.{all_saved}
 

@@ -1,19 +1,15 @@
 -- Blocks that tell where rings stand, call by call.
-use Rattle.std.proofs.Common.{◌≡◌, ℕ, zero, suc, ◌+◌, ◌<◌, ◌≤◌, Bool, true, false, eqb, List, [], ◌∷◌, ◌++◌, length, get_or, map, Option, Some, None, refl, sym, ap, subst, ◌∙◌, ◌⊎◌, inl, inr, arith, length-append, append_assoc, slice_get, slice_set}
-use Rattle.std.specs.Prelude.{not}
-use Rattle.std.specs.List.{filter, AllByRecursion, flat_map}
+use Rattle.std.proofs.Common.{◌≡◌, ℕ, zero, suc, ◌+◌, ◌<◌, ◌≤◌, List, [], ◌∷◌, ◌++◌, length, get_or, map, Some, None, refl, sym, ap, subst, ◌∙◌, inl, inr, arith, length-append, append_assoc, slice_get, slice_set}
+use Rattle.std.specs.List.{filter, AllByRecursion}
 use Rattle.std.proofs.lemmas.Bool.{cases_eq, eq-eqb, ne_eqb, cond-true, cond-false}
 use Rattle.std.proofs.lemmas.List.{append-nil, map-append, length-map}
 use Rattle.std.proofs.lemmas.List.Elements.{filter-append}
 use Rattle.ring_model.specs.Limits.{seat_limit}
-use Rattle.ring_model.specs.Ring.{Ring}
-use Rattle.ring_model.specs.Resources.{till}
 use Rattle.ring_model.specs.declared.events.Event.{Event}
 use Rattle.ring_model.specs.declared.events.Survey.{Survey}
 use Rattle.ring_model.specs.declared.events.Entry.{Entry}
 use Rattle.ring_model.specs.declared.events.Entry.TheVariants as entry
 use Rattle.ring_logs.specs.Told.{Told}
-use Rattle.ring_shared.specs.Groups.{receipts_from}
 use Rattle.ring_saved.specs.declared.saved.SavedEvent.{SavedEvent}
 use Rattle.ring_saved.specs.declared.saved.SavedSurvey.{SavedSurvey}
 use Rattle.ring_saved.specs.Content.{Block}
@@ -21,13 +17,12 @@ use Rattle.ring_text.specs.SavedOf.{saved_event, saved_survey, entry_surveys}
 use Rattle.ring_text.specs.Journals.{recorded_event, recorded_survey}
 use Rattle.ring_journal.specs.declared.calls.Call.{Call}
 use Rattle.ring_journal.specs.declared.calls.Call.TheVariants as call
-use Rattle.ring_journal.specs.declared.calls.Recorded.{Recorded}
 use Rattle.ring_journal.specs.Told.{is_of, with_call, with_call_at, with_calls}
-use Rattle.ring_desk.specs.Rings.{RingView, IsOneThreadRing, told_more}
+use Rattle.ring_desk.specs.Rings.{told_more}
 use Rattle.ring_desk.specs.Texts.{surveys_told}
 use Rattle.ring_desk.specs.Replaying.{told_by}
 use Rattle.ring_desk.proofs.Replays.{told_besides, told_others}
-use Rattle.ring_serve.specs.Standings.{Standing, standing_of}
+use Rattle.ring_serve.specs.Standings.{Standing}
 use Rattle.ring_serve.specs.Saved.{IsRight, block_at, blocks_from}
 
 -- the block tells of a ring with this start and this history, and of what its clients were told

@@ -1,11 +1,10 @@
 -- A turn keeps each ring a right one, and records just what it leaves.
-use Rattle.std.proofs.Common.{◌≡◌, ◌≢◌, ℕ, suc, ◌+◌, ◌<◌, ◌≤◌, Bool, true, false, cond, leb, ltb, eqb, List, [], ◌∷◌, ◌++◌, length, take, drop, map, slice_index, Option, Some, None, refl, sym, ap, subst, ◌∙◌, ◌⊎◌, inl, inr, arith, length-append}
-use Rattle.std.proofs.lemmas.Bool.{cases_lt, cases_eq, false≢true, leb-true, ltb-true, eqb-true, le-leb, lt-leb}
-use Rattle.std.proofs.lemmas.List.{append-nil, take_all, drop_at}
+use Rattle.std.proofs.Common.{◌≡◌, ℕ, ◌+◌, ◌<◌, ◌≤◌, Bool, true, false, cond, List, [], ◌∷◌, ◌++◌, length, take, drop, slice_index, refl, sym, ap, subst, ◌∙◌, arith, length-append}
+use Rattle.std.proofs.lemmas.List.{take_all, drop_at}
 use Rattle.ring_model.specs.Limits.{event_limit}
 use Rattle.ring_model.specs.Resources.{till}
 use Rattle.ring_model.specs.History.{State, Step, StepOf, next, reply, after, opening, IsLegal}
-use Rattle.ring_model.specs.Groups.{IsAlone, IsWhole, IsBlockOf, GroupMove, has, move_order, Rises}
+use Rattle.ring_model.specs.Groups.{IsAlone, IsWhole, IsBlockOf, GroupMove, has, move_order}
 use Rattle.ring_model.specs.GroupLaws.{CanMove, AreAllPrivileged, block_of}
 use Rattle.ring_model.specs.HistoryLaws.{between}
 use Rattle.ring_model.specs.Steps.{IsInRange}
@@ -24,7 +23,7 @@ use Rattle.ring_book.specs.declared.books.groups.GroupReceipt.{GroupReceipt}
 use Rattle.ring_model.specs.Ring.{Ring, moved_value, is_privileged}
 use Rattle.ring_logs.specs.Told.{Told}
 use Rattle.ring_shared.specs.Groups.{receipts_from}
-use Rattle.ring_state.specs.Sizes.{IsRingState, Size, size_of}
+use Rattle.ring_state.specs.Sizes.{Size, size_of}
 use Rattle.ring_desk.specs.Rings.{RingView, IsOneThreadRing, told_more}
 use Rattle.ring_desk.proofs.Kept.{called_ring, grouped_ring, surveyed_ring}
 use Rattle.ring_serve.specs.Standings.{Standing, standing_of, state_of, event_now, block_now, with_events, with_survey, survey_now}

@@ -1,56 +1,89 @@
 -- One step of reading a decimal, or a line of them.
-use Rattle.std.proofs.Common.{◌≡◌, ◌≢◌, ◌∙◌, ℕ, suc, ◌+◌, ◌-◌, ◌<◌, ◌≤◌, Bool, true, false, cond, ◌&&◌, get_or, List, [], ◌∷◌, ◌++◌, length, drop, Option, Some, None, Result, Ok, Err, refl, sym, ap, append_assoc, arith, length-drop}
-use Rattle.std.proofs.lemmas.Bool.{eq-eqb, ne_eqb}
+use Rattle.std.proofs.Common.{◌≡◌, ◌≢◌, ◌∙◌, ℕ, suc, ◌+◌, ◌-◌, ◌*◌, ◌^◌, ◌<◌, ◌≤◌, Bool, true, false, nat_lt, ◌&&◌, min, get_or, List, [], ◌∷◌, ◌++◌, length, drop, Option, Some, None, Result, Ok, Err, refl, sym, ap, append_assoc, arith, length-drop}
+use Rattle.std.proofs.lemmas.Bool.{cond-true, cond-false, lt-ltb, le-ltb, eq-eqb, ne_eqb}
 use Rattle.std.proofs.lemmas.List.{append-nil, drop_more, drop_all}
 use Rattle.text_lines.specs.declared.fault.Fault.{Fault}
 use Rattle.text_lines.specs.declared.fault.Fault.TheVariants.{Short, Bad}
 use Rattle.text_lines.specs.declared.fault.Stop.{Stop}
 use Rattle.text_lines.specs.declared.fault.Stop.TheVariants as stops
-use Rattle.text_lines.specs.Reading.{◌>>=◌, Fails, is_digit, stop_of}
-use Rattle.ring_serve.specs.Numbers.{with_digit, has_begun, grown, digits_at, place_at, places_at}
+use Rattle.text_lines.specs.Reading.{◌>>=◌, Fails, is_digit, as_at, stop_of}
+use Rattle.ring_serve.specs.Numbers.{digits_at, decimal_at, in_64_bits, order_at, place_at, places_at}
 
-abbrev goes_on : Option ℕ → ℕ → Bool
-goes_on n b = has_begun n && is_digit b
+-- ---- numbers of 64 bits
 
-grown_some : (n m : Option ℕ) (b : ℕ) → grown n b ≡ Some m → (goes_on n b ≡ true) × (with_digit n (b - 48) ≡ m)
-grown_some n m b h = go (goes_on n b) refl h
-  where
-    inner : Option (Option ℕ) → Option ℕ
-    inner (Some x) = x
-    inner None = None
+abbrev top : ℕ
+top = 2 ^ 64
 
-    go : (t : Bool) → goes_on n b ≡ t → cond t (Some (with_digit n (b - 48))) None ≡ Some m → (goes_on n b ≡ true) × (with_digit n (b - 48) ≡ m)
-    go true e q = (e, ap inner q)
-    go false e q = absurd cc
+pub in_some : (n : ℕ) → n < top → in_64_bits n ≡ Some n
+in_some n l = cond-true (nat_lt n top) (Some n) None (lt-ltb n top l)
 
-grown_none : (n : Option ℕ) (b : ℕ) → grown n b ≡ None → goes_on n b ≡ false
-grown_none n b h = go (goes_on n b) refl h
-  where
-    go : (t : Bool) → goes_on n b ≡ t → cond t (Some (with_digit n (b - 48))) None ≡ None → goes_on n b ≡ false
-    go true e q = absurd cc
-    go false e q = e
+pub in_none : (n : ℕ) → top ≤ n → in_64_bits n ≡ None
+in_none n l = cond-false (nat_lt n top) (Some n) None (le-ltb n top l)
 
-module _ (stop : ℕ) (n : Option ℕ) (bs : List ℕ) (i : ℕ) where
+-- ---- one step
+
+abbrev goes_on : ℕ → ℕ → Bool
+goes_on n b = nat_lt 0 n && is_digit b
+
+module _ (stop : ℕ) (n : ℕ) (bs : List ℕ) (i : ℕ) where
   pub digits_end : i < length bs → get_or bs i 0 ≡ stop → digits_at stop n (drop i bs) ≡ Ok (n, drop (i + 1) bs)
   unfolding digits_at
   digits_end l e = rw (drop_more bs i 0 l, eq-eqb _ _ e) refl
 
-  pub digits_more : (m : Option ℕ) → i < length bs → get_or bs i 0 ≢ stop → grown n (get_or bs i 0) ≡ Some m → digits_at stop m (drop (i + 1) bs) ≡ digits_at stop n (drop i bs)
+  pub digits_more : i < length bs → get_or bs i 0 ≢ stop → goes_on n (get_or bs i 0) ≡ true → digits_at stop n (drop i bs) ≡ digits_at stop (n * 10 + (get_or bs i 0 - 48)) (drop (i + 1) bs)
   unfolding digits_at
-  digits_more m l e h =
-      let g = grown_some n m (get_or bs i 0) h in
-      let one : digits_at stop n (drop i bs) ≡ digits_at stop (with_digit n (get_or bs i 0 - 48)) (drop (i + 1) bs) = rw (drop_more bs i 0 l, ne_eqb _ _ e, g.0) refl in
-      ap (λ (x : Option ℕ). digits_at stop x (drop (i + 1) bs)) (sym g.1) ∙ sym one
+  digits_more l e g = rw (drop_more bs i 0 l, ne_eqb _ _ e, g) refl
 
-  pub digits_other : i < length bs → get_or bs i 0 ≢ stop → grown n (get_or bs i 0) ≡ None → digits_at stop n (drop i bs) ≡ Err (Bad (length bs - i))
+  pub digits_other : i < length bs → get_or bs i 0 ≢ stop → goes_on n (get_or bs i 0) ≡ false → digits_at stop n (drop i bs) ≡ Err (Bad (length bs - i))
   unfolding digits_at
-  digits_other l e h =
+  digits_other l e g =
       let k : suc (length (drop (i + 1) bs)) ≡ length bs - i = omega (arith, length-drop (i + 1) bs) in
-      rw (drop_more bs i 0 l, ne_eqb _ _ e, grown_none n (get_or bs i 0) h, k) refl
+      rw (drop_more bs i 0 l, ne_eqb _ _ e, g, k) refl
 
   pub digits_short : length bs ≤ i → digits_at stop n (drop i bs) ≡ Err Short
   unfolding digits_at
   digits_short l = rw (drop_all i bs l) refl
+
+-- a number that is read so far, and what it is of 64 bits
+pub record IsReadTo (stop first : ℕ) (bs : List ℕ) (number : Option ℕ) (i : ℕ) : Type 0 where
+  pub all : ℕ
+  pub kept : number ≡ in_64_bits all
+  pub rest : digits_at stop all (drop i bs) ≡ digits_at stop first bs
+
+-- ---- what is read, as an order and as a place
+
+abbrev pub as_order : Result (ℕ × List ℕ) Fault → Result (Option ℕ × List ℕ) Fault
+as_order r = as_at in_64_bits (λ (_ : List ℕ). r) []
+
+abbrev as_place : Result (ℕ × List ℕ) Fault → Result (ℕ × List ℕ) Fault
+as_place r = as_at (λ n. min n 4294967295) (λ (_ : List ℕ). r) []
+
+abbrev number_of : Result (Option ℕ × List ℕ) Fault → Option ℕ
+number_of (Ok x) = x.0
+number_of (Err f) = None
+
+abbrev rest_of : Result (Option ℕ × List ℕ) Fault → List ℕ
+rest_of (Ok x) = x.1
+rest_of (Err f) = []
+
+pub place_read : (stop : ℕ) (bytes rest : List ℕ) (number : Option ℕ) (is : ℕ) → order_at stop bytes ≡ Ok (number, rest) → ((n : ℕ) → number ≡ in_64_bits n → is ≡ min n 4294967295) → place_at stop bytes ≡ Ok (is, rest)
+unfolding order_at place_at
+place_read stop bytes rest number is h named = go (decimal_at stop bytes) h
+  where
+    go : (d : Result (ℕ × List ℕ) Fault) → as_order d ≡ Ok (number, rest) → as_place d ≡ Ok (is, rest)
+    go (Ok x) e =
+        let one : is ≡ min x.0 4294967295 = named x.0 (sym (ap number_of e)) in
+        λ j. Ok (sym one j, ap rest_of e j)
+    go (Err f) e = absurd cc
+
+pub place_fails : (stop : ℕ) (bytes : List ℕ) (e : Stop) → Fails e (order_at stop bytes) → Fails e (place_at stop bytes)
+unfolding order_at place_at
+place_fails stop bytes stops.Memory h = tt
+place_fails stop bytes (stops.Fault f) h = go (decimal_at stop bytes) h
+  where
+    go : (d : Result (ℕ × List ℕ) Fault) → as_order d ≡ Err f → as_place d ≡ Err f
+    go (Ok x) e = absurd cc
+    go (Err g) e = cc
 
 -- ---- a line of them
 

@@ -1,33 +1,16 @@
 -- What is saved of rings that are right is legal.
-use Rattle.std.proofs.Common.{◌≡◌, ℕ, suc, ◌+◌, List, [], ◌∷◌, length, get_or, map, refl, sym, ◌∙◌, ap, subst, arith}
+use Rattle.std.proofs.Common.{◌≡◌, ℕ, suc, ◌+◌, List, [], ◌∷◌, length, map, refl, sym, ap, subst, arith}
 use Rattle.std.specs.List.{All, AllByRecursion}
 use Rattle.std.proofs.lemmas.List.Elements.{All-cons}
-use Rattle.std.proofs.lemmas.Option.{slice_get_within, get_or_from_slice_get}
-use Rattle.ring_model.specs.Resources.{till}
-use Rattle.ring_model.specs.History.{opening}
-use Rattle.ring_logs.specs.Told.{Told}
 use Rattle.ring_saved.specs.Versions.{latest_version}
 use Rattle.ring_saved.specs.Content.{Block}
 use Rattle.ring_check.specs.Legal.{IsLegalText}
 use Rattle.ring_check.specs.Meaning.{IsRightBlock, AreRightBlocks}
 use Rattle.ring_check.proofs.Meanings.{legal_means}
-use Rattle.ring_text.proofs.WrittenTexts.{ArePlaced, parts_right}
-use Rattle.ring_desk.specs.Rings.{RingView, IsOneThreadRing, IsClient}
+use Rattle.ring_desk.proofs.Saved.{ring_right}
+use Rattle.ring_desk.specs.Rings.{RingView}
 use Rattle.ring_serve.specs.Standings.{Standing, standing_of, AreRight}
 use Rattle.ring_serve.specs.Saved.{IsRight, block_at, blocks_from, content_of}
-
--- each client's log is placed
-placed : (d : RingView ℕ) → IsOneThreadRing till 0 d → ArePlaced Told (λ c. c.number) (λ c. c.log) (opening d.book.start 0) d.book.history 0 d.clients
-placed d k i c at =
-    let client : IsClient till 0 d.book i (get_or d.clients i c) = k.each i c (slice_get_within d.clients i c at) in
-    let here : IsClient till 0 d.book i c = subst (λ (x : Told). IsClient till 0 d.book i x) (get_or_from_slice_get d.clients i c c at) client in
-    let same : 0 + i ≡ i = omega arith in
-    (here.number ∙ sym same, here.fits.entries)
-
-ring_right : (place : ℕ) (d : RingView ℕ) → IsOneThreadRing till 0 d → IsRightBlock latest_version place (block_at place (standing_of d))
-ring_right place d k =
-    let start = k.book.start_ring in
-    parts_right Told (λ c. c.number) (λ c. c.log) place d.book.start d.book.history d.clients start.ring start.most_machines start.most (k.book.legal, k.book.whole) k.few k.of_seats (placed d k)
 
 right_block : (place : ℕ) (r : Standing) → IsRight r → IsRightBlock latest_version place (block_at place r)
 right_block place r k = subst (λ (x : Standing). IsRightBlock latest_version place (block_at place x)) k.2 (ring_right place k.0 k.1)

@@ -4,7 +4,7 @@ use Rattle.std.specs.Option.{option_map}
 use Rattle.text_lines.specs.declared.fault.Fault.{Fault}
 use Rattle.text_lines.specs.declared.fault.Fault.TheVariants.{Short, Bad}
 use Rattle.text_lines.specs.Reading.{Reader, ◌>>=◌, after_at, then_at, as_at, branch, choice_at}
-use Rattle.ring_serve.specs.Numbers.{decimal_at, place_at, places_at}
+use Rattle.ring_serve.specs.Numbers.{order_at, place_at, places_at}
 use Rattle.ring_serve.specs.declared.calls.Call.{Call as Read}
 use Rattle.ring_serve.specs.declared.calls.Call.TheVariants as reads
 
@@ -56,7 +56,7 @@ abbrev pub pass_of : ℕ × (ℕ × (ℕ × Option ℕ)) → Option Call
 pass_of (ring, (seat, (machine, order))) = option_map (λ n. pass ring seat machine n) order
 
 unfoldable pub pass_at : Reader (Option Call)
-pass_at = as_at pass_of (after_at (codes "pass ") (place then place then place then decimal_at 10))
+pass_at = as_at pass_of (after_at (codes "pass ") (place then place then place then order_at 10))
 
 abbrev pub corrupt_of : ℕ × (ℕ × (ℕ × ℕ)) → Option Call
 corrupt_of (ring, (seat, (machine, value))) = Some (corrupt ring seat machine value)
@@ -77,7 +77,7 @@ abbrev pub group_of : ℕ × (ℕ × (Option ℕ × List ℕ)) → Option Call
 group_of (ring, (seat, (order, machines))) = option_map (λ n. group ring seat n machines) order
 
 unfoldable pub group_at : Reader (Option Call)
-group_at = as_at group_of (after_at (codes "roup ") (place then place then decimal_at 32 then machines_at))
+group_at = as_at group_of (after_at (codes "roup ") (place then place then order_at 32 then machines_at))
 
 abbrev pub glance_of : ℕ → Option Call
 glance_of ring = Some (glance ring)

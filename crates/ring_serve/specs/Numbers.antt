@@ -1,40 +1,29 @@
 -- Decimals of any size, so that a call of what there is not is told so, however great its number is (this project's own).
-use Rattle.std.specs.Prelude.{ℕ, zero, suc, ◌+◌, ◌-◌, ◌*◌, ◌^◌, min, List, [], ◌∷◌, length, Bool, true, ◌==◌, nat_lt, ◌&&◌, if◌then◌else◌, Option, Some, None, Ok, Err}
+use Rattle.std.specs.Prelude.{ℕ, zero, suc, ◌+◌, ◌-◌, ◌*◌, ◌^◌, min, List, [], ◌∷◌, length, ◌==◌, nat_lt, ◌&&◌, if◌then◌else◌, Option, Some, None, Ok, Err}
 use Rattle.text_lines.specs.declared.fault.Fault.TheVariants.{Short, Bad}
 use Rattle.text_lines.specs.Reading.{Reader, ◌>>=◌, is_digit, as_at, stop_of}
 
--- a number with a digit more; from 2 ^ 64 on there is none
-abbrev pub with_digit : Option ℕ → ℕ → Option ℕ
-with_digit None digit = None
-with_digit (Some n) digit = if nat_lt (n * 10 + digit) (2 ^ 64) then Some (n * 10 + digit) else None
-
--- no digit follows a leading 0
-abbrev pub has_begun : Option ℕ → Bool
-has_begun None = true
-has_begun (Some n) = nat_lt 0 n
-
--- the number with this byte behind it, if it goes on so
-abbrev pub grown : Option ℕ → ℕ → Option (Option ℕ)
-grown n b = if has_begun n && is_digit b then Some (with_digit n (b - 48)) else None
-
--- the digits behind the first, up to the byte that ends the number
-unfoldable pub digits_at : ℕ → Option ℕ → Reader (Option ℕ)
+-- the digits of a number behind those that say n, up to the byte that ends it; none follows a leading 0
+unfoldable pub digits_at : ℕ → ℕ → Reader ℕ
 digits_at stop n [] = Err Short
-digits_at stop n (b ∷ bs) = if b == stop then Ok (n, bs) else (if has_begun n && is_digit b then digits_at stop (with_digit n (b - 48)) bs else Err (Bad (suc (length bs))))
+digits_at stop n (b ∷ bs) = if b == stop then Ok (n, bs) else (if nat_lt 0 n && is_digit b then digits_at stop (n * 10 + (b - 48)) bs else Err (Bad (suc (length bs))))
 
--- a decimal, and the byte that ends it: the number, or none if it is 2 ^ 64 or more
-unfoldable pub decimal_at : ℕ → Reader (Option ℕ)
+-- a decimal without signs or leading zeros, and the byte that ends it
+unfoldable pub decimal_at : ℕ → Reader ℕ
 decimal_at stop [] = Err Short
-decimal_at stop (b ∷ bs) = if is_digit b then digits_at stop (Some (b - 48)) bs else Err (Bad (suc (length bs)))
+decimal_at stop (b ∷ bs) = if is_digit b then digits_at stop (b - 48) bs else Err (Bad (suc (length bs)))
 
--- what a decimal names of 32 bits: the greatest stands for all that are greater, and no ring, seat, machine or value has it
-abbrev pub named : Option ℕ → ℕ
-named None = 4294967295
-named (Some n) = min n 4294967295
+-- a number of 64 bits, or none if it is greater
+abbrev pub in_64_bits : ℕ → Option ℕ
+in_64_bits n = if nat_lt n (2 ^ 64) then Some n else None
 
--- the number of a ring, a seat or a machine, or a value
+-- an order: a decimal of 64 bits, or none if it is greater
+unfoldable pub order_at : ℕ → Reader (Option ℕ)
+order_at stop = as_at in_64_bits (decimal_at stop)
+
+-- the number of a ring, a seat or a machine, or a value: the greatest of 32 bits stands for all that are greater, and none of these has it
 unfoldable pub place_at : ℕ → Reader ℕ
-place_at stop = as_at named (decimal_at stop)
+place_at stop = as_at (λ n. min n 4294967295) (decimal_at stop)
 
 -- so many of them on one line
 unfoldable pub places_at : ℕ → Reader (List ℕ)

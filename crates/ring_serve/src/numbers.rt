@@ -1,16 +1,16 @@
 //! Decimals of any size, so that a call of what there is not is told so, however great its number is.
 
-ghost use Rattle.std.specs.Prelude.{◌≡◌, ◌≤◌, Some};
-ghost use Rattle.text_lines.specs.Reading.{Gives, stop_of};
-ghost use Rattle.ring_serve.specs.Numbers.{with_digit, grown, digits_at, decimal_at, named, place_at, places_at};
+ghost use Rattle.std.specs.Prelude.{◌≡◌, ◌≤◌, ◌<◌, ◌+◌, ◌-◌, ◌*◌, ◌&&◌, ℕ, true, false, min, nat_lt, IfSome, IsNone};
+ghost use Rattle.text_lines.specs.Reading.{Gives, as_at, is_digit, stop_of};
+ghost use Rattle.ring_serve.specs.Numbers.{digits_at, in_64_bits, order_at, place_at, places_at};
 
 use std::alloc::Global;
 use text_lines::{Fault, Stop};
 
-/// The number with a digit more; none from 2 to the power 64 on.
+/// A number with a digit more, where it is none from 2 to the power 64 on.
 fn with_digit(number: Option<u64>, digit: u8) -> Option<u64>
     requires { digit ≤ 9 }
-    ensures { result ≡ with_digit number digit }
+    ensures { (n : ℕ) → number ≡ in_64_bits n → result ≡ in_64_bits (n * 10 + digit) }
 {
     match number {
         Some(n) if n <= (u64::MAX - digit as u64) / 10 => Some(n * 10 + digit as u64),
@@ -20,7 +20,8 @@ fn with_digit(number: Option<u64>, digit: u8) -> Option<u64>
 
 /// The number with the byte behind it, if it goes on so: no digit follows a leading 0.
 fn grown(number: Option<u64>, b: u8) -> Option<Option<u64>>
-    ensures { result ≡ grown number b }
+    ensures more { (n : ℕ) → number ≡ in_64_bits n → IfSome result (λ more. ((nat_lt 0 n && is_digit b) ≡ true) × (more ≡ in_64_bits (n * 10 + (b - 48)))) }
+    ensures ends { (n : ℕ) → number ≡ in_64_bits n → IsNone result → (nat_lt 0 n && is_digit b) ≡ false }
 {
     match (number, b) {
         (Some(0), _) => None,
@@ -31,7 +32,7 @@ fn grown(number: Option<u64>, b: u8) -> Option<Option<u64>>
 
 /// The rest of a number of which `first` was read.
 fn digits(first: u64, stop: u8, bytes: &[u8]) -> Result<(Option<u64>, &[u8]), Stop>
-    ensures { Gives (λ x. (x.0, x.1.now)) result (digits_at stop (Some first) bytes.now) }
+    ensures { Gives (λ x. (x.0, x.1.now)) result (as_at in_64_bits (digits_at stop first) bytes.now) }
 {
     let mut number = Some(first);
     for (i, b) in bytes.iter().enumerate() {
@@ -48,9 +49,9 @@ fn digits(first: u64, stop: u8, bytes: &[u8]) -> Result<(Option<u64>, &[u8]), St
 
 /// A decimal without signs or leading zeros, and what stands behind the byte that ends it: the number, or none if it is 2 to
 /// the power 64 or more.
-#[tactic(auto, unfolding(crate::specs::Numbers::decimal_at))]
+#[tactic(auto, unfolding(crate::specs::Numbers::decimal_at, crate::specs::Numbers::order_at))]
 pub(crate) fn decimal(bytes: &[u8], stop: u8) -> Result<(Option<u64>, &[u8]), Stop>
-    ensures { Gives (λ x. (x.0, x.1.now)) result (decimal_at stop bytes.now) }
+    ensures { Gives (λ x. (x.0, x.1.now)) result (order_at stop bytes.now) }
 {
     match bytes {
         [] => Err(Stop::Fault(Fault::Short)),
@@ -59,9 +60,9 @@ pub(crate) fn decimal(bytes: &[u8], stop: u8) -> Result<(Option<u64>, &[u8]), St
     }
 }
 
-/// What a decimal names of 32 bits.
+/// What a number names of 32 bits.
 fn named(number: Option<u64>) -> u32
-    ensures { result ≡ named number }
+    ensures { (n : ℕ) → number ≡ in_64_bits n → result ≡ min n 4294967295 }
 {
     match number {
         Some(n) if n < u32::MAX as u64 => n as u32,
@@ -70,7 +71,6 @@ fn named(number: Option<u64>) -> u32
 }
 
 /// The number of a ring, a seat or a machine, or a value: one that is too great for any of them is the greatest of 32 bits.
-#[tactic(auto, unfolding(crate::specs::Numbers::place_at))]
 pub(crate) fn place(bytes: &[u8], stop: u8) -> Result<(u32, &[u8]), Stop>
     ensures { Gives (λ x. (x.0, x.1.now)) result (place_at stop bytes.now) }
 {

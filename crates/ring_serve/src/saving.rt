@@ -5,56 +5,21 @@ ghost use Rattle.std.specs.List.{flat_map, AllByRecursion};
 ghost use Rattle.std.specs.Io.KnownBytes.{Appends};
 ghost use Rattle.text_lines.specs.Writing.{Writes};
 ghost use Rattle.disks.specs.Held.{Replaces};
-ghost use Rattle.ring_model.specs.Resources.{till};
 ghost use Rattle.ring_saved.specs.Versions.{latest_version};
-ghost use Rattle.ring_saved.specs.Spelling.{survey_line, block_text, text, SurveyFits, BlockFits, Fits};
+ghost use Rattle.ring_saved.specs.Spelling.{block_text, text, BlockFits, Fits};
 ghost use Rattle.ring_check.specs.Legal.{IsLegalText};
-ghost use Rattle.ring_desk.specs.Rings.{IsOneThreadRing};
-ghost use Rattle.ring_desk.specs.Texts.{surveys_told};
 ghost use Rattle.ring_serve.specs.Standings.{standing_of, AreRight};
-ghost use Rattle.ring_serve.specs.Saved.{block_at, blocks_from, content_of};
+ghost use Rattle.ring_serve.specs.Saved.{blocks_from, content_of};
 
 use crate::served::Served;
 use disks::Disk;
 use ring_book::Till;
-use ring_desk::{Client, OneThreadRing};
+use ring_desk::{OneThreadRing, put_ring};
 use ring_saved::LATEST_VERSION;
 use ring_saved::put_lines::{put_done_line, put_first_line};
-use ring_text::{put_history, put_size, put_start, put_surveys};
 use std::alloc::Global;
 use std::io::{BufWriter, Write};
 use text_lines::WriteFault;
-
-/// Writes the surveys that the clients were told, client by client.
-fn put_clients<W: Write>(out: &mut W, clients: &[Client]) -> Result<(), WriteFault>
-    ensures written { Writes (W.contents out.old) (W.contents out.new) result (flat_map survey_line (surveys_told clients.now)) }
-    ensures fits { IfOk result (λ _. AllByRecursion SurveyFits (surveys_told clients.now)) }
-{
-    for client in clients {
-        match put_surveys(out, client.number(), client.log()) {
-            Ok(()) => {}
-            Err(fault) => return Err(fault),
-        }
-    }
-    Ok(())
-}
-
-/// Writes the block of a ring at its place.
-fn put_block<W: Write>(
-    out: &mut W,
-    place: u32,
-    ring: &OneThreadRing<Till>,
-) -> Result<(), WriteFault>
-    ensures written { Writes (W.contents out.old) (W.contents out.new) result (block_text (block_at place (standing_of ring.now))) }
-    ensures fits { IfOk result (λ _. BlockFits latest_version (block_at place (standing_of ring.now))) }
-{
-    let start = ring.start();
-    put_size(out, place, start)?;
-    put_start(out, start)?;
-    put_history(out, ring.history())?;
-    put_clients(out, ring.clients())?;
-    Ok(())
-}
 
 /// Writes the blocks of the rings, each with its place from 0.
 fn put_blocks<W: Write>(out: &mut W, rings: &[OneThreadRing<Till>]) -> Result<(), WriteFault>
@@ -63,7 +28,7 @@ fn put_blocks<W: Write>(out: &mut W, rings: &[OneThreadRing<Till>]) -> Result<()
     ensures fits { IfOk result (λ _. AllByRecursion (BlockFits latest_version) (blocks_from 0 (map standing_of rings.now))) }
 {
     for (place, ring) in rings.iter().enumerate() {
-        match put_block(out, place as u32, ring) {
+        match put_ring(out, place as u32, ring) {
             Ok(()) => {}
             Err(fault) => return Err(fault),
         }

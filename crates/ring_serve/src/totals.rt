@@ -7,16 +7,17 @@ ghost use Rattle.ring_serve.specs.Totals.{surveys_among, totals_of};
 
 use crate::served::Served;
 use ring_book::Till;
-use ring_desk::{Client, OneThreadRing};
-use ring_text::{Totals, granted, surveys};
+use ring_desk::OneThreadRing;
+use ring_text::{Totals, granted};
 
-/// How many surveys the clients were told.
-fn surveys_of(clients: &[Client]) -> Option<u64>
-    ensures { IfSome result (λ count. count ≡ surveys_among clients.now) }
+/// How many surveys the clients of a ring were told.
+fn surveys_of(ring: &OneThreadRing<Till>) -> Option<u64>
+    ensures { IfSome result (λ count. count ≡ surveys_among ring.now.clients) }
 {
+    let clients = ring.clients();
     let mut all: u64 = 0;
     for client in clients {
-        all = all.checked_add(surveys(client.log()) as u64)?;
+        all = all.checked_add(client.surveys().len() as u64)?;
     }
     Some(all)
 }
@@ -29,7 +30,7 @@ fn with_ring(all: Totals, ring: &OneThreadRing<Till>) -> Option<Totals>
     Some(Totals {
         events: all.events.checked_add(history.len() as u64)?,
         granted: all.granted.checked_add(granted(history) as u64)?,
-        surveys: all.surveys.checked_add(surveys_of(ring.clients())?)?,
+        surveys: all.surveys.checked_add(surveys_of(ring)?)?,
     })
 }
 

@@ -84,7 +84,7 @@ fn corrupted(history: &[Event]) -> usize
 }
 
 /// How many surveys a log has.
-pub fn surveys(entries: &[Entry]) -> usize
+fn surveys(entries: &[Entry]) -> usize
     ensures { result ≡ survey_count entries.now }
 {
     entries

@@ -9,11 +9,9 @@ mod laws;
 mod outcomes;
 mod report;
 
-pub use counts::{Totals, granted, surveys};
+pub use counts::{Totals, granted};
 pub use journals::{put_events, put_survey};
 pub use laws::{outcome_law, written_law};
-pub use outcomes::{
-    put_history, put_size, put_start, put_surveys, saved_event, saved_survey, write_outcome,
-};
+pub use outcomes::{put_history, put_size, put_start, saved_event, saved_survey, write_outcome};
 pub use report::{put_total_line, write_report, write_total};
 pub use text_lines::WriteFault;

@@ -156,7 +156,7 @@ fn put_entry<W: Write>(out: &mut W, seat: u32, entry: Entry) -> Result<(), Write
 }
 
 /// Writes a line for each survey among a seat's entries.
-pub fn put_surveys<W: Write>(out: &mut W, seat: u32, entries: &[Entry]) -> Result<(), WriteFault>
+fn put_surveys<W: Write>(out: &mut W, seat: u32, entries: &[Entry]) -> Result<(), WriteFault>
     ensures written { Writes (W.contents out.old) (W.contents out.new) result (flat_map survey_line (entry_surveys seat entries.now)) }
     ensures fits { IfOk result (λ _. AllByRecursion SurveyFits (entry_surveys seat entries.now)) }
 {

@@ -1,22 +1,19 @@
 //! Calls of a ring that is called by numbers, each broken: the real one with something wrong.
 
-ghost use Rattle.std.specs.Prelude.{◌≡◌, ◌≢◌, ◌+◌, ◌≤◌, ◌↔◌, [], ◌∷◌, All, length, map, IsSome, IfOk, IfSome, OnErr, IsErrOf};
+ghost use Rattle.std.specs.Prelude.{◌≡◌, ◌≢◌, ◌+◌, ◌≤◌, ◌↔◌, [], ◌∷◌, length, map, IsSome, IfOk, IfSome, OnErr, IsErrOf};
 ghost use Rattle.ring_book.specs.BookView.{IsRecorded};
 ghost use Rattle.ring_book.specs.GroupView.{IsGroupRecorded};
 ghost use Rattle.ring_check.specs.Table.{event_of};
 ghost use Rattle.ring_model.specs.declared.events.Entry.TheVariants as entry;
 ghost use Rattle.ring_model.specs.declared.events.Op.TheVariants as op;
 ghost use Rattle.ring_desk.specs.Rings.{told_more};
-ghost use Rattle.ring_desk.specs.Texts.{surveys_told};
+ghost use Rattle.ring_desk.specs.Texts.{surveys_told, saved_alone};
 ghost use Rattle.ring_saved.specs.Spelling.{text};
-ghost use Rattle.ring_settings.specs.Limits.{ring_limit};
-ghost use Rattle.ring_text.specs.SavedOf.{saved_of};
-ghost use Rattle.ring_text.specs.Written.{IsRightRun};
 ghost use Rattle.text_lines.specs.Writing.{Writes};
 
 use ring_book::{GroupReceipt, Resource, Till};
-use ring_desk::{CallError, OneThreadRing, OpenError, ResumeError, from_saved, save};
-use ring_farm::{Outcome, RingOutcome};
+use ring_desk::{CallError, OneThreadRing, OpenError, ResumeError, from_saved};
+use ring_farm::RingOutcome;
 use ring_model::{Receipt, Survey};
 use ring_saved::SavedRing;
 use ring_text::WriteFault;
@@ -112,18 +109,15 @@ pub fn saved_ring_that_forgets_the_surveys(
 
 /// What is saved is the ring's own history: another one's is written, which has another text.
 pub fn save_of_another_rings_history<W: Write>(
-    outcome: &Outcome,
-    other: &Outcome,
+    ring: &OneThreadRing<Till>,
+    other: &OneThreadRing<Till>,
     out: &mut W,
 ) -> Result<(), WriteFault>
-    requires some { 1 ≤ length other.now.rings.items }
-    requires most { length other.now.rings.items ≤ ring_limit }
-    requires right { All (λ o. IsRightRun o) other.now.rings.items }
     requires known { IsSome (W.contents out.old) }
-    requires apart { text (saved_of other.now) ≢ text (saved_of outcome.now) }
-    ensures wrong { IfOk result (λ _. Writes (W.contents out.old) (W.contents out.new) result (text (saved_of outcome.now)) → ⊥) }
+    requires apart { text (saved_alone other.now) ≢ text (saved_alone ring.now) }
+    ensures wrong { IfOk result (λ _. Writes (W.contents out.old) (W.contents out.new) result (text (saved_alone ring.now)) → ⊥) }
 {
-    save(other, out)?;
+    other.save(out)?;
     Ok(())
 }
 

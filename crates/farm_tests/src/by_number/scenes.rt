@@ -1,11 +1,8 @@
 //! Calls one after another, and the text that is saved of them.
-ghost use Rattle.std.specs.Prelude.{◌≡◌, ◌∷◌, []};
-ghost use Rattle.ring_text.specs.Written.{IsRightRun};
-
 use ring_book::{Idle, Till};
-use ring_desk::{OneThreadRing, from_saved, save};
-use ring_farm::{Outcome, RingOutcome};
-use ring_model::{Op, Reply};
+use ring_desk::{CallError, OneThreadRing, from_saved};
+use ring_farm::RingOutcome;
+use ring_model::{Entry, Event, Op, Receipt, Reply, Survey};
 use ring_saved::read_saved;
 use std::alloc::Global;
 use std::process::Abort;
@@ -23,51 +20,31 @@ pub(super) fn opened(
     }
 }
 
-/// The text of the ring is this one; the ring as it was.
-fn told(
-    rt: &impl Abort,
-    alloc: Global,
-    ring: OneThreadRing<Till>,
-    text: &[u8],
-) -> OneThreadRing<Till> {
+/// The text of the ring is this one, and what a writer is given of it.
+fn saves(rt: &impl Abort, alloc: Global, ring: &OneThreadRing<Till>, text: &[u8]) {
     match ring.text(alloc) {
-        (ring, Ok(whole)) => {
-            assert!(rt; whole.as_slice() == text);
-            ring
-        }
-        (_, Err(_)) => panic!(rt; "there is memory"),
+        Ok(whole) => assert!(rt; whole.as_slice() == text),
+        Err(_) => panic!(rt; "there is memory"),
     }
+    let mut out = Vec::new(alloc);
+    assert!(rt; ring.save(&mut out).is_ok());
+    assert!(rt; out.as_slice() == text);
 }
 
 /// What the ring hands out when it is closed.
-fn closed(rt: &impl Abort, alloc: Global, ring: OneThreadRing<Till>) -> RingOutcome
-    ensures { IsRightRun result }
-{
+fn closed(rt: &impl Abort, alloc: Global, ring: OneThreadRing<Till>) -> RingOutcome {
     match ring.close(alloc) {
         Ok(run) => run,
         Err(_) => panic!(rt; "the ring is closed"),
     }
 }
 
-/// The outcome of one ring alone.
-fn outcome_of(rt: &impl Abort, alloc: Global, run: RingOutcome) -> Outcome
-    ensures { result.rings.items ≡ run ∷ [] }
-{
-    let Ok(mut rings) = Vec::with_capacity(alloc, 1) else {
-        panic!(rt; "there is memory");
-    };
-    rings.push_reserved(run);
-    Outcome { rings }
-}
-
-/// The saved text of the ring is this one.
-fn saves(rt: &impl Abort, alloc: Global, ring: OneThreadRing<Till>, text: &[u8]) {
-    let ring = told(rt, alloc, ring, text);
-    let run = closed(rt, alloc, ring);
-    let outcome = outcome_of(rt, alloc, run);
-    let mut out = Vec::new(alloc);
-    assert!(rt; save(&outcome, &mut out).is_ok());
-    assert!(rt; out.as_slice() == text);
+/// What the client of a seat was told.
+fn log_of(rt: &impl Abort, alloc: Global, ring: &OneThreadRing<Till>, seat: u32) -> Vec<Entry> {
+    match ring.log(alloc, seat) {
+        Ok(log) => log,
+        Err(_) => panic!(rt; "the log is there"),
+    }
 }
 
 /// A ring that goes on where the first of this text ended.
@@ -99,15 +76,12 @@ fn passes_and_a_survey_are_saved(rt: HostRuntime) {
         survey.privileged == 1 && survey.first == 1 && survey.calm == 2 && survey.rest == 0
     );
     assert!(rt; ring.survey(0) == Ok(survey));
-    assert!(rt;
-        ring.history_length() == 3
-            && ring.log(0).map(|log| log.len()) == Some(4)
-            && ring.log(1).is_none()
-    );
+    assert!(rt; ring.history_length() == 3 && log_of(&rt, rt.alloc(), &ring, 0).len() == 4);
+    assert!(rt; ring.log(rt.alloc(), 1).err() == Some(CallError::NoSeat));
     saves(
         &rt,
         rt.alloc(),
-        ring,
+        &ring,
         b"ringfarm 2\nring 0 3 3\nstart 0 2 0\np 0 0 5 g 1 5\np 0 0 1 n\np 0 2 4 g 2 9\nend 3\ns 0 3 1 1 2 0\ndone 1\n",
     );
 }
@@ -124,7 +98,7 @@ fn a_group_is_one_block(rt: HostRuntime) {
     saves(
         &rt,
         rt.alloc(),
-        ring,
+        &ring,
         b"ringfarm 2\nring 0 4 4\nstart 0 2 1 0\nm 0 1 2 2 1 2\nm 0 0 2 1 2 4\nm 0 3 2 0 3 6\nend 3\ns 0 3 3 0 3 9\ndone 1\n",
     );
 }
@@ -141,19 +115,53 @@ fn a_saved_ring_is_gone_on_with(rt: HostRuntime) {
     saves(
         &rt,
         rt.alloc(),
-        ring,
+        &ring,
         b"ringfarm 2\nring 0 4 4\nstart 0 2 1 0\nm 0 1 2 2 1 2\nm 0 0 2 1 2 4\nm 0 3 2 0 3 6\nc 0 1 3 0\nend 4\ns 0 3 3 0 3 9\ndone 1\n",
     );
 }
 
+/// The receipt of a pass with order 1 that was refused.
+fn refused(position: u64, seat: u32, machine: u32) -> Entry {
+    Entry::Receipt(Receipt {
+        position,
+        event: Event {
+            seat,
+            op: Op::Pass { machine, order: 1 },
+            reply: Reply::NotPrivileged,
+        },
+    })
+}
+
+/// The survey of a place of the saved ring below.
+fn surveyed(position: u64, privileged: u32, first: u32, calm: u64, rest: u64) -> Entry {
+    Entry::Survey(Survey {
+        position,
+        privileged,
+        first,
+        calm,
+        rest,
+    })
+}
+
 #[test]
-fn surveys_of_a_saved_ring_are_kept(rt: HostRuntime) {
+fn a_log_has_each_survey_at_its_place(rt: HostRuntime) {
     let text =
         b"ringfarm 2\nring 0 3 3\nstart 0 2 0\np 1 0 5 g 1 5\np 0 0 1 n\np 1 2 4 g 2 9\nend 3\ns 0 1 2 1 1 3\ns 0 3 1 1 2 0\ns 1 0 3 0 0 6\ns 1 3 1 1 2 0\ndone 1\n";
-    let ring = gone_on(&rt, rt.alloc(), text, 2);
-    assert!(rt; ring.log(0).map(|log| log.len()) == Some(3));
-    assert!(rt; ring.log(1).map(|log| log.len()) == Some(4));
-    saves(&rt, rt.alloc(), ring, text);
+    let mut ring = gone_on(&rt, rt.alloc(), text, 2);
+    saves(&rt, rt.alloc(), &ring, text);
+    assert!(rt; ring.pass(0, 0, 1).map(|r| r.position) == Ok(3));
+    let told = [
+        surveyed(1, 2, 1, 1, 3),
+        refused(1, 0, 0),
+        surveyed(3, 1, 1, 2, 0),
+        refused(3, 0, 0),
+    ];
+    assert!(rt; log_of(&rt, rt.alloc(), &ring, 0).as_slice() == told.as_slice());
+    assert!(rt; log_of(&rt, rt.alloc(), &ring, 1).len() == 4);
+    let run = closed(&rt, rt.alloc(), ring);
+    assert!(rt; run.book.history().len() == 4 && run.logs.len() == 2);
+    assert!(rt; run.logs[0].seat == 0 && run.logs[0].entries.as_slice() == told.as_slice());
+    assert!(rt; run.logs[1].seat == 1 && run.logs[1].entries.len() == 4);
 }
 
 #[test]

@@ -4,9 +4,8 @@ ghost use Rattle.ring_model.specs.Resources.{till};
 ghost use Rattle.ring_model.specs.Groups.{left_after};
 ghost use Rattle.ring_check.specs.Table.{event_of};
 ghost use Rattle.std.specs.List.Sorted.{IsPermutation};
-ghost use Rattle.ring_text.specs.SavedOf.{entry_surveys, saved_survey};
 ghost use Rattle.ring_desk.specs.Rings.{IsOneThreadRing};
-ghost use Rattle.ring_desk.specs.Texts.{surveys_told};
+ghost use Rattle.ring_desk.specs.Texts.{client_surveys, surveys_kept};
 ghost use Rattle.ring_desk.specs.Resuming.{IsWantOfMemory};
 ghost use Rattle.ring_desk.specs.Replaying.{Awaits, Climbs, Keeps, Surveyed, stands_at};
 
@@ -15,43 +14,29 @@ use super::replays::replay;
 use crate::clients::Client;
 use crate::rings::OneThreadRing;
 use ring_book::Till;
-use ring_model::{Entry, Survey};
 use ring_saved::{SavedEvent, SavedSurvey};
+use ring_text::saved_survey;
 use std::alloc::{AllocError, Global};
 
-/// The line of a seat's survey.
-fn line_of(seat: u32, survey: Survey) -> SavedSurvey
-    ensures { result ≡ saved_survey seat survey }
+/// Adds the surveys of a client.
+fn push_surveys(told: &mut Vec<SavedSurvey>, client: &Client) -> Result<(), AllocError>
+    ensures { OnOk result (told.new.items ≡ told.old.items ++ client_surveys client.now) }
 {
-    SavedSurvey {
-        seat,
-        position: survey.position,
-        privileged: survey.privileged,
-        first: survey.first,
-        calm: survey.calm,
-        rest: survey.rest,
-    }
-}
-
-/// Adds the surveys of a client's log.
-fn push_surveys(told: &mut Vec<SavedSurvey>, seat: u32, log: &[Entry]) -> Result<(), AllocError>
-    ensures { OnOk result (told.new.items ≡ told.old.items ++ entry_surveys seat log.now) }
-{
-    for entry in log {
-        if let Entry::Survey(survey) = *entry {
-            told.push(line_of(seat, survey))?;
-        }
+    let number = client.number();
+    let surveys = client.surveys();
+    for survey in surveys {
+        told.push(saved_survey(number, *survey))?;
     }
     Ok(())
 }
 
 /// The surveys that clients were told, client by client.
 pub(crate) fn surveys_of(alloc: Global, clients: &[Client]) -> Result<Vec<SavedSurvey>, AllocError>
-    ensures { IfOk result (λ v. v.items ≡ surveys_told clients.now) }
+    ensures { IfOk result (λ v. v.items ≡ surveys_kept clients.now) }
 {
     let mut told = Vec::new(alloc);
     for client in clients {
-        push_surveys(&mut told, client.number(), client.log())?;
+        push_surveys(&mut told, client)?;
     }
     Ok(told)
 }

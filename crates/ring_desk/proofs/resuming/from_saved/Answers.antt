@@ -1,8 +1,6 @@
 use Rattle.std.proofs.Common.{List, ℕ, subst}
 use Rattle.ring_model.specs.Ring.{ring_with}
 use Rattle.ring_book.specs.BookView.{IsFresh}
-use Rattle.ring_saved.specs.Content.{block_of}
-use Rattle.ring_desk.proofs.Resumed.{open_memory}
 use Rattle.ring_desk.proofs.resuming.from_saved.Goals as goal
 
 pub returns-in-Err-follow-clause-legal : goal.returns-in-Err-follow-clause-legal

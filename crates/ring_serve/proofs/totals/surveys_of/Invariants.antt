@@ -1,6 +1,6 @@
 use Rattle.std.proofs.Common.{◌≡◌, take}
-use Rattle.ring_serve.specs.Totals.{surveys_among}
+use Rattle.ring_serve.proofs.Counting.{kept_count}
 use Rattle.ring_serve.proofs.totals.surveys_of.Given as goal
 
 abbrev pub invariant-loop-client : goal.invariant-loop-client
-invariant-loop-client l = l.all ≡ surveys_among (take l.client-index l.clients)
+invariant-loop-client l = l.all ≡ kept_count (take l.client-index l.clients)

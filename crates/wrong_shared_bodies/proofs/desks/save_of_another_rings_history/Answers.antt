@@ -1,10 +1,10 @@
 use Rattle.ring_saved.specs.Spelling.{text}
-use Rattle.ring_text.specs.SavedOf.{saved_of}
+use Rattle.ring_desk.specs.Texts.{saved_alone}
 use Rattle.wrong_shared_bodies.proofs.Written.{one_text}
 use Rattle.wrong_shared_bodies.proofs.desks.save_of_another_rings_history.Goals as goal
 
 pub returns : goal.returns
 returns g c = record {
   wrong = λ h. c.requires.apart
-      (one_text (g.W.Write.contents c.args.out.now) (g.W.Write.contents c.save.new.out) (text (saved_of c.args.other.now)) (text (saved_of c.args.outcome.now)) c.requires.known c.in_ok-save.ensures.written h);
+      (one_text (g.W.Write.contents c.args.out.now) (g.W.Write.contents c.save.new.out) (text (saved_alone c.args.other.now)) (text (saved_alone c.args.ring.now)) c.requires.known c.in_ok-save.ensures.written h);
 }

@@ -1,4 +1,4 @@
-use Rattle.std.proofs.Common.{rules, List, subst, sym}
+use Rattle.std.proofs.Common.{rules, List, subst}
 use Rattle.std.specs.List.Sorted.{IsStableByKey}
 use Rattle.std.specs.Ordering.{nat_cmp}
 use Rattle.std.proofs.lemmas.List.Sorted.{IsNonDecreasingBy-from_sort_by_key, answers_always}

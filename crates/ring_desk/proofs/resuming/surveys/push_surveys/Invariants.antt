@@ -1,6 +1,6 @@
-use Rattle.std.proofs.Common.{◌≡◌, ◌++◌, drop}
-use Rattle.ring_text.specs.SavedOf.{entry_surveys}
+use Rattle.std.proofs.Common.{◌≡◌, ◌++◌, drop, map}
+use Rattle.ring_text.specs.SavedOf.{saved_survey}
 use Rattle.ring_desk.proofs.resuming.surveys.push_surveys.Given as goal
 
-abbrev pub invariant-loop-entry : goal.invariant-loop-entry
-invariant-loop-entry l = l.told.items ++ entry_surveys l.seat (drop l.entry-index l.log) ≡ l.fn.told.items ++ entry_surveys l.seat l.log
+abbrev pub invariant-loop-survey : goal.invariant-loop-survey
+invariant-loop-survey l = l.told.items ++ map (saved_survey l.number) (drop l.survey-index l.surveys) ≡ l.fn.told.items ++ map (saved_survey l.number) l.surveys

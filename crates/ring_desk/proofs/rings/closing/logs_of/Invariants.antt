@@ -1,10 +1,11 @@
-use Rattle.std.proofs.Common.{◌≡◌, ◌≤◌, vec_len, vec_capacity, length}
+use Rattle.std.proofs.Common.{◌≡◌, ◌≤◌, vec_len, vec_capacity, length, take}
+use Rattle.ring_desk.specs.Clients.{told_all}
 use Rattle.ring_desk.specs.Rings.{AreLogsOf}
 use Rattle.ring_desk.proofs.rings.closing.logs_of.Given as goal
 
 abbrev pub invariant-loop-client : goal.invariant-loop-client
 invariant-loop-client l = record {
-  count : vec_len l.logs ≡ length l.yielded;
-  room : vec_len l.fn.clients ≤ vec_capacity l.logs;
-  logs_of : AreLogsOf l.yielded l.logs.items;
+  count : vec_len l.logs ≡ l.client-index;
+  room : length l.clients ≤ vec_capacity l.logs;
+  logs_of : AreLogsOf (told_all l.history (take l.client-index l.clients)) l.logs.items;
 }
