@@ -7,7 +7,8 @@ use Rattle.disks.specs.declared.memory.Entry.{Entry}
 -- the bytes of the last of these entries with this name, or what was found before them
 abbrev pub found : Option (List ℕ) → List Entry → List ℕ → Option (List ℕ)
 found before [] name = before
-found before (e ∷ es) name = found (cond (bytes_eq (string_bytes e.name) name) (Some e.bytes.items) before) es name
+found before (e ∷ es) name =
+    found (cond (bytes_eq (string_bytes e.name) name) (Some e.bytes.items) before) es name
 
 -- what files hold by these entries: each name leads to a place of its own
 abbrev pub held_of : List Entry → Held

@@ -25,11 +25,13 @@ pub trait Disk {
 
     /// Opens the file of this name. The reader has the bytes that the file holds now.
     fn open(&self, name: &str) -> io::Result<Self::Reader>
-        ensures { IfOk result (λ reader. Opens (holds self.now) name.now (Self.Reader.remaining reader)) };
+        ensures { IfOk result
+            (λ reader. Opens (holds self.now) name.now (Self.Reader.remaining reader)) };
 
     /// Whether two names are those of one file. If it answers no, they are not; a yes may err.
     fn is_one_file(&self, one: &str, other: &str) -> io::Result<bool>
-        ensures { IfOk result (λ same. IfSome (holds self.now) (λ held. same ≡ false → IsOneFile held one.now other.now → ⊥)) };
+        ensures { IfOk result (λ same. IfSome (holds self.now)
+            (λ held. same ≡ false → IsOneFile held one.now other.now → ⊥)) };
 
     /// Makes a new file, empty, beside the one of this name. No file changes.
     fn make(&mut self, name: &str) -> io::Result<Self::New>
@@ -42,7 +44,8 @@ pub trait Disk {
     ///
     /// It could not be put there, or it was made for another name. Every file is as it was then.
     fn finish(&mut self, made: Self::New, name: &str) -> io::Result<()>
-        ensures replaced { OnOk result (Replaces (holds self.old) (holds self.new) name.now (Self.New.contents made)) }
+        ensures replaced { OnOk result
+            (Replaces (holds self.old) (holds self.new) name.now (Self.New.contents made)) }
         ensures kept { OnErr result (holds self.new ≡ holds self.old) };
 
     /// Opens a file to be written at its end; it is made, empty, if it is not there. Its writer has what the file holds. With
@@ -53,7 +56,8 @@ pub trait Disk {
     /// `WouldBlock` if somebody else has it open so; `InvalidInput` if it is no regular file; or it cannot be opened. What
     /// files hold is not touched.
     fn grow(&mut self, name: &str, synced: bool) -> io::Result<Self::Grown>
-        ensures opened { IfOk result (λ grown. Grows (holds self.old) name.now (Self.Grown.contents grown)) }
+        ensures opened { IfOk result
+            (λ grown. Grows (holds self.old) name.now (Self.Grown.contents grown)) }
         ensures kept { holds self.new ≡ holds self.old };
 
     /// Ends writing to a file of this name: it holds what its writer has.
@@ -62,6 +66,7 @@ pub trait Disk {
     ///
     /// It is not known to be on the disk.
     fn settle(&mut self, grown: Self::Grown, name: &str) -> io::Result<()>
-        ensures settled { OnOk result (Replaces (holds self.old) (holds self.new) name.now (Self.Grown.contents grown)) }
+        ensures settled { OnOk result
+            (Replaces (holds self.old) (holds self.new) name.now (Self.Grown.contents grown)) }
         ensures kept { OnErr result (holds self.new ≡ holds self.old) };
 }

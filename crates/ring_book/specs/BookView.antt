@@ -12,7 +12,8 @@ use Rattle.ring_model.specs.Limits.{event_limit}
 use Rattle.ring_book.specs.TallyView.{TallyView, IsTallyOf}
 use Rattle.ring_book.specs.declared.open_books.OpenBook.{OpenBook}
 
--- the ring at the start, the state now, the events between the two, and how many more can be added without asking for memory
+-- the ring at the start, the state now, the events between the two, and how many more can be added
+-- without asking for memory
 pub record BookView (C : Type 0) : Type 0 where
   pub start : Ring
   pub now : State C
@@ -28,9 +29,11 @@ view_of b = record {
   room = b.events.room;
 }
 
--- What is true of a book whose history ends in some way: it is legal, step by step, from the start and leads to the state now
--- (the one-thread ring under a central daemon, Dijkstra 1974), within the limits of this project.
-pub record IsBookThat {C : Type 0} (ends : ℕ → List Event → Type 0) (w : Works C) (first : C) (b : BookView C) : Type 0 where
+-- What is true of a book whose history ends in some way: it is legal, step by step, from the start
+-- and leads to the state now (the one-thread ring under a central daemon, Dijkstra 1974), within
+-- the limits of this project.
+pub record IsBookThat {C : Type 0} (ends : ℕ → List Event → Type 0) (w : Works C) (first : C)
+    (b : BookView C) : Type 0 where
   pub legal : IsLegal w (opening b.start first) b.history
   pub current : after w (opening b.start first) b.history ≡ b.now
   pub bounded : length b.history + b.room ≤ event_limit
@@ -39,7 +42,8 @@ pub record IsBookThat {C : Type 0} (ends : ℕ → List Event → Type 0) (w : W
   pub same_size : size_of b.now.ring ≡ size_of b.start
   pub whole : ends (length b.start.values) b.history
 
--- What is true of a book at every moment: its history is whole, a row of groups and of calls by themselves.
+-- What is true of a book at every moment: its history is whole, a row of groups and of calls by
+-- themselves.
 abbrev pub IsBook : {C : Type 0} → Works C → C → BookView C → Type 0
 IsBook w first b = IsBookThat IsWhole w first b
 
@@ -48,12 +52,14 @@ abbrev pub IsOpen : {C : Type 0} → Works C → C → BookView C → Type 0
 IsOpen w first b = IsBookThat (λ n h. Unit {0}) w first b
 
 -- besides, each running count is that of the history
-pub record IsKept {C : Type 0} (w : Works C) (first : C) (b : BookView C) (t : TallyView) : Type 0 where
-  pub book : IsBook w first b
-  pub tally : IsTallyOf w (opening b.start first) b.history t
+pub record IsKept {C : Type 0} (w : Works C) (first : C) (b : BookView C) (t : TallyView) : Type 0
+  where
+    pub book : IsBook w first b
+    pub tally : IsTallyOf w (opening b.start first) b.history t
 
 -- the same, also between the members of a group
-pub record IsOpenKept {C : Type 0} (w : Works C) (first : C) (b : BookView C) (t : TallyView) : Type 0 where
+pub record IsOpenKept {C : Type 0} (w : Works C) (first : C) (b : BookView C) (t : TallyView) : Type
+    0 where
   pub book : IsOpen w first b
   pub tally : IsTallyOf w (opening b.start first) b.history t
 
@@ -61,9 +67,10 @@ pub record IsOpenKept {C : Type 0} (w : Works C) (first : C) (b : BookView C) (t
 abbrev pub IsFresh : {C : Type 0} → Ring → C → BookView C → Type 0
 IsFresh start first b = (b.start ≡ start) × (b.now ≡ opening start first) × (b.history ≡ [])
 
--- One call was recorded: the state made one step by the receipt's event, which is the call's and stands at the end of the history,
--- at the receipt's position.
-pub record IsRecorded {C : Type 0} (w : Works C) (old new : BookView C) (seat : ℕ) (op : Op) (r : Receipt) : Type 0 where
+-- One call was recorded: the state made one step by the receipt's event, which is the call's and
+-- stands at the end of the history, at the receipt's position.
+pub record IsRecorded {C : Type 0} (w : Works C) (old new : BookView C) (seat : ℕ) (op : Op)
+    (r : Receipt) : Type 0 where
   pub step : Step w old.now r.event new.now
   pub grown : new.history ≡ old.history ++ r.event ∷ []
   pub position : r.position ≡ length old.history

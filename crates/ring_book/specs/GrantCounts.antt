@@ -3,7 +3,9 @@ use Rattle.std.specs.Prelude.{◌≡◌, ◌+◌, ◌<◌, ◌≤◌, ℕ, List,
 
 -- each two counters differ by at most 1
 abbrev pub IsEven : List ℕ → Type 0
-IsEven counts = (i j : ℕ) → i < length counts → j < length counts → slice_index counts i ≤ slice_index counts j + 1
+IsEven counts =
+    (i j : ℕ) → i < length counts → j < length counts
+    → slice_index counts i ≤ slice_index counts j + 1
 
 -- no counter is above the total, and where the mark stands those of the settled run are 0;
 -- these differ by at most 1, since in a settled run the grants go round

@@ -12,7 +12,8 @@ pub record GrantsView : Type 0 where
   pub settled : List ℕ
 
 -- the counts, for n machines, are those of a history from the state a
-pub record IsGrantsOf {C : Type 0} (w : Works C) (a : State C) (h : List Event) (n : ℕ) (g : GrantsView) : Type 0 where
+pub record IsGrantsOf {C : Type 0} (w : Works C) (a : State C) (h : List Event) (n : ℕ)
+    (g : GrantsView) : Type 0 where
   pub total : g.total ≡ sum_below (λ i. grants_of i h) n
   pub machines : length g.each ≡ n
   pub each : (i : ℕ) → i < n → slice_index g.each i ≡ grants_of i h
@@ -29,7 +30,11 @@ no_grants n = record { total = 0; each = replicate n 0; settled = replicate n 0 
 
 -- one grant more, of machine i, in the settled run where that goes on
 abbrev pub one_grant : GrantsView → ℕ → Bool → GrantsView
-one_grant g i settled = record { total = g.total + 1; each = raised g.each i; settled = cond settled (raised g.settled i) g.settled }
+one_grant g i settled = record {
+  total = g.total + 1;
+  each = raised g.each i;
+  settled = cond settled (raised g.settled i) g.settled;
+}
 
 -- a settled run ends
 abbrev pub run_ended : GrantsView → GrantsView

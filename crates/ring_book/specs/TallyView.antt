@@ -17,7 +17,8 @@ pub record TallyView : Type 0 where
   pub grants : GrantsView
 
 -- the counts are those of a history from the state a
-pub record IsTallyOf {C : Type 0} (w : Works C) (a : State C) (h : List Event) (t : TallyView) : Type 0 where
+pub record IsTallyOf {C : Type 0} (w : Works C) (a : State C) (h : List Event) (t : TallyView) :
+    Type 0 where
   pub calm : t.calm ≡ calm h
   pub seats : length t.calls ≡ seat_limit
   pub calls : (seat : ℕ) → seat < seat_limit → slice_index t.calls seat ≡ length (calls_of seat h)
@@ -27,12 +28,27 @@ pub record IsTallyOf {C : Type 0} (w : Works C) (a : State C) (h : List Event) (
 
 -- the counts after one call more of a seat
 abbrev pub after_call : TallyView → ℕ → TallyView
-after_call t seat = record { calm = t.calm; calls = raised t.calls seat; settled = t.settled; grants = t.grants }
+after_call t seat = record {
+  calm = t.calm;
+  calls = raised t.calls seat;
+  settled = t.settled;
+  grants = t.grants;
+}
 
 -- the counts after a granted pass of machine i, by which the ring is settled or not
 abbrev pub after_grant : TallyView → ℕ → Bool → TallyView
-after_grant t i settled = record { calm = t.calm + 1; calls = t.calls; settled = settled; grants = one_grant t.grants i t.settled }
+after_grant t i settled = record {
+  calm = t.calm + 1;
+  calls = t.calls;
+  settled = settled;
+  grants = one_grant t.grants i t.settled;
+}
 
 -- the counts after a corruption, by which the ring is settled or not
 abbrev pub after_corruption : TallyView → Bool → TallyView
-after_corruption t settled = record { calm = 0; calls = t.calls; settled = settled; grants = run_ended t.grants }
+after_corruption t settled = record {
+  calm = 0;
+  calls = t.calls;
+  settled = settled;
+  grants = run_ended t.grants;
+}

@@ -32,7 +32,10 @@ impl Model for Events {
 
     ghost Value = { EventsView };
 
-    ghost view = { λ e. record { list = e.items.items; room = min (vec_capacity e.items) event_limit - length e.items.items } };
+    ghost view = { λ e. record {
+      list = e.items.items;
+      room = min (vec_capacity e.items) event_limit - length e.items.items;
+    } };
 
     ghost invariant = { λ e. length e.items.items ≤ event_limit };
 }
@@ -61,7 +64,8 @@ impl Events {
         ensures ok { OnOk result (more ≤ self.new.room) }
         ensures grows { self.old.room ≤ self.new.room }
         ensures bounded { length self.new.list + self.new.room ≤ event_limit }
-        ensures full { IsErrOf result BookError.HistoryFull ↔ (event_limit < length self.old.list + more) }
+        ensures full { IsErrOf result BookError.HistoryFull
+            ↔ (event_limit < length self.old.list + more) }
         ensures succeeds { more ≤ self.old.room → IsOk result }
         ensures err { OnErr result (self.new ≡ self.old) }
     {

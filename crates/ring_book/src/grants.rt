@@ -23,7 +23,8 @@ impl Model for GrantBook {
 
     ghost Value = { GrantsView };
 
-    ghost view = { λ g. record { total = g.total; each = g.each.items; settled = g.settled.items } };
+    ghost view = { λ g.
+        record { total = g.total; each = g.each.items; settled = g.settled.items } };
 
     ghost invariant = { λ g. IsCounted g.total g.each.items g.settled.items g.settled_is_clear };
 }
@@ -63,7 +64,9 @@ impl GrantBook {
     pub fn settled_of(&self, machine: u32) -> u64
         requires { machine < length self.now.each }
         ensures is { result ≡ slice_index self.now.settled machine }
-        ensures even { (other : ℕ) → other < length self.now.settled → (result ≤ slice_index self.now.settled other + 1) × (slice_index self.now.settled other ≤ result + 1) }
+        ensures even { (other : ℕ) → other < length self.now.settled
+            → (result ≤ slice_index self.now.settled other + 1)
+            × (slice_index self.now.settled other ≤ result + 1) }
     {
         self.settled[machine as usize]
     }

@@ -39,7 +39,8 @@ impl<R: Resource + Drop> OpenBook<R> {
         requires privileged { is_privileged self.old.ring.values machine ≡ true }
         requires room { 1 ≤ self.old.events.room }
         ensures kept { IsOpenKept R.works R.first (view_of self.new) self.new.tally }
-        ensures recorded { IsRecorded R.works (view_of self.old) (view_of self.new) seat (pass_of machine order left) result }
+        ensures recorded { IsRecorded R.works (view_of self.old) (view_of self.new) seat
+            (pass_of machine order left) result }
         ensures room { self.new.events.room + 1 ≡ self.old.events.room }
     {
         let result = self.resource.work(machine, order);
@@ -64,7 +65,8 @@ impl<R: Resource + Drop> OpenBook<R> {
         requires group { CanMove self.old.ring.values machines.now }
         requires room { length machines.now ≤ self.old.events.room }
         ensures kept { IsOpenKept R.works R.first (view_of self.new) self.new.tally }
-        ensures moved { HasMoved R.works (view_of self.old) (view_of self.new) seat order machines.now }
+        ensures moved { HasMoved R.works (view_of self.old) (view_of self.new) seat order
+            machines.now }
         ensures room { self.new.events.room + length machines.now ≡ self.old.events.room }
     {
         let least = least_left_out(machines);

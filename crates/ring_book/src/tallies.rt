@@ -25,7 +25,8 @@ impl Model for Tally {
 
     ghost Value = { TallyView };
 
-    ghost view = { λ t. record { calm = t.calm; calls = t.calls; settled = t.settled; grants = t.grants } };
+    ghost view = { λ t.
+        record { calm = t.calm; calls = t.calls; settled = t.settled; grants = t.grants } };
 
     ghost invariant = { λ t. length t.calls ≡ seat_limit };
 }
@@ -33,7 +34,13 @@ impl Model for Tally {
 impl Tally {
     /// The counts of no events on `machines` machines, where exactly one is privileged or not.
     pub(crate) fn new(alloc: Global, machines: u32, settled: bool) -> Result<Tally, AllocError>
-        ensures { IfOk result (λ t. t ≡ record { calm = 0; calls = replicate seat_limit 0; settled = settled; grants = no_grants machines }) }
+        ensures { IfOk result (λ t. t
+            ≡ record {
+              calm = 0;
+              calls = replicate seat_limit 0;
+              settled = settled;
+              grants = no_grants machines;
+            }) }
     {
         let grants = GrantBook::new(alloc, machines)?;
         Ok(Tally {

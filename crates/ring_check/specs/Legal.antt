@@ -1,4 +1,5 @@
--- Legal texts, the first bad line of the others, and what the checker may answer (this project's own).
+-- Legal texts, the first bad line of the others, and what the checker may answer (this project's
+-- own).
 use Rattle.std.specs.Prelude.{◌≡◌, ◌≢◌, ℕ, ◌+◌, List, ◌∷◌, ◌++◌, map, length, Result, Ok, Err, Some, None}
 use Rattle.std.specs.List.{sum_by}
 use Rattle.ring_model.specs.declared.events.Event.{Event}
@@ -13,17 +14,25 @@ use Rattle.ring_check.specs.Table.{Before, nothing, event_of, fault, after_lines
 
 -- no line has a fault after those before it
 abbrev pub IsGood : Before → List Line → Type 0
-IsGood b ls = (front : List Line) (l : Line) (back : List Line) → ls ≡ front ++ l ∷ back → fault (after_lines b front) l ≡ None
+IsGood b ls =
+    (front : List Line) (l : Line) (back : List Line) → ls ≡ front ++ l ∷ back
+    → fault (after_lines b front) l ≡ None
 
 -- a text is legal where no line of it has a fault
 abbrev pub IsLegalText : Content → Type 0
 IsLegalText s = IsGood (nothing s.version) (lines s)
 
--- In a text of this version the line of this number has this fault, and no line before it has one. Lines are numbered from 1, and line 1 is not among the list.
+-- In a text of this version the line of this number has this fault, and no line before it has one.
+-- Lines are numbered from 1, and line 1 is not among the list.
 abbrev pub IsFirstBad : ℕ → List Line → ℕ → Kind → Type 0
 IsFirstBad version ls line kind =
-    (front : List Line) × (l : Line) × (back : List Line)
-    × (ls ≡ front ++ l ∷ back) × (line ≡ length front + 2) × IsGood (nothing version) front × (fault (after_lines (nothing version) front) l ≡ Some kind)
+    (front : List Line)
+    × (l : Line)
+    × (back : List Line)
+    × (ls ≡ front ++ l ∷ back)
+    × (line ≡ length front + 2)
+    × IsGood (nothing version) front
+    × (fault (after_lines (nothing version) front) l ≡ Some kind)
 
 -- the ring's history that a block tells of
 abbrev pub history : Block → List Event
@@ -39,7 +48,8 @@ summary_of s = record {
   surveys = sum_by (λ b. length b.surveys) s.rings;
 }
 
--- the right answer: the sums of a legal text, else the first bad line with the least kind; memory aside
+-- the right answer: the sums of a legal text, else the first bad line with the least kind; memory
+-- aside
 abbrev pub IsRightCheck : Content → Result Summary CheckError → Type 0
 IsRightCheck s (Ok sums) = IsLegalText s × (sums ≡ summary_of s)
 IsRightCheck s (Err (Bad line kind)) = IsFirstBad s.version (lines s) line kind
@@ -47,8 +57,12 @@ IsRightCheck s (Err OutOfMemory) = Unit {0}
 
 -- at most one answer is right, memory aside
 abbrev pub AtMostOneIsRight : Type 0
-AtMostOneIsRight = (s : Content) (a b : Result Summary CheckError) → IsRightCheck s a → IsRightCheck s b → a ≢ Err OutOfMemory → b ≢ Err OutOfMemory → a ≡ b
+AtMostOneIsRight =
+    (s : Content) (a b : Result Summary CheckError) → IsRightCheck s a → IsRightCheck s b
+    → a ≢ Err OutOfMemory → b ≢ Err OutOfMemory → a ≡ b
 
 -- where a text is legal, so is the same in the latest version, with the same sums
 abbrev pub UpgradeIsLegal : Type 0
-UpgradeIsLegal = (s : Content) → IsLegalText s → IsLegalText (upgraded s) × (summary_of (upgraded s) ≡ summary_of s)
+UpgradeIsLegal =
+    (s : Content) → IsLegalText s
+    → IsLegalText (upgraded s) × (summary_of (upgraded s) ≡ summary_of s)

@@ -8,7 +8,8 @@ use Rattle.ring_saved.specs.Content.{Content, Block, content}
 use Rattle.ring_saved.specs.Spelling.{text}
 use Rattle.ring_saved.specs.Meaning.{IsRightRead}
 
--- a line with what it says: R, N and K; the start values; an event; how many events; a survey; how many blocks
+-- a line with what it says: R, N and K; the start values; an event; how many events; a survey; how
+-- many blocks
 pub data Line : Type 0 where
   RingLine : ℕ → ℕ → ℕ → Line
   StartLine : List ℕ → Line
@@ -19,7 +20,9 @@ pub data Line : Type 0 where
 
 -- the lines of a block, in order
 abbrev pub block_lines : Block → List Line
-block_lines b = RingLine b.index b.n b.k ∷ StartLine b.start ∷ (map EventLine b.events ++ (EndLine b.events_said ∷ map SurveyLine b.surveys))
+block_lines b =
+    RingLine b.index b.n b.k ∷ StartLine b.start
+    ∷ (map EventLine b.events ++ (EndLine b.events_said ∷ map SurveyLine b.surveys))
 
 -- the lines of a text from its second line on
 abbrev pub lines : Content → List Line
@@ -29,6 +32,9 @@ lines s = flat_map block_lines s.rings ++ DoneLine s.rings_said ∷ []
 abbrev pub LinesAreFew : Type 0
 LinesAreFew = (s : Content) → length (lines s) + 1 ≤ length (text s)
 
--- What was read of bytes in memory, of which there are fewer than 2 to the power 64, has fewer lines than that.
+-- What was read of bytes in memory, of which there are fewer than 2 to the power 64, has fewer
+-- lines than that.
 abbrev pub LinesOfMemoryAreFew : Type 0
-LinesOfMemoryAreFew = (bytes : List ℕ) (saved : Saved) → length bytes < 2 ^ 64 → IsRightRead bytes (Ok saved) → length (lines (content saved)) + 1 < 2 ^ 64
+LinesOfMemoryAreFew =
+    (bytes : List ℕ) (saved : Saved) → length bytes < 2 ^ 64 → IsRightRead bytes (Ok saved)
+    → length (lines (content saved)) + 1 < 2 ^ 64

@@ -18,12 +18,20 @@ use Rattle.ring_check.specs.Legal.{IsLegalText, history}
 
 -- the survey that a survey line tells of
 abbrev pub survey_of : SavedSurvey → Survey
-survey_of s = record { position = s.position; privileged = s.privileged; first = s.first; calm = s.calm; rest = s.rest }
+survey_of s = record {
+  position = s.position;
+  privileged = s.privileged;
+  first = s.first;
+  calm = s.calm;
+  rest = s.rest;
+}
 
--- none goes back behind the one before: each is of a later seat, or of the same and at no lower position
+-- none goes back behind the one before: each is of a later seat, or of the same and at no lower
+-- position
 abbrev pub AreOnward : ℕ → ℕ → List SavedSurvey → Type 0
 AreOnward seat position [] = Unit {0}
-AreOnward seat position (s ∷ ss) = ((seat < s.seat) ⊎ ((seat ≡ s.seat) × (position ≤ s.position))) × AreOnward s.seat s.position ss
+AreOnward seat position (s ∷ ss) =
+    ((seat < s.seat) ⊎ ((seat ≡ s.seat) × (position ≤ s.position))) × AreOnward s.seat s.position ss
 
 -- the surveys stand seat by seat, and each seat's in the order of the history
 abbrev pub AreInOrder : List SavedSurvey → Type 0
@@ -35,7 +43,8 @@ pub record IsRightSurvey (b : Block) (s : SavedSurvey) : Type 0 where
   pub seat : s.seat < seat_limit
   pub right : IsSurvey till (first_state (ring_with b.k b.start)) (history b) (survey_of s)
 
--- in a text of this version the block tells of a ring, of one history of it on one thread over the till, legal and whole, and of surveys of that history
+-- in a text of this version the block tells of a ring, of one history of it on one thread over the
+-- till, legal and whole, and of surveys of that history
 pub record IsRightBlock (version place : ℕ) (b : Block) : Type 0 where
   pub index : b.index ≡ place
   pub two : 2 ≤ b.n
@@ -52,7 +61,8 @@ pub record IsRightBlock (version place : ℕ) (b : Block) : Type 0 where
 -- each block does, at its place
 abbrev pub AreRightBlocks : ℕ → ℕ → List Block → Type 0
 AreRightBlocks version place [] = Unit {0}
-AreRightBlocks version place (b ∷ bs) = IsRightBlock version place b × AreRightBlocks version (place + 1) bs
+AreRightBlocks version place (b ∷ bs) =
+    IsRightBlock version place b × AreRightBlocks version (place + 1) bs
 
 -- each block does, and their number is right
 pub record IsRightText (s : Content) : Type 0 where
@@ -65,9 +75,14 @@ HasItsStarts s = All (λ (b : Block). length b.start ≡ b.n) s.rings
 
 -- a text is legal by the table exactly where it is right in these words
 abbrev pub LegalMeans : Type 0
-LegalMeans = (s : Content) → HasItsStarts s → (IsLegalText s → IsRightText s) × (IsRightText s → IsLegalText s)
+LegalMeans =
+    (s : Content) → HasItsStarts s
+    → (IsLegalText s → IsRightText s) × (IsRightText s → IsLegalText s)
 
--- the table's test of groups says what is defined: it lets an event come behind a history exactly if it may come there
+-- the table's test of groups says what is defined: it lets an event come behind a history exactly
+-- if it may come there
 abbrev pub MembersMean : Type 0
-MembersMean = (n : ℕ) (h : List Event) (e : Event) →
-    (may_come n (run_of h) e ≡ true → MayCome n (run_of h) e.seat e.op) × (MayCome n (run_of h) e.seat e.op → may_come n (run_of h) e ≡ true)
+MembersMean =
+    (n : ℕ) (h : List Event) (e : Event)
+    → (may_come n (run_of h) e ≡ true → MayCome n (run_of h) e.seat e.op)
+    × (MayCome n (run_of h) e.seat e.op → may_come n (run_of h) e ≡ true)

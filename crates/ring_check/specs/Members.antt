@@ -1,5 +1,6 @@
--- Which event may come next in a history, as a test (this project's own). The table of faults computes by it, so it stands here; what
--- it says is `MayCome` of `ring_model`, by the law `members_law`, and who believes that law need not read it.
+-- Which event may come next in a history, as a test (this project's own). The table of faults
+-- computes by it, so it stands here; what it says is `MayCome` of `ring_model`, by the law
+-- `members_law`, and who believes that law need not read it.
 use Rattle.std.specs.Prelude.{ℕ, zero, suc, ◌+◌, ◌==◌, nat_lt, nat_le, ◌&&◌, ◌||◌, cond, Bool, true, false, List, [], ◌∷◌, ◌++◌, length, map, slice_index, slice_index_or}
 use Rattle.ring_model.specs.Groups.{left_of}
 use Rattle.ring_model.specs.Replay.{machine_of}
@@ -27,7 +28,8 @@ is_member_of order left (Pass machine o) = false
 is_member_of order left (Member machine o l) = (o == order) && (l == left)
 is_member_of order left (Corrupt machine value) = false
 
--- a member with so many left goes on with its group: the last of the open ones is of its seat and order, and has one more left
+-- a member with so many left goes on with its group: the last of the open ones is of its seat and
+-- order, and has one more left
 abbrev pub goes_on : List Event → ℕ → ℕ → ℕ → Bool
 goes_on [] seat order left = true
 goes_on (d ∷ []) seat order left = (d.seat == seat) && is_member_of order (left + 1) d.op
@@ -40,21 +42,25 @@ are_in_turn low high zero (m ∷ ms) = (nat_lt m high && nat_le low m) && are_in
 are_in_turn low high (suc x) [] = false
 are_in_turn low high (suc x) (m ∷ ms) = (m == x) && are_in_turn low high x ms
 
--- the least machine that is left out by machines in the order of the moves: they begin with the one below it and come so to machine 0,
--- or have no machine 0
+-- the least machine that is left out by machines in the order of the moves: they begin with the one
+-- below it and come so to machine 0, or have no machine 0
 abbrev pub least_of : List ℕ → ℕ
 least_of ms = cond (slice_index_or ms (slice_index ms 0) 1 == 0) (slice_index ms 0 + 1) 0
 
--- the machines, of which there is one at least, are in the order of the moves of a ring of n machines, and leave one out
+-- the machines, of which there is one at least, are in the order of the moves of a ring of n
+-- machines, and leave one out
 abbrev pub is_in_order : ℕ → List ℕ → Bool
 is_in_order n ms = nat_lt (least_of ms) n && are_in_turn (suc (least_of ms)) n (least_of ms) ms
 
--- the call of this seat may come behind these members of an open block: outside blocks each call by itself, and a member of a group that
--- leaves one out; inside a block its next member, and as the last one what completes the order
+-- the call of this seat may come behind these members of an open block: outside blocks each call by
+-- itself, and a member of a group that leaves one out; inside a block its next member, and as the
+-- last one what completes the order
 abbrev pub call_may_come : ℕ → List Event → ℕ → Op → Bool
 call_may_come n run seat (Pass machine order) = length run == 0
 call_may_come n run seat (Member machine order left) =
-    nat_lt (left + 1) n && (goes_on run seat order left && (nat_lt 0 left || is_in_order n (machines_of run ++ machine ∷ [])))
+    nat_lt (left + 1) n
+    && (goes_on run seat order left
+    && (nat_lt 0 left || is_in_order n (machines_of run ++ machine ∷ [])))
 call_may_come n run seat (Corrupt machine value) = length run == 0
 
 abbrev pub may_come : ℕ → List Event → Event → Bool

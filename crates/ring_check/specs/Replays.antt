@@ -35,10 +35,11 @@ pub record Stands (start : Ring) (h : List Event) (r : Replay) : Type 0 where
   pub ring : IsRing (ring_with r.k r.values.items)
 
 -- a replay stands behind the first so many events of a block, with no more grants than events
-pub record StandsAt (start : Ring) (events : List SavedEvent) (place : ℕ) (r : Replay) : Type 0 where
-  pub stands : Stands start (map event_of (take place events)) r
-  pub grants : r.grants ≤ place
-  pub calm : r.calm ≤ place
+pub record StandsAt (start : Ring) (events : List SavedEvent) (place : ℕ) (r : Replay) : Type 0
+  where
+    pub stands : Stands start (map event_of (take place events)) r
+    pub grants : r.grants ≤ place
+    pub calm : r.calm ≤ place
 
 -- a gauge measures the ring that a replay holds
 pub record Measures (g : Gauge) (r : Replay) : Type 0 where

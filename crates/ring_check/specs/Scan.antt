@@ -26,4 +26,14 @@ Finds _ _ = ⊥
 
 -- in a block of a text of this version, behind its start line and some events, before any survey
 abbrev pub in_block : ℕ → ℕ → ℕ → ℕ → ℕ → List ℕ → List Event → Before
-in_block version line rings n k start events = record { version = version; line = line; rings = rings; n = n; k = k; start = start; events = events; seat = 0; position = 0 }
+in_block version line rings n k start events = record {
+  version = version;
+  line = line;
+  rings = rings;
+  n = n;
+  k = k;
+  start = start;
+  events = events;
+  seat = 0;
+  position = 0;
+}

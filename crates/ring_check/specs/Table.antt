@@ -1,4 +1,5 @@
--- What the checker refuses: the fault of a line, where the lines before it are known (this project's own).
+-- What the checker refuses: the fault of a line, where the lines before it are known (this
+-- project's own).
 use Rattle.std.specs.Prelude.{ℕ, ◌+◌, cond, ◌==◌, nat_lt, nat_le, ◌&&◌, ◌||◌, List, [], ◌∷◌, ◌++◌, length, take, Option, Some, None, Bool, true, false}
 use Rattle.std.specs.List.{list_all}
 use Rattle.ring_model.specs.Limits.{seat_limit}
@@ -24,10 +25,26 @@ use Rattle.ring_check.specs.Lines.{Line, RingLine, StartLine, EventLine, EndLine
 
 -- the ring's event that an event line tells of
 abbrev pub event_of : SavedEvent → Event
-event_of (saved.Granted seat machine order number result) = record { seat = seat; op = Pass machine order; reply = Granted number result }
-event_of (saved.Member seat machine order left number result) = record { seat = seat; op = Member machine order left; reply = Granted number result }
-event_of (saved.Refused seat machine order) = record { seat = seat; op = Pass machine order; reply = NotPrivileged }
-event_of (saved.Corrupted seat machine value old) = record { seat = seat; op = Corrupt machine value; reply = Corrupted old }
+event_of (saved.Granted seat machine order number result) = record {
+  seat = seat;
+  op = Pass machine order;
+  reply = Granted number result;
+}
+event_of (saved.Member seat machine order left number result) = record {
+  seat = seat;
+  op = Member machine order left;
+  reply = Granted number result;
+}
+event_of (saved.Refused seat machine order) = record {
+  seat = seat;
+  op = Pass machine order;
+  reply = NotPrivileged;
+}
+event_of (saved.Corrupted seat machine value old) = record {
+  seat = seat;
+  op = Corrupt machine value;
+  reply = Corrupted old;
+}
 
 -- the one-thread ring before any event, and a till with the amount 0
 abbrev pub first_state : Ring → State ℕ
@@ -52,11 +69,31 @@ pub record Before : Type 0 where
 
 -- behind the first line of a text, which says this version
 abbrev pub nothing : ℕ → Before
-nothing version = record { version = version; line = 1; rings = 0; n = 0; k = 0; start = []; events = []; seat = 0; position = 0 }
+nothing version = record {
+  version = version;
+  line = 1;
+  rings = 0;
+  n = 0;
+  k = 0;
+  start = [];
+  events = [];
+  seat = 0;
+  position = 0;
+}
 
 -- with one line more
 abbrev pub after_line : Before → Line → Before
-after_line b (RingLine index n k) = record { version = b.version; line = b.line + 1; rings = b.rings + 1; n = n; k = k; start = []; events = []; seat = 0; position = 0 }
+after_line b (RingLine index n k) = record {
+  version = b.version;
+  line = b.line + 1;
+  rings = b.rings + 1;
+  n = n;
+  k = k;
+  start = [];
+  events = [];
+  seat = 0;
+  position = 0;
+}
 after_line b (StartLine s) = record b { line = b.line + 1; start = s }
 after_line b (EventLine e) = record b { line = b.line + 1; events = b.events ++ event_of e ∷ [] }
 after_line b (EndLine said) = record b { line = b.line + 1 }
@@ -68,9 +105,12 @@ abbrev pub after_lines : Before → List Line → Before
 after_lines b [] = b
 after_lines b (l ∷ ls) = after_lines (after_line b l) ls
 
--- a ring in a text of this version may have n machines and K values: 2 machines or more, as many values or more, and neither past its limit
+-- a ring in a text of this version may have n machines and K values: 2 machines or more, as many
+-- values or more, and neither past its limit
 abbrev pub are_parameters : ℕ → ℕ → ℕ → Bool
-are_parameters version n k = nat_le 2 n && (nat_le n (machine_limit_of version) && (nat_le n k && nat_le k (value_limit_of version)))
+are_parameters version n k =
+    nat_le 2 n
+    && (nat_le n (machine_limit_of version) && (nat_le n k && nat_le k (value_limit_of version)))
 
 -- the one-thread ring's state after the events of the block so far
 abbrev pub now : Before → State ℕ
@@ -97,9 +137,13 @@ same_reply _ _ = false
 abbrev pub is_replied : State ℕ → Event → Bool
 is_replied a e = same_reply e.reply (reply till a e.op)
 
--- what is wrong with an event of a ring of n machines in this state, behind the members of an open block
+-- what is wrong with an event of a ring of n machines in this state, behind the members of an open
+-- block
 abbrev pub event_fault : ℕ → List Event → State ℕ → Event → Option Kind
-event_fault n run a e = cond (in_range n a.ring.k e) (cond (is_replied a e) (cond (may_come n run e) None (Some Group)) (Some ReplyKind)) (Some Range)
+event_fault n run a e =
+    cond (in_range n a.ring.k e)
+    (cond (is_replied a e) (cond (may_come n run e) None (Some Group)) (Some ReplyKind))
+    (Some Range)
 
 -- what is wrong with an end line that says so many, behind these events
 abbrev pub end_fault : ℕ → List Event → Option Kind
@@ -111,19 +155,26 @@ is_onward seat position s = nat_lt seat s.seat || ((seat == s.seat) && nat_le po
 
 -- whether a survey line says what a survey of the ring says
 abbrev pub same_survey : SavedSurvey → Survey → Bool
-same_survey s r = (s.privileged == r.privileged) && ((s.first == r.first) && ((s.calm == r.calm) && (s.rest == r.rest)))
+same_survey s r =
+    (s.privileged == r.privileged)
+    && ((s.first == r.first) && ((s.calm == r.calm) && (s.rest == r.rest)))
 
--- the survey is the ring's after its first POSITION events, so many there are, and that place is inside no block
+-- the survey is the ring's after its first POSITION events, so many there are, and that place is
+-- inside no block
 abbrev pub is_surveyed : Before → SavedSurvey → Bool
 is_surveyed b s =
     nat_le s.position (length b.events)
-    && (same_survey s (survey_at till (first_state (ring_with b.k b.start)) b.events s.position) && (left_after (take s.position b.events) == 0))
+    && (same_survey s (survey_at till (first_state (ring_with b.k b.start)) b.events s.position)
+    && (left_after (take s.position b.events) == 0))
 
 -- the table: what is wrong with a line; where two things are, the kind with the lower number
 abbrev pub fault : Before → Line → Option Kind
-fault b (RingLine index n k) = cond (are_parameters b.version n k) (cond (index == b.rings) None (Some Count)) (Some Parameter)
+fault b (RingLine index n k) =
+    cond (are_parameters b.version n k) (cond (index == b.rings) None (Some Count)) (Some Parameter)
 fault b (StartLine s) = cond (list_all (λ v. nat_lt v b.k) s) None (Some Range)
 fault b (EventLine e) = event_fault b.n (run_of b.events) (now b) (event_of e)
 fault b (EndLine said) = end_fault said b.events
-fault b (SurveyLine s) = cond (nat_lt s.seat seat_limit) (cond (is_onward b.seat b.position s && is_surveyed b s) None (Some SurveyKind)) (Some Range)
+fault b (SurveyLine s) =
+    cond (nat_lt s.seat seat_limit)
+    (cond (is_onward b.seat b.position s && is_surveyed b s) None (Some SurveyKind)) (Some Range)
 fault b (DoneLine said) = cond (said == b.rings) None (Some Count)

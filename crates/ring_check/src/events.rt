@@ -24,8 +24,11 @@ pub(crate) fn check_events(
 ) -> Result<(), CheckError>
     requires ring { IsRing (ring_with k start.now) }
     requires room { line + length events.now + 1 < 2 ^ 64 }
-    ensures finds { (version rings : ℕ) → Finds (first_fault (in_block version line rings (length start.now) k start.now []) (map EventLine events.now)) result }
-    ensures legal { IfOk result (λ u. IsLegal till (first_state (ring_with k start.now)) (map event_of events.now)) }
+    ensures finds { (version rings : ℕ)
+        → Finds (first_fault (in_block version line rings (length start.now) k start.now [])
+        (map EventLine events.now)) result }
+    ensures legal { IfOk result
+        (λ u. IsLegal till (first_state (ring_with k start.now)) (map event_of events.now)) }
 {
     let Ok(mut replay) = Replay::begin(alloc, k, start) else {
         return Err(CheckError::OutOfMemory);

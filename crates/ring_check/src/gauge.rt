@@ -73,8 +73,10 @@ fn share_of_one(values: &[u32], machine: usize) -> Share
 fn share_of(values: &[u32], machine: usize) -> Share
     requires within { machine < length values.now }
     requires short { length values.now ≤ machine_limit }
-    ensures privileged { result.privileged ≡ both_of (bit_of values.now) machine (right_neighbour values.now machine) }
-    ensures weight { result.weight ≡ both_of (weight_at values.now) machine (right_neighbour values.now machine) }
+    ensures privileged { result.privileged
+        ≡ both_of (bit_of values.now) machine (right_neighbour values.now machine) }
+    ensures weight { result.weight
+        ≡ both_of (weight_at values.now) machine (right_neighbour values.now machine) }
     ensures two { result.privileged ≤ 2 }
     ensures few { result.weight ≤ 131072 }
 {
@@ -93,7 +95,8 @@ fn share_of(values: &[u32], machine: usize) -> Share
 /// One machine less holds a value, if it is one of those that are counted.
 fn lower(holders: &mut Vec<u32>, value: u32)
     requires { value < vec_len holders.old → 1 ≤ slice_index holders.old.items value }
-    ensures items { holders.new.items ≡ slice_set holders.old.items value (slice_index holders.old.items value - 1) }
+    ensures items { holders.new.items
+        ≡ slice_set holders.old.items value (slice_index holders.old.items value - 1) }
     ensures len { vec_len holders.new ≡ vec_len holders.old }
 {
     let place = value as usize;
@@ -105,7 +108,8 @@ fn lower(holders: &mut Vec<u32>, value: u32)
 /// One machine more holds a value, if it is one of those that are counted.
 fn raise(holders: &mut Vec<u32>, value: u32)
     requires { slice_index holders.old.items value + 1 < 2 ^ 32 }
-    ensures items { holders.new.items ≡ slice_set holders.old.items value (slice_index holders.old.items value + 1) }
+    ensures items { holders.new.items
+        ≡ slice_set holders.old.items value (slice_index holders.old.items value + 1) }
     ensures len { vec_len holders.new ≡ vec_len holders.old }
 {
     let place = value as usize;
@@ -119,7 +123,8 @@ fn count_holders(alloc: Global, k: u32, values: &[u32]) -> Result<Vec<u32>, Allo
     requires one { 1 ≤ length values.now }
     requires few { length values.now ≤ machine_limit }
     ensures len { IfOk result (λ counted. vec_len counted ≡ k) }
-    ensures held { IfOk result (λ counted. (v : ℕ) → v < k → slice_index counted.items v ≡ holders values.now v) }
+    ensures held { IfOk result
+        (λ counted. (v : ℕ) → v < k → slice_index counted.items v ≡ holders values.now v) }
 {
     let mut counted = Vec::from_elem(alloc, 0, k as usize)?;
     for i in 1..values.len() {
@@ -230,7 +235,8 @@ impl Gauge {
     fn only_privileged(&self) -> Option<usize>
         requires gauge { IsGauge self.now }
         requires ring { IsRing (ring_of self.now) }
-        ensures is { IfSome result (λ machine. machine ≡ first_privileged (ring_of self.now).values) }
+        ensures is { IfSome result
+            (λ machine. machine ≡ first_privileged (ring_of self.now).values) }
         ensures within { IfSome result (λ machine. machine < vec_len self.now.values) }
     {
         let n = self.values.len();

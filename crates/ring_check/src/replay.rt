@@ -34,7 +34,11 @@ pub(crate) struct Replay {
 impl Replay {
     /// The ring before any event.
     pub(crate) fn begin(alloc: Global, k: u32, start: &[u32]) -> Result<Replay, AllocError>
-        ensures { IfOk result (λ r. (r.k ≡ k) × (r.values.items ≡ start.now) × (r.amount ≡ 0) × (r.grants ≡ 0) × (r.calm ≡ 0)) }
+        ensures { IfOk result (λ r. (r.k ≡ k)
+            × (r.values.items ≡ start.now)
+            × (r.amount ≡ 0)
+            × (r.grants ≡ 0)
+            × (r.calm ≡ 0)) }
     {
         Ok(Replay {
             k,
@@ -68,7 +72,8 @@ impl Replay {
 
     /// Whether the reply of an event is the ring's at this point.
     fn is_replied(&self, event: &SavedEvent) -> bool
-        requires call { in_range (length self.now.values.items) self.now.k (event_of event.now) ≡ true }
+        requires call { in_range (length self.now.values.items) self.now.k (event_of event.now)
+            ≡ true }
         requires room { self.now.grants + 1 < 2 ^ 64 }
         ensures { result ≡ is_replied (state_of self.now) (event_of event.now) }
     {
@@ -99,7 +104,9 @@ impl Replay {
     /// What is wrong with an event at this point; `run` has the members of the block that is open here.
     pub(crate) fn fault_of(&self, run: &[SavedEvent], event: &SavedEvent) -> Option<Kind>
         requires room { self.now.grants + 1 < 2 ^ 64 }
-        ensures { result ≡ event_fault (length self.now.values.items) (map event_of run.now) (state_of self.now) (event_of event.now) }
+        ensures { result
+            ≡ event_fault (length self.now.values.items) (map event_of run.now) (state_of self.now)
+            (event_of event.now) }
     {
         if !self.is_in_range(event) {
             Some(Kind::Range)
@@ -115,7 +122,8 @@ impl Replay {
     /// Does what an event without a fault says.
     pub(crate) fn apply(&mut self, event: &SavedEvent)
         requires ring { IsRing (state_of self.old).ring }
-        requires step { Step till (state_of self.old) (event_of event.now) (next till (state_of self.old) (event_of event.now).op) }
+        requires step { Step till (state_of self.old) (event_of event.now)
+            (next till (state_of self.old) (event_of event.now).op) }
         requires room { (self.old.grants + 1 < 2 ^ 64) × (self.old.calm + 1 < 2 ^ 64) }
         ensures state { state_of self.new ≡ next till (state_of self.old) (event_of event.now).op }
         ensures calm { self.new.calm ≡ calm_next self.old.calm (event_of event.now).reply }

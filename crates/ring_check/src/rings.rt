@@ -51,8 +51,10 @@ fn check_ring(
     place: usize,
     line: u64,
 ) -> Result<(), CheckError>
-    requires room { line + length ring.now.events.items + length ring.now.surveys.items + 4 < 2 ^ 64 }
-    ensures { (b : Before) → b.version ≡ version → b.line ≡ line → b.rings ≡ place → Finds (first_fault b (block_lines (block_of ring.now))) result }
+    requires room { line + length ring.now.events.items + length ring.now.surveys.items + 4
+        < 2 ^ 64 }
+    ensures { (b : Before) → b.version ≡ version → b.line ≡ line → b.rings ≡ place
+        → Finds (first_fault b (block_lines (block_of ring.now))) result }
 {
     if !are_parameters(version, ring.n, ring.k) {
         return Err(CheckError::Bad {
@@ -88,8 +90,10 @@ pub(crate) fn check_rings(
     rings: &[SavedRing],
 ) -> Result<u64, CheckError>
     requires room { length (flat_map block_lines (map block_of rings.now)) + 2 < 2 ^ 64 }
-    ensures finds { Finds (first_fault (nothing version) (flat_map block_lines (map block_of rings.now))) result }
-    ensures lines { IfOk result (λ line. line ≡ length (flat_map block_lines (map block_of rings.now)) + 1) }
+    ensures finds { Finds
+        (first_fault (nothing version) (flat_map block_lines (map block_of rings.now))) result }
+    ensures lines { IfOk result
+        (λ line. line ≡ length (flat_map block_lines (map block_of rings.now)) + 1) }
 {
     let mut line: u64 = 1;
     for (i, ring) in rings.iter().enumerate() {

@@ -40,7 +40,10 @@ pub fn count_events(events: &[SavedEvent]) -> Tally
 pub(crate) fn sums_of(rings: &[SavedRing], count: u32) -> Summary
     requires count { count ≡ length rings.now }
     requires room { length (flat_map block_lines (map block_of rings.now)) < 2 ^ 64 }
-    ensures { (version : ℕ) → result ≡ summary_of (record { version = version; rings = map block_of rings.now; rings_said = count }) }
+    ensures { (version : ℕ)
+        → result
+        ≡ summary_of
+        (record { version = version; rings = map block_of rings.now; rings_said = count }) }
 {
     let mut sums = Summary {
         rings: count,

@@ -53,7 +53,8 @@ impl Reading {
     fn begin(alloc: Global, k: u32, start: &[u32]) -> Result<Reading, AllocError>
         requires ring { IsRing (ring_with k start.now) }
         requires few { length start.now ≤ machine_limit }
-        ensures { IfOk result (λ r. (r.survey.position ≡ 0) × ((events : List SavedEvent) → IsReading (ring_with k start.now) events r)) }
+        ensures { IfOk result (λ r. (r.survey.position ≡ 0)
+            × ((events : List SavedEvent) → IsReading (ring_with k start.now) events r)) }
     {
         let replay = Replay::begin(alloc, k, start)?;
         let gauge = Gauge::new(alloc, k, start)?;
@@ -69,11 +70,15 @@ impl Reading {
     /// Does what an event without a fault says; the survey stays.
     fn apply(&mut self, event: &SavedEvent)
         requires ring { IsRing (state_of self.old.replay).ring }
-        requires step { Step till (state_of self.old.replay) (event_of event.now) (next till (state_of self.old.replay) (event_of event.now).op) }
-        requires room { (self.old.replay.grants + 1 < 2 ^ 64) × (self.old.replay.calm + 1 < 2 ^ 64) }
+        requires step { Step till (state_of self.old.replay) (event_of event.now)
+            (next till (state_of self.old.replay) (event_of event.now).op) }
+        requires room { (self.old.replay.grants + 1 < 2 ^ 64)
+            × (self.old.replay.calm + 1 < 2 ^ 64) }
         requires measured { Measures self.old.gauge self.old.replay }
-        ensures state { state_of self.new.replay ≡ next till (state_of self.old.replay) (event_of event.now).op }
-        ensures calm { self.new.replay.calm ≡ calm_next self.old.replay.calm (event_of event.now).reply }
+        ensures state { state_of self.new.replay
+            ≡ next till (state_of self.old.replay) (event_of event.now).op }
+        ensures calm { self.new.replay.calm
+            ≡ calm_next self.old.replay.calm (event_of event.now).reply }
         ensures measured { Measures self.new.gauge self.new.replay }
         ensures tells { TellsStill self.old → TellsStill self.new }
     {
@@ -107,14 +112,17 @@ impl Reading {
     /// Goes from behind the first `from` events of a block on to behind its first `to` events; the survey stays.
     fn follow(&mut self, start: &[u32], events: &[SavedEvent], from: usize, to: usize)
         requires ring { IsRing (ring_with self.old.replay.k start.now) }
-        requires stands { StandsAt (ring_with self.old.replay.k start.now) events.now from self.old.replay }
+        requires stands { StandsAt (ring_with self.old.replay.k start.now) events.now from
+            self.old.replay }
         requires measured { Measures self.old.gauge self.old.replay }
         requires tells { TellsStill self.old }
         requires onward { from ≤ to }
         requires within { to ≤ length events.now }
         requires room { length events.now + 1 < 2 ^ 64 }
-        requires legal { IsLegal till (first_state (ring_with self.old.replay.k start.now)) (map event_of events.now) }
-        ensures stands { StandsAt (ring_with self.old.replay.k start.now) events.now to self.new.replay }
+        requires legal { IsLegal till (first_state (ring_with self.old.replay.k start.now))
+            (map event_of events.now) }
+        ensures stands { StandsAt (ring_with self.old.replay.k start.now) events.now to
+            self.new.replay }
         ensures measured { Measures self.new.gauge self.new.replay }
         ensures tells { TellsStill self.new }
     {
@@ -137,8 +145,11 @@ impl Reading {
         requires reading { IsReading (ring_with self.old.replay.k start.now) events.now self.old }
         requires within { position ≤ length events.now }
         requires room { length events.now + 1 < 2 ^ 64 }
-        requires legal { IsLegal till (first_state (ring_with self.old.replay.k start.now)) (map event_of events.now) }
-        ensures { IfOk result (λ u. IsReading (ring_with self.old.replay.k start.now) events.now self.new × (self.new.survey.position ≡ position)) }
+        requires legal { IsLegal till (first_state (ring_with self.old.replay.k start.now))
+            (map event_of events.now) }
+        ensures { IfOk result (λ u.
+            IsReading (ring_with self.old.replay.k start.now) events.now self.new
+            × (self.new.survey.position ≡ position)) }
     {
         if position == self.survey.position {
             return Ok(());
@@ -174,7 +185,9 @@ fn is_same(line: &SavedSurvey, survey: &Survey) -> bool
 /// Whether a survey line has its place outside blocks, and says what the survey of the ring there says.
 fn is_right(events: &[SavedEvent], line: &SavedSurvey, survey: &Survey) -> bool
     requires { line.now.position ≤ length events.now }
-    ensures { result ≡ (same_survey line.now survey.now && (left_after (take line.now.position (map event_of events.now)) == 0)) }
+    ensures { result
+        ≡ (same_survey line.now survey.now
+        && (left_after (take line.now.position (map event_of events.now)) == 0)) }
 {
     is_same(line, survey) && left_after(events, line.position as usize) == 0
 }
@@ -193,7 +206,10 @@ pub(crate) fn check_surveys(
     requires few { length start.now ≤ machine_limit }
     requires legal { IsLegal till (first_state (ring_with k start.now)) (map event_of events.now) }
     requires room { (length events.now + 1 < 2 ^ 64) × (line + length surveys.now + 1 < 2 ^ 64) }
-    ensures { (version rings : ℕ) → Finds (first_fault (in_block version line rings (length start.now) k start.now (map event_of events.now)) (map SurveyLine surveys.now)) result }
+    ensures { (version rings : ℕ)
+        → Finds (first_fault
+        (in_block version line rings (length start.now) k start.now (map event_of events.now))
+        (map SurveyLine surveys.now)) result }
 {
     if surveys.is_empty() {
         return Ok(());

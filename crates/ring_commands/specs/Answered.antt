@@ -1,5 +1,6 @@
--- What each command answers to its words: by what files held before and hold then, what standard input had left before and has left then, and what standard output and
--- standard error held before and hold then.
+-- What each command answers to its words: by what files held before and hold then, what standard
+-- input had left before and has left then, and what standard output and standard error held before
+-- and hold then.
 use Rattle.std.specs.Prelude.{◌≡◌, ℕ, false, List, Option}
 use Rattle.disks.specs.Held.{Held}
 use Rattle.ring_commands.specs.Stepped.{IsStepAnswer, IsStepWordsRefusal}
@@ -16,24 +17,40 @@ use Rattle.ring_requests.specs.declared.requests.Request.{Request}
 use Rattle.ring_requests.specs.declared.requests.Request.TheVariants as request
 
 -- the answer of the command that was asked for; `step` and `check` change no file
-abbrev pub IsAnswer : Request → Option Held → Option Held → Option (List ℕ) → Option (List ℕ) → Option (List ℕ) → Option (List ℕ) → Option (List ℕ) → Option (List ℕ) → Type 0
-IsAnswer (request.Step words) before after was is old new early late = IsStepAnswer words old new × (after ≡ before)
-IsAnswer (request.Run words) before after was is old new early late = IsRunAnswer words before after was is old new
-IsAnswer (request.Check words) before after was is old new early late = IsCheckAnswer words before was is old new × (after ≡ before)
-IsAnswer (request.Picture words) before after was is old new early late = IsPictureAnswer words before after was is old new early late
-IsAnswer (request.Upgrade words) before after was is old new early late = IsUpgradeAnswer words before after was is old new early late
-IsAnswer (request.Serve words) before after was is old new early late = IsServeAnswer words before after was is old new early late
-IsAnswer (request.Recover words) before after was is old new early late = IsRecoverAnswer words before after was is old new early late
+abbrev pub IsAnswer : Request → Option Held → Option Held → Option (List ℕ) → Option (List ℕ)
+    → Option (List ℕ) → Option (List ℕ) → Option (List ℕ) → Option (List ℕ) → Type 0
+IsAnswer (request.Step words) before after was is old new early late =
+    IsStepAnswer words old new × (after ≡ before)
+IsAnswer (request.Run words) before after was is old new early late =
+    IsRunAnswer words before after was is old new
+IsAnswer (request.Check words) before after was is old new early late =
+    IsCheckAnswer words before was is old new × (after ≡ before)
+IsAnswer (request.Picture words) before after was is old new early late =
+    IsPictureAnswer words before after was is old new early late
+IsAnswer (request.Upgrade words) before after was is old new early late =
+    IsUpgradeAnswer words before after was is old new early late
+IsAnswer (request.Serve words) before after was is old new early late =
+    IsServeAnswer words before after was is old new early late
+IsAnswer (request.Recover words) before after was is old new early late =
+    IsRecoverAnswer words before after was is old new early late
 
 -- a refusal of it
-abbrev pub IsRefusal : Request → Option Held → Option Held → Option (List ℕ) → Option (List ℕ) → Option (List ℕ) → Option (List ℕ) → Option (List ℕ) → Option (List ℕ) → ToolError → Type 0
-IsRefusal (request.Step words) before after was is old new early late e = IsStepWordsRefusal words old new e × (after ≡ before)
-IsRefusal (request.Run words) before after was is old new early late e = IsRunRefusal words before after was is old new e
-IsRefusal (request.Check words) before after was is old new early late e = IsCheckRunRefusal words before was is old new e × (after ≡ before)
-IsRefusal (request.Picture words) before after was is old new early late e = IsPictureRefusal words before after was is old new early late e
-IsRefusal (request.Upgrade words) before after was is old new early late e = IsUpgradeRefusal words before after was is old new early late e
-IsRefusal (request.Serve words) before after was is old new early late e = IsServeRefusal words before was is old new e
-IsRefusal (request.Recover words) before after was is old new early late e = IsRecoverRefusal words before after was is old new early late e
+abbrev pub IsRefusal : Request → Option Held → Option Held → Option (List ℕ) → Option (List ℕ)
+    → Option (List ℕ) → Option (List ℕ) → Option (List ℕ) → Option (List ℕ) → ToolError → Type 0
+IsRefusal (request.Step words) before after was is old new early late e =
+    IsStepWordsRefusal words old new e × (after ≡ before)
+IsRefusal (request.Run words) before after was is old new early late e =
+    IsRunRefusal words before after was is old new e
+IsRefusal (request.Check words) before after was is old new early late e =
+    IsCheckRunRefusal words before was is old new e × (after ≡ before)
+IsRefusal (request.Picture words) before after was is old new early late e =
+    IsPictureRefusal words before after was is old new early late e
+IsRefusal (request.Upgrade words) before after was is old new early late e =
+    IsUpgradeRefusal words before after was is old new early late e
+IsRefusal (request.Serve words) before after was is old new early late e =
+    IsServeRefusal words before was is old new e
+IsRefusal (request.Recover words) before after was is old new early late e =
+    IsRecoverRefusal words before after was is old new early late e
 
 -- it serves lines, which may change files before it is refused
 abbrev pub IsOfLines : Request → Type 0

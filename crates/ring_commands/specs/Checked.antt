@@ -18,8 +18,9 @@ use Rattle.ring_requests.specs.declared.requests.CheckWords.{CheckWords}
 use Rattle.ring_commands.specs.declared.faults.ToolError.{ToolError}
 use Rattle.ring_commands.specs.declared.faults.ToolError.TheVariants as tool
 
--- The bytes are the saved text of a content: each of its blocks tells of one legal history of a one-thread ring over the till, and of surveys
--- of it, and the counts are right. These are its sums.
+-- The bytes are the saved text of a content: each of its blocks tells of one legal history of a
+-- one-thread ring over the till, and of surveys of it, and the counts are right. These are its
+-- sums.
 pub record IsLegalSavedText (bytes : List ℕ) (sums : Summary) : Type 0 where
   pub content : Content
   pub fits : Fits content
@@ -42,18 +43,30 @@ IsSavedTextRefusal bytes (tool.Bad line kind) = IsBadSavedText bytes line kind
 IsSavedTextRefusal bytes tool.OutOfMemory = Unit {0}
 IsSavedTextRefusal bytes _ = ⊥
 
--- or the writer failed, which held the first bytes and then those of a beginning of a legal text's line
+-- or the writer failed, which held the first bytes and then those of a beginning of a legal text's
+-- line
 abbrev pub IsCheckRefusal : List ℕ → Option (List ℕ) → Option (List ℕ) → ToolError → Type 0
-IsCheckRefusal bytes old new tool.Write = (sums : Summary) × IsLegalSavedText bytes sums × AppendsFront old new (legal_line sums)
+IsCheckRefusal bytes old new tool.Write =
+    (sums : Summary) × IsLegalSavedText bytes sums × AppendsFront old new (legal_line sums)
 IsCheckRefusal bytes old new e = IsSavedTextRefusal bytes e
 
--- What the word names gave the bytes of a legal saved text, and the line of its sums is written; standard input had the first bytes left before, and the second
--- after.
-abbrev pub IsCheckAnswer : CheckWords → Option Held → Option (List ℕ) → Option (List ℕ) → Option (List ℕ) → Option (List ℕ) → Type 0
+-- What the word names gave the bytes of a legal saved text, and the line of its sums is written;
+-- standard input had the first bytes left before, and the second after.
+abbrev pub IsCheckAnswer : CheckWords → Option Held → Option (List ℕ) → Option (List ℕ)
+    → Option (List ℕ) → Option (List ℕ) → Type 0
 IsCheckAnswer words files was is old new =
-    (bytes : List ℕ) × (sums : Summary) × IsNamed words.file.now files was is bytes × IsLegalSavedText bytes sums × Appends old new (legal_line sums)
+    (bytes : List ℕ)
+    × (sums : Summary)
+    × IsNamed words.file.now files was is bytes
+    × IsLegalSavedText bytes sums
+    × Appends old new (legal_line sums)
 
--- Which refusals `check` may meet: those of reading what its word names, and those of the bytes that it gave.
-abbrev pub IsCheckRunRefusal : CheckWords → Option Held → Option (List ℕ) → Option (List ℕ) → Option (List ℕ) → Option (List ℕ) → ToolError → Type 0
+-- Which refusals `check` may meet: those of reading what its word names, and those of the bytes
+-- that it gave.
+abbrev pub IsCheckRunRefusal : CheckWords → Option Held → Option (List ℕ) → Option (List ℕ)
+    → Option (List ℕ) → Option (List ℕ) → ToolError → Type 0
 IsCheckRunRefusal words files was is old new e =
-    IsNamedRefusal words.file.now files was is e ⊎ ((bytes : List ℕ) × IsNamed words.file.now files was is bytes × IsCheckRefusal bytes old new e)
+    IsNamedRefusal words.file.now files was is e
+    ⊎ ((bytes : List ℕ)
+    × IsNamed words.file.now files was is bytes
+    × IsCheckRefusal bytes old new e)

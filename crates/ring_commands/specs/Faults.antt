@@ -29,11 +29,13 @@ abbrev pub is_bad_list : ToolError → Bool
 is_bad_list tool.BadList = true
 is_bad_list e = false
 
--- the exit status after a refusal: 2 where a list cannot be read, as after other words that cannot be, else 1
+-- the exit status after a refusal: 2 where a list cannot be read, as after other words that cannot
+-- be, else 1
 abbrev pub status_of : ToolError → ℕ
 status_of e = cond (is_bad_list e) 2 1
 
--- the exit status of a command, by what it answered and whether what it printed could leave a buffer
+-- the exit status of a command, by what it answered and whether what it printed could leave a
+-- buffer
 abbrev pub end_status : {F : Type 0} → Result (Unit {0}) ToolError → Result (Unit {0}) F → ℕ
 end_status (Err e) flushed = status_of e
 end_status (Ok u) (Ok v) = 0
@@ -119,28 +121,35 @@ abbrev pub IsRefusalOver : Option ToolError → ToolError → Type 0
 IsRefusalOver fault tool.OutOfMemory = fault ≡ None
 IsRefusalOver fault e = fault ≡ Some e
 
--- Which refusals a ring that is to begin may meet: the first fault, or, where the size and the start values have none, want of memory.
+-- Which refusals a ring that is to begin may meet: the first fault, or, where the size and the
+-- start values have none, want of memory.
 abbrev pub IsOpeningRefusal : ℕ → ℕ → List ℕ → List ℕ → ToolError → Type 0
 IsOpeningRefusal n k states choices tool.OutOfMemory = start_fault n k states ≡ None
 IsOpeningRefusal n k states choices e = fault_of n k states choices ≡ Some e
 
--- Which refusals `step` may meet: those, and, where there is no fault, the writer's or that of a history that has no room for the choices.
+-- Which refusals `step` may meet: those, and, where there is no fault, the writer's or that of a
+-- history that has no room for the choices.
 abbrev pub IsStepRefusal : ℕ → ℕ → List ℕ → List ℕ → ToolError → Type 0
 IsStepRefusal n k states choices tool.OutOfMemory = start_fault n k states ≡ None
 IsStepRefusal n k states choices tool.Write = fault_of n k states choices ≡ None
-IsStepRefusal n k states choices tool.HistoryFull = (fault_of n k states choices ≡ None) × (event_limit < length choices)
+IsStepRefusal n k states choices tool.HistoryFull =
+    (fault_of n k states choices ≡ None) × (event_limit < length choices)
 IsStepRefusal n k states choices e = fault_of n k states choices ≡ Some e
 
--- which refusals the reading of a piece of a list may meet: it is the text of no number below 2 ^ 32, or there is no memory
+-- which refusals the reading of a piece of a list may meet: it is the text of no number below 2 ^
+-- 32, or there is no memory
 abbrev pub IsPieceRefusal : List ℕ → ToolError → Type 0
-IsPieceRefusal piece e = ((e ≡ tool.BadList) × ((n : ℕ) → n < 2 ^ 32 → decimal n ≢ piece)) ⊎ (e ≡ tool.OutOfMemory)
+IsPieceRefusal piece e =
+    ((e ≡ tool.BadList) × ((n : ℕ) → n < 2 ^ 32 → decimal n ≢ piece)) ⊎ (e ≡ tool.OutOfMemory)
 
--- which refusals the reading of a list may meet: it is the text of no such numbers, or there is no memory
+-- which refusals the reading of a list may meet: it is the text of no such numbers, or there is no
+-- memory
 abbrev pub IsListRefusal : List ℕ → ToolError → Type 0
 IsListRefusal word e = ((e ≡ tool.BadList) × IsNoList word) ⊎ (e ≡ tool.OutOfMemory)
 
--- Which refusals the reading of a file may meet, by what its reader had left before and has now: a read of the file of this name failed, and no more than are read were
--- given until then; it has more bytes than are read; or want of memory.
+-- Which refusals the reading of a file may meet, by what its reader had left before and has now: a
+-- read of the file of this name failed, and no more than are read were given until then; it has
+-- more bytes than are read; or want of memory.
 abbrev pub IsReadRefusal : List ℕ → Option (List ℕ) → Option (List ℕ) → ToolError → Type 0
 IsReadRefusal file old new (tool.Read named) = (named.now ≡ file) × IsWithin most_bytes old new
 IsReadRefusal file old new (tool.TooLarge named) = (named.now ≡ file) × IsOver most_bytes old new

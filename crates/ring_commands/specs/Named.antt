@@ -11,8 +11,10 @@ abbrev pub IsHeld : Option Held → List ℕ → List ℕ → Type 0
 IsHeld None name bytes = ⊤
 IsHeld (Some held) name bytes = bytes_of held name ≡ Some bytes
 
--- What a word names gave just these bytes: the dash all that standard input had left, and each other word the file of its name, which held them.
-pub record IsNamed (word : List ℕ) (files : Option Held) (was is : Option (List ℕ)) (bytes : List ℕ) : Type 0 where
+-- What a word names gave just these bytes: the dash all that standard input had left, and each
+-- other word the file of its name, which held them.
+pub record IsNamed (word : List ℕ) (files : Option Held) (was is : Option (List ℕ)) (bytes : List ℕ)
+    : Type 0 where
   pub of_input : is_dash word ≡ true → IsAllOf most_bytes was is bytes
   pub of_file : is_dash word ≡ false → IsHeld files word bytes
 
@@ -21,13 +23,19 @@ abbrev pub IsUnopened : List ℕ → ToolError → Type 0
 IsUnopened name (tool.Read named) = named.now ≡ name
 IsUnopened name _ = ⊥
 
--- Which refusals the reading of the file of this name may meet: it cannot be opened, or its reader, which had just its bytes left, met one.
+-- Which refusals the reading of the file of this name may meet: it cannot be opened, or its reader,
+-- which had just its bytes left, met one.
 abbrev pub IsFileRefusal : Option Held → List ℕ → ToolError → Type 0
 IsFileRefusal files name e =
-    IsUnopened name e ⊎ ((from : Option (List ℕ)) × (left : Option (List ℕ)) × Opens files name from × IsReadRefusal name from left e)
+    IsUnopened name e
+    ⊎ ((from : Option (List ℕ))
+    × (left : Option (List ℕ))
+    × Opens files name from
+    × IsReadRefusal name from left e)
 
 -- Which refusals the reading of what a word names may meet.
-pub record IsNamedRefusal (word : List ℕ) (files : Option Held) (was is : Option (List ℕ)) (e : ToolError) : Type 0 where
+pub record IsNamedRefusal (word : List ℕ) (files : Option Held) (was is : Option (List ℕ))
+    (e : ToolError) : Type 0 where
   pub of_input : is_dash word ≡ true → IsReadRefusal word was is e
   pub of_file : is_dash word ≡ false → IsFileRefusal files word e
 
@@ -43,7 +51,8 @@ IsApartRefusal made (tool.SameFile named) = Some named.now ≡ made
 IsApartRefusal made (tool.Save named) = Some named.now ≡ made
 IsApartRefusal made _ = ⊥
 
--- The file of this name, if one is named, was replaced by one with these bytes; else no file has changed.
+-- The file of this name, if one is named, was replaced by one with these bytes; else no file has
+-- changed.
 abbrev pub IsStored : Option (List ℕ) → Option Held → Option Held → List ℕ → Type 0
 IsStored None before after bytes = after ≡ before
 IsStored (Some name) before after bytes = Replaces before after name (Some bytes)

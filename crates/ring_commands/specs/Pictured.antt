@@ -20,7 +20,8 @@ use Rattle.ring_commands.specs.declared.faults.ToolError.TheVariants as tool
 abbrev pub most_drawn : ℕ
 most_drawn = 20000
 
--- how many of a ring's events are drawn behind the first so many: all that there are, up to a number
+-- how many of a ring's events are drawn behind the first so many: all that there are, up to a
+-- number
 abbrev pub drawn_count : ℕ → ℕ → ℕ → ℕ
 drawn_count events from most = min (events - from) most
 
@@ -30,8 +31,9 @@ pub record IsLegalTextOf (bytes : List ℕ) (c : Content) : Type 0 where
   pub spelled : bytes ≡ text c
   pub right : IsRightText c
 
--- What is drawn of bytes: they are a legal saved text, whose ring at the place that the words name it is, with the events that they ask for, as far as
--- there are any; and the sums of the whole text.
+-- What is drawn of bytes: they are a legal saved text, whose ring at the place that the words name
+-- it is, with the events that they ask for, as far as there are any; and the sums of the whole
+-- text.
 pub record IsDrawing (words : PictureWords) (bytes : List ℕ) (d : Drawing) : Type 0 where
   pub content : Content
   pub legal : IsLegalTextOf bytes content
@@ -45,35 +47,61 @@ pub record IsDrawing (words : PictureWords) (bytes : List ℕ) (d : Drawing) : T
 abbrev pub picture_of : PictureWords → Drawing → List ℕ
 picture_of words d = picture (block_of d.ring) words.from d.count
 
--- Which refusals bytes may meet: those of bytes that are no legal saved text, and, where they are one, that it has no such ring, or this ring fewer
--- events than stand before the first to be drawn.
+-- Which refusals bytes may meet: those of bytes that are no legal saved text, and, where they are
+-- one, that it has no such ring, or this ring fewer events than stand before the first to be drawn.
 abbrev pub IsDrawingRefusal : PictureWords → List ℕ → ToolError → Type 0
-IsDrawingRefusal words bytes (tool.NoRing ring) = (c : Content) × IsLegalTextOf bytes c × (ring ≡ words.ring) × (length c.rings ≤ words.ring)
+IsDrawingRefusal words bytes (tool.NoRing ring) =
+    (c : Content) × IsLegalTextOf bytes c × (ring ≡ words.ring) × (length c.rings ≤ words.ring)
 IsDrawingRefusal words bytes (tool.NoPlace place) =
-    (c : Content) × (b : Block) × IsLegalTextOf bytes c × (slice_get c.rings words.ring ≡ Some b) × (place ≡ words.from) × (length b.events < words.from)
+    (c : Content)
+    × (b : Block)
+    × IsLegalTextOf bytes c
+    × (slice_get c.rings words.ring ≡ Some b)
+    × (place ≡ words.from)
+    × (length b.events < words.from)
 IsDrawingRefusal words bytes e = IsSavedTextRefusal bytes e
 
--- What may keep the picture of a drawing, and the line of the sums, from where the word says: as with each text, and a file that is the one that was read.
-pub record IsPutRefusal (words : PictureWords) (d : Drawing) (before after : Option Held) (old new early late : Option (List ℕ)) (e : ToolError) : Type 0 where
-  pub to_file : is_dash words.picture.now ≡ false →
-      IsApartRefusal (Some words.picture.now) e ⊎ IsHandOutRefusal (Some words.picture.now) (picture_of words d) (legal_line d.sums) before after old new e
-  pub to_output : is_dash words.picture.now ≡ true → IsPrintRefusal (picture_of words d) (legal_line d.sums) old new early late e
+-- What may keep the picture of a drawing, and the line of the sums, from where the word says: as
+-- with each text, and a file that is the one that was read.
+pub record IsPutRefusal (words : PictureWords) (d : Drawing) (before after : Option Held)
+    (old new early late : Option (List ℕ)) (e : ToolError) : Type 0 where
+  pub to_file : is_dash words.picture.now ≡ false
+      → IsApartRefusal (Some words.picture.now) e
+      ⊎ IsHandOutRefusal (Some words.picture.now) (picture_of words d) (legal_line d.sums) before
+      after old new e
+  pub to_output : is_dash words.picture.now ≡ true
+      → IsPrintRefusal (picture_of words d) (legal_line d.sums) old new early late e
 
 -- A file for the picture is not the one that is read.
 abbrev pub IsPictureApart : PictureWords → Option Held → Type 0
-IsPictureApart words files = is_dash words.picture.now ≡ false → IsApart files words.file.now (Some words.picture.now)
+IsPictureApart words files =
+    is_dash words.picture.now ≡ false → IsApart files words.file.now (Some words.picture.now)
 
--- What the word names gave bytes of which a ring is drawn, and the picture and the line of the sums went where the other word says.
-abbrev pub IsPictureAnswer : PictureWords → Option Held → Option Held → Option (List ℕ) → Option (List ℕ) → Option (List ℕ) → Option (List ℕ) → Option (List ℕ) → Option (List ℕ) → Type 0
+-- What the word names gave bytes of which a ring is drawn, and the picture and the line of the sums
+-- went where the other word says.
+abbrev pub IsPictureAnswer : PictureWords → Option Held → Option Held → Option (List ℕ)
+    → Option (List ℕ) → Option (List ℕ) → Option (List ℕ) → Option (List ℕ) → Option (List ℕ)
+    → Type 0
 IsPictureAnswer words before after was is old new early late =
-    (bytes : List ℕ) × (d : Drawing) × IsNamed words.file.now before was is bytes × IsDrawing words bytes d × IsPictureApart words before
-    × IsHanded words.picture.now (picture_of words d) (legal_line d.sums) before after old new early late
+    (bytes : List ℕ)
+    × (d : Drawing)
+    × IsNamed words.file.now before was is bytes
+    × IsDrawing words bytes d
+    × IsPictureApart words before
+    × IsHanded words.picture.now (picture_of words d) (legal_line d.sums) before after old new early
+    late
 
--- Which refusals `picture` may meet: more events than a picture may have, those of reading what its word names, those of the bytes that it gave, and those of their
--- drawing.
-abbrev pub IsPictureRefusal : PictureWords → Option Held → Option Held → Option (List ℕ) → Option (List ℕ) → Option (List ℕ) → Option (List ℕ) → Option (List ℕ) → Option (List ℕ) → ToolError → Type 0
+-- Which refusals `picture` may meet: more events than a picture may have, those of reading what its
+-- word names, those of the bytes that it gave, and those of their drawing.
+abbrev pub IsPictureRefusal : PictureWords → Option Held → Option Held → Option (List ℕ)
+    → Option (List ℕ) → Option (List ℕ) → Option (List ℕ) → Option (List ℕ) → Option (List ℕ)
+    → ToolError → Type 0
 IsPictureRefusal words before after was is old new early late e =
     ((e ≡ tool.ManyDrawn) × (most_drawn < words.events))
     ⊎ (IsNamedRefusal words.file.now before was is e
-    ⊎ ((bytes : List ℕ) × IsNamed words.file.now before was is bytes
-    × (IsDrawingRefusal words bytes e ⊎ ((d : Drawing) × IsDrawing words bytes d × IsPutRefusal words d before after old new early late e))))
+    ⊎ ((bytes : List ℕ)
+    × IsNamed words.file.now before was is bytes
+    × (IsDrawingRefusal words bytes e
+    ⊎ ((d : Drawing)
+    × IsDrawing words bytes d
+    × IsPutRefusal words d before after old new early late e))))

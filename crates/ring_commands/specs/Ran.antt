@@ -20,13 +20,15 @@ use Rattle.ring_commands.specs.declared.faults.ToolError.TheVariants as tool
 
 -- the bytes are settings, and the outcome is one of their farm
 abbrev pub IsFarmOn : List ℕ → Outcome → Type 0
-IsFarmOn bytes o = (settings : SettingsData) × (settings_of bytes ≡ Ok settings) × IsFarmOf settings o
+IsFarmOn bytes o =
+    (settings : SettingsData) × (settings_of bytes ≡ Ok settings) × IsFarmOf settings o
 
 -- the bytes are settings
 abbrev pub AreSettings : List ℕ → Type 0
 AreSettings bytes = (settings : SettingsData) × (settings_of bytes ≡ Ok settings)
 
--- a refusal of the farm of settings, want of memory, or the first thing that is wrong with bytes that are no settings
+-- a refusal of the farm of settings, want of memory, or the first thing that is wrong with bytes
+-- that are no settings
 abbrev pub IsFarmRefusal : List ℕ → ToolError → Type 0
 IsFarmRefusal bytes tool.Spawn = AreSettings bytes
 IsFarmRefusal bytes tool.GateShut = AreSettings bytes
@@ -34,7 +36,8 @@ IsFarmRefusal bytes tool.NoSeat = AreSettings bytes
 IsFarmRefusal bytes tool.HistoryFull = AreSettings bytes
 IsFarmRefusal bytes tool.Mismatch = AreSettings bytes
 IsFarmRefusal bytes tool.OutOfMemory = Unit {0}
-IsFarmRefusal bytes e = (fault : SettingsError) × (settings_of bytes ≡ Err fault) × (e ≡ fault_of_settings fault)
+IsFarmRefusal bytes e =
+    (fault : SettingsError) × (settings_of bytes ≡ Err fault) × (e ≡ fault_of_settings fault)
 
 -- what is told of an outcome: its report, or the last line of it alone
 abbrev pub told : Bool → Outcome → List ℕ
@@ -46,9 +49,12 @@ abbrev pub is_printed : Option (List ℕ) → Bool
 is_printed None = false
 is_printed (Some word) = is_dash word
 
--- What `run` prints of an outcome: its saved text where the history goes to standard output, and else what is told of it.
+-- What `run` prints of an outcome: its saved text where the history goes to standard output, and
+-- else what is told of it.
 abbrev pub printed : RunWords → Outcome → List ℕ
-printed words o = cond (is_printed (option_map (λ word. word.now) words.history)) (text (saved_of o)) (told words.quiet o)
+printed words o =
+    cond (is_printed (option_map (λ word. word.now) words.history)) (text (saved_of o))
+    (told words.quiet o)
 
 -- the file of this name cannot be made or written, or there is no memory
 abbrev pub IsSaveRefusal : List ℕ → ToolError → Type 0
@@ -65,23 +71,39 @@ file_of (Some word) = cond (is_dash word) None (Some word)
 abbrev pub history_file : RunWords → Option (List ℕ)
 history_file words = file_of (option_map (λ word. word.now) words.history)
 
--- What the word for the settings names gave those of a farm with this outcome, and it is not the file for the history.
-abbrev pub IsFarmNamed : RunWords → Option Held → Option (List ℕ) → Option (List ℕ) → Outcome → Type 0
+-- What the word for the settings names gave those of a farm with this outcome, and it is not the
+-- file for the history.
+abbrev pub IsFarmNamed : RunWords → Option Held → Option (List ℕ) → Option (List ℕ) → Outcome
+    → Type 0
 IsFarmNamed words files was is o =
-    (bytes : List ℕ) × IsNamed words.settings.now files was is bytes × IsApart files words.settings.now (history_file words) × IsFarmOn bytes o
+    (bytes : List ℕ)
+    × IsNamed words.settings.now files was is bytes
+    × IsApart files words.settings.now (history_file words)
+    × IsFarmOn bytes o
 
--- Which refusals come before there is an outcome: those of reading the settings, of a history that would go over them, and of their farm.
-abbrev pub IsFarmNamedRefusal : RunWords → Option Held → Option (List ℕ) → Option (List ℕ) → ToolError → Type 0
+-- Which refusals come before there is an outcome: those of reading the settings, of a history that
+-- would go over them, and of their farm.
+abbrev pub IsFarmNamedRefusal : RunWords → Option Held → Option (List ℕ) → Option (List ℕ)
+    → ToolError → Type 0
 IsFarmNamedRefusal words files was is e =
     IsNamedRefusal words.settings.now files was is e
-    ⊎ ((bytes : List ℕ) × IsNamed words.settings.now files was is bytes × (IsApartRefusal (history_file words) e ⊎ IsFarmRefusal bytes e))
+    ⊎ ((bytes : List ℕ)
+    × IsNamed words.settings.now files was is bytes
+    × (IsApartRefusal (history_file words) e ⊎ IsFarmRefusal bytes e))
 
 -- so with an outcome and the words of `run`
-abbrev pub IsOutcomeRefusal : RunWords → Outcome → Option Held → Option Held → Option (List ℕ) → Option (List ℕ) → ToolError → Type 0
-IsOutcomeRefusal words o before after old new e = IsHandOutRefusal (history_file words) (text (saved_of o)) (printed words o) before after old new e
+abbrev pub IsOutcomeRefusal : RunWords → Outcome → Option Held → Option Held → Option (List ℕ)
+    → Option (List ℕ) → ToolError → Type 0
+IsOutcomeRefusal words o before after old new e =
+    IsHandOutRefusal (history_file words) (text (saved_of o)) (printed words o) before after old new
+    e
 
--- Which refusals `run` may meet: those of the farm of what its word names, and those of the outcome of such a farm.
-abbrev pub IsRunRefusal : RunWords → Option Held → Option Held → Option (List ℕ) → Option (List ℕ) → Option (List ℕ) → Option (List ℕ) → ToolError → Type 0
+-- Which refusals `run` may meet: those of the farm of what its word names, and those of the outcome
+-- of such a farm.
+abbrev pub IsRunRefusal : RunWords → Option Held → Option Held → Option (List ℕ) → Option (List ℕ)
+    → Option (List ℕ) → Option (List ℕ) → ToolError → Type 0
 IsRunRefusal words before after was is old new e =
     IsFarmNamedRefusal words before was is e
-    ⊎ ((outcome : Outcome) × IsFarmNamed words before was is outcome × IsOutcomeRefusal words outcome before after old new e)
+    ⊎ ((outcome : Outcome)
+    × IsFarmNamed words before was is outcome
+    × IsOutcomeRefusal words outcome before after old new e)

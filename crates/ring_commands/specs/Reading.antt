@@ -7,7 +7,8 @@ use Rattle.std.specs.Io.KnownBytes.{Consumes, IsAtEnd}
 abbrev pub most_bytes : ℕ
 most_bytes = 1073741824
 
--- The bytes are all that a reader gave, from what it had left before to its end, and no more than so many.
+-- The bytes are all that a reader gave, from what it had left before to its end, and no more than
+-- so many.
 pub record IsAllOf (limit : ℕ) (old new : Option (List ℕ)) (bytes : List ℕ) : Type 0 where
   pub within : length bytes ≤ limit
   pub given : Consumes old new bytes

@@ -18,22 +18,37 @@ use Rattle.ring_commands.specs.declared.faults.ToolError.{ToolError}
 abbrev pub made_file : RecoverWords → Option (List ℕ)
 made_file words = file_of (Some words.new.now)
 
--- What the word FILE names gave the bytes of a journal, and it is not the file that is made. The text of what is recovered of it, which is legal, and the line of its sums
--- went where the word NEW says.
-abbrev pub IsRecoverAnswer : RecoverWords → Option Held → Option Held → Option (List ℕ) → Option (List ℕ) → Option (List ℕ) → Option (List ℕ) → Option (List ℕ) → Option (List ℕ) → Type 0
+-- What the word FILE names gave the bytes of a journal, and it is not the file that is made. The
+-- text of what is recovered of it, which is legal, and the line of its sums went where the word NEW
+-- says.
+abbrev pub IsRecoverAnswer : RecoverWords → Option Held → Option Held → Option (List ℕ)
+    → Option (List ℕ) → Option (List ℕ) → Option (List ℕ) → Option (List ℕ) → Option (List ℕ)
+    → Type 0
 IsRecoverAnswer words before after was is old new early late =
-    (bytes : List ℕ) × (c : Content) × IsNamed words.file.now before was is bytes × IsApart before words.file.now (made_file words) × IsRecovered bytes c
+    (bytes : List ℕ)
+    × (c : Content)
+    × IsNamed words.file.now before was is bytes
+    × IsApart before words.file.now (made_file words)
+    × IsRecovered bytes c
     × IsHanded words.new.now (text c) (legal_line (summary_of c)) before after old new early late
 
 -- nothing is recovered of these bytes, for the right reason
 abbrev pub IsRecoveryRefusal : List ℕ → ToolError → Type 0
-IsRecoveryRefusal bytes e = (error : RecoverError) × IsRightRecovery bytes (Err error) × (e ≡ fault_of_recovery error)
+IsRecoveryRefusal bytes e =
+    (error : RecoverError) × IsRightRecovery bytes (Err error) × (e ≡ fault_of_recovery error)
 
--- Which refusals `recover` may meet: those of reading what its word names, that both names are of one file, that nothing is recovered of the bytes, and those of handing
--- out what is.
-abbrev pub IsRecoverRefusal : RecoverWords → Option Held → Option Held → Option (List ℕ) → Option (List ℕ) → Option (List ℕ) → Option (List ℕ) → Option (List ℕ) → Option (List ℕ) → ToolError → Type 0
+-- Which refusals `recover` may meet: those of reading what its word names, that both names are of
+-- one file, that nothing is recovered of the bytes, and those of handing out what is.
+abbrev pub IsRecoverRefusal : RecoverWords → Option Held → Option Held → Option (List ℕ)
+    → Option (List ℕ) → Option (List ℕ) → Option (List ℕ) → Option (List ℕ) → Option (List ℕ)
+    → ToolError → Type 0
 IsRecoverRefusal words before after was is old new early late e =
     IsNamedRefusal words.file.now before was is e
-    ⊎ ((bytes : List ℕ) × IsNamed words.file.now before was is bytes
-    × (IsApartRefusal (made_file words) e ⊎ (IsRecoveryRefusal bytes e
-    ⊎ ((c : Content) × IsRecovered bytes c × IsHandRefusal words.new.now (text c) (legal_line (summary_of c)) before after old new early late e))))
+    ⊎ ((bytes : List ℕ)
+    × IsNamed words.file.now before was is bytes
+    × (IsApartRefusal (made_file words) e
+    ⊎ (IsRecoveryRefusal bytes e
+    ⊎ ((c : Content)
+    × IsRecovered bytes c
+    × IsHandRefusal words.new.now (text c) (legal_line (summary_of c)) before after old new
+    early late e))))

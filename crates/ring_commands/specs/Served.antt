@@ -40,54 +40,73 @@ pub record IsOfJournal (files : Option Held) (name : List ℕ) (saved : Saved) :
   pub held : IsHeld files name bytes
   pub recovered : IsRecovered bytes (content saved)
 
--- where the rings begin if a journal is kept: with the given value if the journal's file held nothing, else at the journal's end
+-- where the rings begin if a journal is kept: with the given value if the journal's file held
+-- nothing, else at the journal's end
 abbrev pub IsNoted : Option Held → List ℕ → Saved → Saved → Type 0
-IsNoted files name saved from = (IsHeld files name [] × (from ≡ saved)) ⊎ IsOfJournal files name from
+IsNoted files name saved from =
+    (IsHeld files name [] × (from ≡ saved)) ⊎ IsOfJournal files name from
 
 -- where they begin
 abbrev pub BeginsAt : Option Held → Option (List ℕ) → Saved → Saved → Type 0
 BeginsAt files None saved from = from ≡ saved
 BeginsAt files (Some name) saved from = IsNoted files name saved from
 
--- the lines were served without a journal, from where the rings began to where they stand in the end
-abbrev pub IsServedPlain : List Standing → List Standing → Option Held → Option Held → Option (List ℕ) → Option (List ℕ) → Option (List ℕ) → Option (List ℕ) → Type 0
+-- the lines were served without a journal, from where the rings began to where they stand in the
+-- end
+abbrev pub IsServedPlain : List Standing → List Standing → Option Held → Option Held
+    → Option (List ℕ) → Option (List ℕ) → Option (List ℕ) → Option (List ℕ) → Type 0
 IsServedPlain start end before after was is old new =
-    (j : Option (List ℕ)) × (k : Option (List ℕ)) × ServesAll false start end before after was is (record { journal = j; out = old }) (record { journal = k; out = new })
+    (j : Option (List ℕ))
+    × (k : Option (List ℕ))
+    × ServesAll false start end before after was is (record { journal = j; out = old })
+    (record { journal = k; out = new })
 
--- The lines were served with a journal in the file of this name. It was put there with what is saved of the rings as they began; each call was noted behind that before it
--- was answered; and all of that the file holds in the end.
-pub record IsServedNoted (name : List ℕ) (start end : List Standing) (before after : Option Held) (was is old new : Option (List ℕ)) : Type 0 where
+-- The lines were served with a journal in the file of this name. It was put there with what is
+-- saved of the rings as they began; each call was noted behind that before it was answered; and all
+-- of that the file holds in the end.
+pub record IsServedNoted (name : List ℕ) (start end : List Standing) (before after : Option Held)
+    (was is old new : Option (List ℕ)) : Type 0 where
   pub begun : Option Held
   pub ended : Option Held
   pub first : Option (List ℕ)
   pub last : Option (List ℕ)
   pub put : Replaces before begun name (Some (head_text (content_of start)))
   pub opened : Grows begun name first
-  pub served : ServesAll true start end begun ended was is (record { journal = first; out = old }) (record { journal = last; out = new })
+  pub served : ServesAll true start end begun ended was is (record { journal = first; out = old })
+      (record { journal = last; out = new })
   pub settled : Replaces ended after name last
 
 -- The same, when the journal has been begun and its writer has so much.
-pub record IsServedOn (name : List ℕ) (start end : List Standing) (begun after : Option Held) (first was is old new : Option (List ℕ)) : Type 0 where
+pub record IsServedOn (name : List ℕ) (start end : List Standing) (begun after : Option Held)
+    (first was is old new : Option (List ℕ)) : Type 0 where
   pub ended : Option Held
   pub last : Option (List ℕ)
-  pub served : ServesAll true start end begun ended was is (record { journal = first; out = old }) (record { journal = last; out = new })
+  pub served : ServesAll true start end begun ended was is (record { journal = first; out = old })
+      (record { journal = last; out = new })
   pub settled : Replaces ended after name last
 
 -- either, by whether a journal is kept
-abbrev pub IsServed : Option (List ℕ) → List Standing → List Standing → Option Held → Option Held → Option (List ℕ) → Option (List ℕ) → Option (List ℕ) → Option (List ℕ) → Type 0
-IsServed None start end before after was is old new = IsServedPlain start end before after was is old new
-IsServed (Some name) start end before after was is old new = IsServedNoted name start end before after was is old new
+abbrev pub IsServed : Option (List ℕ) → List Standing → List Standing → Option Held → Option Held
+    → Option (List ℕ) → Option (List ℕ) → Option (List ℕ) → Option (List ℕ) → Type 0
+IsServed None start end before after was is old new =
+    IsServedPlain start end before after was is old new
+IsServed (Some name) start end before after was is old new =
+    IsServedNoted name start end before after was is old new
 
--- the rings began where the value says, or at the end of a journal that told something, and all lines of standard input were served
-pub record IsServedFrom (words : ServeWords) (saved : Saved) (end : List Standing) (before after : Option Held) (was is old new : Option (List ℕ)) : Type 0 where
+-- the rings began where the value says, or at the end of a journal that told something, and all
+-- lines of standard input were served
+pub record IsServedFrom (words : ServeWords) (saved : Saved) (end : List Standing)
+    (before after : Option Held) (was is old new : Option (List ℕ)) : Type 0 where
   pub from : Saved
   pub begins : BeginsAt before (journal_of words) saved from
   pub start : List Standing
   pub resumed : AreResumed start from.rings.items
   pub served : IsServed (journal_of words) start end before after was is old new
 
--- The history was read, the rings began there or where their journal ended, all lines of standard input were served, and what adds up over the rings is told on standard error.
-pub record IsServeAnswer (words : ServeWords) (before after : Option Held) (was is old new early late : Option (List ℕ)) : Type 0 where
+-- The history was read, the rings began there or where their journal ended, all lines of standard
+-- input were served, and what adds up over the rings is told on standard error.
+pub record IsServeAnswer (words : ServeWords) (before after : Option Held)
+    (was is old new early late : Option (List ℕ)) : Type 0 where
   pub saved : Saved
   pub history : IsHistory before words.history.now saved
   pub end : List Standing
@@ -97,12 +116,15 @@ pub record IsServeAnswer (words : ServeWords) (before after : Option Held) (was 
 -- ---- refusals
 
 -- no line was read or answered: standard input and output are as they were
-abbrev pub IsUnserved : Option (List ℕ) → Option (List ℕ) → Option (List ℕ) → Option (List ℕ) → Type 0
+abbrev pub IsUnserved : Option (List ℕ) → Option (List ℕ) → Option (List ℕ) → Option (List ℕ)
+    → Type 0
 IsUnserved was is old new = (is ≡ was) × (new ≡ old)
 
 -- the history is refused: its file cannot be read, or does not hold a legal saved text
 abbrev pub IsHistoryRefusal : Option Held → List ℕ → ToolError → Type 0
-IsHistoryRefusal files name e = IsFileRefusal files name e ⊎ ((bytes : List ℕ) × IsHeld files name bytes × IsSavedTextRefusal bytes e)
+IsHistoryRefusal files name e =
+    IsFileRefusal files name e
+    ⊎ ((bytes : List ℕ) × IsHeld files name bytes × IsSavedTextRefusal bytes e)
 
 -- the journal's file cannot be kept: another process has it, or it cannot be opened, or begun anew
 abbrev pub IsUnkept : List ℕ → ToolError → Type 0
@@ -110,14 +132,19 @@ IsUnkept name (tool.InUse named) = named.now ≡ name
 IsUnkept name (tool.Save named) = named.now ≡ name
 IsUnkept name _ = ⊥
 
--- nothing is recovered of the journal in the file of this name, which held these bytes, for the right reason
+-- nothing is recovered of the journal in the file of this name, which held these bytes, for the
+-- right reason
 abbrev pub IsUnrecovered : List ℕ → List ℕ → ToolError → Type 0
-IsUnrecovered name bytes (tool.Journal named error) = (named.now ≡ name) × IsRightRecovery bytes (Err error)
+IsUnrecovered name bytes (tool.Journal named error) =
+    (named.now ≡ name) × IsRightRecovery bytes (Err error)
 IsUnrecovered name bytes _ = ⊥
 
 -- the journal is refused: its file cannot be kept or read, or nothing is recovered of what it holds
 abbrev pub IsJournalRefusal : Option Held → List ℕ → ToolError → Type 0
-IsJournalRefusal files name e = IsUnkept name e ⊎ (IsFileRefusal files name e ⊎ ((bytes : List ℕ) × IsHeld files name bytes × IsUnrecovered name bytes e))
+IsJournalRefusal files name e =
+    IsUnkept name e
+    ⊎ (IsFileRefusal files name e
+    ⊎ ((bytes : List ℕ) × IsHeld files name bytes × IsUnrecovered name bytes e))
 
 -- these rings do not go on: one has more events than a ring can go on with, or there is no memory
 abbrev pub IsStartRefusal : List SavedRing → ToolError → Type 0
@@ -125,7 +152,8 @@ IsStartRefusal rings (tool.Full ring) = IsStartFault rings (start.Full ring)
 IsStartRefusal rings tool.OutOfMemory = IsStartFault rings start.OutOfMemory
 IsStartRefusal rings _ = ⊥
 
--- what ends it while lines are served, or when all have been: standard input, the journal if one is kept, a standard output or memory fails
+-- what ends it while lines are served, or when all have been: standard input, the journal if one is
+-- kept, a standard output or memory fails
 abbrev pub IsServingFault : Option (List ℕ) → ToolError → Type 0
 IsServingFault journal (tool.Read named) = named.now ≡ codes "-"
 IsServingFault journal (tool.Save named) = Some named.now ≡ journal
@@ -133,31 +161,48 @@ IsServingFault journal tool.Write = Unit {0}
 IsServingFault journal tool.OutOfMemory = Unit {0}
 IsServingFault journal _ = ⊥
 
--- Some of the lines were answered, or all of them, from where the rings began; and the journal, if one is kept, holds what was noted of each that was told.
-pub record IsServedPart (keeps : Bool) (start : List Standing) (was is old new : Option (List ℕ)) : Type 0 where
+-- Some of the lines were answered, or all of them, from where the rings began; and the journal, if
+-- one is kept, holds what was noted of each that was told.
+pub record IsServedPart (keeps : Bool) (start : List Standing) (was is old new : Option (List ℕ)) :
+    Type 0 where
   pub end : List Standing
   pub files : Option Held
   pub now : Option Held
   pub first : Option (List ℕ)
   pub last : Option (List ℕ)
-  pub served : ServesSome keeps start end files now was is (record { journal = first; out = old }) (record { journal = last; out = new })
-      ⊎ ServesAll keeps start end files now was is (record { journal = first; out = old }) (record { journal = last; out = new })
+  pub served : ServesSome keeps start end files now was is (record { journal = first; out = old })
+      (record { journal = last; out = new })
+      ⊎ ServesAll keeps start end files now was is (record { journal = first; out = old })
+      (record { journal = last; out = new })
 
 -- these rings do not go on, and no line is read; or they did, and were broken off
-abbrev pub IsUnfinished : Option (List ℕ) → List SavedRing → Option (List ℕ) → Option (List ℕ) → Option (List ℕ) → Option (List ℕ) → ToolError → Type 0
+abbrev pub IsUnfinished : Option (List ℕ) → List SavedRing → Option (List ℕ) → Option (List ℕ)
+    → Option (List ℕ) → Option (List ℕ) → ToolError → Type 0
 IsUnfinished journal rings was is old new e =
     (IsUnserved was is old new × IsStartRefusal rings e)
-    ⊎ (IsServingFault journal e × ((start : List Standing) × AreResumed start rings × IsServedPart (is_some journal) start was is old new))
+    ⊎ (IsServingFault journal e
+    × ((start : List Standing)
+    × AreResumed start rings
+    × IsServedPart (is_some journal) start was is old new))
 
--- with this history: the journal, if one is kept, is refused, and no line is read; or the rings that begin where they have to are not served to the end
-abbrev pub IsRefusedFrom : Option Held → Option (List ℕ) → Saved → Option (List ℕ) → Option (List ℕ) → Option (List ℕ) → Option (List ℕ) → ToolError → Type 0
-IsRefusedFrom files None saved was is old new e = IsUnfinished None saved.rings.items was is old new e
+-- with this history: the journal, if one is kept, is refused, and no line is read; or the rings
+-- that begin where they have to are not served to the end
+abbrev pub IsRefusedFrom : Option Held → Option (List ℕ) → Saved → Option (List ℕ) → Option (List ℕ)
+    → Option (List ℕ) → Option (List ℕ) → ToolError → Type 0
+IsRefusedFrom files None saved was is old new e =
+    IsUnfinished None saved.rings.items was is old new e
 IsRefusedFrom files (Some name) saved was is old new e =
     (IsUnserved was is old new × IsJournalRefusal files name e)
-    ⊎ ((from : Saved) × IsNoted files name saved from × IsUnfinished (Some name) from.rings.items was is old new e)
+    ⊎ ((from : Saved)
+    × IsNoted files name saved from
+    × IsUnfinished (Some name) from.rings.items was is old new e)
 
--- Which refusals `serve` may meet: those of the history, before a line is read, and those that come with it.
-abbrev pub IsServeRefusal : ServeWords → Option Held → Option (List ℕ) → Option (List ℕ) → Option (List ℕ) → Option (List ℕ) → ToolError → Type 0
+-- Which refusals `serve` may meet: those of the history, before a line is read, and those that come
+-- with it.
+abbrev pub IsServeRefusal : ServeWords → Option Held → Option (List ℕ) → Option (List ℕ)
+    → Option (List ℕ) → Option (List ℕ) → ToolError → Type 0
 IsServeRefusal words files was is old new e =
     (IsUnserved was is old new × IsHistoryRefusal files words.history.now e)
-    ⊎ ((saved : Saved) × IsHistory files words.history.now saved × IsRefusedFrom files (journal_of words) saved was is old new e)
+    ⊎ ((saved : Saved)
+    × IsHistory files words.history.now saved
+    × IsRefusedFrom files (journal_of words) saved was is old new e)

@@ -1,4 +1,5 @@
--- What `step` prints (this project's own lines, over the one-thread ring): the reply to each choice, then the last state.
+-- What `step` prints (this project's own lines, over the one-thread ring): the reply to each
+-- choice, then the last state.
 use Rattle.std.specs.Prelude.{ℕ, List, [], ◌∷◌, ◌++◌, codes, decimal}
 use Rattle.text_lines.specs.Spelling.{list_text}
 use Rattle.ring_model.specs.Ring.{Ring, privileged_count, first_privileged}
@@ -11,7 +12,8 @@ use Rattle.ring_book.specs.declared.resources.Idle.{Idle}
 
 -- the line of a granted pass: who asked, and the number of the grant
 abbrev pub granted_line : ℕ → ℕ → List ℕ
-granted_line machine number = decimal machine ++ (codes " granted " ++ (decimal number ++ codes "\n"))
+granted_line machine number =
+    decimal machine ++ (codes " granted " ++ (decimal number ++ codes "\n"))
 
 -- the line of a pass that was not granted
 abbrev pub refused_line : ℕ → List ℕ
@@ -23,16 +25,22 @@ reply_line machine (Granted number result) = granted_line machine number
 reply_line machine NotPrivileged = refused_line machine
 reply_line machine (Corrupted old) = refused_line machine
 
--- the two lines of the last state: the values, how many machines are privileged, and the first of them
+-- the two lines of the last state: the values, how many machines are privileged, and the first of
+-- them
 abbrev pub end_lines : List ℕ → List ℕ
 end_lines values =
-    codes "states " ++ (list_text values ++ (codes "\nprivileged " ++ (decimal (privileged_count values)
+    codes "states "
+    ++ (list_text values
+    ++ (codes "\nprivileged "
+    ++ (decimal (privileged_count values)
     ++ (codes " first " ++ (decimal (first_privileged values) ++ codes "\n")))))
 
 -- the lines from a state of the ring on: each choice asks to pass with order 0
 abbrev pub lines_from : State Idle → List ℕ → List ℕ
 lines_from a [] = end_lines a.ring.values
-lines_from a (machine ∷ choices) = reply_line machine (reply idle a (Pass machine 0)) ++ lines_from (next idle a (Pass machine 0)) choices
+lines_from a (machine ∷ choices) =
+    reply_line machine (reply idle a (Pass machine 0))
+    ++ lines_from (next idle a (Pass machine 0)) choices
 
 -- the ring before any pass
 abbrev pub step_opening : Ring → State Idle

@@ -10,7 +10,8 @@ use Rattle.ring_commands.specs.Written.{AppendsFront}
 use Rattle.ring_requests.specs.declared.requests.StepWords.{StepWords}
 use Rattle.ring_commands.specs.declared.faults.ToolError.{ToolError}
 
--- the word, where there is one, is the text of the choices; where there is none, there are no choices
+-- the word, where there is one, is the text of the choices; where there is none, there are no
+-- choices
 abbrev pub AreChoices : Option (List ℕ) → List ℕ → Type 0
 AreChoices None choices = choices ≡ []
 AreChoices (Some word) choices = IsListText word choices
@@ -27,11 +28,21 @@ pub record AreListsOf (words : StepWords) (states choices : List ℕ) : Type 0 w
 
 -- all lines of the lists that the words spell
 abbrev pub IsStepAnswer : StepWords → Option (List ℕ) → Option (List ℕ) → Type 0
-IsStepAnswer words old new = (states : List ℕ) × (choices : List ℕ) × AreListsOf words states choices × Appends old new (step_text (ring_with words.k states) choices)
+IsStepAnswer words old new =
+    (states : List ℕ)
+    × (choices : List ℕ)
+    × AreListsOf words states choices
+    × Appends old new (step_text (ring_with words.k states) choices)
 
--- A list that cannot be read, and nothing is written; or a refusal of the lists that the words spell, and a beginning of their lines.
+-- A list that cannot be read, and nothing is written; or a refusal of the lists that the words
+-- spell, and a beginning of their lines.
 abbrev pub IsStepWordsRefusal : StepWords → Option (List ℕ) → Option (List ℕ) → ToolError → Type 0
 IsStepWordsRefusal words old new e =
-    ((IsListRefusal words.states.now e ⊎ IsChoicesRefusal (option_map (λ word. word.now) words.choices) e) × (new ≡ old))
-    ⊎ ((states : List ℕ) × (choices : List ℕ) × AreListsOf words states choices × IsStepRefusal words.n words.k states choices e
+    ((IsListRefusal words.states.now e
+    ⊎ IsChoicesRefusal (option_map (λ word. word.now) words.choices) e)
+    × (new ≡ old))
+    ⊎ ((states : List ℕ)
+    × (choices : List ℕ)
+    × AreListsOf words states choices
+    × IsStepRefusal words.n words.k states choices e
     × AppendsFront old new (step_text (ring_with words.k states) choices))

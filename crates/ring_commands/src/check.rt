@@ -62,7 +62,9 @@ pub fn write_sums<W: Write>(out: &mut W, sums: &Summary) -> Result<(), WriteFaul
 /// `Syntax` or `Truncated` where the bytes are no saved text, `Bad` where they are one that is not
 /// legal, and `OutOfMemory`.
 pub fn legal_saved(alloc: Global, bytes: &[u8]) -> Result<(Saved, Summary), ToolError<'static>>
-    ensures ok { IfOk result (λ x. (legal : IsLegalSavedText bytes.now x.1) × (legal.content ≡ content x.0) × IsLegalText (content x.0)) }
+    ensures ok { IfOk result (λ x. (legal : IsLegalSavedText bytes.now x.1)
+        × (legal.content ≡ content x.0)
+        × IsLegalText (content x.0)) }
     ensures err { IfErr result (λ e. IsSavedTextRefusal bytes.now e) }
 {
     let saved = read_saved(alloc, bytes)?;
@@ -84,7 +86,8 @@ pub fn check_bytes<W: Write>(
 ) -> Result<(), ToolError<'static>>
     ensures ok { OnOk result ((sums : Summary) × IsLegalSavedText bytes.now sums
         × Appends (W.contents out.old) (W.contents out.new) (legal_line sums)) }
-    ensures err { IfErr result (λ e. IsCheckRefusal bytes.now (W.contents out.old) (W.contents out.new) e) }
+    ensures err { IfErr result
+        (λ e. IsCheckRefusal bytes.now (W.contents out.old) (W.contents out.new) e) }
     ensures nothing { IfErr result (λ e. e ≢ ToolError.Write → out.new ≡ out.old) }
 {
     let (_saved, sums) = legal_saved(alloc, bytes)?;
@@ -104,8 +107,11 @@ pub fn run<'a, D: Disk, I: Read, W: Write>(
     input: &mut I,
     out: &mut W,
 ) -> Result<(), ToolError<'a>>
-    ensures ok { OnOk result (IsCheckAnswer words.now (D.holds disk.now) (I.remaining input.old) (I.remaining input.new) (W.contents out.old) (W.contents out.new)) }
-    ensures err { IfErr result (λ e. IsCheckRunRefusal words.now (D.holds disk.now) (I.remaining input.old) (I.remaining input.new) (W.contents out.old) (W.contents out.new) e) }
+    ensures ok { OnOk result (IsCheckAnswer words.now (D.holds disk.now) (I.remaining input.old)
+        (I.remaining input.new) (W.contents out.old) (W.contents out.new)) }
+    ensures err { IfErr result (λ e.
+        IsCheckRunRefusal words.now (D.holds disk.now) (I.remaining input.old)
+        (I.remaining input.new) (W.contents out.old) (W.contents out.new) e) }
     ensures nothing { IfErr result (λ e. e ≢ ToolError.Write → out.new ≡ out.old) }
     ensures unread { is_dash words.now.file.now ≡ false → input.new ≡ input.old }
 {

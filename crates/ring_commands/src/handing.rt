@@ -33,7 +33,8 @@ fn save_value<'a, F: Write + Drop>(
     out: F,
 ) -> Result<F, ToolError<'a>>
     requires { CanBeSaved (content saved.now) }
-    ensures written { IfOk result (λ after. Appends (F.contents out) (F.contents after) (text (content saved.now))) }
+    ensures written { IfOk result
+        (λ after. Appends (F.contents out) (F.contents after) (text (content saved.now))) }
     ensures err { IfErr result (λ e. IsSaveRefusal file.now e) }
 {
     let Ok(mut buffer) = BufWriter::new(alloc, out) else {
@@ -63,7 +64,8 @@ fn put_value<'a, D: Disk>(
     file: &'a str,
 ) -> Result<(), ToolError<'a>>
     requires { CanBeSaved (content saved.now) }
-    ensures stored { OnOk result (Replaces (D.holds disk.old) (D.holds disk.new) file.now (Some (text (content saved.now)))) }
+    ensures stored { OnOk result (Replaces (D.holds disk.old) (D.holds disk.new) file.now
+        (Some (text (content saved.now)))) }
     ensures err { IfErr result (λ e. IsSaveRefusal file.now e) }
     ensures kept { OnErr result (D.holds disk.new ≡ D.holds disk.old) }
 {
@@ -90,9 +92,13 @@ fn put_and_tell<'a, D: Disk, W: Write>(
     out: &mut W,
 ) -> Result<(), ToolError<'a>>
     requires { CanBeSaved (content value.now.0) }
-    ensures stored { OnOk result (Replaces (D.holds disk.old) (D.holds disk.new) file.now (Some (text (content value.now.0)))) }
-    ensures told { OnOk result (Appends (W.contents out.old) (W.contents out.new) (legal_line value.now.1)) }
-    ensures err { IfErr result (λ e. IsHandOutRefusal (Some file.now) (text (content value.now.0)) (legal_line value.now.1) (D.holds disk.old) (D.holds disk.new) (W.contents out.old) (W.contents out.new) e) }
+    ensures stored { OnOk result (Replaces (D.holds disk.old) (D.holds disk.new) file.now
+        (Some (text (content value.now.0)))) }
+    ensures told { OnOk result
+        (Appends (W.contents out.old) (W.contents out.new) (legal_line value.now.1)) }
+    ensures err { IfErr result (λ e.
+        IsHandOutRefusal (Some file.now) (text (content value.now.0)) (legal_line value.now.1)
+        (D.holds disk.old) (D.holds disk.new) (W.contents out.old) (W.contents out.new) e) }
     ensures kept { IfErr result (λ e. e ≢ ToolError.Write → D.holds disk.new ≡ D.holds disk.old) }
     ensures nothing { IfErr result (λ e. e ≢ ToolError.Write → out.new ≡ out.old) }
 {
@@ -112,9 +118,13 @@ fn print_and_tell<W: Write, E: Write>(
     err: &mut E,
 ) -> Result<(), ToolError<'static>>
     requires { CanBeSaved (content value.now.0) }
-    ensures text { OnOk result (Appends (W.contents out.old) (W.contents out.new) (text (content value.now.0))) }
-    ensures told { OnOk result (Appends (E.contents err.old) (E.contents err.new) (legal_line value.now.1)) }
-    ensures err { IfErr result (λ e. (e ≡ ToolError.Write) × IsPrintRefusal (text (content value.now.0)) (legal_line value.now.1) (W.contents out.old) (W.contents out.new) (E.contents err.old) (E.contents err.new) e) }
+    ensures text { OnOk result
+        (Appends (W.contents out.old) (W.contents out.new) (text (content value.now.0))) }
+    ensures told { OnOk result
+        (Appends (E.contents err.old) (E.contents err.new) (legal_line value.now.1)) }
+    ensures err { IfErr result (λ e. (e ≡ ToolError.Write)
+        × IsPrintRefusal (text (content value.now.0)) (legal_line value.now.1) (W.contents out.old)
+        (W.contents out.new) (E.contents err.old) (E.contents err.new) e) }
 {
     write_saved(&value.0, out)?;
     let Ok(()) = out.flush() else {
@@ -138,8 +148,12 @@ pub(crate) fn hand_over<'a, D: Disk, W: Write, E: Write>(
     err: &mut E,
 ) -> Result<(), ToolError<'a>>
     requires { CanBeSaved (content value.now.0) }
-    ensures ok { OnOk result (IsHanded word.now (text (content value.now.0)) (legal_line value.now.1) (D.holds disk.old) (D.holds disk.new) (W.contents out.old) (W.contents out.new) (E.contents err.old) (E.contents err.new)) }
-    ensures err { IfErr result (λ e. IsHandRefusal word.now (text (content value.now.0)) (legal_line value.now.1) (D.holds disk.old) (D.holds disk.new) (W.contents out.old) (W.contents out.new) (E.contents err.old) (E.contents err.new) e) }
+    ensures ok { OnOk result (IsHanded word.now (text (content value.now.0))
+        (legal_line value.now.1) (D.holds disk.old) (D.holds disk.new) (W.contents out.old)
+        (W.contents out.new) (E.contents err.old) (E.contents err.new)) }
+    ensures err { IfErr result (λ e. IsHandRefusal word.now (text (content value.now.0))
+        (legal_line value.now.1) (D.holds disk.old) (D.holds disk.new) (W.contents out.old)
+        (W.contents out.new) (E.contents err.old) (E.contents err.new) e) }
     ensures kept { IfErr result (λ e. e ≢ ToolError.Write → D.holds disk.new ≡ D.holds disk.old) }
     ensures nothing { IfErr result (λ e. e ≢ ToolError.Write → out.new ≡ out.old) }
     ensures silent { is_dash word.now ≡ false → err.new ≡ err.old }

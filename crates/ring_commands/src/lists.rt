@@ -27,7 +27,10 @@ fn read_decimal(text: &str) -> Option<u32>
 
 /// Adds the number that a piece of a list spells.
 fn add_number(numbers: &mut Vec<u32>, piece: &str) -> Result<(), ToolError<'static>>
-    ensures ok { OnOk result ((n : ℕ) × (n < 2 ^ 32) × (decimal n ≡ piece.now) × (numbers.new.items ≡ numbers.old.items ++ n ∷ [])) }
+    ensures ok { OnOk result ((n : ℕ)
+        × (n < 2 ^ 32)
+        × (decimal n ≡ piece.now)
+        × (numbers.new.items ≡ numbers.old.items ++ n ∷ [])) }
     ensures err { IfErr result (λ e. IsPieceRefusal piece.now e) }
 {
     let Some(number) = read_decimal(piece) else {

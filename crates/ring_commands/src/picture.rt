@@ -38,8 +38,10 @@ pub struct Drawing {
 
 /// The ring at this place.
 fn ring_of(saved: Saved, place: u32) -> Result<SavedRing, ToolError<'static>>
-    ensures ok { IfOk result (λ ring. slice_get (content saved).rings place ≡ Some (block_of ring)) }
-    ensures err { IfErr result (λ e. (e ≡ ToolError.NoRing place) × (length (content saved).rings ≤ place)) }
+    ensures ok { IfOk result
+        (λ ring. slice_get (content saved).rings place ≡ Some (block_of ring)) }
+    ensures err { IfErr result
+        (λ e. (e ≡ ToolError.NoRing place) × (length (content saved).rings ≤ place)) }
 {
     let mut rings = saved.rings;
     if (place as usize) < rings.len() {
@@ -51,8 +53,10 @@ fn ring_of(saved: Saved, place: u32) -> Result<SavedRing, ToolError<'static>>
 
 /// How many of a ring's events are drawn.
 fn count_of(ring: &SavedRing, from: u32, most: u32) -> Result<u32, ToolError<'static>>
-    ensures ok { IfOk result (λ count. (from ≤ length ring.now.events.items) × (count ≡ drawn_count (length ring.now.events.items) from most)) }
-    ensures err { IfErr result (λ e. (e ≡ ToolError.NoPlace from) × (length ring.now.events.items < from)) }
+    ensures ok { IfOk result (λ count. (from ≤ length ring.now.events.items)
+        × (count ≡ drawn_count (length ring.now.events.items) from most)) }
+    ensures err { IfErr result
+        (λ e. (e ≡ ToolError.NoPlace from) × (length ring.now.events.items < from)) }
 {
     let events = ring.events.len();
     if events < from as usize {
@@ -89,8 +93,11 @@ fn write_drawing<W: Write>(
     words: &PictureWords<'_>,
 ) -> Result<(), PictureFault>
     requires drawn { (bytes : List ℕ) × IsDrawing words.now bytes drawing.now }
-    ensures drawn { OnOk result (Appends (W.contents out.old) (W.contents out.new) (picture_of words.now drawing.now)) }
-    ensures front { IsErrOf result PictureFault.Write → AppendsFront (W.contents out.old) (W.contents out.new) (picture_of words.now drawing.now) }
+    ensures drawn { OnOk result
+        (Appends (W.contents out.old) (W.contents out.new) (picture_of words.now drawing.now)) }
+    ensures front { IsErrOf result PictureFault.Write
+        → AppendsFront (W.contents out.old) (W.contents out.new)
+        (picture_of words.now drawing.now) }
     ensures nothing { IsErrOf result PictureFault.OutOfMemory → out.new ≡ out.old }
 {
     write_picture(
@@ -110,7 +117,8 @@ fn put_picture<'a, W: Write>(
     words: &PictureWords<'a>,
 ) -> Result<(), ToolError<'a>>
     requires drawn { (bytes : List ℕ) × IsDrawing words.now bytes drawing.now }
-    ensures written { OnOk result (Appends (W.contents out.old) (W.contents out.new) (picture_of words.now drawing.now)) }
+    ensures written { OnOk result
+        (Appends (W.contents out.old) (W.contents out.new) (picture_of words.now drawing.now)) }
     ensures err { IfErr result (λ e. IsSaveRefusal words.now.picture.now e) }
 {
     match write_drawing(alloc, out, drawing, words) {
@@ -128,7 +136,8 @@ fn save_picture<'a, H: Write + Drop>(
     made: H,
 ) -> Result<H, ToolError<'a>>
     requires drawn { (bytes : List ℕ) × IsDrawing words.now bytes drawing.now }
-    ensures written { IfOk result (λ after. Appends (H.contents made) (H.contents after) (picture_of words.now drawing.now)) }
+    ensures written { IfOk result
+        (λ after. Appends (H.contents made) (H.contents after) (picture_of words.now drawing.now)) }
     ensures err { IfErr result (λ e. IsSaveRefusal words.now.picture.now e) }
 {
     let Ok(mut buffer) = BufWriter::new(alloc, made) else {
@@ -160,9 +169,12 @@ fn put_drawing<'a, D: Disk>(
     words: &PictureWords<'a>,
 ) -> Result<(), ToolError<'a>>
     requires drawn { (bytes : List ℕ) × IsDrawing words.now bytes drawing.now }
-    ensures apart { OnOk result (IsApart (D.holds disk.old) words.now.file.now (Some words.now.picture.now)) }
-    ensures stored { OnOk result (Replaces (D.holds disk.old) (D.holds disk.new) words.now.picture.now (Some (picture_of words.now drawing.now))) }
-    ensures err { IfErr result (λ e. IsApartRefusal (Some words.now.picture.now) e ⊎ IsSaveRefusal words.now.picture.now e) }
+    ensures apart { OnOk result
+        (IsApart (D.holds disk.old) words.now.file.now (Some words.now.picture.now)) }
+    ensures stored { OnOk result (Replaces (D.holds disk.old) (D.holds disk.new)
+        words.now.picture.now (Some (picture_of words.now drawing.now))) }
+    ensures err { IfErr result (λ e.
+        IsApartRefusal (Some words.now.picture.now) e ⊎ IsSaveRefusal words.now.picture.now e) }
     ensures kept { OnErr result (D.holds disk.new ≡ D.holds disk.old) }
 {
     keep_apart(disk, words.file, words.picture)?;
@@ -190,10 +202,16 @@ fn draw_and_tell<'a, D: Disk, W: Write>(
     out: &mut W,
 ) -> Result<(), ToolError<'a>>
     requires drawn { (bytes : List ℕ) × IsDrawing words.now bytes drawing.now }
-    ensures apart { OnOk result (IsApart (D.holds disk.old) words.now.file.now (Some words.now.picture.now)) }
-    ensures stored { OnOk result (Replaces (D.holds disk.old) (D.holds disk.new) words.now.picture.now (Some (picture_of words.now drawing.now))) }
-    ensures told { OnOk result (Appends (W.contents out.old) (W.contents out.new) (legal_line drawing.now.sums)) }
-    ensures err { IfErr result (λ e. IsApartRefusal (Some words.now.picture.now) e ⊎ IsHandOutRefusal (Some words.now.picture.now) (picture_of words.now drawing.now) (legal_line drawing.now.sums) (D.holds disk.old) (D.holds disk.new) (W.contents out.old) (W.contents out.new) e) }
+    ensures apart { OnOk result
+        (IsApart (D.holds disk.old) words.now.file.now (Some words.now.picture.now)) }
+    ensures stored { OnOk result (Replaces (D.holds disk.old) (D.holds disk.new)
+        words.now.picture.now (Some (picture_of words.now drawing.now))) }
+    ensures told { OnOk result
+        (Appends (W.contents out.old) (W.contents out.new) (legal_line drawing.now.sums)) }
+    ensures err { IfErr result (λ e. IsApartRefusal (Some words.now.picture.now) e
+        ⊎ IsHandOutRefusal (Some words.now.picture.now) (picture_of words.now drawing.now)
+        (legal_line drawing.now.sums) (D.holds disk.old) (D.holds disk.new) (W.contents out.old)
+        (W.contents out.new) e) }
     ensures kept { IfErr result (λ e. e ≢ ToolError.Write → D.holds disk.new ≡ D.holds disk.old) }
     ensures nothing { IfErr result (λ e. e ≢ ToolError.Write → out.new ≡ out.old) }
 {
@@ -215,9 +233,13 @@ fn print_and_tell<W: Write, E: Write>(
     err: &mut E,
 ) -> Result<(), ToolError<'static>>
     requires drawn { (bytes : List ℕ) × IsDrawing words.now bytes drawing.now }
-    ensures text { OnOk result (Appends (W.contents out.old) (W.contents out.new) (picture_of words.now drawing.now)) }
-    ensures told { OnOk result (Appends (E.contents err.old) (E.contents err.new) (legal_line drawing.now.sums)) }
-    ensures err { IfErr result (λ e. IsPrintRefusal (picture_of words.now drawing.now) (legal_line drawing.now.sums) (W.contents out.old) (W.contents out.new) (E.contents err.old) (E.contents err.new) e) }
+    ensures text { OnOk result
+        (Appends (W.contents out.old) (W.contents out.new) (picture_of words.now drawing.now)) }
+    ensures told { OnOk result
+        (Appends (E.contents err.old) (E.contents err.new) (legal_line drawing.now.sums)) }
+    ensures err { IfErr result (λ e.
+        IsPrintRefusal (picture_of words.now drawing.now) (legal_line drawing.now.sums)
+        (W.contents out.old) (W.contents out.new) (E.contents err.old) (E.contents err.new) e) }
     ensures nothing { IfErr result (λ e. e ≢ ToolError.Write → out.new ≡ out.old) }
 {
     match write_drawing(alloc, out, drawing, words) {
@@ -248,8 +270,12 @@ pub fn hand_over<'a, D: Disk, W: Write, E: Write>(
 ) -> Result<(), ToolError<'a>>
     requires drawn { (bytes : List ℕ) × IsDrawing words.now bytes drawing.now }
     ensures apart { OnOk result (IsPictureApart words.now (D.holds disk.old)) }
-    ensures ok { OnOk result (IsHanded words.now.picture.now (picture_of words.now drawing.now) (legal_line drawing.now.sums) (D.holds disk.old) (D.holds disk.new) (W.contents out.old) (W.contents out.new) (E.contents err.old) (E.contents err.new)) }
-    ensures err { IfErr result (λ e. IsPutRefusal words.now drawing.now (D.holds disk.old) (D.holds disk.new) (W.contents out.old) (W.contents out.new) (E.contents err.old) (E.contents err.new) e) }
+    ensures ok { OnOk result (IsHanded words.now.picture.now (picture_of words.now drawing.now)
+        (legal_line drawing.now.sums) (D.holds disk.old) (D.holds disk.new) (W.contents out.old)
+        (W.contents out.new) (E.contents err.old) (E.contents err.new)) }
+    ensures err { IfErr result (λ e.
+        IsPutRefusal words.now drawing.now (D.holds disk.old) (D.holds disk.new)
+        (W.contents out.old) (W.contents out.new) (E.contents err.old) (E.contents err.new) e) }
     ensures kept { IfErr result (λ e. e ≢ ToolError.Write → D.holds disk.new ≡ D.holds disk.old) }
     ensures nothing { IfErr result (λ e. e ≢ ToolError.Write → out.new ≡ out.old) }
     ensures silent { is_dash words.now.picture.now ≡ false → err.new ≡ err.old }
@@ -278,8 +304,12 @@ pub fn run<'a, D: Disk, I: Read, W: Write, E: Write>(
     out: &mut W,
     err: &mut E,
 ) -> Result<(), ToolError<'a>>
-    ensures ok { OnOk result (IsPictureAnswer words.now (D.holds disk.old) (D.holds disk.new) (I.remaining input.old) (I.remaining input.new) (W.contents out.old) (W.contents out.new) (E.contents err.old) (E.contents err.new)) }
-    ensures err { IfErr result (λ e. IsPictureRefusal words.now (D.holds disk.old) (D.holds disk.new) (I.remaining input.old) (I.remaining input.new) (W.contents out.old) (W.contents out.new) (E.contents err.old) (E.contents err.new) e) }
+    ensures ok { OnOk result (IsPictureAnswer words.now (D.holds disk.old) (D.holds disk.new)
+        (I.remaining input.old) (I.remaining input.new) (W.contents out.old) (W.contents out.new)
+        (E.contents err.old) (E.contents err.new)) }
+    ensures err { IfErr result (λ e. IsPictureRefusal words.now (D.holds disk.old)
+        (D.holds disk.new) (I.remaining input.old) (I.remaining input.new) (W.contents out.old)
+        (W.contents out.new) (E.contents err.old) (E.contents err.new) e) }
     ensures kept { IfErr result (λ e. e ≢ ToolError.Write → D.holds disk.new ≡ D.holds disk.old) }
     ensures nothing { IfErr result (λ e. e ≢ ToolError.Write → out.new ≡ out.old) }
     ensures silent { is_dash words.now.picture.now ≡ false → err.new ≡ err.old }

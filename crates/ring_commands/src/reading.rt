@@ -42,10 +42,13 @@ pub fn read_limited<R: Read>(
     limit: u64,
 ) -> Result<Vec<u8>, ReadFault>
     ensures most { IfOk result (λ bytes. vec_len bytes ≤ limit) }
-    ensures given { IfOk result (λ bytes. Consumes (R.remaining reader.old) (R.remaining reader.new) bytes.items) }
+    ensures given { IfOk result
+        (λ bytes. Consumes (R.remaining reader.old) (R.remaining reader.new) bytes.items) }
     ensures end { OnOk result (IsAtEnd (R.remaining reader.new)) }
-    ensures large { IsErrOf result ReadFault.TooLarge → IsOver limit (R.remaining reader.old) (R.remaining reader.new) }
-    ensures failed { IsErrOf result ReadFault.Failed → IsWithin limit (R.remaining reader.old) (R.remaining reader.new) }
+    ensures large { IsErrOf result ReadFault.TooLarge
+        → IsOver limit (R.remaining reader.old) (R.remaining reader.new) }
+    ensures failed { IsErrOf result ReadFault.Failed
+        → IsWithin limit (R.remaining reader.old) (R.remaining reader.new) }
 {
     let mut bytes = Vec::new(alloc);
     let mut block = [0u8; BLOCK];
@@ -74,8 +77,10 @@ pub fn read_whole<'a, R: Read>(
     file: &'a str,
     reader: &mut R,
 ) -> Result<Vec<u8>, ToolError<'a>>
-    ensures ok { IfOk result (λ bytes. IsAllOf most_bytes (R.remaining reader.old) (R.remaining reader.new) bytes.items) }
-    ensures err { IfErr result (λ e. IsReadRefusal file.now (R.remaining reader.old) (R.remaining reader.new) e) }
+    ensures ok { IfOk result (λ bytes.
+        IsAllOf most_bytes (R.remaining reader.old) (R.remaining reader.new) bytes.items) }
+    ensures err { IfErr result
+        (λ e. IsReadRefusal file.now (R.remaining reader.old) (R.remaining reader.new) e) }
 {
     match read_limited(alloc, reader, MOST_BYTES) {
         Ok(bytes) => Ok(bytes),
@@ -125,8 +130,10 @@ pub fn read_named<'a, D: Disk, I: Read>(
     word: &'a str,
     input: &mut I,
 ) -> Result<Vec<u8>, ToolError<'a>>
-    ensures ok { IfOk result (λ bytes. IsNamed word.now (D.holds disk.now) (I.remaining input.old) (I.remaining input.new) bytes.items) }
-    ensures err { IfErr result (λ e. IsNamedRefusal word.now (D.holds disk.now) (I.remaining input.old) (I.remaining input.new) e) }
+    ensures ok { IfOk result (λ bytes. IsNamed word.now (D.holds disk.now) (I.remaining input.old)
+        (I.remaining input.new) bytes.items) }
+    ensures err { IfErr result (λ e. IsNamedRefusal word.now (D.holds disk.now)
+        (I.remaining input.old) (I.remaining input.new) e) }
     ensures unread { is_dash word.now ≡ false → input.new ≡ input.old }
 {
     if names_stream(word) {

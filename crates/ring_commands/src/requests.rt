@@ -26,9 +26,14 @@ pub fn answer<'a, R: AllocGlobal + Threads + Wait + Sync, D: Disk, I: Read, O: W
     out: &mut O,
     err: &mut E,
 ) -> Result<(), ToolError<'a>>
-    ensures ok { OnOk result (IsAnswer request.now (D.holds disk.old) (D.holds disk.new) (I.remaining input.old) (I.remaining input.new) (O.contents out.old) (O.contents out.new) (E.contents err.old) (E.contents err.new)) }
-    ensures err { IfErr result (λ e. IsRefusal request.now (D.holds disk.old) (D.holds disk.new) (I.remaining input.old) (I.remaining input.new) (O.contents out.old) (O.contents out.new) (E.contents err.old) (E.contents err.new) e) }
-    ensures kept { (IsOfLines request.now → ⊥) → IfErr result (λ e. e ≢ ToolError.Write → D.holds disk.new ≡ D.holds disk.old) }
+    ensures ok { OnOk result (IsAnswer request.now (D.holds disk.old) (D.holds disk.new)
+        (I.remaining input.old) (I.remaining input.new) (O.contents out.old) (O.contents out.new)
+        (E.contents err.old) (E.contents err.new)) }
+    ensures err { IfErr result (λ e. IsRefusal request.now (D.holds disk.old) (D.holds disk.new)
+        (I.remaining input.old) (I.remaining input.new) (O.contents out.old) (O.contents out.new)
+        (E.contents err.old) (E.contents err.new) e) }
+    ensures kept { (IsOfLines request.now → ⊥)
+        → IfErr result (λ e. e ≢ ToolError.Write → D.holds disk.new ≡ D.holds disk.old) }
     ensures silent { IsSilent request.now → err.new ≡ err.old }
     ensures unread { IsOfFile request.now → input.new ≡ input.old }
 {

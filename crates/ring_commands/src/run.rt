@@ -62,7 +62,8 @@ pub fn farmed<R: Threads + Wait + Sync>(
 ///
 /// `SameFile` with its name where it is, and `Save` with it where it cannot be looked at.
 fn keep_history_apart<'a, D: Disk>(disk: &D, words: &RunWords<'a>) -> Result<(), ToolError<'a>>
-    ensures ok { OnOk result (IsApart (D.holds disk.now) words.now.settings.now (history_file words.now)) }
+    ensures ok { OnOk result
+        (IsApart (D.holds disk.now) words.now.settings.now (history_file words.now)) }
     ensures err { IfErr result (λ e. IsApartRefusal (history_file words.now) e) }
 {
     match words.history {
@@ -83,8 +84,10 @@ fn farm_of_words<'a, R: Threads + Wait + Sync, D: Disk, I: Read>(
     words: &RunWords<'a>,
     input: &mut I,
 ) -> Result<Outcome, ToolError<'a>>
-    ensures ok { IfOk result (λ outcome. IsFarmNamed words.now (D.holds disk.now) (I.remaining input.old) (I.remaining input.new) outcome) }
-    ensures err { IfErr result (λ e. IsFarmNamedRefusal words.now (D.holds disk.now) (I.remaining input.old) (I.remaining input.new) e) }
+    ensures ok { IfOk result (λ outcome. IsFarmNamed words.now (D.holds disk.now)
+        (I.remaining input.old) (I.remaining input.new) outcome) }
+    ensures err { IfErr result (λ e. IsFarmNamedRefusal words.now (D.holds disk.now)
+        (I.remaining input.old) (I.remaining input.new) e) }
     ensures unread { is_dash words.now.settings.now ≡ false → input.new ≡ input.old }
 {
     let bytes = read_named(alloc, disk, words.settings, input)?;
@@ -102,7 +105,8 @@ fn farm_of_words<'a, R: Threads + Wait + Sync, D: Disk, I: Read>(
 fn save<W: Write>(outcome: &Outcome, out: &mut W) -> Result<(), WriteFault>
     requires some { 1 ≤ length outcome.now.rings.items }
     requires most { length outcome.now.rings.items ≤ ring_limit }
-    ensures written { Writes (W.contents out.old) (W.contents out.new) result (text (saved_of outcome.now)) }
+    ensures written { Writes (W.contents out.old) (W.contents out.new) result
+        (text (saved_of outcome.now)) }
     ensures legal { OnOk result (IsLegalOfFarm outcome.now) }
 {
     texts_read_back(); // says: a text that is written reads back
@@ -116,7 +120,8 @@ fn save<W: Write>(outcome: &Outcome, out: &mut W) -> Result<(), WriteFault>
 fn save_to<W: Write + Drop>(alloc: Global, outcome: &Outcome, out: W) -> Result<W, SaveFault>
     requires some { 1 ≤ length outcome.now.rings.items }
     requires most { length outcome.now.rings.items ≤ ring_limit }
-    ensures written { IfOk result (λ after. Appends (W.contents out) (W.contents after) (text (saved_of outcome.now))) }
+    ensures written { IfOk result
+        (λ after. Appends (W.contents out) (W.contents after) (text (saved_of outcome.now))) }
     ensures legal { OnOk result (IsLegalOfFarm outcome.now) }
 {
     let Ok(mut buffer) = BufWriter::new(alloc, out) else {
@@ -147,7 +152,8 @@ fn save_file<'a, H: Write + Drop>(
 ) -> Result<H, ToolError<'a>>
     requires some { 1 ≤ length outcome.now.rings.items }
     requires most { length outcome.now.rings.items ≤ ring_limit }
-    ensures written { IfOk result (λ after. Appends (H.contents history) (H.contents after) (text (saved_of outcome.now))) }
+    ensures written { IfOk result
+        (λ after. Appends (H.contents history) (H.contents after) (text (saved_of outcome.now))) }
     ensures legal { OnOk result (IsLegalOfFarm outcome.now) }
     ensures err { IfErr result (λ e. IsSaveRefusal file.now e) }
 {
@@ -171,7 +177,8 @@ fn put_outcome<'a, D: Disk>(
 ) -> Result<(), ToolError<'a>>
     requires some { 1 ≤ length outcome.now.rings.items }
     requires most { length outcome.now.rings.items ≤ ring_limit }
-    ensures stored { OnOk result (Replaces (D.holds disk.old) (D.holds disk.new) file.now (Some (text (saved_of outcome.now)))) }
+    ensures stored { OnOk result (Replaces (D.holds disk.old) (D.holds disk.new) file.now
+        (Some (text (saved_of outcome.now)))) }
     ensures legal { OnOk result (IsLegalOfFarm outcome.now) }
     ensures err { IfErr result (λ e. IsSaveRefusal file.now e) }
     ensures kept { OnErr result (D.holds disk.new ≡ D.holds disk.old) }
@@ -218,10 +225,14 @@ pub fn save_and_report<'a, D: Disk, W: Write>(
     requires some { 1 ≤ length outcome.now.rings.items }
     requires most { length outcome.now.rings.items ≤ ring_limit }
     requires few { entries_in outcome.now < 2 ^ 64 }
-    ensures stored { OnOk result (Replaces (D.holds disk.old) (D.holds disk.new) file.now (Some (text (saved_of outcome.now)))) }
+    ensures stored { OnOk result (Replaces (D.holds disk.old) (D.holds disk.new) file.now
+        (Some (text (saved_of outcome.now)))) }
     ensures legal { OnOk result (IsLegalOfFarm outcome.now) }
-    ensures told { OnOk result (Appends (W.contents out.old) (W.contents out.new) (told quiet outcome.now)) }
-    ensures err { IfErr result (λ e. IsHandOutRefusal (Some file.now) (text (saved_of outcome.now)) (told quiet outcome.now) (D.holds disk.old) (D.holds disk.new) (W.contents out.old) (W.contents out.new) e) }
+    ensures told { OnOk result
+        (Appends (W.contents out.old) (W.contents out.new) (told quiet outcome.now)) }
+    ensures err { IfErr result (λ e.
+        IsHandOutRefusal (Some file.now) (text (saved_of outcome.now)) (told quiet outcome.now)
+        (D.holds disk.old) (D.holds disk.new) (W.contents out.old) (W.contents out.new) e) }
     ensures kept { IfErr result (λ e. e ≢ ToolError.Write → D.holds disk.new ≡ D.holds disk.old) }
     ensures nothing { IfErr result (λ e. e ≢ ToolError.Write → out.new ≡ out.old) }
 {
@@ -246,10 +257,13 @@ fn hand_out<'a, D: Disk, W: Write>(
     requires some { 1 ≤ length outcome.now.rings.items }
     requires most { length outcome.now.rings.items ≤ ring_limit }
     requires few { entries_in outcome.now < 2 ^ 64 }
-    ensures stored { OnOk result (IsStored (history_file words.now) (D.holds disk.old) (D.holds disk.new) (text (saved_of outcome.now))) }
+    ensures stored { OnOk result (IsStored (history_file words.now) (D.holds disk.old)
+        (D.holds disk.new) (text (saved_of outcome.now))) }
     ensures legal { OnOk result (IsSome words.now.history → IsLegalOfFarm outcome.now) }
-    ensures told { OnOk result (Appends (W.contents out.old) (W.contents out.new) (printed words.now outcome.now)) }
-    ensures err { IfErr result (λ e. IsOutcomeRefusal words.now outcome.now (D.holds disk.old) (D.holds disk.new) (W.contents out.old) (W.contents out.new) e) }
+    ensures told { OnOk result
+        (Appends (W.contents out.old) (W.contents out.new) (printed words.now outcome.now)) }
+    ensures err { IfErr result (λ e. IsOutcomeRefusal words.now outcome.now (D.holds disk.old)
+        (D.holds disk.new) (W.contents out.old) (W.contents out.new) e) }
     ensures kept { IfErr result (λ e. e ≢ ToolError.Write → D.holds disk.new ≡ D.holds disk.old) }
     ensures nothing { IfErr result (λ e. e ≢ ToolError.Write → out.new ≡ out.old) }
 {
@@ -283,8 +297,11 @@ pub fn run<'a, R: AllocGlobal + Threads + Wait + Sync, D: Disk, I: Read, W: Writ
     input: &mut I,
     out: &mut W,
 ) -> Result<(), ToolError<'a>>
-    ensures ok { OnOk result (IsRunAnswer words.now (D.holds disk.old) (D.holds disk.new) (I.remaining input.old) (I.remaining input.new) (W.contents out.old) (W.contents out.new)) }
-    ensures err { IfErr result (λ e. IsRunRefusal words.now (D.holds disk.old) (D.holds disk.new) (I.remaining input.old) (I.remaining input.new) (W.contents out.old) (W.contents out.new) e) }
+    ensures ok { OnOk result (IsRunAnswer words.now (D.holds disk.old) (D.holds disk.new)
+        (I.remaining input.old) (I.remaining input.new) (W.contents out.old) (W.contents out.new)) }
+    ensures err { IfErr result (λ e.
+        IsRunRefusal words.now (D.holds disk.old) (D.holds disk.new) (I.remaining input.old)
+        (I.remaining input.new) (W.contents out.old) (W.contents out.new) e) }
     ensures kept { IfErr result (λ e. e ≢ ToolError.Write → D.holds disk.new ≡ D.holds disk.old) }
     ensures nothing { IfErr result (λ e. e ≢ ToolError.Write → out.new ≡ out.old) }
     ensures unread { is_dash words.now.settings.now ≡ false → input.new ≡ input.old }

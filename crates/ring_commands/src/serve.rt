@@ -113,7 +113,8 @@ fn opened<'a, D: Disk>(disk: &mut D, name: &'a str, synced: bool) -> Result<D::G
 fn put_head<W: Write>(out: &mut W, served: &Served) -> Result<(), WriteFault>
     requires some { 1 ≤ length served.now }
     requires most { length served.now < 2 ^ 32 }
-    ensures { Writes (W.contents out.old) (W.contents out.new) result (head_text (content_of served.now)) }
+    ensures { Writes (W.contents out.old) (W.contents out.new) result
+        (head_text (content_of served.now)) }
 {
     match put_first_line(out) {
         Ok(()) => put_rings(out, served),
@@ -123,7 +124,8 @@ fn put_head<W: Write>(out: &mut W, served: &Served) -> Result<(), WriteFault>
 
 /// Writes it through a buffer, of which all leaves, and hands the writer back.
 fn begun<W: Write + Drop>(alloc: Global, served: &Served, out: W) -> Option<W>
-    ensures { IfSome result (λ after. Appends (W.contents out) (W.contents after) (head_text (content_of served.now))) }
+    ensures { IfSome result
+        (λ after. Appends (W.contents out) (W.contents after) (head_text (content_of served.now))) }
 {
     let count = served.count();
     if count == 0 || count > u32::MAX as usize {
@@ -151,7 +153,8 @@ fn put_beginning<'a, D: Disk>(
     served: &Served,
     name: &'a str,
 ) -> Result<(), ToolError<'a>>
-    ensures ok { OnOk result (Replaces (D.holds disk.old) (D.holds disk.new) name.now (Some (head_text (content_of served.now)))) }
+    ensures ok { OnOk result (Replaces (D.holds disk.old) (D.holds disk.new) name.now
+        (Some (head_text (content_of served.now)))) }
     ensures err { IfErr result (λ e. IsUnkept name.now e) }
 {
     let Ok(made) = disk.make(name) else {
@@ -168,7 +171,8 @@ fn put_beginning<'a, D: Disk>(
 
 /// Writes the line of what adds up over the rings.
 fn tell_totals<W: Write>(served: &Served, err: &mut W) -> Result<(), ToolError<'static>>
-    ensures ok { OnOk result (Appends (W.contents err.old) (W.contents err.new) (total_line (length served.now) (totals_of served.now))) }
+    ensures ok { OnOk result (Appends (W.contents err.old) (W.contents err.new)
+        (total_line (length served.now) (totals_of served.now))) }
     ensures err { IfErr result (λ e. e ≡ ToolError.Write) }
 {
     let Ok(count) = u32::try_from(served.count()) else {
@@ -189,8 +193,12 @@ fn serve_plain<D: Disk, I: Read, W: Write>(
     input: &mut I,
     out: &mut W,
 ) -> Result<(), ToolError<'static>>
-    ensures ok { OnOk result (IsServedPlain served.old served.new (D.holds disk.old) (D.holds disk.new) (I.remaining input.old) (I.remaining input.new) (W.contents out.old) (W.contents out.new)) }
-    ensures err { IfErr result (λ e. IsServingFault None e × IsServedPart false served.old (I.remaining input.old) (I.remaining input.new) (W.contents out.old) (W.contents out.new)) }
+    ensures ok { OnOk result (IsServedPlain served.old served.new (D.holds disk.old)
+        (D.holds disk.new) (I.remaining input.old) (I.remaining input.new) (W.contents out.old)
+        (W.contents out.new)) }
+    ensures err { IfErr result (λ e. IsServingFault None e
+        × IsServedPart false served.old (I.remaining input.old) (I.remaining input.new)
+        (W.contents out.old) (W.contents out.new)) }
 {
     match serve(alloc, served, disk, None, input, &mut sink(), out) {
         Ok(()) => Ok(()),
@@ -208,8 +216,12 @@ fn serve_noted<'a, D: Disk, I: Read, W: Write>(
     input: &mut I,
     out: &mut W,
 ) -> Result<(), ToolError<'a>>
-    ensures ok { OnOk result (IsServedOn name.now served.old served.new (D.holds disk.old) (D.holds disk.new) (D.Grown.contents journal) (I.remaining input.old) (I.remaining input.new) (W.contents out.old) (W.contents out.new)) }
-    ensures err { IfErr result (λ e. IsServingFault (Some name.now) e × IsServedPart true served.old (I.remaining input.old) (I.remaining input.new) (W.contents out.old) (W.contents out.new)) }
+    ensures ok { OnOk result (IsServedOn name.now served.old served.new (D.holds disk.old)
+        (D.holds disk.new) (D.Grown.contents journal) (I.remaining input.old)
+        (I.remaining input.new) (W.contents out.old) (W.contents out.new)) }
+    ensures err { IfErr result (λ e. IsServingFault (Some name.now) e
+        × IsServedPart true served.old (I.remaining input.old) (I.remaining input.new)
+        (W.contents out.old) (W.contents out.new)) }
 {
     match serve(alloc, served, disk, Some(name), input, &mut journal, out) {
         Ok(()) => {}
@@ -229,7 +241,9 @@ fn begin_journal<'a, D: Disk>(
     name: &'a str,
     synced: bool,
 ) -> Result<D::Grown, ToolError<'a>>
-    ensures ok { IfOk result (λ grown. Replaces (D.holds disk.old) (D.holds disk.new) name.now (Some (head_text (content_of served.now))) × Grows (D.holds disk.new) name.now (D.Grown.contents grown)) }
+    ensures ok { IfOk result (λ grown. Replaces (D.holds disk.old) (D.holds disk.new) name.now
+        (Some (head_text (content_of served.now)))
+        × Grows (D.holds disk.new) name.now (D.Grown.contents grown)) }
     ensures err { IfErr result (λ e. IsUnkept name.now e) }
 {
     put_beginning(alloc, disk, served, name)?;
@@ -247,8 +261,12 @@ fn run_plain<D: Disk, I: Read, W: Write>(
     input: &mut I,
     out: &mut W,
 ) -> Result<Served, ToolError<'static>>
-    ensures ok { IfOk result (λ end. (start : List Standing) × AreResumed start saved.now.rings.items × IsServedPlain start end (D.holds disk.old) (D.holds disk.new) (I.remaining input.old) (I.remaining input.new) (W.contents out.old) (W.contents out.new)) }
-    ensures err { IfErr result (λ e. IsUnfinished None saved.now.rings.items (I.remaining input.old) (I.remaining input.new) (W.contents out.old) (W.contents out.new) e) }
+    ensures ok { IfOk result (λ end. (start : List Standing)
+        × AreResumed start saved.now.rings.items
+        × IsServedPlain start end (D.holds disk.old) (D.holds disk.new) (I.remaining input.old)
+        (I.remaining input.new) (W.contents out.old) (W.contents out.new)) }
+    ensures err { IfErr result (λ e. IsUnfinished None saved.now.rings.items (I.remaining input.old)
+        (I.remaining input.new) (W.contents out.old) (W.contents out.new) e) }
 {
     let mut served = match started(alloc, saved) {
         Ok(served) => served,
@@ -270,8 +288,16 @@ fn run_noted<'a, D: Disk, I: Read, W: Write>(
     input: &mut I,
     out: &mut W,
 ) -> Result<Served, ToolError<'a>>
-    ensures ok { IfOk result (λ end. (start : List Standing) × AreResumed start saved.now.rings.items × IsServedNoted name.now start end (D.holds disk.old) (D.holds disk.new) (I.remaining input.old) (I.remaining input.new) (W.contents out.old) (W.contents out.new)) }
-    ensures err { IfErr result (λ e. (IsUnserved (I.remaining input.old) (I.remaining input.new) (W.contents out.old) (W.contents out.new) × IsUnkept name.now e) ⊎ IsUnfinished (Some name.now) saved.now.rings.items (I.remaining input.old) (I.remaining input.new) (W.contents out.old) (W.contents out.new) e) }
+    ensures ok { IfOk result (λ end. (start : List Standing)
+        × AreResumed start saved.now.rings.items
+        × IsServedNoted name.now start end (D.holds disk.old) (D.holds disk.new)
+        (I.remaining input.old) (I.remaining input.new) (W.contents out.old)
+        (W.contents out.new)) }
+    ensures err { IfErr result (λ e. (IsUnserved (I.remaining input.old) (I.remaining input.new)
+        (W.contents out.old) (W.contents out.new)
+        × IsUnkept name.now e)
+        ⊎ IsUnfinished (Some name.now) saved.now.rings.items (I.remaining input.old)
+        (I.remaining input.new) (W.contents out.old) (W.contents out.new) e) }
 {
     let mut served = match started(alloc, saved) {
         Ok(served) => served,
@@ -297,8 +323,15 @@ fn run_journaled<'a, D: Disk, I: Read, W: Write>(
     input: &mut I,
     out: &mut W,
 ) -> Result<Served, ToolError<'a>>
-    ensures ok { IfOk result (λ end. (from : Saved) × IsNoted (D.holds disk.old) name.now saved from × (start : List Standing) × AreResumed start from.rings.items × IsServedNoted name.now start end (D.holds disk.old) (D.holds disk.new) (I.remaining input.old) (I.remaining input.new) (W.contents out.old) (W.contents out.new)) }
-    ensures err { IfErr result (λ e. IsRefusedFrom (D.holds disk.old) (Some name.now) saved (I.remaining input.old) (I.remaining input.new) (W.contents out.old) (W.contents out.new) e) }
+    ensures ok { IfOk result (λ end. (from : Saved)
+        × IsNoted (D.holds disk.old) name.now saved from
+        × (start : List Standing)
+        × AreResumed start from.rings.items
+        × IsServedNoted name.now start end (D.holds disk.old) (D.holds disk.new)
+        (I.remaining input.old) (I.remaining input.new) (W.contents out.old) (W.contents out.new)) }
+    ensures err { IfErr result (λ e.
+        IsRefusedFrom (D.holds disk.old) (Some name.now) saved (I.remaining input.old)
+        (I.remaining input.new) (W.contents out.old) (W.contents out.new) e) }
 {
     let lock = match opened(disk, name, false) {
         Ok(lock) => lock,
@@ -322,8 +355,12 @@ fn run_on<'a, D: Disk, I: Read, W: Write>(
     input: &mut I,
     out: &mut W,
 ) -> Result<Served, ToolError<'a>>
-    ensures ok { IfOk result (λ end. IsServedFrom words.now saved end (D.holds disk.old) (D.holds disk.new) (I.remaining input.old) (I.remaining input.new) (W.contents out.old) (W.contents out.new)) }
-    ensures err { IfErr result (λ e. IsRefusedFrom (D.holds disk.old) (journal_of words.now) saved (I.remaining input.old) (I.remaining input.new) (W.contents out.old) (W.contents out.new) e) }
+    ensures ok { IfOk result (λ end.
+        IsServedFrom words.now saved end (D.holds disk.old) (D.holds disk.new)
+        (I.remaining input.old) (I.remaining input.new) (W.contents out.old) (W.contents out.new)) }
+    ensures err { IfErr result (λ e.
+        IsRefusedFrom (D.holds disk.old) (journal_of words.now) saved (I.remaining input.old)
+        (I.remaining input.new) (W.contents out.old) (W.contents out.new) e) }
 {
     match words.journal {
         None => match run_plain(alloc, disk, &saved, input, out) {
@@ -354,8 +391,12 @@ pub fn run<'a, D: Disk, I: Read, W: Write, E: Write>(
     out: &mut W,
     err: &mut E,
 ) -> Result<(), ToolError<'a>>
-    ensures ok { OnOk result (IsServeAnswer words.now (D.holds disk.old) (D.holds disk.new) (I.remaining input.old) (I.remaining input.new) (W.contents out.old) (W.contents out.new) (E.contents err.old) (E.contents err.new)) }
-    ensures err { IfErr result (λ e. IsServeRefusal words.now (D.holds disk.old) (I.remaining input.old) (I.remaining input.new) (W.contents out.old) (W.contents out.new) e) }
+    ensures ok { OnOk result (IsServeAnswer words.now (D.holds disk.old) (D.holds disk.new)
+        (I.remaining input.old) (I.remaining input.new) (W.contents out.old) (W.contents out.new)
+        (E.contents err.old) (E.contents err.new)) }
+    ensures err { IfErr result (λ e.
+        IsServeRefusal words.now (D.holds disk.old) (I.remaining input.old) (I.remaining input.new)
+        (W.contents out.old) (W.contents out.new) e) }
 {
     let saved = match history(alloc, disk, words.history) {
         Ok(saved) => saved,

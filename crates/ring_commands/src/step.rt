@@ -25,7 +25,8 @@ use text_lines::{WriteFault, put, put_all, put_list};
 
 /// The line of a granted pass: the machine, and the number of the grant.
 fn write_granted<W: Write>(out: &mut W, machine: u32, number: u64) -> Result<(), WriteFault>
-    ensures { Writes (W.contents out.old) (W.contents out.new) result (granted_line machine number) }
+    ensures { Writes (W.contents out.old) (W.contents out.new) result
+        (granted_line machine number) }
 {
     let mut machine_digits = Buffer::new();
     let mut digits = Buffer::new();
@@ -155,12 +156,15 @@ pub fn step_lines<W: Write>(
     out: &mut W,
 ) -> Result<(), ToolError<'static>>
     // What is written: all of the text, or a beginning of it, or nothing where there is a fault.
-    ensures written { OnOk result (Appends (W.contents out.old) (W.contents out.new) (step_text (ring_with k states.now) choices.now)) }
-    ensures front { OnErr result (AppendsFront (W.contents out.old) (W.contents out.new) (step_text (ring_with k states.now) choices.now)) }
+    ensures written { OnOk result (Appends (W.contents out.old) (W.contents out.new)
+        (step_text (ring_with k states.now) choices.now)) }
+    ensures front { OnErr result (AppendsFront (W.contents out.old) (W.contents out.new)
+        (step_text (ring_with k states.now) choices.now)) }
     ensures nothing { IsSome (fault_of n k states.now choices.now) → out.new ≡ out.old }
 
     // What is answered.
-    ensures ok { OnOk result ((fault_of n k states.now choices.now ≡ None) × (length choices.now ≤ event_limit)) }
+    ensures ok { OnOk result
+        ((fault_of n k states.now choices.now ≡ None) × (length choices.now ≤ event_limit)) }
     ensures err { IfErr result (λ e. IsStepRefusal n k states.now choices.now e) }
 {
     let mut book = opened(alloc, n, k, states, choices)?;
@@ -174,8 +178,10 @@ pub fn step_lines<W: Write>(
 
 /// The numbers of a list that may be left out.
 fn choices_of(alloc: Global, word: Option<&str>) -> Result<Vec<u32>, ToolError<'static>>
-    ensures ok { IfOk result (λ choices. AreChoices (option_map (λ word. word.now) word.entry) choices.items) }
-    ensures err { IfErr result (λ e. IsChoicesRefusal (option_map (λ word. word.now) word.entry) e) }
+    ensures ok { IfOk result
+        (λ choices. AreChoices (option_map (λ word. word.now) word.entry) choices.items) }
+    ensures err { IfErr result
+        (λ e. IsChoicesRefusal (option_map (λ word. word.now) word.entry) e) }
 {
     match word {
         Some(text) => read_list(alloc, text),
@@ -194,7 +200,8 @@ pub fn run<W: Write>(
     out: &mut W,
 ) -> Result<(), ToolError<'static>>
     ensures ok { OnOk result (IsStepAnswer words.now (W.contents out.old) (W.contents out.new)) }
-    ensures err { IfErr result (λ e. IsStepWordsRefusal words.now (W.contents out.old) (W.contents out.new) e) }
+    ensures err { IfErr result
+        (λ e. IsStepWordsRefusal words.now (W.contents out.old) (W.contents out.new) e) }
 {
     let states = read_list(alloc, words.states)?;
     let choices = choices_of(alloc, words.choices)?;

@@ -53,13 +53,23 @@ pub fn run<'a, D: Disk, I: Read, W: Write, E: Write>(
     out: &mut W,
     err: &mut E,
 ) -> Result<(), ToolError<'a>>
-    ensures ok { OnOk result (IsUpgradeAnswer words.now (D.holds disk.old) (D.holds disk.new) (I.remaining input.old) (I.remaining input.new) (W.contents out.old) (W.contents out.new) (E.contents err.old) (E.contents err.new)) }
-    ensures err { IfErr result (λ e. IsUpgradeRefusal words.now (D.holds disk.old) (D.holds disk.new) (I.remaining input.old) (I.remaining input.new) (W.contents out.old) (W.contents out.new) (E.contents err.old) (E.contents err.new) e) }
+    ensures ok { OnOk result (IsUpgradeAnswer words.now (D.holds disk.old) (D.holds disk.new)
+        (I.remaining input.old) (I.remaining input.new) (W.contents out.old) (W.contents out.new)
+        (E.contents err.old) (E.contents err.new)) }
+    ensures err { IfErr result (λ e. IsUpgradeRefusal words.now (D.holds disk.old)
+        (D.holds disk.new) (I.remaining input.old) (I.remaining input.new) (W.contents out.old)
+        (W.contents out.new) (E.contents err.old) (E.contents err.new) e) }
     ensures kept { IfErr result (λ e. e ≢ ToolError.Write → D.holds disk.new ≡ D.holds disk.old) }
     ensures nothing { IfErr result (λ e. e ≢ ToolError.Write → out.new ≡ out.old) }
     ensures silent { is_dash words.now.new.now ≡ false → err.new ≡ err.old }
     ensures unread { is_dash words.now.file.now ≡ false → input.new ≡ input.old }
-    ensures unmade { (disk.new ≡ disk.old) ⊎ ((bytes : List ℕ) × (c : Content) × (sums : Summary) × IsNamed words.now.file.now (D.holds disk.old) (I.remaining input.old) (I.remaining input.new) bytes × IsUpgradeOf bytes c sums) }
+    ensures unmade { (disk.new ≡ disk.old)
+        ⊎ ((bytes : List ℕ)
+        × (c : Content)
+        × (sums : Summary)
+        × IsNamed words.now.file.now (D.holds disk.old) (I.remaining input.old)
+        (I.remaining input.new) bytes
+        × IsUpgradeOf bytes c sums) }
 {
     let bytes = read_named(alloc, disk, words.file, input)?;
     let value = upgraded(alloc, bytes.as_slice())?;

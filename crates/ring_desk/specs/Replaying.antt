@@ -21,7 +21,8 @@ use Rattle.ring_desk.specs.Rings.{RingView, IsOneThreadRing}
 abbrev pub named : List SavedEvent → List ℕ
 named es = map (λ (e : SavedEvent). machine_of (event_of e).op) es
 
--- the machines of a block in rising order: those from x - 1 down to 0 turned round, and then the falling ones behind them turned round
+-- the machines of a block in rising order: those from x - 1 down to 0 turned round, and then the
+-- falling ones behind them turned round
 abbrev pub rising_of : List ℕ → List ℕ
 rising_of ms = reverse (take (least_of ms) ms) ++ reverse (drop (least_of ms) ms)
 
@@ -39,7 +40,8 @@ Climbs low (s ∷ ss) = (low ≤ s.position) × Climbs s.position ss
 
 -- the surveys that the client of a seat was told
 abbrev pub told_by : List Told → ℕ → List SavedSurvey
-told_by cs seat = entry_surveys seat (slice_index_or cs seat (record { number = seat; log = [] })).log
+told_by cs seat =
+    entry_surveys seat (slice_index_or cs seat (record { number = seat; log = [] })).log
 
 -- the start and the number of seats stay
 pub record Keeps (old new : RingView ℕ) : Type 0 where
@@ -75,4 +77,5 @@ pub record Awaits (d : RingView ℕ) (h : List Event) (ss : List SavedSurvey) : 
 
 -- each seat was told those of these surveys that are its own besides
 abbrev pub Surveyed : RingView ℕ → RingView ℕ → List SavedSurvey → Type 0
-Surveyed old new ss = (seat : ℕ) → told_by new.clients seat ≡ told_by old.clients seat ++ filter (is_by seat) ss
+Surveyed old new ss =
+    (seat : ℕ) → told_by new.clients seat ≡ told_by old.clients seat ++ filter (is_by seat) ss

@@ -16,8 +16,8 @@ use Rattle.ring_desk.specs.declared.errors.OpenError.TheVariants as opens
 use Rattle.ring_desk.specs.declared.resuming.ResumeError.{ResumeError}
 use Rattle.ring_desk.specs.declared.resuming.ResumeError.TheVariants as resume
 
--- A ring of so many seats can go on with this block: it is right at some place of a text, each call and each survey is by one of the seats,
--- and a history may have so many events.
+-- A ring of so many seats can go on with this block: it is right at some place of a text, each call
+-- and each survey is by one of the seats, and a history may have so many events.
 pub record CanGoOnWith (seats : ℕ) (b : Block) : Type 0 where
   pub version : ℕ
   pub place : ℕ

@@ -33,20 +33,25 @@ pub record RingView (C : Type 0) : Type 0 where
   pub clients : List Told
 
 -- the client has its place as its number, and its log fits the history
-pub record IsClient {C : Type 0} (w : Works C) (first : C) (b : BookView C) (place : ℕ) (c : Told) : Type 0 where
+pub record IsClient {C : Type 0} (w : Works C) (first : C) (b : BookView C) (place : ℕ) (c : Told) :
+    Type 0 where
   pub number : c.number ≡ place
   pub fits : Fits w (opening b.start first) b.history place c.log
 
--- What is true of such a ring at every moment: its history is a legal and whole one of the one-thread ring over the resource, each event's seat
--- is a client's, and each client's log fits it.
+-- What is true of such a ring at every moment: its history is a legal and whole one of the
+-- one-thread ring over the resource, each event's seat is a client's, and each client's log fits
+-- it.
 pub record IsOneThreadRing {C : Type 0} (w : Works C) (first : C) (d : RingView C) : Type 0 where
   pub book : IsBook w first d.book
   pub few : length d.clients ≤ seat_limit
   pub of_seats : AreOfSeats (length d.clients) d.book.history
-  pub each : (i : ℕ) (c : Told) → i < length d.clients → IsClient w first d.book i (slice_index_or d.clients i c)
+  pub each : (i : ℕ) (c : Told) → i < length d.clients
+      → IsClient w first d.book i (slice_index_or d.clients i c)
 
--- such a ring with what these clients were told of its history, each of whose surveys stand in their order
-pub record IsKeptBy {C : Type 0} (w : Works C) (first : C) (b : BookView C) (cs : List ClientView) : Type 0 where
+-- such a ring with what these clients were told of its history, each of whose surveys stand in
+-- their order
+pub record IsKeptBy {C : Type 0} (w : Works C) (first : C) (b : BookView C) (cs : List ClientView) :
+    Type 0 where
   pub ring : IsOneThreadRing w first (record { book = b; clients = told_all b.history cs })
   pub in_order : AllStandInOrder (length b.history) cs
 
@@ -56,7 +61,8 @@ grown c es = record { number = c.number; log = c.log ++ es }
 
 -- the client of this number was told this besides, and no other anything
 abbrev pub told_more : List Told → ℕ → List Entry → List Told
-told_more cs seat es = slice_set cs seat (grown (slice_index_or cs seat (record { number = seat; log = [] })) es)
+told_more cs seat es =
+    slice_set cs seat (grown (slice_index_or cs seat (record { number = seat; log = [] })) es)
 
 -- the refusal of a book, by the ring
 abbrev pub refusal_of : BookError → CallError
@@ -95,16 +101,23 @@ IsRisingGroup n machines = Rises 0 n machines × (1 ≤ length machines)
 -- why a group pass is refused
 abbrev pub IsGroupRefusal : {C : Type 0} → RingView C → ℕ → List ℕ → CallError → Type 0
 IsGroupRefusal d seat machines call.NoSeat = length d.clients ≤ seat
-IsGroupRefusal d seat machines call.NotRising = IsRisingGroup (length d.book.now.ring.values) machines → ⊥
+IsGroupRefusal d seat machines call.NotRising =
+    IsRisingGroup (length d.book.now.ring.values) machines → ⊥
 IsGroupRefusal d seat machines call.WholeRing = length machines ≡ length d.book.now.ring.values
-IsGroupRefusal d seat machines (call.NotPrivileged m) = (length machines ≢ length d.book.now.ring.values) × IsLeastWithout d.book.now.ring.values machines m
-IsGroupRefusal d seat machines call.HistoryFull = CanMove d.book.now.ring.values machines × (event_limit < length d.book.history + length machines)
+IsGroupRefusal d seat machines (call.NotPrivileged m) =
+    (length machines ≢ length d.book.now.ring.values)
+    × IsLeastWithout d.book.now.ring.values machines m
+IsGroupRefusal d seat machines call.HistoryFull =
+    CanMove d.book.now.ring.values machines
+    × (event_limit < length d.book.history + length machines)
 IsGroupRefusal d seat machines call.OutOfMemory = Unit {0}
 IsGroupRefusal d seat machines _ = ⊥
 
 -- so many clients, each with its place as its number, that were told nothing
 abbrev pub AreFresh : ℕ → List Told → Type 0
-AreFresh count cs = (length cs ≡ count) × ((i : ℕ) (c : Told) → i < count → slice_index_or cs i c ≡ record { number = i; log = [] })
+AreFresh count cs =
+    (length cs ≡ count)
+    × ((i : ℕ) (c : Told) → i < count → slice_index_or cs i c ≡ record { number = i; log = [] })
 
 -- the logs are those of the clients, in their order
 abbrev pub AreLogsOf : List Told → List Log → Type 0
@@ -127,13 +140,18 @@ abbrev pub IsSizeFault : Size → ParamsError → Type 0
 IsSizeFault size params.TooFew = size.n < 2
 IsSizeFault size params.TooMany = machine_limit < size.n
 IsSizeFault size params.FewValues = (2 ≤ size.n) × (size.n ≤ machine_limit) × (size.k < size.n)
-IsSizeFault size params.ManyValues = (2 ≤ size.n) × (size.n ≤ machine_limit) × (value_limit < size.k)
+IsSizeFault size params.ManyValues =
+    (2 ≤ size.n) × (size.n ≤ machine_limit) × (value_limit < size.k)
 
--- Each refusal to open a ring says which fault is the first: the seats, the size, the number of start values, the least of them that is not below K;
--- want of memory only where there is none of these.
+-- Each refusal to open a ring says which fault is the first: the seats, the size, the number of
+-- start values, the least of them that is not below K; want of memory only where there is none of
+-- these.
 abbrev pub IsOpenFault : Size → List ℕ → ℕ → OpenError → Type 0
 IsOpenFault size start seats opens.Seats = (seats ≡ 0) ⊎ (seat_limit < seats)
 IsOpenFault size start seats (opens.Size e) = IsSeatCount seats × IsSizeFault size e
-IsOpenFault size start seats opens.Length = IsSeatCount seats × IsSize size × IsFaultOf size start state.Length
-IsOpenFault size start seats (opens.Value i) = IsSeatCount seats × IsSize size × IsFaultOf size start (state.Value i)
-IsOpenFault size start seats opens.OutOfMemory = IsSeatCount seats × IsSize size × IsFaultOf size start state.OutOfMemory
+IsOpenFault size start seats opens.Length =
+    IsSeatCount seats × IsSize size × IsFaultOf size start state.Length
+IsOpenFault size start seats (opens.Value i) =
+    IsSeatCount seats × IsSize size × IsFaultOf size start (state.Value i)
+IsOpenFault size start seats opens.OutOfMemory =
+    IsSeatCount seats × IsSize size × IsFaultOf size start state.OutOfMemory

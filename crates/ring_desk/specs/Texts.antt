@@ -22,7 +22,8 @@ client_surveys c = map (saved_survey c.number) c.surveys
 abbrev pub surveys_kept : List ClientView → List SavedSurvey
 surveys_kept cs = flat_map client_surveys cs
 
--- the block of a ring at its place: its start, its history, and the surveys of its clients' logs, client by client
+-- the block of a ring at its place: its start, its history, and the surveys of its clients' logs,
+-- client by client
 abbrev pub saved_block : ℕ → RingView ℕ → Block
 saved_block place d = record {
   index = place;

@@ -57,7 +57,8 @@ impl Client {
 
     /// Tells the client a survey.
     pub(crate) fn tell(&mut self, survey: Survey) -> Result<(), AllocError>
-        ensures told { OnOk result (self.new ≡ record { number = self.old.number; surveys = self.old.surveys ++ survey ∷ [] }) }
+        ensures told { OnOk result (self.new
+            ≡ record { number = self.old.number; surveys = self.old.surveys ++ survey ∷ [] }) }
         ensures err { OnErr result (self.new ≡ self.old) }
     {
         self.surveys.reserve(1)?;
@@ -68,7 +69,8 @@ impl Client {
     /// What the client was told, in order, where this is the history.
     pub(crate) fn log(&self, alloc: Global, history: &[Event]) -> Result<Vec<Entry>, AllocError>
         requires { StandInOrder 0 (length history.now) self.now.surveys }
-        ensures { IfOk result (λ log. log.items ≡ log_from self.now.number 0 history.now self.now.surveys) }
+        ensures { IfOk result
+            (λ log. log.items ≡ log_from self.now.number 0 history.now self.now.surveys) }
     {
         log_of(alloc, history, self.number, &self.surveys)
     }
@@ -107,7 +109,8 @@ fn log_part(
 ) -> Result<(), AllocError>
     requires from { from ≤ to }
     requires to { to ≤ length history.now }
-    ensures { OnOk result (log.new.items ≡ log.old.items ++ receipts_by seat from (slice_range history.now from to)) }
+    ensures { OnOk result
+        (log.new.items ≡ log.old.items ++ receipts_by seat from (slice_range history.now from to)) }
 {
     log_events(log, seat, &history[from..to], from as u64)
 }

@@ -73,7 +73,10 @@ fn retell(
     saved: &SavedRing,
 ) -> Result<(), ResumeError>
     ensures kept { OnOk result (Keeps ring.old ring.new) }
-    ensures goes { (seats : ℕ) → CanGoOnWith seats (block_of saved.now) → IsOpenedFor seats (block_of saved.now) ring.old → IfOk result (λ _. Tells ring.new (block_of saved.now)) × IfErr result (λ e. IsWantOfMemory e) }
+    ensures goes { (seats : ℕ) → CanGoOnWith seats (block_of saved.now)
+        → IsOpenedFor seats (block_of saved.now) ring.old
+        → IfOk result (λ _. Tells ring.new (block_of saved.now))
+        × IfErr result (λ e. IsWantOfMemory e) }
 {
     let Ok(surveys) = by_place(alloc, &saved.surveys) else {
         return Err(ResumeError::OutOfMemory);
@@ -99,7 +102,8 @@ fn follow(
     ensures kept { OnOk result (Keeps ring.old ring.new) }
     ensures ring { OnOk result (IsOneThreadRing till 0 ring.new) }
     ensures tells { OnOk result (Tells ring.new (block_of saved.now)) }
-    ensures legal { (seats : ℕ) → CanGoOnWith seats (block_of saved.now) → IsOpenedFor seats (block_of saved.now) ring.old → IfErr result (λ e. IsWantOfMemory e) }
+    ensures legal { (seats : ℕ) → CanGoOnWith seats (block_of saved.now)
+        → IsOpenedFor seats (block_of saved.now) ring.old → IfErr result (λ e. IsWantOfMemory e) }
 {
     match retell(alloc, ring, saved) {
         Ok(()) => {}

@@ -42,7 +42,8 @@ impl<R: Resource + Drop> Model for OneThreadRing<R> {
 
     ghost Value = { RingView R };
 
-    ghost view = { λ d. record { book = d.book; clients = told_all d.book.history d.clients.items } };
+    ghost view = { λ d.
+        record { book = d.book; clients = told_all d.book.history d.clients.items } };
 
     ghost invariant = { λ d. IsKeptBy R.works R.first d.book d.clients.items };
 }
@@ -100,8 +101,11 @@ impl<R: Resource + Drop> OneThreadRing<R> {
     ) -> Result<OneThreadRing<R>, OpenError>
         requires { resource ≡ R.first }
         ensures ring { IfOk result (λ d. IsOneThreadRing R.works R.first d) }
-        ensures fresh { IfOk result (λ d. IsFresh (record { k = k; values = start.now }) R.first d.book × AreFresh seats d.clients) }
-        ensures sizes { IfOk result (λ _. IsSeatCount seats × IsSize (record { n = n; k = k }) × (length start.now ≡ n)) }
+        ensures fresh { IfOk result (λ d.
+            IsFresh (record { k = k; values = start.now }) R.first d.book
+            × AreFresh seats d.clients) }
+        ensures sizes { IfOk result
+            (λ _. IsSeatCount seats × IsSize (record { n = n; k = k }) × (length start.now ≡ n)) }
         ensures err { IfErr result (λ e. IsOpenFault (record { n = n; k = k }) start.now seats e) }
     {
         if seats == 0 || seats as usize > SEAT_LIMIT {
@@ -168,7 +172,8 @@ impl<R: Resource + Drop> OneThreadRing<R> {
     ///
     /// `NoSeat`, `OutOfMemory`.
     pub fn log(&self, alloc: Global, seat: u32) -> Result<Vec<Entry>, CallError>
-        ensures ok { IfOk result (λ log. log.items ≡ (slice_index_or self.now.clients seat (record { number = seat; log = [] })).log) }
+        ensures ok { IfOk result (λ log. log.items
+            ≡ (slice_index_or self.now.clients seat (record { number = seat; log = [] })).log) }
         ensures seat { IsErrOf result CallError.NoSeat ↔ length self.now.clients ≤ seat }
         ensures refused { IfErr result (λ e. IsSurveyFault self.now seat e) }
     {
@@ -185,14 +190,21 @@ impl<R: Resource + Drop> OneThreadRing<R> {
     ///
     /// The first that applies: `NoSeat`, `NoMachine`; `HistoryFull`, `OutOfMemory`. Nothing has changed then.
     pub fn pass(&mut self, seat: u32, machine: u32, order: u64) -> Result<Receipt, CallError>
-        ensures ok { IfOk result (λ r. IsRecorded R.works self.old.book self.new.book seat (op.Pass machine order) r) }
-        ensures told { IfOk result (λ r. self.new.clients ≡ told_more self.old.clients seat (Entry.Receipt r ∷ [])) }
+        ensures ok { IfOk result
+            (λ r. IsRecorded R.works self.old.book self.new.book seat (op.Pass machine order) r) }
+        ensures told { IfOk result
+            (λ r. self.new.clients ≡ told_more self.old.clients seat (Entry.Receipt r ∷ [])) }
         ensures ring { IsOneThreadRing R.works R.first self.new }
-        ensures settlement { Settlement R.works (opening self.new.book.start R.first) self.new.book.history }
+        ensures settlement { Settlement R.works (opening self.new.book.start R.first)
+            self.new.book.history }
         ensures err { OnErr result (self.new ≡ self.old) }
         ensures seat { IsErrOf result CallError.NoSeat ↔ length self.old.clients ≤ seat }
-        ensures machine { IsErrOf result CallError.NoMachine ↔ (seat < length self.old.clients) × (length self.old.book.now.ring.values ≤ machine) }
-        ensures full { IsErrOf result CallError.HistoryFull ↔ (seat < length self.old.clients) × (machine < length self.old.book.now.ring.values) × (length self.old.book.history ≡ event_limit) }
+        ensures machine { IsErrOf result CallError.NoMachine
+            ↔ (seat < length self.old.clients) × (length self.old.book.now.ring.values ≤ machine) }
+        ensures full { IsErrOf result CallError.HistoryFull
+            ↔ (seat < length self.old.clients)
+            × (machine < length self.old.book.now.ring.values)
+            × (length self.old.book.history ≡ event_limit) }
         ensures refused { IfErr result (λ e. IsPassFault self.old seat machine e) }
     {
         if seat as usize >= self.clients.len() {
@@ -211,13 +223,23 @@ impl<R: Resource + Drop> OneThreadRing<R> {
     ///
     /// The first that applies: `NoSeat`, `NoMachine`, `NoValue`; `HistoryFull`, `OutOfMemory`. Nothing has changed then.
     pub fn corrupt(&mut self, seat: u32, machine: u32, value: u32) -> Result<Receipt, CallError>
-        ensures ok { IfOk result (λ r. IsRecorded R.works self.old.book self.new.book seat (op.Corrupt machine value) r) }
-        ensures told { IfOk result (λ r. self.new.clients ≡ told_more self.old.clients seat (Entry.Receipt r ∷ [])) }
+        ensures ok { IfOk result (λ r.
+            IsRecorded R.works self.old.book self.new.book seat (op.Corrupt machine value) r) }
+        ensures told { IfOk result
+            (λ r. self.new.clients ≡ told_more self.old.clients seat (Entry.Receipt r ∷ [])) }
         ensures ring { IsOneThreadRing R.works R.first self.new }
         ensures seat { IsErrOf result CallError.NoSeat ↔ length self.old.clients ≤ seat }
-        ensures machine { IsErrOf result CallError.NoMachine ↔ (seat < length self.old.clients) × (length self.old.book.now.ring.values ≤ machine) }
-        ensures value { IsErrOf result CallError.NoValue ↔ (seat < length self.old.clients) × (machine < length self.old.book.now.ring.values) × (self.old.book.now.ring.k ≤ value) }
-        ensures full { IsErrOf result CallError.HistoryFull ↔ (seat < length self.old.clients) × (machine < length self.old.book.now.ring.values) × (value < self.old.book.now.ring.k) × (length self.old.book.history ≡ event_limit) }
+        ensures machine { IsErrOf result CallError.NoMachine
+            ↔ (seat < length self.old.clients) × (length self.old.book.now.ring.values ≤ machine) }
+        ensures value { IsErrOf result CallError.NoValue
+            ↔ (seat < length self.old.clients)
+            × (machine < length self.old.book.now.ring.values)
+            × (self.old.book.now.ring.k ≤ value) }
+        ensures full { IsErrOf result CallError.HistoryFull
+            ↔ (seat < length self.old.clients)
+            × (machine < length self.old.book.now.ring.values)
+            × (value < self.old.book.now.ring.k)
+            × (length self.old.book.history ≡ event_limit) }
         ensures refused { IfErr result (λ e. IsCorruptFault self.old seat machine value e) }
         ensures err { OnErr result (self.new ≡ self.old) }
     {
@@ -246,14 +268,30 @@ impl<R: Resource + Drop> OneThreadRing<R> {
         machines: &[u32],
         order: u64,
     ) -> Result<GroupReceipt, CallError>
-        ensures ok { IfOk result (λ r. IsGroupRecorded R.works self.old.book self.new.book seat order machines.now r) }
-        ensures told { IfOk result (λ r. self.new.clients ≡ told_more self.old.clients seat (receipts_from r.first (drop r.first self.new.book.history))) }
+        ensures ok { IfOk result
+            (λ r. IsGroupRecorded R.works self.old.book self.new.book seat order machines.now r) }
+        ensures told { IfOk result (λ r. self.new.clients
+            ≡ told_more self.old.clients seat
+            (receipts_from r.first (drop r.first self.new.book.history))) }
         ensures ring { IsOneThreadRing R.works R.first self.new }
         ensures seat { IsErrOf result CallError.NoSeat ↔ length self.old.clients ≤ seat }
-        ensures rising { IsErrOf result CallError.NotRising ↔ (seat < length self.old.clients) × (IsRisingGroup (length self.old.book.now.ring.values) machines.now → ⊥) }
-        ensures whole { IsErrOf result CallError.WholeRing ↔ (seat < length self.old.clients) × IsRisingGroup (length self.old.book.now.ring.values) machines.now × (length machines.now ≡ length self.old.book.now.ring.values) }
-        ensures unprivileged { (m : ℕ) → IsErrOf result (CallError.NotPrivileged m) ↔ (seat < length self.old.clients) × IsRisingGroup (length self.old.book.now.ring.values) machines.now × (length machines.now ≢ length self.old.book.now.ring.values) × IsLeastWithout self.old.book.now.ring.values machines.now m }
-        ensures full { IsErrOf result CallError.HistoryFull ↔ (seat < length self.old.clients) × CanMove self.old.book.now.ring.values machines.now × (event_limit < length self.old.book.history + length machines.now) }
+        ensures rising { IsErrOf result CallError.NotRising
+            ↔ (seat < length self.old.clients)
+            × (IsRisingGroup (length self.old.book.now.ring.values) machines.now → ⊥) }
+        ensures whole { IsErrOf result CallError.WholeRing
+            ↔ (seat < length self.old.clients)
+            × IsRisingGroup (length self.old.book.now.ring.values) machines.now
+            × (length machines.now ≡ length self.old.book.now.ring.values) }
+        ensures unprivileged { (m : ℕ)
+            → IsErrOf result (CallError.NotPrivileged m)
+            ↔ (seat < length self.old.clients)
+            × IsRisingGroup (length self.old.book.now.ring.values) machines.now
+            × (length machines.now ≢ length self.old.book.now.ring.values)
+            × IsLeastWithout self.old.book.now.ring.values machines.now m }
+        ensures full { IsErrOf result CallError.HistoryFull
+            ↔ (seat < length self.old.clients)
+            × CanMove self.old.book.now.ring.values machines.now
+            × (event_limit < length self.old.book.history + length machines.now) }
         ensures refused { IfErr result (λ e. IsGroupRefusal self.old seat machines.now e) }
         ensures err { OnErr result (self.new ≡ self.old) }
     {
@@ -269,7 +307,9 @@ impl<R: Resource + Drop> OneThreadRing<R> {
 
     /// What is privileged now, how long the ring has been calm, and what is left until it is settled. Nothing is logged.
     pub fn glance(&self) -> Survey
-        ensures { result ≡ survey_at R.works (opening self.now.book.start R.first) self.now.book.history (length self.now.book.history) }
+        ensures { result
+            ≡ survey_at R.works (opening self.now.book.start R.first) self.now.book.history
+            (length self.now.book.history) }
     {
         self.book.survey()
     }
@@ -280,8 +320,11 @@ impl<R: Resource + Drop> OneThreadRing<R> {
     ///
     /// `NoSeat`, `OutOfMemory`. Nothing has changed then.
     pub fn survey(&mut self, seat: u32) -> Result<Survey, CallError>
-        ensures ok { IfOk result (λ s. s ≡ survey_at R.works (opening self.old.book.start R.first) self.old.book.history (length self.old.book.history)) }
-        ensures told { IfOk result (λ s. self.new.clients ≡ told_more self.old.clients seat (Entry.Survey s ∷ [])) }
+        ensures ok { IfOk result (λ s. s
+            ≡ survey_at R.works (opening self.old.book.start R.first) self.old.book.history
+            (length self.old.book.history)) }
+        ensures told { IfOk result
+            (λ s. self.new.clients ≡ told_more self.old.clients seat (Entry.Survey s ∷ [])) }
         ensures book { self.new.book ≡ self.old.book }
         ensures ring { IsOneThreadRing R.works R.first self.new }
         ensures seat { IsErrOf result CallError.NoSeat ↔ length self.old.clients ≤ seat }

@@ -20,7 +20,8 @@ use std::io::Write;
 
 /// Writes the surveys that a client was told.
 fn put_surveys<W: Write>(out: &mut W, client: &Client) -> Result<(), WriteFault>
-    ensures written { Writes (W.contents out.old) (W.contents out.new) result (flat_map survey_line (client_surveys client.now)) }
+    ensures written { Writes (W.contents out.old) (W.contents out.new) result
+        (flat_map survey_line (client_surveys client.now)) }
     ensures fits { IfOk result (λ _. AllByRecursion SurveyFits (client_surveys client.now)) }
 {
     let number = client.number();
@@ -36,7 +37,8 @@ fn put_surveys<W: Write>(out: &mut W, client: &Client) -> Result<(), WriteFault>
 
 /// Writes the surveys that the clients were told, client by client.
 fn put_clients<W: Write>(out: &mut W, clients: &[Client]) -> Result<(), WriteFault>
-    ensures written { Writes (W.contents out.old) (W.contents out.new) result (flat_map survey_line (surveys_kept clients.now)) }
+    ensures written { Writes (W.contents out.old) (W.contents out.new) result
+        (flat_map survey_line (surveys_kept clients.now)) }
     ensures fits { IfOk result (λ _. AllByRecursion SurveyFits (surveys_kept clients.now)) }
 {
     for client in clients {
@@ -59,7 +61,8 @@ pub fn put_ring<W: Write>(
     place: u32,
     ring: &OneThreadRing<Till>,
 ) -> Result<(), WriteFault>
-    ensures written { Writes (W.contents out.old) (W.contents out.new) result (block_text (saved_block place ring.now)) }
+    ensures written { Writes (W.contents out.old) (W.contents out.new) result
+        (block_text (saved_block place ring.now)) }
     ensures fits { IfOk result (λ _. BlockFits latest_version (saved_block place ring.now)) }
 {
     let start = ring.start();
@@ -77,7 +80,8 @@ impl OneThreadRing<Till> {
     ///
     /// `WriteFault` at the first error of the writer: it holds a beginning of the text then.
     pub fn save<W: Write>(&self, out: &mut W) -> Result<(), WriteFault>
-        ensures written { Writes (W.contents out.old) (W.contents out.new) result (text (saved_alone self.now)) }
+        ensures written { Writes (W.contents out.old) (W.contents out.new) result
+            (text (saved_alone self.now)) }
         ensures fits { IfOk result (λ _. Fits (saved_alone self.now)) }
         ensures legal { IsLegalText (saved_alone self.now) }
     {

@@ -1,4 +1,5 @@
--- What a call answers about the ring that C holds: the clauses of a ring that is called by numbers, over either resource (this project's own).
+-- What a call answers about the ring that C holds: the clauses of a ring that is called by numbers,
+-- over either resource (this project's own).
 use Rattle.std.specs.Prelude.{◌≡◌, ◌≢◌, ℕ, ◌+◌, ◌<◌, ◌≤◌, ◌↔◌, List, [], ◌∷◌, length, drop, Result, Ok, Err, IfOk, OnErr, IsErrOf}
 use Rattle.ring_model.specs.Resources.{till}
 use Rattle.ring_model.specs.History.{Works, opening}
@@ -27,46 +28,78 @@ use Rattle.ring_desk_c.specs.declared.kept.Kept.TheVariants.{Till, Idle}
 use Rattle.ring_desk_c.specs.declared.kept.TextError.{TextError}
 use Rattle.ring_desk_c.specs.declared.kept.TextError.TheVariants as text
 
--- A pass by a seat: at Ok it was recorded, and the seat's log has its receipt besides; each refusal comes exactly if it applies, and leaves the ring as it was.
-pub record IsPassed {C : Type 0} (w : Works C) (first : C) (d e : RingView C) (seat machine order : ℕ) (answer : Result Receipt CallError) : Type 0 where
+-- A pass by a seat: at Ok it was recorded, and the seat's log has its receipt besides; each refusal
+-- comes exactly if it applies, and leaves the ring as it was.
+pub record IsPassed {C : Type 0} (w : Works C) (first : C) (d e : RingView C)
+    (seat machine order : ℕ) (answer : Result Receipt CallError) : Type 0 where
   pub ok : IfOk answer (λ r. IsRecorded w d.book e.book seat (op.Pass machine order) r)
   pub told : IfOk answer (λ r. e.clients ≡ told_more d.clients seat (entry.Receipt r ∷ []))
   pub ring : IsOneThreadRing w first e
   pub settlement : Settlement w (opening e.book.start first) e.book.history
   pub same : OnErr answer (e ≡ d)
   pub no_seat : IsErrOf answer call.NoSeat ↔ length d.clients ≤ seat
-  pub no_machine : IsErrOf answer call.NoMachine ↔ (seat < length d.clients) × (length d.book.now.ring.values ≤ machine)
-  pub full : IsErrOf answer call.HistoryFull ↔ (seat < length d.clients) × (machine < length d.book.now.ring.values) × (length d.book.history ≡ event_limit)
+  pub no_machine : IsErrOf answer call.NoMachine
+      ↔ (seat < length d.clients) × (length d.book.now.ring.values ≤ machine)
+  pub full : IsErrOf answer call.HistoryFull
+      ↔ (seat < length d.clients)
+      × (machine < length d.book.now.ring.values)
+      × (length d.book.history ≡ event_limit)
 
 -- A fault by a seat, in the same way.
-pub record IsCorrupted {C : Type 0} (w : Works C) (first : C) (d e : RingView C) (seat machine value : ℕ) (answer : Result Receipt CallError) : Type 0 where
+pub record IsCorrupted {C : Type 0} (w : Works C) (first : C) (d e : RingView C)
+    (seat machine value : ℕ) (answer : Result Receipt CallError) : Type 0 where
   pub ok : IfOk answer (λ r. IsRecorded w d.book e.book seat (op.Corrupt machine value) r)
   pub told : IfOk answer (λ r. e.clients ≡ told_more d.clients seat (entry.Receipt r ∷ []))
   pub ring : IsOneThreadRing w first e
   pub same : OnErr answer (e ≡ d)
   pub no_seat : IsErrOf answer call.NoSeat ↔ length d.clients ≤ seat
-  pub no_machine : IsErrOf answer call.NoMachine ↔ (seat < length d.clients) × (length d.book.now.ring.values ≤ machine)
-  pub no_value : IsErrOf answer call.NoValue ↔ (seat < length d.clients) × (machine < length d.book.now.ring.values) × (d.book.now.ring.k ≤ value)
-  pub full : IsErrOf answer call.HistoryFull ↔ (seat < length d.clients) × (machine < length d.book.now.ring.values) × (value < d.book.now.ring.k) × (length d.book.history ≡ event_limit)
+  pub no_machine : IsErrOf answer call.NoMachine
+      ↔ (seat < length d.clients) × (length d.book.now.ring.values ≤ machine)
+  pub no_value : IsErrOf answer call.NoValue
+      ↔ (seat < length d.clients)
+      × (machine < length d.book.now.ring.values)
+      × (d.book.now.ring.k ≤ value)
+  pub full : IsErrOf answer call.HistoryFull
+      ↔ (seat < length d.clients)
+      × (machine < length d.book.now.ring.values)
+      × (value < d.book.now.ring.k)
+      × (length d.book.history ≡ event_limit)
 
--- A group pass by a seat: at Ok it was recorded as one block, and the seat's log has the receipt of each member besides.
-pub record IsGrouped {C : Type 0} (w : Works C) (first : C) (d e : RingView C) (seat : ℕ) (machines : List ℕ) (order : ℕ) (answer : Result GroupReceipt CallError) : Type 0 where
+-- A group pass by a seat: at Ok it was recorded as one block, and the seat's log has the receipt of
+-- each member besides.
+pub record IsGrouped {C : Type 0} (w : Works C) (first : C) (d e : RingView C) (seat : ℕ)
+    (machines : List ℕ) (order : ℕ) (answer : Result GroupReceipt CallError) : Type 0 where
   pub ok : IfOk answer (λ r. IsGroupRecorded w d.book e.book seat order machines r)
-  pub told : IfOk answer (λ r. e.clients ≡ told_more d.clients seat (receipts_from r.first (drop r.first e.book.history)))
+  pub told : IfOk answer (λ r.
+      e.clients ≡ told_more d.clients seat (receipts_from r.first (drop r.first e.book.history)))
   pub ring : IsOneThreadRing w first e
   pub same : OnErr answer (e ≡ d)
   pub no_seat : IsErrOf answer call.NoSeat ↔ length d.clients ≤ seat
-  pub not_rising : IsErrOf answer call.NotRising ↔ (seat < length d.clients) × (IsRisingGroup (length d.book.now.ring.values) machines → ⊥)
-  pub whole : IsErrOf answer call.WholeRing ↔ (seat < length d.clients) × IsRisingGroup (length d.book.now.ring.values) machines × (length machines ≡ length d.book.now.ring.values)
-  pub unprivileged : (m : ℕ) → IsErrOf answer (call.NotPrivileged m) ↔ (seat < length d.clients) × IsRisingGroup (length d.book.now.ring.values) machines × (length machines ≢ length d.book.now.ring.values) × IsLeastWithout d.book.now.ring.values machines m
-  pub full : IsErrOf answer call.HistoryFull ↔ (seat < length d.clients) × CanMove d.book.now.ring.values machines × (event_limit < length d.book.history + length machines)
+  pub not_rising : IsErrOf answer call.NotRising
+      ↔ (seat < length d.clients) × (IsRisingGroup (length d.book.now.ring.values) machines → ⊥)
+  pub whole : IsErrOf answer call.WholeRing
+      ↔ (seat < length d.clients)
+      × IsRisingGroup (length d.book.now.ring.values) machines
+      × (length machines ≡ length d.book.now.ring.values)
+  pub unprivileged : (m : ℕ)
+      → IsErrOf answer (call.NotPrivileged m)
+      ↔ (seat < length d.clients)
+      × IsRisingGroup (length d.book.now.ring.values) machines
+      × (length machines ≢ length d.book.now.ring.values)
+      × IsLeastWithout d.book.now.ring.values machines m
+  pub full : IsErrOf answer call.HistoryFull
+      ↔ (seat < length d.clients)
+      × CanMove d.book.now.ring.values machines
+      × (event_limit < length d.book.history + length machines)
 
 -- the survey of the one-thread ring at the end of the history
 abbrev pub survey_of : {C : Type 0} → Works C → C → RingView C → Survey
-survey_of w first d = survey_at w (opening d.book.start first) d.book.history (length d.book.history)
+survey_of w first d =
+    survey_at w (opening d.book.start first) d.book.history (length d.book.history)
 
 -- A survey by a seat, by which its log has grown.
-pub record IsSurveyed {C : Type 0} (w : Works C) (first : C) (d e : RingView C) (seat : ℕ) (answer : Result Survey CallError) : Type 0 where
+pub record IsSurveyed {C : Type 0} (w : Works C) (first : C) (d e : RingView C) (seat : ℕ)
+    (answer : Result Survey CallError) : Type 0 where
   pub ok : IfOk answer (λ s. s ≡ survey_of w first d)
   pub told : IfOk answer (λ s. e.clients ≡ told_more d.clients seat (entry.Survey s ∷ []))
   pub book : e.book ≡ d.book
@@ -76,18 +109,24 @@ pub record IsSurveyed {C : Type 0} (w : Works C) (first : C) (d e : RingView C) 
 
 -- The same for what C holds: the resource stays.
 abbrev pub IsPassAnswer : Kept → Kept → ℕ → ℕ → ℕ → Result Receipt CallError → Type 0
-IsPassAnswer (Till d) (Till e) seat machine order answer = IsPassed till 0 d e seat machine order answer
-IsPassAnswer (Idle d) (Idle e) seat machine order answer = IsPassed idle (record {}) d e seat machine order answer
+IsPassAnswer (Till d) (Till e) seat machine order answer =
+    IsPassed till 0 d e seat machine order answer
+IsPassAnswer (Idle d) (Idle e) seat machine order answer =
+    IsPassed idle (record {}) d e seat machine order answer
 IsPassAnswer _ _ seat machine order answer = ⊥
 
 abbrev pub IsCorruptAnswer : Kept → Kept → ℕ → ℕ → ℕ → Result Receipt CallError → Type 0
-IsCorruptAnswer (Till d) (Till e) seat machine value answer = IsCorrupted till 0 d e seat machine value answer
-IsCorruptAnswer (Idle d) (Idle e) seat machine value answer = IsCorrupted idle (record {}) d e seat machine value answer
+IsCorruptAnswer (Till d) (Till e) seat machine value answer =
+    IsCorrupted till 0 d e seat machine value answer
+IsCorruptAnswer (Idle d) (Idle e) seat machine value answer =
+    IsCorrupted idle (record {}) d e seat machine value answer
 IsCorruptAnswer _ _ seat machine value answer = ⊥
 
 abbrev pub IsGroupAnswer : Kept → Kept → ℕ → List ℕ → ℕ → Result GroupReceipt CallError → Type 0
-IsGroupAnswer (Till d) (Till e) seat machines order answer = IsGrouped till 0 d e seat machines order answer
-IsGroupAnswer (Idle d) (Idle e) seat machines order answer = IsGrouped idle (record {}) d e seat machines order answer
+IsGroupAnswer (Till d) (Till e) seat machines order answer =
+    IsGrouped till 0 d e seat machines order answer
+IsGroupAnswer (Idle d) (Idle e) seat machines order answer =
+    IsGrouped idle (record {}) d e seat machines order answer
 IsGroupAnswer _ _ seat machines order answer = ⊥
 
 abbrev pub IsSurveyAnswer : Kept → Kept → ℕ → Result Survey CallError → Type 0
@@ -104,7 +143,8 @@ abbrev pub history_of : Kept → List Event
 history_of (Till d) = d.book.history
 history_of (Idle d) = d.book.history
 
--- The saved text of a ring over a till, which is legal; there is none of a ring that is over no till.
+-- The saved text of a ring over a till, which is legal; there is none of a ring that is over no
+-- till.
 abbrev pub IsTextAnswer : Kept → Result (Vec ℕ Global) TextError → Type 0
 IsTextAnswer (Till d) (Ok bytes) = IsTextOf d bytes.items
 IsTextAnswer (Till d) (Err text.OutOfMemory) = Unit {0}

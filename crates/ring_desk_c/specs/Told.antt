@@ -1,4 +1,5 @@
--- What C is told of an answer: a code, and what is written to the struct that C lends (this project's own).
+-- What C is told of an answer: a code, and what is written to the struct that C lends (this
+-- project's own).
 use Rattle.std.specs.Prelude.{◌≡◌, ℕ, ◌<◌, ◌≤◌, List, ◌++◌, length, drop, Result, Ok, Err, IfOk}
 use Rattle.ring_model.specs.declared.events.Reply.{Reply}
 use Rattle.ring_model.specs.declared.events.Reply.TheVariants.{Granted, NotPrivileged, Corrupted}
@@ -28,30 +29,43 @@ use Rattle.ring_desk_c.specs.Codes.{call_code, read_code, kind_code, text_code, 
 
 -- of a call that was recorded at this position: 0, or 1 for a machine that is not privileged
 abbrev pub IsReplyTold : ℕ → Reply → ℕ → Answer → Type 0
-IsReplyTold position (Granted number result) code out = (code ≡ 0) × (out ≡ record { position = position; number = number; result = result })
-IsReplyTold position NotPrivileged code out = (code ≡ 1) × (out ≡ record { position = position; number = 0; result = 0 })
-IsReplyTold position (Corrupted old) code out = (code ≡ 0) × (out ≡ record { position = position; number = 0; result = old })
+IsReplyTold position (Granted number result) code out =
+    (code ≡ 0) × (out ≡ record { position = position; number = number; result = result })
+IsReplyTold position NotPrivileged code out =
+    (code ≡ 1) × (out ≡ record { position = position; number = 0; result = 0 })
+IsReplyTold position (Corrupted old) code out =
+    (code ≡ 0) × (out ≡ record { position = position; number = 0; result = old })
 
 -- of a call; a refusal writes nothing
 abbrev pub IsTold : Result Receipt CallError → ℕ → Answer → Answer → Type 0
 IsTold (Ok r) code old new = IsReplyTold r.position r.event.reply code new
 IsTold (Err e) code old new = (code ≡ call_code e) × (new ≡ old)
 
--- of a group: its block's first place and how many members it has, or the least machine that is not privileged
+-- of a group: its block's first place and how many members it has, or the least machine that is not
+-- privileged
 abbrev pub IsGroupTold : Result GroupReceipt CallError → ℕ → Group → Group → Type 0
-IsGroupTold (Ok r) code old new = (code ≡ 0) × (new ≡ record { first = r.first; count = r.count; machine = 0 })
-IsGroupTold (Err (call.NotPrivileged m)) code old new = (code ≡ 21) × (new ≡ record { first = 0; count = 0; machine = m })
+IsGroupTold (Ok r) code old new =
+    (code ≡ 0) × (new ≡ record { first = r.first; count = r.count; machine = 0 })
+IsGroupTold (Err (call.NotPrivileged m)) code old new =
+    (code ≡ 21) × (new ≡ record { first = 0; count = 0; machine = m })
 IsGroupTold (Err e) code old new = (code ≡ call_code e) × (new ≡ old)
 
 abbrev pub sight_of : Survey → Sight
-sight_of s = record { position = s.position; calm = s.calm; rest = s.rest; privileged = s.privileged; first = s.first }
+sight_of s = record {
+  position = s.position;
+  calm = s.calm;
+  rest = s.rest;
+  privileged = s.privileged;
+  first = s.first;
+}
 
 -- of a survey
 abbrev pub IsSightTold : Result Survey CallError → ℕ → Sight → Sight → Type 0
 IsSightTold (Ok s) code old new = (code ≡ 0) × (new ≡ sight_of s)
 IsSightTold (Err e) code old new = (code ≡ call_code e) × (new ≡ old)
 
--- Of a text: its size in any case, and the bytes at the front of the buffer if they have room there, which else stays as it was.
+-- Of a text: its size in any case, and the bytes at the front of the buffer if they have room
+-- there, which else stays as it was.
 pub record IsTextTold (bytes : List ℕ) (code : ℕ) (old new : List ℕ) (told : ℕ) : Type 0 where
   pub size : told ≡ length bytes
   pub whole : length bytes ≤ length old → (code ≡ 0) × (new ≡ bytes ++ drop (length bytes) old)
@@ -64,10 +78,24 @@ IsSaveTold (Err e) code old new size told = (code ≡ text_code e) × (new ≡ o
 
 -- no sums, with a line
 abbrev pub no_sums : ℕ → Sums
-no_sums line = record { events = 0; granted = 0; corrupted = 0; surveys = 0; line = line; rings = 0 }
+no_sums line = record {
+  events = 0;
+  granted = 0;
+  corrupted = 0;
+  surveys = 0;
+  line = line;
+  rings = 0;
+}
 
 abbrev pub sums_of : Summary → Sums
-sums_of s = record { events = s.events; granted = s.granted; corrupted = s.corrupted; surveys = s.surveys; line = 0; rings = s.rings }
+sums_of s = record {
+  events = s.events;
+  granted = s.granted;
+  corrupted = s.corrupted;
+  surveys = s.surveys;
+  line = 0;
+  rings = s.rings;
+}
 
 -- the first line that cannot stand, or none
 abbrev pub line_of : ReadError → ℕ
@@ -84,8 +112,14 @@ IsCheckTold (Err check.OutOfMemory) code out = (code ≡ no_memory) × (out ≡ 
 -- of what was read
 abbrev pub IsReadTold : Result Saved ReadError → ℕ → Sums → Type 0
 IsReadTold (Err e) code out = (code ≡ read_code e) × (out ≡ no_sums (line_of e))
-IsReadTold (Ok saved) code out = (answer : Result Summary CheckError) × IsRightCheck (content saved) answer × IfOk answer (λ _. IsRightText (content saved)) × IsCheckTold answer code out
+IsReadTold (Ok saved) code out =
+    (answer : Result Summary CheckError)
+    × IsRightCheck (content saved) answer
+    × IfOk answer (λ _. IsRightText (content saved))
+    × IsCheckTold answer code out
 
--- The verdict on some bytes: what the reader of saved texts rightly answers to them, and of a value the separate checker.
+-- The verdict on some bytes: what the reader of saved texts rightly answers to them, and of a value
+-- the separate checker.
 abbrev pub IsVerdict : List ℕ → ℕ → Sums → Type 0
-IsVerdict bytes code out = (answer : Result Saved ReadError) × IsRightRead bytes answer × IsReadTold answer code out
+IsVerdict bytes code out =
+    (answer : Result Saved ReadError) × IsRightRead bytes answer × IsReadTold answer code out

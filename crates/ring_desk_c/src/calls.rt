@@ -39,7 +39,9 @@ pub extern "C" fn wozgirt_pass(
 ) -> u32
     requires { ring.old.full ≡ true }
     ensures full { ring.new.full ≡ true }
-    ensures told { (answer : Result Receipt CallError) × IsPassAnswer ring.old.value ring.new.value seat machine order answer × IsTold answer result out.old out.new }
+    ensures told { (answer : Result Receipt CallError)
+        × IsPassAnswer ring.old.value ring.new.value seat machine order answer
+        × IsTold answer result out.old out.new }
 {
     let answer = replace_with(ring, (seat, machine, order), passed);
     told(answer, out)
@@ -67,7 +69,9 @@ pub extern "C" fn wozgirt_corrupt(
 ) -> u32
     requires { ring.old.full ≡ true }
     ensures full { ring.new.full ≡ true }
-    ensures told { (answer : Result Receipt CallError) × IsCorruptAnswer ring.old.value ring.new.value seat machine value answer × IsTold answer result out.old out.new }
+    ensures told { (answer : Result Receipt CallError)
+        × IsCorruptAnswer ring.old.value ring.new.value seat machine value answer
+        × IsTold answer result out.old out.new }
 {
     let answer = replace_with(ring, (seat, machine, value), corrupted);
     told(answer, out)
@@ -100,7 +104,9 @@ pub extern "C" fn wozgirt_pass_group(
 ) -> u32
     requires { ring.old.full ≡ true }
     ensures full { ring.new.full ≡ true }
-    ensures told { (answer : Result GroupReceipt CallError) × IsGroupAnswer ring.old.value ring.new.value seat machines.now order answer × IsGroupTold answer result out.old out.new }
+    ensures told { (answer : Result GroupReceipt CallError)
+        × IsGroupAnswer ring.old.value ring.new.value seat machines.now order answer
+        × IsGroupTold answer result out.old out.new }
 {
     let answer = replace_with(ring, (), |handle, _call| {
         grouped(handle, seat, machines, order)
@@ -124,7 +130,9 @@ fn surveyed(handle: Handle, seat: u32) -> (Handle, Result<Survey, CallError>)
 pub extern "C" fn wozgirt_survey(ring: &mut Handle, seat: u32, out: &mut Sight) -> u32
     requires { ring.old.full ≡ true }
     ensures full { ring.new.full ≡ true }
-    ensures told { (answer : Result Survey CallError) × IsSurveyAnswer ring.old.value ring.new.value seat answer × IsSightTold answer result out.old out.new }
+    ensures told { (answer : Result Survey CallError)
+        × IsSurveyAnswer ring.old.value ring.new.value seat answer
+        × IsSightTold answer result out.old out.new }
 {
     let answer = replace_with(ring, seat, surveyed);
     sight_told(answer, out)
@@ -148,7 +156,10 @@ pub extern "C" fn wozgirt_glance(ring: &mut Handle, out: &mut Sight) -> u32
     requires { ring.old.full ≡ true }
     ensures full { ring.new.full ≡ true }
     ensures same { ring.new.value ≡ ring.old.value }
-    ensures told { (survey : Survey) × IsGlance ring.old.value survey × (result ≡ 0) × (out.new ≡ sight_of survey) }
+    ensures told { (survey : Survey)
+        × IsGlance ring.old.value survey
+        × (result ≡ 0)
+        × (out.new ≡ sight_of survey) }
 {
     let survey = replace_with(ring, (), glanced);
     sight_told(Ok(survey), out)

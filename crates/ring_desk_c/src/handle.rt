@@ -21,7 +21,8 @@ pub struct Handle {
 }
 
 impl Model for Handle {
-    ghost also_owns = { λ h. held h.full (box_owns (ghosts.dealloc_token h.alloc) kept.the_row h.at h.value) };
+    ghost also_owns = { λ h.
+        held h.full (box_owns (ghosts.dealloc_token h.alloc) kept.the_row h.at h.value) };
 }
 
 /// The box that a handle has.

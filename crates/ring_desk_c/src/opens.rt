@@ -35,7 +35,8 @@ pub extern "C" fn wozgirt_open(
     start: &[u32],
     seats: u32,
 ) -> u32
-    ensures ok { result ≡ 0 → (ring.new.full ≡ true) × IsOpenedTill n k start.now seats ring.new.value }
+    ensures ok { result ≡ 0
+        → (ring.new.full ≡ true) × IsOpenedTill n k start.now seats ring.new.value }
     ensures err { result ≢ 0 → IsOpenRefused (record { n = n; k = k }) start.now seats result }
     ensures same { result ≢ 0 → ring.new ≡ ring.old }
 {
@@ -55,7 +56,8 @@ pub extern "C" fn wozgirt_open_idle(
     start: &[u32],
     seats: u32,
 ) -> u32
-    ensures ok { result ≡ 0 → (ring.new.full ≡ true) × IsOpenedIdle n k start.now seats ring.new.value }
+    ensures ok { result ≡ 0
+        → (ring.new.full ≡ true) × IsOpenedIdle n k start.now seats ring.new.value }
     ensures err { result ≢ 0 → IsOpenRefused (record { n = n; k = k }) start.now seats result }
     ensures same { result ≢ 0 → ring.new ≡ ring.old }
 {
@@ -93,7 +95,8 @@ pub extern "C" fn wozgirt_open_saved(
     place: u32,
     seats: u32,
 ) -> u32
-    ensures ok { result ≡ 0 → (ring.new.full ≡ true) × IsResumed bytes.now place seats ring.new.value }
+    ensures ok { result ≡ 0
+        → (ring.new.full ≡ true) × IsResumed bytes.now place seats ring.new.value }
     ensures err { result ≢ 0 → IsResumeRefused bytes.now place seats result }
     ensures same { result ≢ 0 → ring.new ≡ ring.old }
 {

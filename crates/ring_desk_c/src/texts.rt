@@ -38,7 +38,9 @@ pub extern "C" fn wozgirt_save(
     requires { ring.old.full ≡ true }
     ensures full { ring.new.full ≡ true }
     ensures same { ring.new.value ≡ ring.old.value }
-    ensures told { (answer : Result (Vec ℕ Global) TextError) × IsTextAnswer ring.old.value answer × IsSaveTold answer result out.old out.new size.old size.new }
+    ensures told { (answer : Result (Vec ℕ Global) TextError)
+        × IsTextAnswer ring.old.value answer
+        × IsSaveTold answer result out.old out.new size.old size.new }
 {
     let answer = replace_with(ring, alloc, saved);
     save_told(answer, out, size)

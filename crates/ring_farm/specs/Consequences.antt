@@ -1,4 +1,5 @@
--- What follows from the headline of a farm, of each of its rings: the laws of settlement and of progress, and what logs and history say of each other.
+-- What follows from the headline of a farm, of each of its rings: the laws of settlement and of
+-- progress, and what logs and history say of each other.
 use Rattle.std.specs.Prelude.{◌≡◌, ℕ, ◌≤◌, All, length, take, Some, slice_get}
 use Rattle.ring_model.specs.Ring.{privileged_count, bound}
 use Rattle.ring_model.specs.Runs.{GoesRound}
@@ -30,29 +31,37 @@ HasNoMembers r = All (λ (e : Event). IsAlone e.op) r.book.history
 abbrev pub IsWholeOne : RingData → RingOutcome → Type 0
 IsWholeOne d r = IsWhole (length d.start) r.book.history
 
--- wherever as many granted passes as the bound have followed the last corruption, exactly one machine is privileged
+-- wherever as many granted passes as the bound have followed the last corruption, exactly one
+-- machine is privileged
 abbrev pub IsRepaired : RingData → RingOutcome → Type 0
-IsRepaired d r = (q : ℕ) → q ≤ length r.book.history → bound (length d.start) ≤ calm (take q r.book.history) →
-    privileged_count (values_at till (opening (ring_of_data d) 0) r.book.history q) ≡ 1
+IsRepaired d r =
+    (q : ℕ) → q ≤ length r.book.history → bound (length d.start) ≤ calm (take q r.book.history)
+    → privileged_count (values_at till (opening (ring_of_data d) 0) r.book.history q) ≡ 1
 
 -- and from there until the next corruption grants go round the ring
 abbrev pub TakesTurns : RingData → RingOutcome → Type 0
-TakesTurns d r = (p q : ℕ) → p ≤ q → q ≤ length r.book.history → NoCorruption r.book.history p q → bound (length d.start) ≤ calm (take p r.book.history) →
-    GoesRound (length d.start) (granted_machines (between r.book.history p q))
+TakesTurns d r =
+    (p q : ℕ) → p ≤ q → q ≤ length r.book.history → NoCorruption r.book.history p q
+    → bound (length d.start) ≤ calm (take p r.book.history)
+    → GoesRound (length d.start) (granted_machines (between r.book.history p q))
 
--- the laws of settlement, from every place of the ring's history: the rest falls, one machine is privileged once the grants since the place reach
--- the rest there, a settled ring stays settled and grants go round it, and they are fair
+-- the laws of settlement, from every place of the ring's history: the rest falls, one machine is
+-- privileged once the grants since the place reach the rest there, a settled ring stays settled and
+-- grants go round it, and they are fair
 abbrev pub IsSettling : RingData → RingOutcome → Type 0
 IsSettling d r = Settlement till (opening (ring_of_data d) 0) r.book.history
 
--- the laws of progress, between any two places: each complete round has a granted pass or a corruption, each n of them grant every machine a pass, and
--- nobody is overtaken more often than it stands away
+-- the laws of progress, between any two places: each complete round has a granted pass or a
+-- corruption, each n of them grant every machine a pass, and nobody is overtaken more often than it
+-- stands away
 abbrev pub IsProgressing : RingData → RingOutcome → Type 0
 IsProgressing d r = Progress till (opening (ring_of_data d) 0) r.book.history
 
 -- each seat's calls in the history are as many as its log has receipts
 abbrev pub HasReceipts : RingOutcome → Type 0
-HasReceipts r = (seat : ℕ) (l : Log) → slice_get r.logs.items seat ≡ Some l → length (calls_of seat r.book.history) ≡ length (receipts_of l.entries.items)
+HasReceipts r =
+    (seat : ℕ) (l : Log) → slice_get r.logs.items seat ≡ Some l
+    → length (calls_of seat r.book.history) ≡ length (receipts_of l.entries.items)
 
 -- all that follows of one ring
 pub record IsLawfulRing (d : RingData) (r : RingOutcome) : Type 0 where
@@ -75,7 +84,10 @@ IsLawfulFarm settings o = EachRing IsLawfulAt settings o
 
 -- the consequences follow from what is promised of a ring of allowed settings, and so of a farm
 abbrev pub RingsAreLawful : Type 0
-RingsAreLawful = (settings : SettingsData) (ring : ℕ) (d : RingData) (r : RingOutcome) → IsRingSetting d → IsFarmRing settings ring d r → IsLawfulRing d r
+RingsAreLawful =
+    (settings : SettingsData) (ring : ℕ) (d : RingData) (r : RingOutcome) → IsRingSetting d
+    → IsFarmRing settings ring d r → IsLawfulRing d r
 
 abbrev pub FarmsAreLawful : Type 0
-FarmsAreLawful = (settings : SettingsData) (o : Outcome) → IsFarmOf settings o → IsLawfulFarm settings o
+FarmsAreLawful =
+    (settings : SettingsData) (o : Outcome) → IsFarmOf settings o → IsLawfulFarm settings o

@@ -15,10 +15,13 @@ place_of (entry.Survey s) = s.position
 abbrev pub places : List Entry → List ℕ
 places log = map place_of log
 
--- Two outcomes of one ring of the settings with one history: two logs of one seat whose entries stand at the same places are the same.
+-- Two outcomes of one ring of the settings with one history: two logs of one seat whose entries
+-- stand at the same places are the same.
 abbrev pub LogsFollow : Type 0
 LogsFollow =
-    (settings : SettingsData) (ring : ℕ) (d : RingData) (one other : RingOutcome) → IsFarmRing settings ring d one → IsFarmRing settings ring d other →
-    one.book.history ≡ other.book.history →
-    (seat : ℕ) (l m : Log) → slice_get one.logs.items seat ≡ Some l → slice_get other.logs.items seat ≡ Some m →
-    places l.entries.items ≡ places m.entries.items → (l.seat ≡ m.seat) × (l.entries.items ≡ m.entries.items)
+    (settings : SettingsData) (ring : ℕ) (d : RingData) (one other : RingOutcome)
+    → IsFarmRing settings ring d one → IsFarmRing settings ring d other
+    → one.book.history ≡ other.book.history → (seat : ℕ) (l m : Log)
+    → slice_get one.logs.items seat ≡ Some l → slice_get other.logs.items seat ≡ Some m
+    → places l.entries.items ≡ places m.entries.items
+    → (l.seat ≡ m.seat) × (l.entries.items ≡ m.entries.items)

@@ -64,9 +64,11 @@ actions_of ring log = map (action_of ring) log
 abbrev pub planned : ℕ → List Action → List (Option Action)
 planned ring actions = map (λ (a : Action). Some a) (part ring actions)
 
--- the seat of this number did the part of some actions that concerns a ring: this seat's log reads so
+-- the seat of this number did the part of some actions that concerns a ring: this seat's log reads
+-- so
 abbrev pub HasDone : ℕ → ℕ → List Action → ℕ → List Entry → Type 0
-HasDone ring number actions seat log = (seat ≡ number) × (actions_of ring log ≡ planned ring actions)
+HasDone ring number actions seat log =
+    (seat ≡ number) × (actions_of ring log ≡ planned ring actions)
 
 -- a pass or a corruption, not a survey
 abbrev pub is_call : Action → Bool
@@ -84,4 +86,5 @@ planned_calls ring actions = map (λ (a : Action). Some a) (filter is_call (part
 
 -- what two lists have at one place is related
 abbrev pub Pairs : {A B : Type 0} → (ℕ → A → B → Type 0) → List A → List B → Type 0
-Pairs {A} {B} rel xs ys = (i : ℕ) (x : A) (y : B) → slice_get xs i ≡ Some x → slice_get ys i ≡ Some y → rel i x y
+Pairs {A} {B} rel xs ys =
+    (i : ℕ) (x : A) (y : B) → slice_get xs i ≡ Some x → slice_get ys i ≡ Some y → rel i x y

@@ -19,7 +19,8 @@ IsDone ring i p s = HasDone ring i p.actions.items s.number s.log
 abbrev pub DidAsPromised : ℕ → Does → Client → Type 0
 DidAsPromised i d s = IsDone d.ring d.number d.plan.value s
 
--- seats for these plans, numbered in their order and with nothing done, on a ring that each plan's part can be made on
+-- seats for these plans, numbered in their order and with nothing done, on a ring that each plan's
+-- part can be made on
 abbrev pub AreReady : ℕ → Ring → List Plan → List Client → Type 0
 AreReady ring start plans seats =
     All IsShort plans
@@ -28,4 +29,5 @@ AreReady ring start plans seats =
 
 -- the seats are as they were, with no less room in their logs
 abbrev pub AreUnchanged : List Client → List Client → Type 0
-AreUnchanged before after = (length after ≡ length before) × Pairs (λ i s t. IsUnchanged s t) before after
+AreUnchanged before after =
+    (length after ≡ length before) × Pairs (λ i s t. IsUnchanged s t) before after

@@ -23,9 +23,11 @@ ring_of_data d = record { k = d.size.k; values = d.start }
 abbrev pub IsLogged : ℕ → ℕ → Plan → Log → Type 0
 IsLogged ring i p l = HasDone ring i p.actions.items l.seat l.entries.items
 
--- What a run of one ring left: a book that begins with the given start and the amount 0, whose history is one legal history of the
--- one-thread ring; each event is of one of the seats; one log for each plan, which fits the history and is that plan's part.
-pub record IsRun (plans : List Plan) (ring : ℕ) (start : Ring) (b : BookView ℕ) (logs : List Log) : Type 0 where
+-- What a run of one ring left: a book that begins with the given start and the amount 0, whose
+-- history is one legal history of the one-thread ring; each event is of one of the seats; one log
+-- for each plan, which fits the history and is that plan's part.
+pub record IsRun (plans : List Plan) (ring : ℕ) (start : Ring) (b : BookView ℕ) (logs : List Log) :
+    Type 0 where
   pub begins : b.start ≡ start
   pub book : IsBook till 0 b
   pub settlement : Settlement till (opening start 0) b.history
@@ -36,17 +38,23 @@ pub record IsRun (plans : List Plan) (ring : ℕ) (start : Ring) (b : BookView �
 
 -- this ring's outcome is what a run of it left, from the start that the settings say
 abbrev pub IsRunOf : SettingsData → List Plan → ℕ → RingOutcome → Type 0
-IsRunOf settings plans ring o = IsRun plans ring (ring_of_data (ring_at settings ring)) o.book o.logs.items
+IsRunOf settings plans ring o =
+    IsRun plans ring (ring_of_data (ring_at settings ring)) o.book o.logs.items
 
 -- of each ring of the settings, its result is a refusal or what a run of it left
 abbrev pub AreRunsOf : SettingsData → List Plan → List (Result RingOutcome FarmError) → Type 0
 AreRunsOf settings plans results =
-    (ring : ℕ) (d : Result RingOutcome FarmError) → ring < length settings.rings → IfOk (slice_index_or results ring d) (IsRunOf settings plans ring)
+    (ring : ℕ) (d : Result RingOutcome FarmError) → ring < length settings.rings
+    → IfOk (slice_index_or results ring d) (IsRunOf settings plans ring)
 
--- these plans can be run: there is one for each of some seats, none is too long, and each action is for one of the rings and can be made there
+-- these plans can be run: there is one for each of some seats, none is too long, and each action is
+-- for one of the rings and can be made there
 abbrev pub CanRun : SettingsData → List Plan → Type 0
 CanRun settings plans =
-    (1 ≤ length plans) × (length plans ≤ seat_limit) × All IsShort plans × All (IsPlanFor (sizes_of settings.rings)) plans
+    (1 ≤ length plans)
+    × (length plans ≤ seat_limit)
+    × All IsShort plans
+    × All (IsPlanFor (sizes_of settings.rings)) plans
 
 -- the first refusal in the order of the rings
 abbrev pub first_refusal : {A E : Type 0} → List (Result A E) → Option E

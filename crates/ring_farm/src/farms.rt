@@ -101,7 +101,9 @@ fn run_each<G: Gate + Sync, W: Threads + Wait + Sync>(
     let rings = settings.ring_count();
     let rooms = rooms_for(plans.as_slice(), rings);
     let run = |ring: usize| -> Result<RingOutcome, FarmError>
-        requires { (ring < length settings.now.rings) × (length settings.now.rings ≤ ring_limit) × CanRun settings.now plans.now.items }
+        requires { (ring < length settings.now.rings)
+            × (length settings.now.rings ≤ ring_limit)
+            × CanRun settings.now plans.now.items }
         ensures { IfOk result (λ o. IsRunOf settings.entry.now plans.entry.now.items ring o) }
     { run_at(rt, alloc, gate, ring, settings, plans, &rooms) };
     thread::map_indices(rt, alloc, rings, &run)

@@ -33,7 +33,8 @@ fn run_named<N: Name + Send + Sync, G: Gate + Sync, W: Threads + Wait + Sync>(
     requires start { draft.book.start ≡ N.start }
     requires seats { draft.seats ≡ N.seats }
     requires log { draft.log ≡ N.log }
-    requires legal { MeansLegal ⟦<Till as Resource>⟧.works ⟦<Till as Resource>⟧.first N.start N.legal }
+    requires legal { MeansLegal ⟦<Till as Resource>⟧.works ⟦<Till as Resource>⟧.first N.start
+        N.legal }
     requires count { draft.seats ≡ vec_len plans.now }
     requires few { All IsShort plans.now.items }
     requires possible { All (IsPlanOn number N.start) plans.now.items }

@@ -29,7 +29,9 @@ impl<N: Name> Promise<Work<N>> for Does {
     ghost use Rattle.std.specs.Prelude.{◌≡◌, None};
     ghost use Rattle.ring_farm.specs.Plans.{actions_of, planned};
 
-    ghost kept_by = { λ p w. (w.seat.number ≡ p.number) × (w.fault ≡ None → actions_of p.ring w.seat.log ≡ planned p.ring p.plan.value.actions.items) };
+    ghost kept_by = { λ p w. (w.seat.number ≡ p.number)
+        × (w.fault ≡ None
+        → actions_of p.ring w.seat.log ≡ planned p.ring p.plan.value.actions.items) };
 }
 
 /// Starts a thread for the seat, with this plan. None where it could not be started.
@@ -62,7 +64,8 @@ fn spawn_one<
     let job = move || -> Work<N>
         requires { IsShort plan.now × IsPlanOn number N.start plan.now × (seat.log ≡ []) }
         ensures number { result.seat.number ≡ seat.number }
-        ensures log { result.fault ≡ None → actions_of number result.seat.log ≡ planned number plan.entry.now.actions.items }
+        ensures log { result.fault ≡ None
+            → actions_of number result.seat.log ≡ planned number plan.entry.now.actions.items }
     { run_plan(rt, ring, gate, number, plan, seat) };
     scope.spawn_with(promise, job).ok()
 }
@@ -93,7 +96,8 @@ fn spawn_all<
     requires fresh { AreFresh (length plans.now.items) seats.items }
     ensures room { vec_len result.0 ≤ vec_len plans.entry.now }
     ensures all { IsTrue result.1 → vec_len result.0 ≡ vec_len plans.entry.now }
-    ensures promises { IsTrue result.1 → Pairs (IsPromised number) plans.entry.now.items (map (λ h. h.promise) result.0.items) }
+    ensures promises { IsTrue result.1
+        → Pairs (IsPromised number) plans.entry.now.items (map (λ h. h.promise) result.0.items) }
 {
     let mut all = true;
     let mut i = 0;
@@ -117,7 +121,8 @@ fn join_all<N: Name + Send, W: Threads>(
     requires room { vec_len handles ≤ vec_capacity seats }
     requires empty { seats.items ≡ [] }
     ensures count { IfOk result (λ v. vec_len v ≡ vec_len handles) }
-    ensures kept { IfOk result (λ v. Pairs DidAsPromised (map (λ h. h.promise) handles.items) v.items) }
+    ensures kept { IfOk result
+        (λ v. Pairs DidAsPromised (map (λ h. h.promise) handles.items) v.items) }
 {
     let mut fault = None;
     for handle in handles {
@@ -150,14 +155,20 @@ fn run_in_scope<
     requires ready { AreReady number N.start plans.now.items seats.items }
     requires room { (vec_len seats ≤ vec_capacity handles) × (vec_len seats ≤ vec_capacity back) }
     requires empty { (handles.items ≡ []) × (back.items ≡ []) }
-    ensures { IfOk result (λ v. (vec_len v ≡ vec_len plans.now) × Pairs (IsDone number) plans.now.items v.items) }
+    ensures { IfOk result
+        (λ v. (vec_len v ≡ vec_len plans.now) × Pairs (IsDone number) plans.now.items v.items) }
 {
     thread::scope(
         thread::scope_env(),
         rt,
         |scope| -> Result<Vec<Seat<N>>, FarmError>
-            requires { AreReady number N.start plans.now.items seats.items × (vec_len seats ≤ vec_capacity handles) × (vec_len seats ≤ vec_capacity back) × (handles.items ≡ []) × (back.items ≡ []) }
-            ensures { IfOk result (λ v. (vec_len v ≡ vec_len plans.entry.now) × Pairs (IsDone number) plans.entry.now.items v.items) }
+            requires { AreReady number N.start plans.now.items seats.items
+                × (vec_len seats ≤ vec_capacity handles)
+                × (vec_len seats ≤ vec_capacity back)
+                × (handles.items ≡ [])
+                × (back.items ≡ []) }
+            ensures { IfOk result (λ v. (vec_len v ≡ vec_len plans.entry.now)
+                × Pairs (IsDone number) plans.entry.now.items v.items) }
         {
             let (handles, all) = spawn_all(scope, rt, ring, gate, number, plans, seats, handles);
             let joined = join_all(rt, handles, back);

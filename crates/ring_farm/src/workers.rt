@@ -70,7 +70,9 @@ fn make<N: Name, R: Resource + Drop, G: Gate, W: Wait>(
     requires few { length seat.old.log ≤ action_limit }
     requires possible { IsActionOn N.start action }
     ensures number { seat.new.number ≡ seat.old.number }
-    ensures log { result ≡ None → actions_of (ring_of action) seat.new.log ≡ actions_of (ring_of action) seat.old.log ++ Some action ∷ [] }
+    ensures log { result ≡ None
+        → actions_of (ring_of action) seat.new.log
+        ≡ actions_of (ring_of action) seat.old.log ++ Some action ∷ [] }
     ensures one { result ≡ None → length seat.new.log ≡ length seat.old.log + 1 }
     ensures fault { IfSome result IsSeatFault }
 {
@@ -115,7 +117,8 @@ pub(crate) fn run_plan<N: Name, R: Resource + Drop, G: Gate, W: Wait>(
     requires possible { IsPlanOn number N.start plan.now }
     requires new { seat.log ≡ [] }
     ensures number { result.seat.number ≡ seat.number }
-    ensures log { result.fault ≡ None → actions_of number result.seat.log ≡ planned number plan.now.actions.items }
+    ensures log { result.fault ≡ None
+        → actions_of number result.seat.log ≡ planned number plan.now.actions.items }
     ensures fault { IfSome result.fault IsSeatFault }
 {
     let mut seat = seat;

@@ -12,25 +12,30 @@ use Rattle.ring_journal.specs.Spelling.{Journal, JournalFits, head_text, journal
 use Rattle.ring_journal.specs.Told.{told}
 use Rattle.ring_journal.specs.Recovery.{IsRecovered, IsRightRecovery}
 
--- a journal is right if what it began with is legal, and what its calls tell was legal at each moment, of whole groups
+-- a journal is right if what it began with is legal, and what its calls tell was legal at each
+-- moment, of whole groups
 pub record IsRightJournal (j : Journal) : Type 0 where
   pub fits : JournalFits j
   pub began : IsLegalText j.began
-  pub legal : (front back : List Recorded) → j.calls ≡ front ++ back → IsLegalText (told j.began front)
+  pub legal : (front back : List Recorded) → j.calls ≡ front ++ back
+      → IsLegalText (told j.began front)
 
 -- the journal with its first calls alone
 abbrev pub up_to : Journal → List Recorded → Journal
 up_to j front = record { began = j.began; calls = front }
 
--- What is recovered is the journal's own history up to some call: no call stands behind that one whose line ends in the bytes.
+-- What is recovered is the journal's own history up to some call: no call stands behind that one
+-- whose line ends in the bytes.
 pub record IsOwnHistory (j : Journal) (bytes : List ℕ) (c : Content) : Type 0 where
   pub front : List Recorded
   pub back : List Recorded
   pub parts : j.calls ≡ front ++ back
   pub told : c ≡ told j.began front
-  pub holds : (calls others : List Recorded) (rest : List ℕ) → j.calls ≡ calls ++ others → bytes ≡ journal_text (up_to j calls) ++ rest → length calls ≤ length front
+  pub holds : (calls others : List Recorded) (rest : List ℕ) → j.calls ≡ calls ++ others
+      → bytes ≡ journal_text (up_to j calls) ++ rest → length calls ≤ length front
 
--- what may be answered of a beginning of a journal: its own history; or, if the bytes end before the first call, that they are cut short; memory aside
+-- what may be answered of a beginning of a journal: its own history; or, if the bytes end before
+-- the first call, that they are cut short; memory aside
 abbrev pub IsAnswerOfBeginning : Journal → List ℕ → Result Saved RecoverError → Type 0
 IsAnswerOfBeginning j bytes (Ok saved) = IsOwnHistory j bytes (content saved)
 IsAnswerOfBeginning j bytes (Err Truncated) = length bytes < length (head_text j.began)
@@ -38,13 +43,18 @@ IsAnswerOfBeginning j bytes (Err (Syntax line)) = ⊥
 IsAnswerOfBeginning j bytes (Err (Bad line kind)) = ⊥
 IsAnswerOfBeginning j bytes (Err OutOfMemory) = Unit {0}
 
--- A right journal that was cut anywhere gives its own history: no other answer to a beginning of its text is right.
+-- A right journal that was cut anywhere gives its own history: no other answer to a beginning of
+-- its text is right.
 abbrev pub BeginningsAreRecovered : Type 0
-BeginningsAreRecovered = (j : Journal) (bytes more : List ℕ) (answer : Result Saved RecoverError) → IsRightJournal j → bytes ++ more ≡ journal_text j → IsRightRecovery bytes answer → IsAnswerOfBeginning j bytes answer
+BeginningsAreRecovered =
+    (j : Journal) (bytes more : List ℕ) (answer : Result Saved RecoverError) → IsRightJournal j
+    → bytes ++ more ≡ journal_text j → IsRightRecovery bytes answer
+    → IsAnswerOfBeginning j bytes answer
 
 -- ---- what is recovered can be saved
 
--- what the writer of saved texts asks of a value: a ring at least, a version that there is, and no member of a group in the first one
+-- what the writer of saved texts asks of a value: a ring at least, a version that there is, and no
+-- member of a group in the first one
 pub record CanBeSaved (c : Content) : Type 0 where
   pub some : 0 < length c.rings
   pub version : IsVersion c.version
@@ -56,4 +66,5 @@ RecoveredCanBeSaved = (bytes : List ℕ) (c : Content) → IsRecovered bytes c �
 
 -- of some bytes one history is recovered, and no other
 abbrev pub OneIsRecovered : Type 0
-OneIsRecovered = (bytes : List ℕ) (c d : Content) → IsRecovered bytes c → IsRecovered bytes d → c ≡ d
+OneIsRecovered =
+    (bytes : List ℕ) (c d : Content) → IsRecovered bytes c → IsRecovered bytes d → c ≡ d

@@ -24,14 +24,17 @@ refused_as (read.Syntax line) = Syntax line
 refused_as read.Truncated = Truncated
 refused_as read.OutOfMemory = OutOfMemory
 
--- what the bytes begin with, seen by view, is legal, by the table and in its meaning; or the refusal is right
+-- what the bytes begin with, seen by view, is legal, by the table and in its meaning; or the
+-- refusal is right
 abbrev pub IsBegun : {X : Type 0} → (X → Content × List ℕ) → List ℕ → Result X RecoverError → Type 0
-IsBegun view bytes (Ok x) = (head_at bytes ≡ Ok (view x)) × IsLegalText (view x).0 × IsRightText (view x).0
+IsBegun view bytes (Ok x) =
+    (head_at bytes ≡ Ok (view x)) × IsLegalText (view x).0 × IsRightText (view x).0
 IsBegun view bytes (Err e) = IsRightRecovery bytes (Err e)
 
 -- the value is what the calls tell, and legal; or the answer is what a check of it says
 abbrev pub IsJudged : Content → List Recorded → Result Saved CheckError → Type 0
-IsJudged began calls (Ok saved) = (content saved ≡ told began calls) × IsLegalText (told began calls)
+IsJudged began calls (Ok saved) =
+    (content saved ≡ told began calls) × IsLegalText (told began calls)
 IsJudged began calls (Err e) = IsRightCheck (told began calls) (Err e)
 
 -- there is no fault, or a check tells one of this kind

@@ -9,8 +9,10 @@ use Rattle.ring_journal.specs.Spelling.{first_line}
 abbrev pub BeginsNone : {A : Type 0} → (A → Type 0) → (A → List ℕ) → List ℕ → Type 0
 BeginsNone Fits line bytes = (a : _) (more : List ℕ) → Fits a → bytes ≡ line a ++ more → ⊥
 
--- What was found at the front of the bytes, seen by view: something that fits, and what stands behind its line; or that no line stands there; memory aside.
-abbrev pub Finds : {X A E : Type 0} → (X → A × List ℕ) → (A → Type 0) → (A → List ℕ) → List ℕ → Result (Option X) E → Type 0
+-- What was found at the front of the bytes, seen by view: something that fits, and what stands
+-- behind its line; or that no line stands there; memory aside.
+abbrev pub Finds : {X A E : Type 0} → (X → A × List ℕ) → (A → Type 0) → (A → List ℕ) → List ℕ
+    → Result (Option X) E → Type 0
 Finds view Fits line bytes (Ok (Some x)) = Fits (view x).0 × (bytes ≡ line (view x).0 ++ (view x).1)
 Finds view Fits line bytes (Ok None) = BeginsNone Fits line bytes
 Finds view Fits line bytes (Err e) = Unit {0}

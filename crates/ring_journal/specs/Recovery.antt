@@ -25,11 +25,13 @@ pub record IsJournalThen (bytes : List ℕ) (j : Journal) (tail : List ℕ) : Ty
   pub spelled : bytes ≡ journal_text j ++ tail
   pub behind : BeginsNone (RecordedFits j.began.version (length j.began.rings)) recorded_line tail
 
--- the number of the line of this call, where lines are numbered from 1 and calls from 0: the first stands behind what the journal began with
+-- the number of the line of this call, where lines are numbered from 1 and calls from 0: the first
+-- stands behind what the journal began with
 abbrev pub call_line_number : List ℕ → Content → ℕ → ℕ
 call_line_number bytes began call = line_of bytes (length (head_text began)) + call
 
--- What is recovered: the legal history that the journal's whole lines tell. Only the tail is left out, in which no line ends, and the open members before it.
+-- What is recovered: the legal history that the journal's whole lines tell. Only the tail is left
+-- out, in which no line ends, and the open members before it.
 pub record IsRecovered (bytes : List ℕ) (c : Content) : Type 0 where
   pub journal : Journal
   pub tail : List ℕ
@@ -39,7 +41,8 @@ pub record IsRecovered (bytes : List ℕ) (c : Content) : Type 0 where
   pub told : c ≡ told journal.began journal.calls
   pub legal : IsLegalText c
 
--- no journal's beginning stands at the front of the bytes, and up to this line, the first, they begin none
+-- no journal's beginning stands at the front of the bytes, and up to this line, the first, they
+-- begin none
 pub record IsNoBeginning (bytes : List ℕ) (line : ℕ) : Type 0 where
   pub none : BeginsNone Fits head_text bytes
   pub first : IsFirstBadLine (Spells Fits head_text) bytes line
@@ -52,7 +55,8 @@ pub record IsNoCall (bytes : List ℕ) (line : ℕ) : Type 0 where
   pub ended : has_line_end tail ≡ true
   pub number : line ≡ call_line_number bytes journal.began (length journal.calls)
 
--- what the journal began with is not legal: a line of its own is the first bad one, and the journal's first line stands before those
+-- what the journal began with is not legal: a line of its own is the first bad one, and the
+-- journal's first line stands before those
 pub record IsBadBeginning (bytes : List ℕ) (line : ℕ) (kind : Kind) : Type 0 where
   pub began : Content
   pub rest : List ℕ
@@ -62,12 +66,14 @@ pub record IsBadBeginning (bytes : List ℕ) (line : ℕ) (kind : Kind) : Type 0
   pub bad : IsRightCheck began (Err (check.Bad said kind))
   pub number : line ≡ said + 1
 
--- the calls before this one tell a legal history, and with it they tell one that has a fault of this kind
-pub record IsWrongCall (began : Content) (calls : List Recorded) (call : ℕ) (kind : Kind) : Type 0 where
-  pub within : call < length calls
-  pub before : 0 < call → IsLegalText (told began (take call calls))
-  pub said : ℕ
-  pub bad : IsRightCheck (told began (take (call + 1) calls)) (Err (check.Bad said kind))
+-- the calls before this one tell a legal history, and with it they tell one that has a fault of
+-- this kind
+pub record IsWrongCall (began : Content) (calls : List Recorded) (call : ℕ) (kind : Kind) : Type 0
+  where
+    pub within : call < length calls
+    pub before : 0 < call → IsLegalText (told began (take call calls))
+    pub said : ℕ
+    pub bad : IsRightCheck (told began (take (call + 1) calls)) (Err (check.Bad said kind))
 
 -- what the journal began with is legal, and this line is of such a call
 pub record IsBadCall (bytes : List ℕ) (line : ℕ) (kind : Kind) : Type 0 where
@@ -79,10 +85,12 @@ pub record IsBadCall (bytes : List ℕ) (line : ℕ) (kind : Kind) : Type 0 wher
   pub wrong : IsWrongCall journal.began journal.calls call kind
   pub number : line ≡ call_line_number bytes journal.began call
 
--- The right answer, memory aside: what is recovered; or that the bytes are cut short of what a journal began with, so that no call is told; or else a bad line.
+-- The right answer, memory aside: what is recovered; or that the bytes are cut short of what a
+-- journal began with, so that no call is told; or else a bad line.
 abbrev pub IsRightRecovery : List ℕ → Result Saved RecoverError → Type 0
 IsRightRecovery bytes (Ok saved) = IsRecovered bytes (content saved)
 IsRightRecovery bytes (Err Truncated) = IsCutShort (Spells Fits head_text) bytes
 IsRightRecovery bytes (Err (Syntax line)) = IsNoBeginning bytes line ⊎ IsNoCall bytes line
-IsRightRecovery bytes (Err (Bad line kind)) = IsBadBeginning bytes line kind ⊎ IsBadCall bytes line kind
+IsRightRecovery bytes (Err (Bad line kind)) =
+    IsBadBeginning bytes line kind ⊎ IsBadCall bytes line kind
 IsRightRecovery bytes (Err OutOfMemory) = Unit {0}

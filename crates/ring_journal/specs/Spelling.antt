@@ -1,4 +1,5 @@
--- The text of a journal (this project's own): its first line, the saved text that it began with, and a line for each call since.
+-- The text of a journal (this project's own): its first line, the saved text that it began with,
+-- and a line for each call since.
 use Rattle.std.specs.Prelude.{ℕ, ◌<◌, ◌^◌, List, ◌++◌, length, codes}
 use Rattle.std.specs.List.{flat_map, AllByRecursion}
 use Rattle.text_lines.specs.Spelling.{spaced}
@@ -45,7 +46,8 @@ pub record RecordedFits (version rings : ℕ) (r : Recorded) : Type 0 where
   pub ring : r.ring < rings
   pub call : CallFits version r.call
 
--- what has a text: saved rings that have one, and calls of these rings that have lines in their version
+-- what has a text: saved rings that have one, and calls of these rings that have lines in their
+-- version
 pub record JournalFits (j : Journal) : Type 0 where
   pub began : Fits j.began
   pub calls : AllByRecursion (RecordedFits j.began.version (length j.began.rings)) j.calls

@@ -1,4 +1,5 @@
--- The history that a journal tells: what it began with, and behind that the calls, each at its ring (this project's own).
+-- The history that a journal tells: what it began with, and behind that the calls, each at its ring
+-- (this project's own).
 use Rattle.std.specs.Prelude.{ℕ, zero, suc, ◌+◌, nat_lt, ◌==◌, not, cond, Bool, false, List, [], ◌∷◌, ◌++◌, length, map}
 use Rattle.std.specs.List.{filter, list_all}
 use Rattle.ring_model.specs.Limits.{seat_limit}
@@ -60,7 +61,8 @@ is_of seat s = s.seat == seat
 -- those of so many seats from this one on, seat by seat, and then those that are left
 unfoldable pub by_seats : ℕ → ℕ → List SavedSurvey → List SavedSurvey
 by_seats seat zero ss = ss
-by_seats seat (suc left) ss = filter (is_of seat) ss ++ by_seats (seat + 1) left (filter (λ s. not (is_of seat s)) ss)
+by_seats seat (suc left) ss =
+    filter (is_of seat) ss ++ by_seats (seat + 1) left (filter (λ s. not (is_of seat s)) ss)
 
 -- a block with its surveys in this order, as saved texts have them
 abbrev pub in_order : Block → Block

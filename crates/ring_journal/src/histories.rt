@@ -53,7 +53,8 @@ fn add(ring: &mut SavedRing, call: Call) -> Result<(), AllocError>
 /// Puts the calls behind those that the rings have, one after the other.
 fn add_all(rings: &mut Vec<SavedRing>, calls: &[Recorded]) -> Result<(), AllocError>
     requires { All (λ (r : Recorded). r.ring < vec_len rings.old) calls.now }
-    ensures { OnOk result (map block_of rings.new.items ≡ with_calls (map block_of rings.old.items) calls.now) }
+    ensures { OnOk result
+        (map block_of rings.new.items ≡ with_calls (map block_of rings.old.items) calls.now) }
 {
     for recorded in calls {
         add(&mut rings[recorded.ring as usize], recorded.call)?;
@@ -133,7 +134,8 @@ fn in_order(alloc: Global, ring: SavedRing) -> Result<SavedRing, AllocError>
 
 /// The rings so.
 fn all_in_order(alloc: Global, rings: Vec<SavedRing>) -> Result<Vec<SavedRing>, AllocError>
-    ensures { IfOk result (λ found. map block_of found.items ≡ map in_order (map block_of rings.items)) }
+    ensures { IfOk result
+        (λ found. map block_of found.items ≡ map in_order (map block_of rings.items)) }
 {
     let mut found = Vec::new(alloc);
     for ring in rings {

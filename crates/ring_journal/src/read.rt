@@ -85,7 +85,8 @@ fn call(version: u32, bytes: &[u8]) -> Result<Option<(Call, &[u8])>, NoRoom>
 
 /// The line of a recorded call of one of so many rings, where one stands at the front of the bytes.
 fn recorded(version: u32, rings: usize, bytes: &[u8]) -> Result<Option<(Recorded, &[u8])>, NoRoom>
-    ensures { Finds (λ x. (x.0, x.1.now)) (RecordedFits version rings) recorded_line bytes.now result }
+    ensures { Finds (λ x. (x.0, x.1.now)) (RecordedFits version rings) recorded_line bytes.now
+        result }
 {
     match number32(bytes, b' ') {
         Ok((ring, after)) => {

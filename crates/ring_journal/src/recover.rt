@@ -67,7 +67,8 @@ fn judged(alloc: Global, began: Saved, calls: &[Recorded]) -> Result<Saved, Chec
 /// What is wrong with what the first calls of a journal tell. It reads again what the journal began with.
 fn fault_of(alloc: Global, bytes: &[u8], calls: &[Recorded]) -> Result<Option<Kind>, NoRoom>
     requires { AreCallsOf bytes.now calls.now }
-    ensures { IfOk result (λ fault. (began : Content) (rest : List ℕ) → head_at bytes.now ≡ Ok (began, rest) → IsFaultOf (told began calls.now) fault) }
+    ensures { IfOk result (λ fault. (began : Content) (rest : List ℕ)
+        → head_at bytes.now ≡ Ok (began, rest) → IsFaultOf (told began calls.now) fault) }
 {
     let Ok((began, _)) = head(alloc, bytes) else {
         return Err(NoRoom);
@@ -90,8 +91,10 @@ fn wrong_call(
 ) -> Result<(usize, Kind), NoRoom>
     requires calls { AreCallsOf bytes.now calls.now }
     requires some { 0 < length calls.now }
-    requires wrong { (began : Content) (rest : List ℕ) → head_at bytes.now ≡ Ok (began, rest) → IsFaultOf (told began calls.now) (Some kind) }
-    ensures { IfOk result (λ x. (began : Content) (rest : List ℕ) → head_at bytes.now ≡ Ok (began, rest) → IsWrongCall began calls.now x.0 x.1) }
+    requires wrong { (began : Content) (rest : List ℕ) → head_at bytes.now ≡ Ok (began, rest)
+        → IsFaultOf (told began calls.now) (Some kind) }
+    ensures { IfOk result (λ x. (began : Content) (rest : List ℕ)
+        → head_at bytes.now ≡ Ok (began, rest) → IsWrongCall began calls.now x.0 x.1) }
 {
     let mut legal: usize = 0;
     let mut wrong = calls.len();

@@ -1,17 +1,20 @@
--- What the kernels compute, for any test of the machines: the tests of a block as a bit mask, their count and their weight.
+-- What the kernels compute, for any test of the machines: the tests of a block as a bit mask, their
+-- count and their weight.
 use Rattle.std.specs.Prelude.{ℕ, zero, suc, ◌-◌, ◌==◌, ◌&&◌, nat_lt, Bool, false, not, cond, List, map, slice_index}
 use Rattle.std.specs.List.{range_with_len, sum_by, count_by}
 use Rattle.std.specs.Simd.Lanes.{mask_l}
 use Rattle.ring_model.specs.Ring.{is_privileged}
 
--- whether machine i is privileged: the shared definition under a name that a proof opens only where it wants to
+-- whether machine i is privileged: the shared definition under a name that a proof opens only where
+-- it wants to
 unfoldable pub privileged_at : List ℕ → ℕ → Bool
 privileged_at s i = is_privileged s i
 
 -- whether machine i holds the value of machine 0 though its left neighbour does not
 unfoldable pub returning_at : List ℕ → ℕ → Bool
 returning_at s zero = false
-returning_at s (suc i) = (slice_index s (suc i) == slice_index s 0) && not (slice_index s i == slice_index s 0)
+returning_at s (suc i) =
+    (slice_index s (suc i) == slice_index s 0) && not (slice_index s i == slice_index s 0)
 
 -- the number whose bit k is set exactly where a + k passes, for each k below m
 unfoldable pub mask_from : (ℕ → Bool) → ℕ → ℕ → ℕ

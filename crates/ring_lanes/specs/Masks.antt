@@ -10,6 +10,10 @@ mask_limit = 256
 abbrev pub wide_mask_limit : ℕ
 wide_mask_limit = 1024
 
--- of so many bits, bit i % 64 of word i / 64 is set exactly where machine i is privileged, and every bit past the last machine is clear
+-- of so many bits, bit i % 64 of word i / 64 is set exactly where machine i is privileged, and
+-- every bit past the last machine is clear
 abbrev pub IsMaskOf : ℕ → List ℕ → List ℕ → Type 0
-IsMaskOf bits s words = (i : ℕ) → i < bits → bit_at (slice_index words (i / 64)) (i % 64) ≡ (if nat_lt i (length s) && is_privileged s i then 1 else 0)
+IsMaskOf bits s words =
+    (i : ℕ) → i < bits
+    → bit_at (slice_index words (i / 64)) (i % 64)
+    ≡ (if nat_lt i (length s) && is_privileged s i then 1 else 0)

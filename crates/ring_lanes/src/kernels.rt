@@ -231,7 +231,8 @@ fn is_hit_among<P: Probe>(p: &P, end: usize) -> bool
 #[inline(always)]
 pub(crate) fn any_hit<P: Probe>(p: &P) -> bool
     requires { 1 ≤ P.size p.now }
-    ensures found { result ≡ true → (k : ℕ) × (1 ≤ k) × (k < P.size p.now) × (P.hit p.now k ≡ true) }
+    ensures found { result ≡ true
+        → (k : ℕ) × (1 ≤ k) × (k < P.size p.now) × (P.hit p.now k ≡ true) }
     ensures none { result ≡ false → (k : ℕ) → 1 ≤ k → k < P.size p.now → P.hit p.now k ≡ false }
 {
     let n = p.len();
@@ -297,7 +298,8 @@ fn word<P: Probe>(p: &P, base: usize) -> u64
 #[inline(always)]
 pub(crate) fn write_hits<P: Probe>(p: &P, out: &mut [u64])
     requires { length out.old ≤ 64 }
-    ensures { (w : ℕ) → w < length out.old → slice_index out.new w ≡ mask_from (within (P.size p.now) (P.hit p.now)) (64 * w) 64 }
+    ensures { (w : ℕ) → w < length out.old
+        → slice_index out.new w ≡ mask_from (within (P.size p.now) (P.hit p.now)) (64 * w) 64 }
 {
     for w in 0..out.len() {
         out[w] = word(p, 64 * w);
@@ -308,7 +310,8 @@ pub(crate) fn write_hits<P: Probe>(p: &P, out: &mut [u64])
 // two in them.
 #[inline(always)]
 fn places(hits: u64) -> u64
-    ensures { (p : ℕ → Bool) → (n a m : ℕ) → m ≤ 32 → a + m ≤ n → hits ≡ mask_from p a m → weight_from p n a m + result ≡ count_from p a m * (n - a) }
+    ensures { (p : ℕ → Bool) → (n a m : ℕ) → m ≤ 32 → a + m ≤ n → hits ≡ mask_from p a m
+        → weight_from p n a m + result ≡ count_from p a m * (n - a) }
 {
     let ones = (hits & 0xAAAA_AAAA).count_ones() as u64;
     let twos = (hits & 0xCCCC_CCCC).count_ones() as u64;

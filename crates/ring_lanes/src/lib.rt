@@ -80,7 +80,8 @@ pub fn all_below(s: &[u8], limit: u32) -> bool
 /// Whether a machine other than machine 0 holds `v`.
 pub fn holds_past_first(s: &[u8], v: u8) -> bool
     requires { 2 ≤ length s.now }
-    ensures held { IsTrue result ↔ ((k : ℕ) × (1 ≤ k) × (k < length s.now) × (slice_index s.now k ≡ v)) }
+    ensures held { IsTrue result
+        ↔ ((k : ℕ) × (1 ≤ k) × (k < length s.now) × (slice_index s.now k ≡ v)) }
     ensures absent { result ≡ not (is_absent s.now v) }
 {
     any_hit(&Holding {
@@ -156,7 +157,8 @@ pub fn wide_all_below(s: &[u16], limit: u32) -> bool
 /// Whether a machine other than machine 0 holds `v`.
 pub fn wide_holds_past_first(s: &[u16], v: u16) -> bool
     requires { 2 ≤ length s.now }
-    ensures held { IsTrue result ↔ ((k : ℕ) × (1 ≤ k) × (k < length s.now) × (slice_index s.now k ≡ v)) }
+    ensures held { IsTrue result
+        ↔ ((k : ℕ) × (1 ≤ k) × (k < length s.now) × (slice_index s.now k ≡ v)) }
     ensures absent { result ≡ not (is_absent s.now v) }
 {
     any_hit(&WideHolding {

@@ -9,7 +9,9 @@ use std::simd::prelude::*;
 fn greatest_lanes(s: &[u8]) -> u8x32
     requires { 32 ≤ length s.now }
     ensures lanes { length result ≡ 32 }
-    ensures limits { (limit : ℕ) → EachIndex result (λ k. slice_index result k < limit) ↔ EachIndex s.now (λ k. slice_index s.now k < limit) }
+    ensures limits { (limit : ℕ)
+        → EachIndex result (λ k. slice_index result k < limit)
+        ↔ EachIndex s.now (λ k. slice_index s.now k < limit) }
 {
     let n = s.len();
     let mut greatest = u8x32::from_slice(&s[n - 32..]);

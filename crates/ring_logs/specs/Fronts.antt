@@ -16,13 +16,15 @@ front_of (entry.Survey s) = s.position
 
 -- the receipt's event is the seat's, and stands at its position, which is at least the front
 abbrev pub IsReceiptFrom : List Event → ℕ → ℕ → Receipt → Type 0
-IsReceiptFrom h seat front r = (front ≤ r.position) × (slice_get h r.position ≡ Some r.event) × (r.event.seat ≡ seat)
+IsReceiptFrom h seat front r =
+    (front ≤ r.position) × (slice_get h r.position ≡ Some r.event) × (r.event.seat ≡ seat)
 
 -- the survey is right at its position, which is at least the front
 abbrev pub IsSurveyFrom : {C : Type 0} → Works C → State C → List Event → ℕ → Survey → Type 0
 IsSurveyFrom w a h front s = (front ≤ s.position) × IsSurvey w a h s
 
--- the entry does not go back behind the front, and a receipt is right; what a survey says is another matter
+-- the entry does not go back behind the front, and a receipt is right; what a survey says is
+-- another matter
 abbrev pub IsPlacedFrom : List Event → ℕ → ℕ → Entry → Type 0
 IsPlacedFrom h seat front (entry.Receipt r) = IsReceiptFrom h seat front r
 IsPlacedFrom h seat front (entry.Survey s) = front ≤ s.position

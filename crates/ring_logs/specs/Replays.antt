@@ -1,4 +1,5 @@
--- How a history is played again: what each event does to the ring and to the calm, whatever the resource.
+-- How a history is played again: what each event does to the ring and to the calm, whatever the
+-- resource.
 use Rattle.std.specs.Prelude.{ℕ, ◌+◌, ◌<◌, cond, length}
 use Rattle.ring_model.specs.Ring.{Ring, is_privileged, moved, written}
 use Rattle.ring_model.specs.declared.events.Op.{Op}

@@ -23,7 +23,9 @@ pub fn logs_fit<R: Resource + Drop>(
     book: &Book<R>,
     logs: &[ClientLog],
 ) -> Result<bool, AllocError>
-    ensures { IfOk result (λ b. IsTrue b ↔ All (λ l. Fits R.works (opening book.now.start R.first) book.now.history l.number l.log) logs.now) }
+    ensures { IfOk result (λ b. IsTrue b
+        ↔ All (λ l. Fits R.works (opening book.now.start R.first) book.now.history l.number l.log)
+        logs.now) }
 {
     let placed = all_placed(alloc, book, logs)?;
     if !placed {

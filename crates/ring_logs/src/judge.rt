@@ -25,7 +25,8 @@ struct Replay<'a, R: Resource + Drop> {
     /// How many members of a group come after the last event: where some do, the place is inside a block.
     left: u32,
     ghost within: { place ≤ length book.now.history },
-    ghost ring_is: { ring ≡ (after R.works (opening book.now.start R.first) (take place book.now.history)).ring },
+    ghost ring_is: { ring
+        ≡ (after R.works (opening book.now.start R.first) (take place book.now.history)).ring },
     ghost calm_is: { calm ≡ calm_of (take place book.now.history) },
     ghost few: { calm ≤ place },
     ghost left_is: { left ≡ left_after (take place book.now.history) },
@@ -109,7 +110,8 @@ impl<'a, R: Resource + Drop> Replay<'a, R> {
     /// Plays on to a place, and answers whether it stands ahead in the history.
     fn advance(&mut self, place: u64) -> bool
         ensures book { self.new.book.now ≡ self.old.book.now }
-        ensures ahead { IsTrue result ↔ (self.old.place ≤ place) × (place ≤ length self.old.book.now.history) }
+        ensures ahead { IsTrue result
+            ↔ (self.old.place ≤ place) × (place ≤ length self.old.book.now.history) }
         ensures there { IsTrue result → self.new.place ≡ place }
     {
         if place < self.place as u64 || place > self.book.history().len() as u64 {
@@ -123,7 +125,9 @@ impl<'a, R: Resource + Drop> Replay<'a, R> {
 
     /// The survey here.
     fn survey(&self) -> Survey
-        ensures { result ≡ survey_at R.works (opening self.now.book.now.start R.first) self.now.book.now.history self.now.place }
+        ensures { result
+            ≡ survey_at R.works (opening self.now.book.now.start R.first) self.now.book.now.history
+            self.now.place }
     {
         let privileged = self.ring.privileged();
         Survey {
@@ -137,7 +141,11 @@ impl<'a, R: Resource + Drop> Replay<'a, R> {
 
     /// Whether a survey is right here, which is inside no block.
     fn is_surveyed(&self, survey: Survey) -> bool
-        ensures { IsTrue result ↔ (survey ≡ survey_at R.works (opening self.now.book.now.start R.first) self.now.book.now.history self.now.place) × (left_after (take self.now.place self.now.book.now.history) ≡ 0) }
+        ensures { IsTrue result
+            ↔ (survey
+            ≡ survey_at R.works (opening self.now.book.now.start R.first)
+            self.now.book.now.history self.now.place)
+            × (left_after (take self.now.place self.now.book.now.history) ≡ 0) }
     {
         self.left == 0 && is_same_survey(survey, self.survey())
     }
@@ -146,7 +154,9 @@ impl<'a, R: Resource + Drop> Replay<'a, R> {
     fn pass_survey(&mut self, survey: Survey) -> bool
         ensures book { self.new.book.now ≡ self.old.book.now }
         ensures front { IsTrue result → self.new.place ≡ survey.position }
-        ensures right { IsTrue result ↔ IsSurveyFrom R.works (opening self.old.book.now.start R.first) self.old.book.now.history self.old.place survey }
+        ensures right { IsTrue result
+            ↔ IsSurveyFrom R.works (opening self.old.book.now.start R.first)
+            self.old.book.now.history self.old.place survey }
     {
         self.advance(survey.position) && self.is_surveyed(survey)
     }
@@ -164,7 +174,8 @@ pub(crate) fn are_right<R: Resource + Drop>(
     surveys: &[Survey],
 ) -> Result<bool, AllocError>
     requires { IsNonDecreasingBy (λ s. s.position) surveys.now }
-    ensures { IfOk result (λ b. IsTrue b ↔ All (IsSurvey R.works (opening book.now.start R.first) book.now.history) surveys.now) }
+    ensures { IfOk result (λ b. IsTrue b
+        ↔ All (IsSurvey R.works (opening book.now.start R.first) book.now.history) surveys.now) }
 {
     if surveys.is_empty() {
         return Ok(true);

@@ -39,7 +39,8 @@ fn is_receipt_from(history: &[Event], seat: u32, front: u64, receipt: &Receipt) 
 
 /// The front behind an entry; none where its receipt is not right, or where it goes back behind the front before.
 fn front_past(history: &[Event], seat: u32, front: u64, entry: &Entry) -> Option<u64>
-    ensures some { IfSome result (λ f. (f ≡ front_of entry.now) × IsPlacedFrom history.now seat front entry.now) }
+    ensures some { IfSome result
+        (λ f. (f ≡ front_of entry.now) × IsPlacedFrom history.now seat front entry.now) }
     ensures none { result ≡ None → IsPlacedFrom history.now seat front entry.now → ⊥ }
 {
     match entry {
@@ -88,8 +89,10 @@ fn followed(
     ensures within { IfSome result (λ to. to.entry ≤ length log.now) }
     ensures few { IfSome result (λ to. to.receipts ≤ to.entry) }
     ensures counted { IfSome result (λ to. to.receipts ≡ receipt_count (take to.entry log.now)) }
-    ensures some { IfSome result (λ to. ArePlaced history.now seat to.front (drop to.entry log.now) ↔ ArePlaced history.now seat from.front (drop from.entry log.now)) }
-    ensures none { result ≡ None → ArePlaced history.now seat from.front (drop from.entry log.now) → ⊥ }
+    ensures some { IfSome result (λ to. ArePlaced history.now seat to.front (drop to.entry log.now)
+        ↔ ArePlaced history.now seat from.front (drop from.entry log.now)) }
+    ensures none { result ≡ None → ArePlaced history.now seat from.front (drop from.entry log.now)
+        → ⊥ }
     ensures all { until ≡ 2 ^ 64 - 1 → IfSome result (λ to. to.entry ≡ length log.now) }
 {
     let mut front = from.front;
@@ -140,7 +143,12 @@ impl<'a> Model for Walk<'a> {
 
     ghost view = { λ w. record { history = w.history.now; number = w.seat; log = w.log.now } };
 
-    ghost invariant = { λ w. (w.reached.entry ≤ length w.log.now) × (w.reached.receipts ≤ w.reached.entry) × (w.reached.receipts ≡ receipt_count (take w.reached.entry w.log.now)) × (w.calls ≡ length (calls_of w.seat w.history.now)) × (ArePlaced w.history.now w.seat w.reached.front (drop w.reached.entry w.log.now) ↔ ArePlaced w.history.now w.seat 0 w.log.now) };
+    ghost invariant = { λ w. (w.reached.entry ≤ length w.log.now)
+        × (w.reached.receipts ≤ w.reached.entry)
+        × (w.reached.receipts ≡ receipt_count (take w.reached.entry w.log.now))
+        × (w.calls ≡ length (calls_of w.seat w.history.now))
+        × (ArePlaced w.history.now w.seat w.reached.front (drop w.reached.entry w.log.now)
+        ↔ ArePlaced w.history.now w.seat 0 w.log.now) };
 }
 
 impl<'a> Walk<'a> {
@@ -238,7 +246,8 @@ pub(crate) fn all_placed<R: Resource + Drop>(
     book: &Book<R>,
     logs: &[ClientLog],
 ) -> Result<bool, AllocError>
-    ensures { IfOk result (λ b. IsTrue b ↔ All (λ l. IsPlaced book.now.history l.number l.log) logs.now) }
+    ensures { IfOk result
+        (λ b. IsTrue b ↔ All (λ l. IsPlaced book.now.history l.number l.log) logs.now) }
 {
     let mut walks = walks_of(alloc, book, logs)?;
     for block in 1..book.history().len() / BLOCK + 1 {

@@ -45,12 +45,15 @@ granted_machines (e ∷ es) = and_granted e.op e.reply (granted_machines es)
 -- no event is a corruption, and the ring is settled before each
 abbrev pub is_settled_run : {C : Type 0} → Works C → State C → List Event → Bool
 is_settled_run w a [] = true
-is_settled_run w a (e ∷ es) = is_settled a.ring.values && (not (is_corrupted e.reply) && is_settled_run w (next w a e.op) es)
+is_settled_run w a (e ∷ es) =
+    is_settled a.ring.values && (not (is_corrupted e.reply) && is_settled_run w (next w a e.op) es)
 
--- the settled run: the longest suffix of the history that has no corruption and before each of whose events the ring is settled (this project's own)
+-- the settled run: the longest suffix of the history that has no corruption and before each of
+-- whose events the ring is settled (this project's own)
 abbrev pub settled_run : {C : Type 0} → Works C → State C → List Event → List Event
 settled_run w a [] = []
-settled_run w a (e ∷ es) = cond (is_settled_run w a (e ∷ es)) (e ∷ es) (settled_run w (next w a e.op) es)
+settled_run w a (e ∷ es) =
+    cond (is_settled_run w a (e ∷ es)) (e ∷ es) (settled_run w (next w a e.op) es)
 
 -- machine i's granted passes in the settled run
 abbrev pub settled_grants_of : {C : Type 0} → Works C → State C → ℕ → List Event → ℕ

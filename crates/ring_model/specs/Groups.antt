@@ -1,5 +1,6 @@
--- Group passes: privileged machines that leave out at least one machine move at once (this project's own). A history shows the move as a
--- block of members, in an order in which each of them can also move by itself.
+-- Group passes: privileged machines that leave out at least one machine move at once (this
+-- project's own). A history shows the move as a block of members, in an order in which each of them
+-- can also move by itself.
 use Rattle.std.specs.Prelude.{◌≡◌, ℕ, zero, suc, ◌<◌, ◌≤◌, Bool, true, false, cond, ◌||◌, ◌==◌, List, [], ◌∷◌, ◌++◌, length, slice_index, drop, reverse, ◌⊎◌}
 use Rattle.ring_model.specs.Ring.{Ring, is_privileged, moved_value}
 use Rattle.ring_model.specs.History.{Works, State, IsLegal}
@@ -12,15 +13,18 @@ abbrev pub has : List ℕ → ℕ → Bool
 has [] i = false
 has (m ∷ ms) i = (i == m) || has ms i
 
--- The group move from r to t: the group has a machine and leaves one out, each of its machines is privileged in r,
--- and in t each of them holds what its own move from r gives, and each other machine what it held.
+-- The group move from r to t: the group has a machine and leaves one out, each of its machines is
+-- privileged in r, and in t each of them holds what its own move from r gives, and each other
+-- machine what it held.
 pub record GroupMove (r : Ring) (group : List ℕ) (t : Ring) : Type 0 where
   pub some : 1 ≤ length group
   pub leaves_out : (x : ℕ) × (x < length r.values) × (has group x ≡ false)
-  pub privileged : (i : ℕ) → has group i ≡ true → (i < length r.values) × (is_privileged r.values i ≡ true)
+  pub privileged : (i : ℕ) → has group i ≡ true
+      → (i < length r.values) × (is_privileged r.values i ≡ true)
   pub same : t.k ≡ r.k
   pub size : length t.values ≡ length r.values
-  pub values : (i : ℕ) → i < length r.values → slice_index t.values i ≡ cond (has group i) (moved_value r i) (slice_index r.values i)
+  pub values : (i : ℕ) → i < length r.values
+      → slice_index t.values i ≡ cond (has group i) (moved_value r i) (slice_index r.values i)
 
 -- x - 1 down to 0
 abbrev pub down_from : ℕ → List ℕ
@@ -32,7 +36,8 @@ abbrev pub Falls : ℕ → ℕ → List ℕ → Type 0
 Falls low high [] = Unit {0}
 Falls low high (m ∷ ms) = (m < high) × (low ≤ m) × Falls low m ms
 
--- The order of the moves: with x the least machine that is left out, x - 1 down to 0, and then from n - 1 down to x + 1.
+-- The order of the moves: with x the least machine that is left out, x - 1 down to 0, and then from
+-- n - 1 down to x + 1.
 pub record IsInOrder (n : ℕ) (ms : List ℕ) : Type 0 where
   pub least : ℕ
   pub machine : least < n
@@ -53,13 +58,16 @@ least_left_out x (m ∷ ms) = cond (m == x) (least_left_out (suc x) ms) x
 
 -- a group that is given as a rising list, in the order of the moves
 abbrev pub move_order : List ℕ → List ℕ
-move_order machines = down_from (least_left_out 0 machines) ++ reverse (drop (least_left_out 0 machines) machines)
+move_order machines =
+    down_from (least_left_out 0 machines) ++ reverse (drop (least_left_out 0 machines) machines)
 
--- the events are members of one seat and one order, by these machines, and each says how many are left
+-- the events are members of one seat and one order, by these machines, and each says how many are
+-- left
 abbrev pub AreMembers : ℕ → ℕ → List ℕ → List Event → Type 0
 AreMembers seat order [] es = es ≡ []
 AreMembers seat order (m ∷ ms) [] = ⊥
-AreMembers seat order (m ∷ ms) (e ∷ es) = (e.seat ≡ seat) × (e.op ≡ Member m order (length ms)) × AreMembers seat order ms es
+AreMembers seat order (m ∷ ms) (e ∷ es) =
+    (e.seat ≡ seat) × (e.op ≡ Member m order (length ms)) × AreMembers seat order ms es
 
 -- a block of a ring of n machines: a group's members, in the order of the moves
 pub record IsBlockOf (n seat order : ℕ) (ms : List ℕ) (es : List Event) : Type 0 where
@@ -78,7 +86,8 @@ IsAlone (Pass machine order) = Unit {0}
 IsAlone (Member machine order left) = ⊥
 IsAlone (Corrupt machine value) = Unit {0}
 
--- A history is whole where it is, end to end, a row of pieces: blocks, and events that are no members.
+-- A history is whole where it is, end to end, a row of pieces: blocks, and events that are no
+-- members.
 abbrev pub IsPiece : ℕ → List Event → Type 0
 IsPiece n es = ((e : Event) × (es ≡ e ∷ []) × IsAlone e.op) ⊎ IsBlock n es
 
@@ -99,8 +108,8 @@ pub record IsWhole (n : ℕ) (h : List Event) : Type 0 where
 abbrev pub IsHistory : {C : Type 0} → Works C → State C → List Event → Type 0
 IsHistory w a h = IsLegal w a h × IsWhole (length a.ring.values) h
 
--- how many members of its group come after a call, and after the last call of a history; a place of a history is inside a block where
--- that is more than 0 for the events before it
+-- how many members of its group come after a call, and after the last call of a history; a place of
+-- a history is inside a block where that is more than 0 for the events before it
 abbrev pub left_of : Op → ℕ
 left_of (Pass machine order) = 0
 left_of (Member machine order left) = left

@@ -1,5 +1,6 @@
--- The laws of settlement over a legal history with corruptions, at any two of its places with no corruption between
--- (closure and convergence of Dijkstra 1974 and Dolev 2000, chapter 2; the numbers are this project's own).
+-- The laws of settlement over a legal history with corruptions, at any two of its places with no
+-- corruption between (closure and convergence of Dijkstra 1974 and Dolev 2000, chapter 2; the
+-- numbers are this project's own).
 use Rattle.std.specs.Prelude.{◌≡◌, ℕ, ◌+◌, ◌-◌, ◌<◌, ◌≤◌, true, List, length, take, drop}
 use Rattle.ring_model.specs.Ring.{IsRing, first_privileged, is_settled, rest, bound}
 use Rattle.ring_model.specs.Runs.{GoesRoundFrom, GoesRound}
@@ -25,37 +26,56 @@ NoCorruption h p q = corrupted_count (between h p q) ≡ 0
 
 -- descent: from p to q the rest falls by at least the number of granted passes, down to 0
 abbrev pub Descends : {C : Type 0} → Works C → State C → List Event → Type 0
-Descends w a h = (p q : ℕ) → p ≤ q → q ≤ length h → NoCorruption h p q → rest_at w a h q ≤ rest_at w a h p - granted_count (between h p q)
+Descends w a h =
+    (p q : ℕ) → p ≤ q → q ≤ length h → NoCorruption h p q
+    → rest_at w a h q ≤ rest_at w a h p - granted_count (between h p q)
 
--- one privilege: where the granted passes from p to q are as many as the rest at p, the ring is settled at q
+-- one privilege: where the granted passes from p to q are as many as the rest at p, the ring is
+-- settled at q
 abbrev pub Settles : {C : Type 0} → Works C → State C → List Event → Type 0
-Settles w a h = (p q : ℕ) → p ≤ q → q ≤ length h → NoCorruption h p q → rest_at w a h p ≤ granted_count (between h p q) → is_settled (values_at w a h q) ≡ true
+Settles w a h =
+    (p q : ℕ) → p ≤ q → q ≤ length h → NoCorruption h p q
+    → rest_at w a h p ≤ granted_count (between h p q) → is_settled (values_at w a h q) ≡ true
 
--- calm bounds the rest: it is at most the bound less the calm, and 0 where the calm has passed the bound
+-- calm bounds the rest: it is at most the bound less the calm, and 0 where the calm has passed the
+-- bound
 abbrev pub CalmBoundsRest : {C : Type 0} → Works C → State C → List Event → Type 0
-CalmBoundsRest w a h = (q : ℕ) → q ≤ length h → rest_at w a h q ≤ bound (length a.ring.values) - calm (take q h)
+CalmBoundsRest w a h =
+    (q : ℕ) → q ≤ length h → rest_at w a h q ≤ bound (length a.ring.values) - calm (take q h)
 
 -- so the ring is settled wherever the calm has reached the bound
 abbrev pub CalmSettles : {C : Type 0} → Works C → State C → List Event → Type 0
-CalmSettles w a h = (q : ℕ) → q ≤ length h → bound (length a.ring.values) ≤ calm (take q h) → is_settled (values_at w a h q) ≡ true
+CalmSettles w a h =
+    (q : ℕ) → q ≤ length h → bound (length a.ring.values) ≤ calm (take q h)
+    → is_settled (values_at w a h q) ≡ true
 
--- round: from a settled place p on the ring stays settled, and the granted passes begin at the privileged machine and go to the right neighbour each time
+-- round: from a settled place p on the ring stays settled, and the granted passes begin at the
+-- privileged machine and go to the right neighbour each time
 abbrev pub StaysRound : {C : Type 0} → Works C → State C → List Event → Type 0
-StaysRound w a h = (p q : ℕ) → p ≤ q → q ≤ length h → NoCorruption h p q → is_settled (values_at w a h p) ≡ true →
-    (is_settled (values_at w a h q) ≡ true)
+StaysRound w a h =
+    (p q : ℕ) → p ≤ q → q ≤ length h → NoCorruption h p q → is_settled (values_at w a h p) ≡ true
+    → (is_settled (values_at w a h q) ≡ true)
     × GoesRound (length a.ring.values) (granted_machines (between h p q))
-    × GoesRoundFrom (length a.ring.values) (first_privileged (values_at w a h p)) (granted_machines (between h p q))
+    × GoesRoundFrom (length a.ring.values) (first_privileged (values_at w a h p))
+    (granted_machines (between h p q))
 
 -- fairness: in the settled run the granted passes of two machines differ by at most 1
 abbrev pub IsFair : {C : Type 0} → Works C → State C → List Event → Type 0
-IsFair w a h = (i j : ℕ) → i < length a.ring.values → j < length a.ring.values → settled_grants_of w a i h ≤ settled_grants_of w a j h + 1
+IsFair w a h =
+    (i j : ℕ) → i < length a.ring.values → j < length a.ring.values
+    → settled_grants_of w a i h ≤ settled_grants_of w a j h + 1
 
--- what a survey tells: some machine is privileged, the rest is at most the bound less the calm, and where the calm has reached the bound one machine is privileged and the rest is 0
+-- what a survey tells: some machine is privileged, the rest is at most the bound less the calm, and
+-- where the calm has reached the bound one machine is privileged and the rest is 0
 abbrev pub SurveysTell : {C : Type 0} → Works C → State C → List Event → Type 0
-SurveysTell w a h = (p : ℕ) → p ≤ length h →
-    (1 ≤ (survey_at w a h p).privileged) × ((survey_at w a h p).privileged ≤ length a.ring.values) × ((survey_at w a h p).first < length a.ring.values)
+SurveysTell w a h =
+    (p : ℕ) → p ≤ length h
+    → (1 ≤ (survey_at w a h p).privileged)
+    × ((survey_at w a h p).privileged ≤ length a.ring.values)
+    × ((survey_at w a h p).first < length a.ring.values)
     × ((survey_at w a h p).rest ≤ bound (length a.ring.values) - (survey_at w a h p).calm)
-    × (bound (length a.ring.values) ≤ (survey_at w a h p).calm → ((survey_at w a h p).privileged ≡ 1) × ((survey_at w a h p).rest ≡ 0))
+    × (bound (length a.ring.values) ≤ (survey_at w a h p).calm
+    → ((survey_at w a h p).privileged ≡ 1) × ((survey_at w a h p).rest ≡ 0))
 
 -- all of them together, for a caller that hands out a history
 pub record Settlement {C : Type 0} (w : Works C) (a : State C) (h : List Event) : Type 0 where
@@ -67,26 +87,39 @@ pub record Settlement {C : Type 0} (w : Works C) (a : State C) (h : List Event) 
   pub fair : IsFair w a h
   pub surveys_tell : SurveysTell w a h
 
--- Each of them holds of every history that is legal from a state with a ring, for every resource with contents C.
+-- Each of them holds of every history that is legal from a state with a ring, for every resource
+-- with contents C.
 abbrev pub HistoryDescent : Type 0 → Type 0
-HistoryDescent C = (w : Works C) (a : State C) (h : List Event) → IsRing a.ring → IsLegal w a h → Descends w a h
+HistoryDescent C =
+    (w : Works C) (a : State C) (h : List Event) → IsRing a.ring → IsLegal w a h → Descends w a h
 
 abbrev pub HistorySettles : Type 0 → Type 0
-HistorySettles C = (w : Works C) (a : State C) (h : List Event) → IsRing a.ring → IsLegal w a h → Settles w a h × CalmSettles w a h
+HistorySettles C =
+    (w : Works C) (a : State C) (h : List Event) → IsRing a.ring → IsLegal w a h
+    → Settles w a h × CalmSettles w a h
 
 abbrev pub HistoryCalm : Type 0 → Type 0
-HistoryCalm C = (w : Works C) (a : State C) (h : List Event) → IsRing a.ring → IsLegal w a h → CalmBoundsRest w a h
+HistoryCalm C =
+    (w : Works C) (a : State C) (h : List Event) → IsRing a.ring → IsLegal w a h
+    → CalmBoundsRest w a h
 
 abbrev pub HistoryRound : Type 0 → Type 0
-HistoryRound C = (w : Works C) (a : State C) (h : List Event) → IsRing a.ring → IsLegal w a h → StaysRound w a h
+HistoryRound C =
+    (w : Works C) (a : State C) (h : List Event) → IsRing a.ring → IsLegal w a h → StaysRound w a h
 
 abbrev pub HistoryFairness : Type 0 → Type 0
-HistoryFairness C = (w : Works C) (a : State C) (h : List Event) → IsRing a.ring → IsLegal w a h → IsFair w a h
+HistoryFairness C =
+    (w : Works C) (a : State C) (h : List Event) → IsRing a.ring → IsLegal w a h → IsFair w a h
 
 abbrev pub HistorySurveys : Type 0 → Type 0
-HistorySurveys C = (w : Works C) (a : State C) (h : List Event) → IsRing a.ring → IsLegal w a h → SurveysTell w a h
+HistorySurveys C =
+    (w : Works C) (a : State C) (h : List Event) → IsRing a.ring → IsLegal w a h → SurveysTell w a h
 
 -- at each place of a legal history stands a ring with the same K and the same number of machines
 abbrev pub HistoryKeepsRing : Type 0 → Type 0
-HistoryKeepsRing C = (w : Works C) (a : State C) (h : List Event) → IsRing a.ring → IsLegal w a h →
-    (p : ℕ) → p ≤ length h → ((after w a (take p h)).ring.k ≡ a.ring.k) × (length (values_at w a h p) ≡ length a.ring.values) × IsRing (after w a (take p h)).ring
+HistoryKeepsRing C =
+    (w : Works C) (a : State C) (h : List Event) → IsRing a.ring → IsLegal w a h → (p : ℕ)
+    → p ≤ length h
+    → ((after w a (take p h)).ring.k ≡ a.ring.k)
+    × (length (values_at w a h p) ≡ length a.ring.values)
+    × IsRing (after w a (take p h)).ring

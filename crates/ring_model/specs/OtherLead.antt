@@ -3,7 +3,8 @@ use Rattle.std.specs.Prelude.{◌≡◌, ℕ, ◌+◌, ◌*◌, ◌%◌, ◌<◌
 use Rattle.ring_model.specs.Numbers.{least}
 use Rattle.ring_model.specs.Ring.{Ring, ring_with, IsRing, is_privileged, moved, is_settled, weight, is_absent, rest}
 
--- how far machine 0 has to step until no other machine holds its value, and 0 only where none holds it now
+-- how far machine 0 has to step until no other machine holds its value, and 0 only where none holds
+-- it now
 abbrev pub other_lead : Ring → ℕ
 other_lead r = least (λ j. is_absent r.values ((slice_index r.values 0 + j) % r.k)) 0 r.k
 
@@ -13,8 +14,9 @@ other_rest r = cond (is_settled r.values) 0 (weight r.values + length r.values *
 
 -- descent by that rest, which does not hold
 abbrev pub OtherDescent : Type 0
-OtherDescent = (r : Ring) (i : ℕ) → IsRing r → i < length r.values → is_privileged r.values i ≡ true → is_settled r.values ≡ false →
-    other_rest (moved r i) < other_rest r
+OtherDescent =
+    (r : Ring) (i : ℕ) → IsRing r → i < length r.values → is_privileged r.values i ≡ true
+    → is_settled r.values ≡ false → other_rest (moved r i) < other_rest r
 
 -- four machines with four values, before and after the move of machine 1, a copy
 abbrev pub before_copy : Ring

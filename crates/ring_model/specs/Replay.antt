@@ -1,4 +1,5 @@
--- Words for the plain replay of a history: a state with the till from its parts, and the machine of a call.
+-- Words for the plain replay of a history: a state with the till from its parts, and the machine of
+-- a call.
 use Rattle.std.specs.Prelude.{ℕ}
 use Rattle.ring_model.specs.Ring.{Ring}
 use Rattle.ring_model.specs.History.{State}

@@ -8,4 +8,7 @@ add_order amount order = min (amount + order) (2 ^ 64 - 1)
 
 -- the till: its content is an amount, its answer the new amount
 abbrev pub till : Works ℕ
-till = record { after = λ amount machine order. add_order amount order; answer = λ amount machine order. add_order amount order }
+till = record {
+  after = λ amount machine order. add_order amount order;
+  answer = λ amount machine order. add_order amount order;
+}

@@ -1,4 +1,5 @@
--- Runs without corruptions: the central daemon's choices, one after the other (Dijkstra 1974; Dolev 2000, chapter 2).
+-- Runs without corruptions: the central daemon's choices, one after the other (Dijkstra 1974; Dolev
+-- 2000, chapter 2).
 use Rattle.std.specs.Prelude.{◌≡◌, ℕ, ◌+◌, ◌%◌, ◌<◌, cond, List, [], ◌∷◌}
 use Rattle.ring_model.specs.Ring.{Ring, is_privileged, moved}
 
@@ -14,7 +15,9 @@ after_passes r (i ∷ choices) = after_passes (passed r i) choices
 -- the machines whose pass was granted, in order
 abbrev pub granted_passes : Ring → List ℕ → List ℕ
 granted_passes r [] = []
-granted_passes r (i ∷ choices) = cond (is_privileged r.values i) (i ∷ granted_passes (passed r i) choices) (granted_passes (passed r i) choices)
+granted_passes r (i ∷ choices) =
+    cond (is_privileged r.values i) (i ∷ granted_passes (passed r i) choices)
+    (granted_passes (passed r i) choices)
 
 -- each choice is a machine of a ring of n
 abbrev pub AreBelow : ℕ → List ℕ → Type 0

@@ -27,11 +27,13 @@ granted_count h = count_by (λ (e : Event). is_granted e.reply) h
 abbrev pub corrupted_count : List Event → ℕ
 corrupted_count h = count_by (λ (e : Event). is_corrupted e.reply) h
 
--- the longest suffix without a corruption, read backwards: looking back from the end, the events before a corruption comes
+-- the longest suffix without a corruption, read backwards: looking back from the end, the events
+-- before a corruption comes
 abbrev pub since_corruption : List Event → List Event
 since_corruption h = take_while (λ (e : Event). not (is_corrupted e.reply)) (reverse h)
 
--- the calm: the granted passes since the last corruption, or since the start where there was none (this project's own)
+-- the calm: the granted passes since the last corruption, or since the start where there was none
+-- (this project's own)
 abbrev pub calm : List Event → ℕ
 calm h = granted_count (since_corruption h)
 

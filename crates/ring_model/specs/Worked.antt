@@ -1,4 +1,5 @@
--- A history worked by hand: three machines with three values over the till, and the calls of two seats.
+-- A history worked by hand: three machines with three values over the till, and the calls of two
+-- seats.
 use Rattle.std.specs.Prelude.{◌≡◌, ℕ, List, [], ◌∷◌}
 use Rattle.ring_model.specs.Ring.{ring_with}
 use Rattle.ring_model.specs.Runs.{GoesRoundFrom}
@@ -18,7 +19,8 @@ use Rattle.ring_model.specs.declared.events.Entry.TheVariants as entry
 abbrev pub worked_start : State ℕ
 worked_start = till_state (ring_with 3 (0 ∷ 2 ∷ 0 ∷ [])) 0 0
 
--- its events: machine 0 steps on to 1, its second pass is not granted, machine 2 copies, and the ring is settled
+-- its events: machine 0 steps on to 1, its second pass is not granted, machine 2 copies, and the
+-- ring is settled
 abbrev pub zeroth_event : Event
 zeroth_event = record { seat = 0; op = Pass 0 10; reply = Granted 1 10 }
 
@@ -43,13 +45,21 @@ abbrev pub sixth_event : Event
 sixth_event = record { seat = 1; op = Pass 0 0; reply = Granted 5 22 }
 
 abbrev pub worked_history : List Event
-worked_history = zeroth_event ∷ first_event ∷ second_event ∷ third_event ∷ fourth_event ∷ fifth_event ∷ sixth_event ∷ []
+worked_history =
+    zeroth_event ∷ first_event ∷ second_event ∷ third_event ∷ fourth_event ∷ fifth_event
+    ∷ sixth_event ∷ []
 
 abbrev pub worked_survey : ℕ → Survey
 worked_survey place = survey_at till worked_start worked_history place
 
 abbrev pub seen : ℕ → ℕ → ℕ → ℕ → ℕ → Survey
-seen position privileged first calm rest = record { position = position; privileged = privileged; first = first; calm = calm; rest = rest }
+seen position privileged first calm rest = record {
+  position = position;
+  privileged = privileged;
+  first = first;
+  calm = calm;
+  rest = rest;
+}
 
 -- an entry for a call, and one for a survey
 abbrev pub called : ℕ → Event → Entry
@@ -72,7 +82,8 @@ pub record WorkedPlaces : Type 0 where
   pub again : worked_survey 5 ≡ seen 5 1 2 1 0
   pub at_end : worked_survey 7 ≡ seen 7 1 1 3 0
 
--- the grants, in all and in the settled run, which begins behind the pass that settled the ring again
+-- the grants, in all and in the settled run, which begins behind the pass that settled the ring
+-- again
 pub record WorkedGrants : Type 0 where
   pub machines : granted_machines worked_history ≡ 0 ∷ 2 ∷ 1 ∷ 2 ∷ 0 ∷ []
   pub of_zero : grants_of 0 worked_history ≡ 2
@@ -90,18 +101,24 @@ pub record WorkedGrants : Type 0 where
 pub record WorkedLogs : Type 0 where
   pub calls : calls_of 0 worked_history ≡ zeroth_event ∷ second_event ∷ fifth_event ∷ []
   pub no_calls : calls_of 2 worked_history ≡ []
-  pub fits : FitsWorked 0 (looked (worked_survey 0) ∷ called 0 zeroth_event ∷ looked (worked_survey 1) ∷ looked (worked_survey 2) ∷ called 2 second_event ∷ called 5 fifth_event ∷ looked (worked_survey 7) ∷ [])
+  pub fits : FitsWorked 0 (looked (worked_survey 0) ∷ called 0 zeroth_event
+      ∷ looked (worked_survey 1) ∷ looked (worked_survey 2) ∷ called 2 second_event
+      ∷ called 5 fifth_event ∷ looked (worked_survey 7) ∷ [])
   pub empty_fits : FitsWorked 2 (looked (worked_survey 3) ∷ [])
   -- a call is left out
   pub too_few : ¬ FitsWorked 0 (called 0 zeroth_event ∷ called 2 second_event ∷ [])
   -- a call of another seat
-  pub anothers : ¬ FitsWorked 0 (called 0 zeroth_event ∷ called 1 first_event ∷ called 2 second_event ∷ called 5 fifth_event ∷ [])
+  pub anothers : ¬ FitsWorked 0 (called 0 zeroth_event ∷ called 1 first_event
+      ∷ called 2 second_event ∷ called 5 fifth_event ∷ [])
   -- a call at another place
-  pub misplaced : ¬ FitsWorked 0 (called 0 zeroth_event ∷ called 3 second_event ∷ called 5 fifth_event ∷ [])
+  pub misplaced : ¬ FitsWorked 0
+      (called 0 zeroth_event ∷ called 3 second_event ∷ called 5 fifth_event ∷ [])
   -- a survey that does not have the call before it behind it
-  pub too_early : ¬ FitsWorked 0 (called 0 zeroth_event ∷ looked (worked_survey 0) ∷ called 2 second_event ∷ called 5 fifth_event ∷ [])
+  pub too_early : ¬ FitsWorked 0 (called 0 zeroth_event ∷ looked (worked_survey 0)
+      ∷ called 2 second_event ∷ called 5 fifth_event ∷ [])
   -- a call from before the survey before it
-  pub too_late : ¬ FitsWorked 0 (looked (worked_survey 1) ∷ called 0 zeroth_event ∷ called 2 second_event ∷ called 5 fifth_event ∷ [])
+  pub too_late : ¬ FitsWorked 0 (looked (worked_survey 1) ∷ called 0 zeroth_event
+      ∷ called 2 second_event ∷ called 5 fifth_event ∷ [])
   -- a survey that goes back
   pub goes_back : ¬ FitsWorked 2 (looked (worked_survey 3) ∷ looked (worked_survey 2) ∷ [])
   -- a survey past the end

@@ -22,8 +22,10 @@ pub fn step_with_till(
     requires positive { 0 < k }
     requires within { machine_of op < length values.old }
     requires room { grants.old + 1 < 2 ^ 64 }
-    ensures state { till_state (ring_with k values.new) amount.new grants.new ≡ next till (till_state (ring_with k values.old) amount.old grants.old) op }
-    ensures reply { result ≡ reply till (till_state (ring_with k values.old) amount.old grants.old) op }
+    ensures state { till_state (ring_with k values.new) amount.new grants.new
+        ≡ next till (till_state (ring_with k values.old) amount.old grants.old) op }
+    ensures reply { result
+        ≡ reply till (till_state (ring_with k values.old) amount.old grants.old) op }
 {
     match op {
         Op::Pass { machine, order }

@@ -1,4 +1,5 @@
--- The maximal runs of columns at which a test holds, and what is written column by column (this project's own).
+-- The maximal runs of columns at which a test holds, and what is written column by column (this
+-- project's own).
 use Rattle.std.specs.Prelude.{◌≡◌, ℕ, zero, suc, ◌+◌, ◌<◌, nat_lt, nat_le, ◌&&◌, Bool, cond, List, [], ◌∷◌, ◌++◌}
 use Rattle.std.specs.List.{list_any}
 
@@ -11,7 +12,8 @@ pub record Stretch : Type 0 where
 abbrev pub begin_after : ℕ → ℕ → Bool → ℕ
 begin_after begin c passes = cond passes begin (c + 1)
 
--- where the run begins that ends before a column: that column itself where the test fails at the one before
+-- where the run begins that ends before a column: that column itself where the test fails at the
+-- one before
 abbrev pub run_begin : (ℕ → Bool) → ℕ → ℕ
 run_begin p zero = 0
 run_begin p (suc c) = begin_after (run_begin p c) c (p c)
@@ -47,7 +49,8 @@ covers c s = nat_le s.begin c && nat_lt c s.end
 
 -- Of so many columns, one is in some stretch exactly where the test holds.
 abbrev pub StretchesCover : Type 0
-StretchesCover = (p : ℕ → Bool) (columns c : ℕ) → c < columns → list_any (covers c) (stretches p columns) ≡ p c
+StretchesCover =
+    (p : ℕ → Bool) (columns c : ℕ) → c < columns → list_any (covers c) (stretches p columns) ≡ p c
 
 -- one text for each of so many columns, one after the other
 abbrev pub pieces : (ℕ → List ℕ) → ℕ → List ℕ

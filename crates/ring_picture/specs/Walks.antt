@@ -1,4 +1,5 @@
--- What is kept on the walk over the columns: a gauge that has the ring of a place, and the runs of each machine so far (this project's own; no public clause names it).
+-- What is kept on the walk over the columns: a gauge that has the ring of a place, and the runs of
+-- each machine so far (this project's own; no public clause names it).
 use Rattle.std.specs.Prelude.{◌≡◌, ℕ, ◌<◌, Bool, List, [], ◌++◌, length, get_or, map, Option, Some, None}
 use Rattle.std.specs.List.{flat_map, slice_get}
 use Rattle.ring_model.specs.Ring.{Ring, is_privileged}
@@ -24,10 +25,13 @@ stretch_of run = record { begin = run.begin; end = run.end }
 -- what one column more makes of a row
 pub record IsLooked (column : ℕ) (privileged : Bool) (before : Row) (behind : Row) : Type 0 where
   pub begin : behind.begin ≡ begin_after before.begin column privileged
-  pub ended : map stretch_of behind.ended.items ≡ map stretch_of before.ended.items ++ ended_from before.begin column privileged
+  pub ended : map stretch_of behind.ended.items
+      ≡ map stretch_of before.ended.items ++ ended_from before.begin column privileged
 
 abbrev pub AreLooked : ℕ → List ℕ → List Row → List Row → Type 0
-AreLooked column values before behind = (i : ℕ) (d : Row) → i < length before → IsLooked column (is_privileged values i) (get_or before i d) (get_or behind i d)
+AreLooked column values before behind =
+    (i : ℕ) (d : Row) → i < length before
+    → IsLooked column (is_privileged values i) (get_or before i d) (get_or behind i d)
 
 -- a row has the runs of a test over so many columns
 pub record IsRow (p : ℕ → Bool) (columns : ℕ) (row : Row) : Type 0 where
@@ -38,7 +42,8 @@ abbrev pub AreNew : List Row → Type 0
 AreNew rows = (i : ℕ) (d : Row) (p : ℕ → Bool) → i < length rows → IsRow p 0 (get_or rows i d)
 
 abbrev pub AreRows : Block → ℕ → ℕ → List Row → Type 0
-AreRows b from columns rows = (i : ℕ) (d : Row) → i < length rows → IsRow (privileged_in b from i) columns (get_or rows i d)
+AreRows b from columns rows =
+    (i : ℕ) (d : Row) → i < length rows → IsRow (privileged_in b from i) columns (get_or rows i d)
 
 -- the stretches of a row over so many columns
 abbrev pub stretches_to : ℕ → Row → List Stretch

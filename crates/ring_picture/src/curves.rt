@@ -74,7 +74,8 @@ pub(crate) fn put_rests<W: Write>(
 ) -> Result<(), WriteFault>
     requires ring { HasRing ring.now (ring_shown (block_of ring.now) from) gauge.old }
     requires room { from + columns < 2 ^ 63 }
-    ensures { Writes (W.contents out.old) (W.contents out.new) result (rest_points (block_of ring.now) from columns) }
+    ensures { Writes (W.contents out.old) (W.contents out.new) result
+        (rest_points (block_of ring.now) from columns) }
 {
     for column in 0..columns {
         match put_point(out, column, gauge.rest()) {
@@ -94,7 +95,8 @@ pub(crate) fn put_calms<W: Write>(
     columns: u32,
 ) -> Result<(), WriteFault>
     requires room { from + columns < 2 ^ 63 }
-    ensures { Writes (W.contents out.old) (W.contents out.new) result (calm_points (block_of ring.now) from columns) }
+    ensures { Writes (W.contents out.old) (W.contents out.new) result
+        (calm_points (block_of ring.now) from columns) }
 {
     let mut calm = calm_to(ring, from);
     for column in 0..columns {

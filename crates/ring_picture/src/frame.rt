@@ -20,7 +20,8 @@ pub(crate) fn put_title<W: Write>(
     count: u32,
 ) -> Result<(), WriteFault>
     requires { from + count < 2 ^ 63 }
-    ensures { Writes (W.contents out.old) (W.contents out.new) result (title_text (block_of ring.now) from count) }
+    ensures { Writes (W.contents out.old) (W.contents out.new) result
+        (title_text (block_of ring.now) from count) }
 {
     let tally = count_events(&ring.events);
     let mut sizes = (Buffer::new(), Buffer::new(), Buffer::new());
@@ -74,7 +75,8 @@ pub(crate) fn put_axes<W: Write>(
 ) -> Result<(), WriteFault>
     requires some { 1 ≤ n }
     requires room { from + count < 2 ^ 63 }
-    ensures { Writes (W.contents out.old) (W.contents out.new) result (axes_text n from count height) }
+    ensures { Writes (W.contents out.old) (W.contents out.new) result
+        (axes_text n from count height) }
 {
     let mut buffers = (Buffer::new(), Buffer::new(), Buffer::new(), Buffer::new());
     let last = buffers.0.format(n - 1).as_bytes();
@@ -133,7 +135,8 @@ pub(crate) fn put_curves_opening<W: Write>(
     height: u64,
     limit: u64,
 ) -> Result<(), WriteFault>
-    ensures { Writes (W.contents out.old) (W.contents out.new) result (curves_opening columns height limit) }
+    ensures { Writes (W.contents out.old) (W.contents out.new) result
+        (curves_opening columns height limit) }
 {
     let mut buffers = (Buffer::new(), Buffer::new(), Buffer::new());
     let wide = buffers.0.format(columns).as_bytes();

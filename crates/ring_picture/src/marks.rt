@@ -49,7 +49,8 @@ fn put_mark_of<W: Write>(
     x: u32,
     event: Option<SavedEvent>,
 ) -> Result<(), WriteFault>
-    ensures { Writes (W.contents out.old) (W.contents out.new) result (mark_of corruptions x event) }
+    ensures { Writes (W.contents out.old) (W.contents out.new) result
+        (mark_of corruptions x event) }
 {
     let Some(event) = event else {
         return Ok(());
@@ -81,7 +82,8 @@ pub(crate) fn put_marks<W: Write>(
 ) -> Result<(), WriteFault>
     requires columns { count + 1 < 2 ^ 32 }
     requires room { from + count < 2 ^ 63 }
-    ensures { Writes (W.contents out.old) (W.contents out.new) result (marks_text (block_of ring.now) corruptions from count) }
+    ensures { Writes (W.contents out.old) (W.contents out.new) result
+        (marks_text (block_of ring.now) corruptions from count) }
 {
     for column in 0..count {
         let event = event_at(ring, from + column as usize);

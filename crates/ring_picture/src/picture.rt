@@ -45,7 +45,8 @@ fn put_upper<W: Write>(
     requires room { from + count + 1 < 2 ^ 63 }
     requires machines { length rows.now ≡ ring.now.n }
     requires rows { AreRows (block_of ring.now) from (count + 1) rows.now }
-    ensures { Writes (W.contents out.old) (W.contents out.new) result (upper_part (block_of ring.now) from count) }
+    ensures { Writes (W.contents out.old) (W.contents out.new) result
+        (upper_part (block_of ring.now) from count) }
 {
     put_title(out, ring, from, count)?;
     put_axes(out, ring.n, from, count, height)?;
@@ -62,7 +63,8 @@ fn put_both_marks<W: Write>(
 ) -> Result<(), WriteFault>
     requires columns { count + 1 < 2 ^ 32 }
     requires room { from + count < 2 ^ 63 }
-    ensures { Writes (W.contents out.old) (W.contents out.new) result (marks_part (block_of ring.now) from count) }
+    ensures { Writes (W.contents out.old) (W.contents out.new) result
+        (marks_part (block_of ring.now) from count) }
 {
     put(
         out,
@@ -89,7 +91,8 @@ fn put_lower<W: Write>(
     requires height { height ≡ curve_height (block_of ring.now) from columns }
     requires ring { HasRing ring.now (ring_shown (block_of ring.now) from) gauge.old }
     requires room { from + columns < 2 ^ 63 }
-    ensures { Writes (W.contents out.old) (W.contents out.new) result (lower_part (block_of ring.now) from columns) }
+    ensures { Writes (W.contents out.old) (W.contents out.new) result
+        (lower_part (block_of ring.now) from columns) }
 {
     put_curves_opening(out, columns, height, bound(ring.n))?;
     put_rests(out, ring, from, columns, gauge)?;
@@ -118,8 +121,10 @@ fn put_picture<W: Write>(
     requires rows { AreRows (block_of ring.now) from (count + 1) rows.now }
     requires same { length base.now ≡ ring.now.n }
     requires base { ring_with ring.now.k base.now ≡ ring_shown (block_of ring.now) from }
-    requires gauge { HasRing ring.now (ring_shown (block_of ring.now) (from + (count + 1))) gauge.old }
-    ensures { Writes (W.contents out.old) (W.contents out.new) result (picture (block_of ring.now) from count) }
+    requires gauge { HasRing ring.now (ring_shown (block_of ring.now) (from + (count + 1)))
+        gauge.old }
+    ensures { Writes (W.contents out.old) (W.contents out.new) result
+        (picture (block_of ring.now) from count) }
 {
     gauge.follow(base);
     let height = curve_height(ring, from, count + 1, gauge);
@@ -149,8 +154,13 @@ pub fn write_picture<W: Write>(
     requires few { ring.now.n ≤ machine_limit }
     requires columns { count + 1 < 2 ^ 32 }
     requires room { from + count + 1 < 2 ^ 63 }
-    ensures drawn { OnOk result (Appends (W.contents out.old) (W.contents out.new) (picture (block_of ring.now) from count)) }
-    ensures front { IsErrOf result PictureFault.Write → (left : List ℕ) × (0 < length left) × Wrote (W.contents out.old) (W.contents out.new) (picture (block_of ring.now) from count) left }
+    ensures drawn { OnOk result (Appends (W.contents out.old) (W.contents out.new)
+        (picture (block_of ring.now) from count)) }
+    ensures front { IsErrOf result PictureFault.Write
+        → (left : List ℕ)
+        × (0 < length left)
+        × Wrote (W.contents out.old) (W.contents out.new) (picture (block_of ring.now) from count)
+        left }
     ensures nothing { IsErrOf result PictureFault.OutOfMemory → out.new ≡ out.old }
 {
     let Ok(mut gauge) = gauge_at(alloc, ring, from) else {

@@ -16,7 +16,8 @@ use text_lines::{WriteFault, put_all};
 /// A run as a rectangle, in the row of a machine.
 fn put_rectangle<W: Write>(out: &mut W, machine: u32, run: Run) -> Result<(), WriteFault>
     requires { machine ≤ machine_limit }
-    ensures { Writes (W.contents out.old) (W.contents out.new) result (rectangle machine (stretch_of run)) }
+    ensures { Writes (W.contents out.old) (W.contents out.new) result
+        (rectangle machine (stretch_of run)) }
 {
     let mut buffers = (Buffer::new(), Buffer::new(), Buffer::new());
     let x = buffers.0.format(run.begin).as_bytes();
@@ -42,7 +43,8 @@ fn put_rectangle<W: Write>(out: &mut W, machine: u32, run: Run) -> Result<(), Wr
 /// The rectangle of the run that ends before a column, where it has any.
 fn put_run<W: Write>(out: &mut W, machine: u32, begin: u32, end: u32) -> Result<(), WriteFault>
     requires { machine ≤ machine_limit }
-    ensures { Writes (W.contents out.old) (W.contents out.new) result (flat_map (rectangle machine) (run_from begin end)) }
+    ensures { Writes (W.contents out.old) (W.contents out.new) result
+        (flat_map (rectangle machine) (run_from begin end)) }
 {
     if begin < end {
         put_rectangle(out, machine, Run { begin, end })
@@ -54,7 +56,8 @@ fn put_run<W: Write>(out: &mut W, machine: u32, begin: u32, end: u32) -> Result<
 /// The row of a machine: a rectangle for each stretch of columns in which it is privileged.
 fn put_row<W: Write>(out: &mut W, machine: u32, row: &Row, columns: u32) -> Result<(), WriteFault>
     requires { machine ≤ machine_limit }
-    ensures { Writes (W.contents out.old) (W.contents out.new) result (flat_map (rectangle machine) (stretches_to columns row.now)) }
+    ensures { Writes (W.contents out.old) (W.contents out.new) result
+        (flat_map (rectangle machine) (stretches_to columns row.now)) }
 {
     for i in 0..row.ended.len() {
         match put_rectangle(out, machine, row.ended[i]) {

@@ -67,7 +67,8 @@ fn look_at_each(rows: &mut Vec<Row>, values: &[u32], column: u32) -> Result<(), 
     requires same { vec_len rows.old ≡ length values.now }
     requires room { column + 1 < 2 ^ 32 }
     ensures len { IfOk result (λ done. vec_len rows.new ≡ vec_len rows.old) }
-    ensures looked { IfOk result (λ done. AreLooked column values.now rows.old.items rows.new.items) }
+    ensures looked { IfOk result
+        (λ done. AreLooked column values.now rows.old.items rows.new.items) }
 {
     for machine in 0..values.len() {
         let row = &mut rows[machine];
@@ -86,7 +87,8 @@ pub(crate) fn walk(
 ) -> Result<Vec<Row>, AllocError>
     requires ring { HasRing ring.now (ring_shown (block_of ring.now) from) gauge.old }
     requires room { from + columns < 2 ^ 63 }
-    ensures ring { IfOk result (λ rows. HasRing ring.now (ring_shown (block_of ring.now) (from + columns)) gauge.new) }
+    ensures ring { IfOk result
+        (λ rows. HasRing ring.now (ring_shown (block_of ring.now) (from + columns)) gauge.new) }
     ensures len { IfOk result (λ rows. vec_len rows ≡ ring.now.n) }
     ensures rows { IfOk result (λ rows. AreRows (block_of ring.now) from columns rows.items) }
 {

@@ -27,7 +27,10 @@ pub fn run_tool<R: AllocGlobal + Input + Threads + Wait + Sync, D: Disk, O: Writ
     err: &mut E,
 ) -> u8
     ensures status { result ≤ 2 }
-    ensures ended { (was : Option (List ℕ)) × (is : Option (List ℕ)) × HasEnded result (D.holds disk.old) (D.holds disk.new) was is (O.contents out.old) (O.contents out.new) (E.contents err.old) (E.contents err.new) }
+    ensures ended { (was : Option (List ℕ))
+        × (is : Option (List ℕ))
+        × HasEnded result (D.holds disk.old) (D.holds disk.new) was is (O.contents out.old)
+        (O.contents out.new) (E.contents err.old) (E.contents err.new) }
 {
     run_tool_on(rt, disk, words, &mut rt.reader(), out, err)
 }
@@ -42,7 +45,9 @@ pub fn run_tool_on<R: AllocGlobal + Threads + Wait + Sync, D: Disk, I: Read, O: 
     err: &mut E,
 ) -> u8
     ensures status { result ≤ 2 }
-    ensures ended { HasEnded result (D.holds disk.old) (D.holds disk.new) (I.remaining input.old) (I.remaining input.new) (O.contents out.old) (O.contents out.new) (E.contents err.old) (E.contents err.new) }
+    ensures ended { HasEnded result (D.holds disk.old) (D.holds disk.new) (I.remaining input.old)
+        (I.remaining input.new) (O.contents out.old) (O.contents out.new) (E.contents err.old)
+        (E.contents err.new) }
 {
     match read_words(rt.alloc(), words) {
         Ok(request) => {

@@ -1,4 +1,5 @@
--- The journal of rings that are served: what it begins with, and what their turns recorded (this project's own).
+-- The journal of rings that are served: what it begins with, and what their turns recorded (this
+-- project's own).
 use Rattle.std.specs.Prelude.{◌≡◌, ℕ, List, [], ◌∷◌, ◌++◌, map}
 use Rattle.std.specs.List.{flat_map, AllByRecursion}
 use Rattle.ring_text.specs.Journals.{recorded_event, recorded_survey}
@@ -23,10 +24,19 @@ journal_of rings records = record { began = content_of rings; calls = flat_map c
 abbrev pub AreTurns : List Standing → List (List ℕ) → List Record → List Standing → Type 0
 AreTurns old [] records new = (records ≡ []) × (new ≡ old)
 AreTurns old (line ∷ lines) records new =
-    (turn : Turn (List Standing)) × (more : List Record) × IsTurnOfLine old line turn × (records ≡ turn.recorded ++ more) × AreTurns turn.leaves lines more new
+    (turn : Turn (List Standing))
+    × (more : List Record)
+    × IsTurnOfLine old line turn
+    × (records ≡ turn.recorded ++ more)
+    × AreTurns turn.leaves lines more new
 
--- Rings that are right answer lines, whatever these are: the journal that begins with what was saved of them and has what the turns recorded is
--- right at each moment, and tells what is saved of them at the end.
+-- Rings that are right answer lines, whatever these are: the journal that begins with what was
+-- saved of them and has what the turns recorded is right at each moment, and tells what is saved of
+-- them at the end.
 abbrev pub JournalsAreRight : Type 0
-JournalsAreRight = (old new : List Standing) (lines : List (List ℕ)) (records : List Record) → AllByRecursion IsRight old → AreTurns old lines records new →
-    JournalFits (journal_of old records) → IsRightJournal (journal_of old records) × (told (content_of old) (flat_map calls_of records) ≡ content_of new)
+JournalsAreRight =
+    (old new : List Standing) (lines : List (List ℕ)) (records : List Record)
+    → AllByRecursion IsRight old → AreTurns old lines records new
+    → JournalFits (journal_of old records)
+    → IsRightJournal (journal_of old records)
+    × (told (content_of old) (flat_map calls_of records) ≡ content_of new)

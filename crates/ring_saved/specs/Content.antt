@@ -16,7 +16,8 @@ pub record Block : Type 0 where
   pub events_said : ℕ
   pub surveys : List SavedSurvey
 
--- a whole saved text: the version of its grammar, its blocks, and how many it says that it has (this project's own)
+-- a whole saved text: the version of its grammar, its blocks, and how many it says that it has
+-- (this project's own)
 pub record Content : Type 0 where
   pub version : ℕ
   pub rings : List Block
@@ -36,7 +37,11 @@ block_of r = record {
 
 -- what a saved value says
 abbrev pub content : Saved → Content
-content s = record { version = s.version; rings = map block_of s.rings.items; rings_said = s.rings_said }
+content s = record {
+  version = s.version;
+  rings = map block_of s.rings.items;
+  rings_said = s.rings_said;
+}
 
 -- the same in the latest version
 abbrev pub upgraded : Content → Content

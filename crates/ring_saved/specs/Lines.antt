@@ -1,4 +1,5 @@
--- The readers of the lines, blocks and texts as functions on lists. Those below `text_at` are given the version, which the text's first line says.
+-- The readers of the lines, blocks and texts as functions on lists. Those below `text_at` are given
+-- the version, which the text's first line says.
 use Rattle.std.specs.Prelude.{ℕ, ◌^◌, List, [], ◌∷◌, ◌++◌, codes, map, Option, Some, None, nat_lt, if◌then◌else◌}
 use Rattle.text_lines.specs.Reading.{Reader, Either, this, that, number_at, positive_at, row_at, after_at, nothing_at, then_at, as_at, Branch, branch, choice_at, many_at}
 use Rattle.ring_saved.specs.declared.saved.SavedEvent.{SavedEvent}
@@ -56,13 +57,17 @@ abbrev pub corruption_of : ℕ × (ℕ × (ℕ × ℕ)) → SavedEvent
 corruption_of (seat, (machine, (value, old))) = Corrupted seat machine value old
 
 unfoldable pub corruption_at : Reader SavedEvent
-corruption_at = as_at corruption_of (after_at (codes "c ") (small then small then small then last_small))
+corruption_at =
+    as_at corruption_of (after_at (codes "c ") (small then small then small then last_small))
 
 abbrev pub member_of : ℕ × (ℕ × (ℕ × (ℕ × (ℕ × ℕ)))) → SavedEvent
-member_of (seat, (machine, (order, (left, (number, answer))))) = Member seat machine order left number answer
+member_of (seat, (machine, (order, (left, (number, answer))))) =
+    Member seat machine order left number answer
 
 unfoldable pub member_at : Reader SavedEvent
-member_at = as_at member_of (after_at (codes "m ") (small then small then large then small then large then last_large))
+member_at =
+    as_at member_of
+    (after_at (codes "m ") (small then small then large then small then large then last_large))
 
 unfoldable pub end_at : Reader ℕ
 end_at = after_at (codes "end ") last_large
@@ -83,9 +88,11 @@ end_branch = branch 101 (as_at that end_at)
 abbrev pub later_branches : ℕ → List (Branch (Either SavedEvent ℕ))
 later_branches version = if nat_lt first_version version then member_branch ∷ [] else []
 
--- an event's line, or the line that ends them, in a text of this version: a branch for each kind of line that it has
+-- an event's line, or the line that ends them, in a text of this version: a branch for each kind of
+-- line that it has
 unfoldable pub event_or_end_at : ℕ → Reader (Either SavedEvent ℕ)
-event_or_end_at version = choice_at (pass_branch ∷ corruption_branch ∷ end_branch ∷ later_branches version)
+event_or_end_at version =
+    choice_at (pass_branch ∷ corruption_branch ∷ end_branch ∷ later_branches version)
 
 unfoldable pub events_at : ℕ → Reader (List SavedEvent × ℕ)
 events_at version = many_at {S = Unit {0}} (λ _. event_or_end_at version) (λ _. tt) tt
@@ -96,7 +103,8 @@ abbrev pub head_from : ℕ × (ℕ × ℕ) → Head
 head_from (index, (n, k)) = record { index = index; n = n; k = k }
 
 unfoldable pub head_at : Reader Head
-head_at = as_at head_from (after_at (codes "ring ") (small then positive_at (2 ^ 32) 32 then last_small))
+head_at =
+    as_at head_from (after_at (codes "ring ") (small then positive_at (2 ^ 32) 32 then last_small))
 
 unfoldable pub done_at : Reader ℕ
 done_at = after_at (codes "done ") last_small
@@ -104,10 +112,19 @@ done_at = after_at (codes "done ") last_small
 -- ---- surveys, up to the next ring's first line or the last line
 
 abbrev pub survey_of : ℕ × (ℕ × (ℕ × (ℕ × (ℕ × ℕ)))) → SavedSurvey
-survey_of (seat, (position, (privileged, (first, (calm, rest))))) = record { seat = seat; position = position; privileged = privileged; first = first; calm = calm; rest = rest }
+survey_of (seat, (position, (privileged, (first, (calm, rest))))) = record {
+  seat = seat;
+  position = position;
+  privileged = privileged;
+  first = first;
+  calm = calm;
+  rest = rest;
+}
 
 unfoldable pub survey_at : Reader SavedSurvey
-survey_at = as_at survey_of (after_at (codes "s ") (small then large then small then small then large then last_large))
+survey_at =
+    as_at survey_of
+    (after_at (codes "s ") (small then large then small then small then large then last_large))
 
 abbrev pub Follow : Type 0
 Follow = Either SavedSurvey (Either Head ℕ)
@@ -133,10 +150,19 @@ abbrev pub Part : Type 0
 Part = List ℕ × ((List SavedEvent × ℕ) × (List SavedSurvey × Either Head ℕ))
 
 unfoldable pub part_at : ℕ → ℕ → Reader Part
-part_at version n = after_at (codes "start ") (row_at (2 ^ 32) n then events_at version then surveys_at)
+part_at version n =
+    after_at (codes "start ") (row_at (2 ^ 32) n then events_at version then surveys_at)
 
 abbrev pub block_with : Head → List ℕ → List SavedEvent → ℕ → List SavedSurvey → Block
-block_with h start events said surveys = record { index = h.index; n = h.n; k = h.k; start = start; events = events; events_said = said; surveys = surveys }
+block_with h start events said surveys = record {
+  index = h.index;
+  n = h.n;
+  k = h.k;
+  start = start;
+  events = events;
+  events_said = said;
+  surveys = surveys;
+}
 
 abbrev pub with_next : Block → Either Head ℕ → Either (Block × Head) (Block × ℕ)
 with_next b (this h) = this (b, h)
@@ -182,7 +208,11 @@ unfoldable pub version_at : Reader ℕ
 version_at = choice_at (first_branch ∷ latest_branch ∷ [])
 
 abbrev pub content_with : ℕ × Body → Content
-content_with (version, (rings, said)) = record { version = version; rings = rings; rings_said = said }
+content_with (version, (rings, said)) = record {
+  version = version;
+  rings = rings;
+  rings_said = said;
+}
 
 unfoldable pub text_at : Reader Content
 text_at = after_at (codes "ringfarm ") (as_at content_with (then_at version_at body_at))

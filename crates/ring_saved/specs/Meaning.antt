@@ -12,13 +12,16 @@ use Rattle.ring_saved.specs.Spelling.{Fits, HasNoMember, text}
 abbrev pub IsText : List ℕ → Type 0
 IsText = Spells Fits text
 
--- the value whose text the bytes are; or that they are cut short of a longer text; or else the first line such that no text begins with the bytes up to its end; memory aside
+-- the value whose text the bytes are; or that they are cut short of a longer text; or else the
+-- first line such that no text begins with the bytes up to its end; memory aside
 abbrev pub IsRightRead : List ℕ → Result Saved ReadError → Type 0
 IsRightRead = IsRightAnswer content Fits text
 
 -- no text begins another one, and each text has one value
 abbrev pub TextsAreApart : Type 0
-TextsAreApart = (a b : Content) (more : List ℕ) → Fits a → Fits b → text a ++ more ≡ text b → (a ≡ b) × (more ≡ [])
+TextsAreApart =
+    (a b : Content) (more : List ℕ) → Fits a → Fits b → text a ++ more ≡ text b
+    → (a ≡ b) × (more ≡ [])
 
 -- at most one kind of answer to some bytes is right, and at most one line
 abbrev pub OneAnswerIsRight : Type 0
@@ -33,7 +36,9 @@ IsReadAs c (Err (Syntax line)) = ⊥
 
 -- What fits reads back from its text: no other answer to the text is right.
 abbrev pub TextsReadBack : Type 0
-TextsReadBack = (c : Content) (answer : Result Saved ReadError) → Fits c → IsRightRead (text c) answer → IsReadAs c answer
+TextsReadBack =
+    (c : Content) (answer : Result Saved ReadError) → Fits c → IsRightRead (text c) answer
+    → IsReadAs c answer
 
 -- What fits in the first version has no member of a group.
 abbrev pub FirstHasNoMembers : Type 0

@@ -28,10 +28,18 @@ start_line values = codes "start " ++ row values
 
 -- a pass that was granted, one that was refused, a pass as a member of a group, a corruption
 abbrev pub event_line : SavedEvent → List ℕ
-event_line (Granted seat machine order number answer) = codes "p " ++ (spaced seat ++ (spaced machine ++ (spaced order ++ (codes "g " ++ (spaced number ++ ended answer)))))
-event_line (Refused seat machine order) = codes "p " ++ (spaced seat ++ (spaced machine ++ (spaced order ++ codes "n\n")))
-event_line (Member seat machine order left number answer) = codes "m " ++ (spaced seat ++ (spaced machine ++ (spaced order ++ (spaced left ++ (spaced number ++ ended answer)))))
-event_line (Corrupted seat machine value old) = codes "c " ++ (spaced seat ++ (spaced machine ++ (spaced value ++ ended old)))
+event_line (Granted seat machine order number answer) =
+    codes "p "
+    ++ (spaced seat
+    ++ (spaced machine ++ (spaced order ++ (codes "g " ++ (spaced number ++ ended answer)))))
+event_line (Refused seat machine order) =
+    codes "p " ++ (spaced seat ++ (spaced machine ++ (spaced order ++ codes "n\n")))
+event_line (Member seat machine order left number answer) =
+    codes "m "
+    ++ (spaced seat
+    ++ (spaced machine ++ (spaced order ++ (spaced left ++ (spaced number ++ ended answer)))))
+event_line (Corrupted seat machine value old) =
+    codes "c " ++ (spaced seat ++ (spaced machine ++ (spaced value ++ ended old)))
 
 -- the number of events
 abbrev pub end_line : ℕ → List ℕ
@@ -39,7 +47,11 @@ end_line n = codes "end " ++ ended n
 
 -- what a seat saw
 abbrev pub survey_line : SavedSurvey → List ℕ
-survey_line v = codes "s " ++ (spaced v.seat ++ (spaced v.position ++ (spaced v.privileged ++ (spaced v.first ++ (spaced v.calm ++ ended v.rest)))))
+survey_line v =
+    codes "s "
+    ++ (spaced v.seat
+    ++ (spaced v.position
+    ++ (spaced v.privileged ++ (spaced v.first ++ (spaced v.calm ++ ended v.rest)))))
 
 -- the number of rings
 abbrev pub done_line : ℕ → List ℕ
@@ -53,7 +65,9 @@ head_of b = record { index = b.index; n = b.n; k = b.k }
 
 -- what stands below it
 abbrev pub below_head : Block → List ℕ
-below_head b = start_line b.start ++ ((flat_map event_line b.events ++ end_line b.events_said) ++ flat_map survey_line b.surveys)
+below_head b =
+    start_line b.start
+    ++ ((flat_map event_line b.events ++ end_line b.events_said) ++ flat_map survey_line b.surveys)
 
 abbrev pub block_text : Block → List ℕ
 block_text b = head_line (head_of b) ++ below_head b
@@ -62,14 +76,26 @@ block_text b = head_line (head_of b) ++ below_head b
 abbrev pub text : Content → List ℕ
 text s = first_line s.version ++ (flat_map block_text s.rings ++ done_line s.rings_said)
 
--- ---- what has a text: a version that there is, each number within its range, a start of exactly n values, and a ring at least
+-- ---- what has a text: a version that there is, each number within its range, a start of exactly n
+-- values, and a ring at least
 
--- an event in a text of this version: a member of a group fits only where group passes have lines, the others in each version
+-- an event in a text of this version: a member of a group fits only where group passes have lines,
+-- the others in each version
 abbrev pub EventFits : ℕ → SavedEvent → Type 0
-EventFits version (Granted seat machine order number answer) = (seat < 2 ^ 32) × (machine < 2 ^ 32) × (order < 2 ^ 64) × (number < 2 ^ 64) × (answer < 2 ^ 64)
-EventFits version (Refused seat machine order) = (seat < 2 ^ 32) × (machine < 2 ^ 32) × (order < 2 ^ 64)
-EventFits version (Member seat machine order left number answer) = HasGroups version × (seat < 2 ^ 32) × (machine < 2 ^ 32) × (order < 2 ^ 64) × (left < 2 ^ 32) × (number < 2 ^ 64) × (answer < 2 ^ 64)
-EventFits version (Corrupted seat machine value old) = (seat < 2 ^ 32) × (machine < 2 ^ 32) × (value < 2 ^ 32) × (old < 2 ^ 32)
+EventFits version (Granted seat machine order number answer) =
+    (seat < 2 ^ 32) × (machine < 2 ^ 32) × (order < 2 ^ 64) × (number < 2 ^ 64) × (answer < 2 ^ 64)
+EventFits version (Refused seat machine order) =
+    (seat < 2 ^ 32) × (machine < 2 ^ 32) × (order < 2 ^ 64)
+EventFits version (Member seat machine order left number answer) =
+    HasGroups version
+    × (seat < 2 ^ 32)
+    × (machine < 2 ^ 32)
+    × (order < 2 ^ 64)
+    × (left < 2 ^ 32)
+    × (number < 2 ^ 64)
+    × (answer < 2 ^ 64)
+EventFits version (Corrupted seat machine value old) =
+    (seat < 2 ^ 32) × (machine < 2 ^ 32) × (value < 2 ^ 32) × (old < 2 ^ 32)
 
 pub record SurveyFits (v : SavedSurvey) : Type 0 where
   pub seat : v.seat < 2 ^ 32

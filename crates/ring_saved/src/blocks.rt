@@ -52,7 +52,8 @@ fn ring(
     bytes: &[u8],
 ) -> Result<(SavedRing, Next, &[u8]), Stop>
     requires { 0 < head.n }
-    ensures { Gives (λ x. (with_next (block_of x.0) (next_of x.1), x.2.now)) result (ring_at version head bytes.now) }
+    ensures { Gives (λ x. (with_next (block_of x.0) (next_of x.1), x.2.now)) result
+        (ring_at version head bytes.now) }
 {
     let rest = word(bytes, b"start ")?;
     let (start, rest) = row32(alloc, head.n, rest)?;
@@ -79,7 +80,8 @@ fn rings(
     bytes: &[u8],
 ) -> Result<(Vec<SavedRing>, u32, &[u8]), Stop>
     requires { HeadFits first }
-    ensures { Gives (λ x. ((map block_of x.0.items, x.1), x.2.now)) result (rings_at version first bytes.now) }
+    ensures { Gives (λ x. ((map block_of x.0.items, x.1), x.2.now)) result
+        (rings_at version first bytes.now) }
 {
     let mut found = Vec::new(alloc);
     let mut head = first;
@@ -98,7 +100,8 @@ fn rings(
 /// What stands below the first line of a text of this version: the blocks, and the number of them that the text says.
 #[tactic(auto, unfolding(crate::specs::Lines::body_at))]
 fn body(alloc: Global, version: u32, bytes: &[u8]) -> Result<(Vec<SavedRing>, u32, &[u8]), Stop>
-    ensures { Gives (λ x. ((map block_of x.0.items, x.1), x.2.now)) result (body_at version bytes.now) }
+    ensures { Gives (λ x. ((map block_of x.0.items, x.1), x.2.now)) result
+        (body_at version bytes.now) }
 {
     let (first, rest) = head(bytes)?;
     rings(alloc, version, first, rest)

@@ -37,7 +37,8 @@ pub fn put_ring_line<W: Write>(out: &mut W, index: u32, n: u32, k: u32) -> Resul
 /// Writes the line of the values that a ring started from, each of them small by its type.
 #[tactic(auto, using(text_lines::proofs::Writing::writes_then))]
 pub fn put_start_line<W: Write>(out: &mut W, values: &[u32]) -> Result<(), WriteFault>
-    ensures written { Writes (W.contents out.old) (W.contents out.new) result (start_line values.now) }
+    ensures written { Writes (W.contents out.old) (W.contents out.new) result
+        (start_line values.now) }
     ensures small { IfOk result (λ _. AllByRecursion (λ x. x < 2 ^ 32) values.now) }
 {
     match put(out, b"start ") {
@@ -54,7 +55,8 @@ fn put_granted<W: Write>(
     number: u64,
     answer: u64,
 ) -> Result<(), WriteFault>
-    ensures { Writes (W.contents out.old) (W.contents out.new) result (event_line (Granted seat machine order number answer)) }
+    ensures { Writes (W.contents out.old) (W.contents out.new) result
+        (event_line (Granted seat machine order number answer)) }
 {
     let mut line = Line::new();
     line.byte(b'\n');
@@ -75,7 +77,8 @@ fn put_granted<W: Write>(
 }
 
 fn put_refused<W: Write>(out: &mut W, seat: u32, machine: u32, order: u64) -> Result<(), WriteFault>
-    ensures { Writes (W.contents out.old) (W.contents out.new) result (event_line (Refused seat machine order)) }
+    ensures { Writes (W.contents out.old) (W.contents out.new) result
+        (event_line (Refused seat machine order)) }
 {
     let mut line = Line::new();
     line.byte(b'\n');
@@ -100,7 +103,8 @@ fn put_member<W: Write>(
     number: u64,
     answer: u64,
 ) -> Result<(), WriteFault>
-    ensures { Writes (W.contents out.old) (W.contents out.new) result (event_line (Member seat machine order left number answer)) }
+    ensures { Writes (W.contents out.old) (W.contents out.new) result
+        (event_line (Member seat machine order left number answer)) }
 {
     let mut line = Line::new();
     line.byte(b'\n');
@@ -127,7 +131,8 @@ fn put_corrupted<W: Write>(
     value: u32,
     old: u32,
 ) -> Result<(), WriteFault>
-    ensures { Writes (W.contents out.old) (W.contents out.new) result (event_line (Corrupted seat machine value old)) }
+    ensures { Writes (W.contents out.old) (W.contents out.new) result
+        (event_line (Corrupted seat machine value old)) }
 {
     let mut line = Line::new();
     line.byte(b'\n');
@@ -147,7 +152,8 @@ fn put_corrupted<W: Write>(
 /// lines of its kind.
 pub fn put_event_line<W: Write>(out: &mut W, event: SavedEvent) -> Result<(), WriteFault>
     ensures written { Writes (W.contents out.old) (W.contents out.new) result (event_line event) }
-    ensures fits { (version : ℕ) → (version ≤ first_version → IsNoMember event) → EventFits version event }
+    ensures fits { (version : ℕ) → (version ≤ first_version → IsNoMember event)
+        → EventFits version event }
 {
     match event {
         SavedEvent::Granted {

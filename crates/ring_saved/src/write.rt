@@ -17,8 +17,11 @@ use text_lines::WriteFault;
 
 /// Writes a line for each event.
 fn put_events<W: Write>(out: &mut W, events: &[SavedEvent]) -> Result<(), WriteFault>
-    ensures written { Writes (W.contents out.old) (W.contents out.new) result (flat_map event_line events.now) }
-    ensures fits { IfOk result (λ _. (version : ℕ) → (version ≤ first_version → AllByRecursion IsNoMember events.now) → AllByRecursion (EventFits version) events.now) }
+    ensures written { Writes (W.contents out.old) (W.contents out.new) result
+        (flat_map event_line events.now) }
+    ensures fits { IfOk result (λ _.
+        (version : ℕ) → (version ≤ first_version → AllByRecursion IsNoMember events.now)
+        → AllByRecursion (EventFits version) events.now) }
 {
     for event in events {
         match put_event_line(out, *event) {
@@ -31,7 +34,8 @@ fn put_events<W: Write>(out: &mut W, events: &[SavedEvent]) -> Result<(), WriteF
 
 /// Writes a line for each survey.
 fn put_surveys<W: Write>(out: &mut W, surveys: &[SavedSurvey]) -> Result<(), WriteFault>
-    ensures written { Writes (W.contents out.old) (W.contents out.new) result (flat_map survey_line surveys.now) }
+    ensures written { Writes (W.contents out.old) (W.contents out.new) result
+        (flat_map survey_line surveys.now) }
     ensures fits { IfOk result (λ _. AllByRecursion SurveyFits surveys.now) }
 {
     for survey in surveys {
@@ -46,8 +50,11 @@ fn put_surveys<W: Write>(out: &mut W, surveys: &[SavedSurvey]) -> Result<(), Wri
 /// Writes the events, and the line that ends them and says how many they are.
 #[tactic(auto, using(text_lines::proofs::Writing::writes_then))]
 fn put_history<W: Write>(out: &mut W, events: &[SavedEvent], said: u64) -> Result<(), WriteFault>
-    ensures written { Writes (W.contents out.old) (W.contents out.new) result (flat_map event_line events.now ++ end_line said) }
-    ensures fits { IfOk result (λ _. (version : ℕ) → (version ≤ first_version → AllByRecursion IsNoMember events.now) → AllByRecursion (EventFits version) events.now) }
+    ensures written { Writes (W.contents out.old) (W.contents out.new) result
+        (flat_map event_line events.now ++ end_line said) }
+    ensures fits { IfOk result (λ _.
+        (version : ℕ) → (version ≤ first_version → AllByRecursion IsNoMember events.now)
+        → AllByRecursion (EventFits version) events.now) }
 {
     match put_events(out, events) {
         Ok(()) => put_end_line(out, said),
@@ -57,8 +64,11 @@ fn put_history<W: Write>(out: &mut W, events: &[SavedEvent], said: u64) -> Resul
 
 /// Writes the block of a ring.
 fn put_block<W: Write>(out: &mut W, ring: &SavedRing) -> Result<(), WriteFault>
-    ensures written { Writes (W.contents out.old) (W.contents out.new) result (block_text (block_of ring.now)) }
-    ensures fits { IfOk result (λ _. (version : ℕ) → (version ≤ first_version → BlockHasNoMember (block_of ring.now)) → BlockFits version (block_of ring.now)) }
+    ensures written { Writes (W.contents out.old) (W.contents out.new) result
+        (block_text (block_of ring.now)) }
+    ensures fits { IfOk result (λ _.
+        (version : ℕ) → (version ≤ first_version → BlockHasNoMember (block_of ring.now))
+        → BlockFits version (block_of ring.now)) }
 {
     put_ring_line(out, ring.index, ring.n, ring.k)?;
     put_start_line(out, &ring.start)?;
@@ -69,8 +79,11 @@ fn put_block<W: Write>(out: &mut W, ring: &SavedRing) -> Result<(), WriteFault>
 
 /// Writes the blocks of the rings.
 fn put_blocks<W: Write>(out: &mut W, rings: &[SavedRing]) -> Result<(), WriteFault>
-    ensures written { Writes (W.contents out.old) (W.contents out.new) result (flat_map block_text (map block_of rings.now)) }
-    ensures fits { IfOk result (λ _. (version : ℕ) → (version ≤ first_version → AllByRecursion BlockHasNoMember (map block_of rings.now)) → AllByRecursion (BlockFits version) (map block_of rings.now)) }
+    ensures written { Writes (W.contents out.old) (W.contents out.new) result
+        (flat_map block_text (map block_of rings.now)) }
+    ensures fits { IfOk result (λ _. (version : ℕ)
+        → (version ≤ first_version → AllByRecursion BlockHasNoMember (map block_of rings.now))
+        → AllByRecursion (BlockFits version) (map block_of rings.now)) }
 {
     for ring in rings {
         match put_block(out, ring) {
@@ -94,7 +107,8 @@ pub fn write_saved<W: Write>(saved: &Saved, out: &mut W) -> Result<(), WriteFaul
     requires some { 1 ≤ length saved.now.rings.items }
     requires version { IsVersion saved.now.version }
     requires members { saved.now.version ≡ first_version → HasNoMember (content saved.now) }
-    ensures written { Writes (W.contents out.old) (W.contents out.new) result (text (content saved.now)) }
+    ensures written { Writes (W.contents out.old) (W.contents out.new) result
+        (text (content saved.now)) }
     ensures fits { IfOk result (λ _. Fits (content saved.now)) }
 {
     put_first_line(out, saved.version)?;

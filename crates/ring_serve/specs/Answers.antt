@@ -26,7 +26,10 @@ abbrev pub answer_line : Answer → List ℕ
 answer_line (answer.Granted number result) = codes "granted " ++ (spaced number ++ ended result)
 answer_line answer.Waits = codes "waits\n"
 answer_line (answer.Corrupted old) = codes "corrupted " ++ ended old
-answer_line (answer.Survey s) = codes "survey " ++ (spaced s.position ++ (spaced s.privileged ++ (spaced s.first ++ (spaced s.calm ++ ended s.rest))))
+answer_line (answer.Survey s) =
+    codes "survey "
+    ++ (spaced s.position
+    ++ (spaced s.privileged ++ (spaced s.first ++ (spaced s.calm ++ ended s.rest))))
 answer_line (answer.Block first count) = codes "block " ++ (spaced first ++ ended count)
 answer_line answer.Saved = codes "saved\n"
 answer_line (answer.Refused why) = codes "refused " ++ refusal_text why

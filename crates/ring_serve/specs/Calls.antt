@@ -39,7 +39,8 @@ ring_of save = 0
 abbrev pub line_limit : ℕ
 line_limit = 8192
 
--- ---- the readers of the lines as functions on lists: the call, or none if its order is 2 ^ 64 or more
+-- ---- the readers of the lines as functions on lists: the call, or none if its order is 2 ^ 64 or
+-- more
 
 infixr 20 ◌then◌
 abbrev pub ◌then◌ : {A B : Type 0} → Reader A → Reader B → Reader (A × B)
@@ -62,7 +63,8 @@ abbrev pub corrupt_of : ℕ × (ℕ × (ℕ × ℕ)) → Option Call
 corrupt_of (ring, (seat, (machine, value))) = Some (corrupt ring seat machine value)
 
 unfoldable pub corrupt_at : Reader (Option Call)
-corrupt_at = as_at corrupt_of (after_at (codes "corrupt ") (place then place then place then last_place))
+corrupt_at =
+    as_at corrupt_of (after_at (codes "corrupt ") (place then place then place then last_place))
 
 -- the spaces up to the end of the line
 unfoldable pub gaps : List ℕ → ℕ
@@ -77,7 +79,8 @@ abbrev pub group_of : ℕ × (ℕ × (Option ℕ × List ℕ)) → Option Call
 group_of (ring, (seat, (order, machines))) = option_map (λ n. group ring seat n machines) order
 
 unfoldable pub group_at : Reader (Option Call)
-group_at = as_at group_of (after_at (codes "roup ") (place then place then order_at 32 then machines_at))
+group_at =
+    as_at group_of (after_at (codes "roup ") (place then place then order_at 32 then machines_at))
 
 abbrev pub glance_of : ℕ → Option Call
 glance_of ring = Some (glance ring)
@@ -114,4 +117,5 @@ s_at = after_at (codes "s") (choice_at (branch 117 survey_at ∷ branch 97 save_
 
 -- the call that a line is
 unfoldable pub call_at : Reader (Option Call)
-call_at = choice_at (branch 112 pass_at ∷ branch 99 corrupt_at ∷ branch 103 g_at ∷ branch 115 s_at ∷ [])
+call_at =
+    choice_at (branch 112 pass_at ∷ branch 99 corrupt_at ∷ branch 103 g_at ∷ branch 115 s_at ∷ [])

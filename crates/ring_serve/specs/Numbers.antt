@@ -1,17 +1,25 @@
--- Decimals of any size, so that a call of what there is not is told so, however great its number is (this project's own).
+-- Decimals of any size, so that a call of what there is not is told so, however great its number is
+-- (this project's own).
 use Rattle.std.specs.Prelude.{ℕ, zero, suc, ◌+◌, ◌-◌, ◌*◌, ◌^◌, min, List, [], ◌∷◌, length, ◌==◌, nat_lt, ◌&&◌, if◌then◌else◌, Option, Some, None, Ok, Err}
 use Rattle.text_lines.specs.declared.fault.Fault.TheVariants.{Short, Bad}
 use Rattle.text_lines.specs.Reading.{Reader, ◌>>=◌, is_digit, as_at, stop_of}
 
--- the digits of a number behind those that say n, up to the byte that ends it; none follows a leading 0
+-- the digits of a number behind those that say n, up to the byte that ends it; none follows a
+-- leading 0
 unfoldable pub digits_at : ℕ → ℕ → Reader ℕ
 digits_at stop n [] = Err Short
-digits_at stop n (b ∷ bs) = if b == stop then Ok (n, bs) else (if nat_lt 0 n && is_digit b then digits_at stop (n * 10 + (b - 48)) bs else Err (Bad (suc (length bs))))
+digits_at stop n (b ∷ bs) =
+    if b == stop
+    then Ok (n, bs)
+    else (if nat_lt 0 n && is_digit b
+    then digits_at stop (n * 10 + (b - 48)) bs
+    else Err (Bad (suc (length bs))))
 
 -- a decimal without signs or leading zeros, and the byte that ends it
 unfoldable pub decimal_at : ℕ → Reader ℕ
 decimal_at stop [] = Err Short
-decimal_at stop (b ∷ bs) = if is_digit b then digits_at stop (b - 48) bs else Err (Bad (suc (length bs)))
+decimal_at stop (b ∷ bs) =
+    if is_digit b then digits_at stop (b - 48) bs else Err (Bad (suc (length bs)))
 
 -- a number of 64 bits, or none if it is greater
 abbrev pub in_64_bits : ℕ → Option ℕ
@@ -21,11 +29,13 @@ in_64_bits n = if nat_lt n (2 ^ 64) then Some n else None
 unfoldable pub order_at : ℕ → Reader (Option ℕ)
 order_at stop = as_at in_64_bits (decimal_at stop)
 
--- the number of a ring, a seat or a machine, or a value: the greatest of 32 bits stands for all that are greater, and none of these has it
+-- the number of a ring, a seat or a machine, or a value: the greatest of 32 bits stands for all
+-- that are greater, and none of these has it
 unfoldable pub place_at : ℕ → Reader ℕ
 place_at stop = as_at (λ n. min n 4294967295) (decimal_at stop)
 
 -- so many of them on one line
 unfoldable pub places_at : ℕ → Reader (List ℕ)
 places_at zero bytes = Ok ([], bytes)
-places_at (suc k) bytes = place_at (stop_of k) bytes >>= λ x. places_at k x.1 >>= λ y. Ok (x.0 ∷ y.0, y.1)
+places_at (suc k) bytes =
+    place_at (stop_of k) bytes >>= λ x. places_at k x.1 >>= λ y. Ok (x.0 ∷ y.0, y.1)

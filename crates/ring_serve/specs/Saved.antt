@@ -8,7 +8,8 @@ use Rattle.ring_desk.specs.Rings.{RingView, IsOneThreadRing}
 use Rattle.ring_desk.specs.Texts.{surveys_told}
 use Rattle.ring_serve.specs.Standings.{Standing, standing_of}
 
--- the block of a ring at its place: its start, its history, and the surveys that its clients were told, client by client
+-- the block of a ring at its place: its start, its history, and the surveys that its clients were
+-- told, client by client
 abbrev pub block_at : ℕ → Standing → Block
 block_at place r = record {
   index = place;
@@ -27,7 +28,11 @@ blocks_from place (r ∷ rs) = block_at place r ∷ blocks_from (place + 1) rs
 
 -- what is saved of all rings, in the latest version
 abbrev pub content_of : List Standing → Content
-content_of rs = record { version = latest_version; rings = blocks_from 0 rs; rings_said = length rs }
+content_of rs = record {
+  version = latest_version;
+  rings = blocks_from 0 rs;
+  rings_said = length rs;
+}
 
 -- a ring that is a one-thread ring with its clients' logs
 abbrev pub IsRight : Standing → Type 0

@@ -31,16 +31,22 @@ HasNoEnd begun = AllByRecursion (λ b. b ≢ 10) begun
 abbrev pub name_in : List ℕ → List ℕ
 name_in line = drop 5 (take (length line - 1) line)
 
--- A turn that asks for the rings to be saved is answered so if the file of that name holds their text, which is legal; if that was not done, no file has changed, and that is the
--- refusal. Every other turn is answered as it says, and no file changes.
+-- A turn that asks for the rings to be saved is answered so if the file of that name holds their
+-- text, which is legal; if that was not done, no file has changed, and that is the refusal. Every
+-- other turn is answered as it says, and no file changes.
 abbrev pub IsGiven : Option Held → Option Held → List ℕ → List Standing → Answer → Answer → Type 0
 IsGiven was is name rings answer.Saved given =
-    ((given ≡ answer.Saved) × Replaces was is name (Some (text (content_of rings))) × IsLegalText (content_of rings)) ⊎ ((given ≡ answer.Refused refusal.File) × (is ≡ was))
+    ((given ≡ answer.Saved)
+    × Replaces was is name (Some (text (content_of rings)))
+    × IsLegalText (content_of rings))
+    ⊎ ((given ≡ answer.Refused refusal.File) × (is ≡ was))
 IsGiven was is name rings asked given = (given ≡ asked) × (is ≡ was)
 
--- One line answered, from where the rings and the files stand to where they are left: by its turn. What it says is the answer's line, and what it notes, if a
--- journal is kept, are the lines of what the turn recorded.
-pub record IsAnswered (keeps : Bool) (old : List Standing) (was : Option Held) (line said noted : List ℕ) (new : List Standing) (is : Option Held) : Type 0 where
+-- One line answered, from where the rings and the files stand to where they are left: by its turn.
+-- What it says is the answer's line, and what it notes, if a journal is kept, are the lines of what
+-- the turn recorded.
+pub record IsAnswered (keeps : Bool) (old : List Standing) (was : Option Held)
+    (line said noted : List ℕ) (new : List Standing) (is : Option Held) : Type 0 where
   pub turn : Turn (List Standing)
   pub given : Answer
   pub of_line : IsTurnOfLine old line turn
@@ -50,18 +56,29 @@ pub record IsAnswered (keeps : Bool) (old : List Standing) (was : Option Held) (
   pub leaves : turn.leaves ≡ new
 
 -- The rings answer these lines, one after the other, with this text, and these are the notes.
-abbrev pub Answers : Bool → List Standing → Option Held → List (List ℕ) → List ℕ → List ℕ → List Standing → Option Held → Type 0
+abbrev pub Answers : Bool → List Standing → Option Held → List (List ℕ) → List ℕ → List ℕ
+    → List Standing → Option Held → Type 0
 Answers keeps old was [] said noted new is = (said ≡ []) × (noted ≡ []) × (new ≡ old) × (is ≡ was)
 Answers keeps old was (line ∷ lines) said noted new is =
-    (mid : List Standing) × (between : Option Held) × (first : List ℕ) × (later : List ℕ) × (note : List ℕ) × (notes : List ℕ)
-    × IsAnswered keeps old was line first note mid between × (said ≡ first ++ later) × (noted ≡ note ++ notes) × Answers keeps mid between lines later notes new is
+    (mid : List Standing)
+    × (between : Option Held)
+    × (first : List ℕ)
+    × (later : List ℕ)
+    × (note : List ℕ)
+    × (notes : List ℕ)
+    × IsAnswered keeps old was line first note mid between
+    × (said ≡ first ++ later)
+    × (noted ≡ note ++ notes)
+    × Answers keeps mid between lines later notes new is
 
 abbrev pub joined_lines : List (List ℕ) → List ℕ
 joined_lines [] = []
 joined_lines (line ∷ lines) = line ++ joined_lines lines
 
--- The lines of these bytes, up to where this rest begins, were answered with this text, and these are the notes.
-pub record AreAnswered (keeps : Bool) (old : List Standing) (was : Option Held) (bytes rest said noted : List ℕ) (new : List Standing) (is : Option Held) : Type 0 where
+-- The lines of these bytes, up to where this rest begins, were answered with this text, and these
+-- are the notes.
+pub record AreAnswered (keeps : Bool) (old : List Standing) (was : Option Held)
+    (bytes rest said noted : List ℕ) (new : List Standing) (is : Option Held) : Type 0 where
   pub lines : List (List ℕ)
   pub split : bytes ≡ joined_lines lines ++ rest
   pub each : AllByRecursion IsLine lines
@@ -72,17 +89,21 @@ pub record Written : Type 0 where
   pub journal : Option (List ℕ)
   pub out : Option (List ℕ)
 
--- The lines up to the rest were answered and told: the output has all of the answers' text, and the journal all notes.
-pub record AreTold (keeps : Bool) (old : List Standing) (was : Option Held) (before after : Written) (bytes rest : List ℕ) (new : List Standing) (is : Option Held) : Type 0 where
+-- The lines up to the rest were answered and told: the output has all of the answers' text, and the
+-- journal all notes.
+pub record AreTold (keeps : Bool) (old : List Standing) (was : Option Held) (before after : Written)
+    (bytes rest : List ℕ) (new : List Standing) (is : Option Held) : Type 0 where
   pub said : List ℕ
   pub noted : List ℕ
   pub answered : AreAnswered keeps old was bytes rest said noted new is
   pub wrote : Appends before.out after.out said
   pub journaled : Appends before.journal after.journal noted
 
--- Served so far: some lines were told, those behind them were answered, and a beginning of the answers to the told ones is all that went out. The journal has
--- all notes of the told lines, and a beginning of those of the others. So whatever was told is in the journal, wherever this ended.
-pub record Stops (keeps : Bool) (old : List Standing) (was : Option Held) (before after : Written) (bytes : List ℕ) (new : List Standing) (is : Option Held) : Type 0 where
+-- Served so far: some lines were told, those behind them were answered, and a beginning of the
+-- answers to the told ones is all that went out. The journal has all notes of the told lines, and a
+-- beginning of those of the others. So whatever was told is in the journal, wherever this ended.
+pub record Stops (keeps : Bool) (old : List Standing) (was : Option Held) (before after : Written)
+    (bytes : List ℕ) (new : List Standing) (is : Option Held) : Type 0 where
   pub mid : List Standing
   pub between : Option Held
   pub behind : List ℕ
@@ -98,39 +119,51 @@ pub record Stops (keeps : Bool) (old : List Standing) (was : Option Held) (befor
   pub wrote : Wrote before.out after.out said left
   pub journaled : Appends before.journal after.journal (noted ++ front)
 
--- what is kept of a line that has begun: of one that is too long, one byte more than a line may have
+-- what is kept of a line that has begun: of one that is too long, one byte more than a line may
+-- have
 unfoldable pub cut : List ℕ → List ℕ
 cut begun = take (line_limit + 1) begun
 
--- All whole lines of the bytes were answered: some were told, and what the others say and note is pending. This is kept of the line that has begun.
-pub record GoesOn (keeps : Bool) (old : List Standing) (was : Option Held) (before after : Written) (bytes : List ℕ) (new : List Standing) (is : Option Held) (line : List ℕ) (pending : Pending) : Type 0 where
+-- All whole lines of the bytes were answered: some were told, and what the others say and note is
+-- pending. This is kept of the line that has begun.
+pub record GoesOn (keeps : Bool) (old : List Standing) (was : Option Held) (before after : Written)
+    (bytes : List ℕ) (new : List Standing) (is : Option Held) (line : List ℕ) (pending : Pending) :
+    Type 0 where
   pub mid : List Standing
   pub between : Option Held
   pub behind : List ℕ
   pub begun : List ℕ
   pub told : AreTold keeps old was before after bytes behind mid between
-  pub untold : AreAnswered keeps mid between behind begun pending.answers.items pending.notes.items new is
+  pub untold : AreAnswered keeps mid between behind begun pending.answers.items pending.notes.items
+      new is
   pub partial : HasNoEnd begun
   pub kept : line ≡ cut begun
 
 -- it goes on, or after an error it has stopped
-abbrev pub Serves : {E : Type 0} → Result (Unit {0}) E → Bool → List Standing → Option Held → Written → Written → List ℕ → List Standing → Option Held → List ℕ → Pending → Type 0
+abbrev pub Serves : {E : Type 0} → Result (Unit {0}) E → Bool → List Standing → Option Held
+    → Written → Written → List ℕ → List Standing → Option Held → List ℕ → Pending → Type 0
 Serves result keeps old was before after bytes new is line pending =
-    MatchResult result (λ _. GoesOn keeps old was before after bytes new is line pending) (λ _. Stops keeps old was before after bytes new is)
+    MatchResult result (λ _. GoesOn keeps old was before after bytes new is line pending)
+    (λ _. Stops keeps old was before after bytes new is)
 
 -- All whole lines of the bytes were told, and this is kept of the line that has begun.
-pub record Rests (keeps : Bool) (old : List Standing) (was : Option Held) (before after : Written) (bytes : List ℕ) (new : List Standing) (is : Option Held) (line : List ℕ) : Type 0 where
+pub record Rests (keeps : Bool) (old : List Standing) (was : Option Held) (before after : Written)
+    (bytes : List ℕ) (new : List Standing) (is : Option Held) (line : List ℕ) : Type 0 where
   pub begun : List ℕ
   pub told : AreTold keeps old was before after bytes begun new is
   pub partial : HasNoEnd begun
   pub kept : line ≡ cut begun
 
 -- all that was answered is told, or after an error it has stopped
-abbrev pub Tells : {E : Type 0} → Result (Unit {0}) E → Bool → List Standing → Option Held → Written → Written → List ℕ → List Standing → Option Held → List ℕ → Type 0
-Tells result keeps old was before after bytes new is line = MatchResult result (λ _. Rests keeps old was before after bytes new is line) (λ _. Stops keeps old was before after bytes new is)
+abbrev pub Tells : {E : Type 0} → Result (Unit {0}) E → Bool → List Standing → Option Held → Written
+    → Written → List ℕ → List Standing → Option Held → List ℕ → Type 0
+Tells result keeps old was before after bytes new is line =
+    MatchResult result (λ _. Rests keeps old was before after bytes new is line)
+    (λ _. Stops keeps old was before after bytes new is)
 
 -- All that the reader gave was served: each whole line of it was told, behind which no line ended.
-pub record ServesAll (keeps : Bool) (old new : List Standing) (was is : Option Held) (unread rest : Option (List ℕ)) (before after : Written) : Type 0 where
+pub record ServesAll (keeps : Bool) (old new : List Standing) (was is : Option Held)
+    (unread rest : Option (List ℕ)) (before after : Written) : Type 0 where
   pub bytes : List ℕ
   pub begun : List ℕ
   pub read : Consumes unread rest bytes
@@ -139,5 +172,7 @@ pub record ServesAll (keeps : Bool) (old new : List Standing) (was is : Option H
   pub told : AreTold keeps old was before after bytes begun new is
 
 -- Of what the reader gave some lines were answered.
-abbrev pub ServesSome : Bool → List Standing → List Standing → Option Held → Option Held → Option (List ℕ) → Option (List ℕ) → Written → Written → Type 0
-ServesSome keeps old new was is unread rest before after = (bytes : List ℕ) × Consumes unread rest bytes × Stops keeps old was before after bytes new is
+abbrev pub ServesSome : Bool → List Standing → List Standing → Option Held → Option Held
+    → Option (List ℕ) → Option (List ℕ) → Written → Written → Type 0
+ServesSome keeps old new was is unread rest before after =
+    (bytes : List ℕ) × Consumes unread rest bytes × Stops keeps old was before after bytes new is

@@ -1,4 +1,5 @@
--- What is served: rings over a till, each with its start, its history, and what its clients were told (this project's own).
+-- What is served: rings over a till, each with its start, its history, and what its clients were
+-- told (this project's own).
 use Rattle.std.specs.Prelude.{ℕ, ◌<◌, List, [], ◌∷◌, ◌++◌, length, slice_index_or}
 use Rattle.ring_model.specs.Ring.{Ring}
 use Rattle.ring_model.specs.History.{State, opening, after, reply}
@@ -41,12 +42,21 @@ survey_now r = survey_at till (opening r.start 0) r.history (length r.history)
 
 -- the ring with more events of a seat, which was told of them
 abbrev pub with_events : Standing → ℕ → List Event → Standing
-with_events r seat es = record { start = r.start; history = r.history ++ es; clients = told_more r.clients seat (receipts_from (length r.history) es) }
+with_events r seat es = record {
+  start = r.start;
+  history = r.history ++ es;
+  clients = told_more r.clients seat (receipts_from (length r.history) es);
+}
 
 -- the ring with a survey more that a seat was told
 abbrev pub with_survey : Standing → ℕ → Survey → Standing
-with_survey r seat s = record { start = r.start; history = r.history; clients = told_more r.clients seat (entry.Survey s ∷ []) }
+with_survey r seat s = record {
+  start = r.start;
+  history = r.history;
+  clients = told_more r.clients seat (entry.Survey s ∷ []);
+}
 
 -- each of the rings is, at every moment, a one-thread ring with its clients' logs
 abbrev pub AreRight : List (RingView ℕ) → Type 0
-AreRight rings = (i : ℕ) (d : RingView ℕ) → i < length rings → IsOneThreadRing till 0 (slice_index_or rings i d)
+AreRight rings =
+    (i : ℕ) (d : RingView ℕ) → i < length rings → IsOneThreadRing till 0 (slice_index_or rings i d)

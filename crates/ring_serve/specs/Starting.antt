@@ -24,5 +24,10 @@ AreResumed (r ∷ rs) (s ∷ saved) = IsResumed r s × AreResumed rs saved
 
 -- why they are not served, memory aside: some ring has too many events
 abbrev pub IsStartFault : List SavedRing → StartError → Type 0
-IsStartFault rings (start.Full number) = (i : ℕ) × (ring : SavedRing) × (slice_get rings i ≡ Some ring) × (number ≡ i) × (event_limit < length ring.events.items)
+IsStartFault rings (start.Full number) =
+    (i : ℕ)
+    × (ring : SavedRing)
+    × (slice_get rings i ≡ Some ring)
+    × (number ≡ i)
+    × (event_limit < length ring.events.items)
 IsStartFault rings start.OutOfMemory = Unit {0}

@@ -22,7 +22,8 @@ use Rattle.ring_serve.specs.declared.answers.Answer.TheVariants as answer
 use Rattle.ring_serve.specs.declared.answers.Refusal.{Refusal}
 use Rattle.ring_serve.specs.declared.answers.Refusal.TheVariants as refusal
 
--- what is recorded of a call: the events by which the history of the ring of this number grew, or a survey that a seat's log keeps
+-- what is recorded of a call: the events by which the history of the ring of this number grew, or a
+-- survey that a seat's log keeps
 pub data Record : Type 0 where
   events : ℕ → List Event → Record
   surveyed : ℕ → ℕ → Survey → Record
@@ -71,13 +72,19 @@ first_without s machines = find (λ m. not (is_privileged s m)) machines
 -- a rising group that is not the whole ring
 abbrev pub move_refusal : Standing → List ℕ → Option ℕ → Option Refusal
 move_refusal r machines (Some m) = Some (refusal.NotPrivileged m)
-move_refusal r machines None = if nat_lt event_limit (length r.history + length machines) then Some refusal.HistoryFull else None
+move_refusal r machines None =
+    if nat_lt event_limit (length r.history + length machines)
+    then Some refusal.HistoryFull
+    else None
 
 abbrev pub group_refusal : Standing → ℕ → List ℕ → Option Refusal
 group_refusal r seat machines =
-    if nat_le (length r.clients) seat then Some refusal.NoSeat
-    else (if not (nat_lt 0 (length machines) && rise 0 (length (state_of r).ring.values) machines) then Some refusal.NoGroup
-    else (if length machines == length (state_of r).ring.values then Some refusal.WholeRing
+    if nat_le (length r.clients) seat
+    then Some refusal.NoSeat
+    else (if not (nat_lt 0 (length machines) && rise 0 (length (state_of r).ring.values) machines)
+    then Some refusal.NoGroup
+    else (if length machines == length (state_of r).ring.values
+    then Some refusal.WholeRing
     else move_refusal r machines (first_without (state_of r).ring.values machines)))
 
 -- ---- the turns
@@ -105,16 +112,32 @@ grouped ring r seat order machines = record {
 
 -- the turn of a call at its ring
 abbrev pub turn_at : Standing → Call → Turn Standing
-turn_at r (pass ring seat machine order) = unless (pass_refusal r seat machine) r (called ring r seat (op.Pass machine order))
-turn_at r (corrupt ring seat machine value) = unless (corrupt_refusal r seat machine value) r (called ring r seat (op.Corrupt machine value))
-turn_at r (group ring seat order machines) = unless (group_refusal r seat machines) r (grouped ring r seat order machines)
-turn_at r (survey ring seat) = unless (seat_refusal r seat) r (record { answer = answer.Survey (survey_now r); recorded = surveyed ring seat (survey_now r) ∷ []; leaves = with_survey r seat (survey_now r) })
-turn_at r (glance ring) = record { answer = answer.Survey (survey_now r); recorded = []; leaves = r }
+turn_at r (pass ring seat machine order) =
+    unless (pass_refusal r seat machine) r (called ring r seat (op.Pass machine order))
+turn_at r (corrupt ring seat machine value) =
+    unless (corrupt_refusal r seat machine value) r (called ring r seat (op.Corrupt machine value))
+turn_at r (group ring seat order machines) =
+    unless (group_refusal r seat machines) r (grouped ring r seat order machines)
+turn_at r (survey ring seat) =
+    unless (seat_refusal r seat) r (record {
+      answer = answer.Survey (survey_now r);
+      recorded = surveyed ring seat (survey_now r) ∷ [];
+      leaves = with_survey r seat (survey_now r);
+    })
+turn_at r (glance ring) = record {
+  answer = answer.Survey (survey_now r);
+  recorded = [];
+  leaves = r;
+}
 turn_at r save = record { answer = answer.Saved; recorded = []; leaves = r }
 
 -- the same among all rings
 abbrev pub placed : List Standing → ℕ → Turn Standing → Turn (List Standing)
-placed rings ring turn = record { answer = turn.answer; recorded = turn.recorded; leaves = slice_set rings ring turn.leaves }
+placed rings ring turn = record {
+  answer = turn.answer;
+  recorded = turn.recorded;
+  leaves = slice_set rings ring turn.leaves;
+}
 
 abbrev pub turn_among : List Standing → Call → Option Standing → Turn (List Standing)
 turn_among rings call None = refused rings refusal.NoRing
@@ -132,7 +155,11 @@ recorded_seen ring r (made.Events from) = events ring (drop from r.history) ∷ 
 recorded_seen ring r (made.Survey seat s) = surveyed ring seat s ∷ []
 
 abbrev pub turn_seen : ℕ → Standing → Made → Turn Standing
-turn_seen ring r m = record { answer = m.answer; recorded = recorded_seen ring r m.recorded; leaves = r }
+turn_seen ring r m = record {
+  answer = m.answer;
+  recorded = recorded_seen ring r m.recorded;
+  leaves = r;
+}
 
 -- the turn is the one of the call, or memory was wanting
 abbrev pub IsTurnAt : Standing → Call → Turn Standing → Type 0
@@ -145,16 +172,22 @@ history_of (Some r) = r.history
 
 abbrev pub recorded_among : ℕ → List Standing → Recorded → List Record
 recorded_among ring rings made.Nothing = []
-recorded_among ring rings (made.Events from) = events ring (drop from (history_of (slice_get rings ring))) ∷ []
+recorded_among ring rings (made.Events from) =
+    events ring (drop from (history_of (slice_get rings ring))) ∷ []
 recorded_among ring rings (made.Survey seat s) = surveyed ring seat s ∷ []
 
 abbrev pub turn_seen_among : ℕ → List Standing → Made → Turn (List Standing)
-turn_seen_among ring rings m = record { answer = m.answer; recorded = recorded_among ring rings m.recorded; leaves = rings }
+turn_seen_among ring rings m = record {
+  answer = m.answer;
+  recorded = recorded_among ring rings m.recorded;
+  leaves = rings;
+}
 
 abbrev pub IsTurn : List Standing → Call → Turn (List Standing) → Type 0
 IsTurn rings call turn = (turn ≡ turn_of rings call) ⊎ (turn ≡ refused rings refusal.OutOfMemory)
 
--- ---- the turn of a line: that of the call that it is, where it is one, has an order that there is, and is not too long
+-- ---- the turn of a line: that of the call that it is, where it is one, has an order that there
+-- is, and is not too long
 
 abbrev pub read_turn : List Standing → Result (Option Call) Fault → Turn (List Standing)
 read_turn rings (Ok (Some call)) = turn_of rings call
@@ -162,8 +195,12 @@ read_turn rings (Ok None) = refused rings refusal.NoOrder
 read_turn rings (Err e) = refused rings refusal.Syntax
 
 unfoldable pub line_turn : List Standing → List ℕ → Turn (List Standing)
-line_turn rings line = if nat_lt line_limit (length line) then refused rings refusal.Syntax else read_turn rings (whole_at call_at line)
+line_turn rings line =
+    if nat_lt line_limit (length line)
+    then refused rings refusal.Syntax
+    else read_turn rings (whole_at call_at line)
 
 -- the turn is the one of the line, or memory was wanting
 abbrev pub IsTurnOfLine : List Standing → List ℕ → Turn (List Standing) → Type 0
-IsTurnOfLine rings line turn = (turn ≡ line_turn rings line) ⊎ (turn ≡ refused rings refusal.OutOfMemory)
+IsTurnOfLine rings line turn =
+    (turn ≡ line_turn rings line) ⊎ (turn ≡ refused rings refusal.OutOfMemory)

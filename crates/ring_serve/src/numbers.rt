@@ -20,8 +20,11 @@ fn with_digit(number: Option<u64>, digit: u8) -> Option<u64>
 
 /// The number with the byte behind it, if it goes on so: no digit follows a leading 0.
 fn grown(number: Option<u64>, b: u8) -> Option<Option<u64>>
-    ensures more { (n : ℕ) → number ≡ in_64_bits n → IfSome result (λ more. ((nat_lt 0 n && is_digit b) ≡ true) × (more ≡ in_64_bits (n * 10 + (b - 48)))) }
-    ensures ends { (n : ℕ) → number ≡ in_64_bits n → IsNone result → (nat_lt 0 n && is_digit b) ≡ false }
+    ensures more { (n : ℕ) → number ≡ in_64_bits n
+        → IfSome result
+        (λ more. ((nat_lt 0 n && is_digit b) ≡ true) × (more ≡ in_64_bits (n * 10 + (b - 48)))) }
+    ensures ends { (n : ℕ) → number ≡ in_64_bits n → IsNone result
+        → (nat_lt 0 n && is_digit b) ≡ false }
 {
     match (number, b) {
         (Some(0), _) => None,
@@ -32,7 +35,8 @@ fn grown(number: Option<u64>, b: u8) -> Option<Option<u64>>
 
 /// The rest of a number of which `first` was read.
 fn digits(first: u64, stop: u8, bytes: &[u8]) -> Result<(Option<u64>, &[u8]), Stop>
-    ensures { Gives (λ x. (x.0, x.1.now)) result (as_at in_64_bits (digits_at stop first) bytes.now) }
+    ensures { Gives (λ x. (x.0, x.1.now)) result
+        (as_at in_64_bits (digits_at stop first) bytes.now) }
 {
     let mut number = Some(first);
     for (i, b) in bytes.iter().enumerate() {

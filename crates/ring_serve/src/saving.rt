@@ -24,8 +24,10 @@ use text_lines::WriteFault;
 /// Writes the blocks of the rings, each with its place from 0.
 fn put_blocks<W: Write>(out: &mut W, rings: &[OneThreadRing<Till>]) -> Result<(), WriteFault>
     requires { length rings.now < 2 ^ 32 }
-    ensures written { Writes (W.contents out.old) (W.contents out.new) result (flat_map block_text (blocks_from 0 (map standing_of rings.now))) }
-    ensures fits { IfOk result (λ _. AllByRecursion (BlockFits latest_version) (blocks_from 0 (map standing_of rings.now))) }
+    ensures written { Writes (W.contents out.old) (W.contents out.new) result
+        (flat_map block_text (blocks_from 0 (map standing_of rings.now))) }
+    ensures fits { IfOk result (λ _.
+        AllByRecursion (BlockFits latest_version) (blocks_from 0 (map standing_of rings.now))) }
 {
     for (place, ring) in rings.iter().enumerate() {
         match put_ring(out, place as u32, ring) {
@@ -40,7 +42,8 @@ fn put_blocks<W: Write>(out: &mut W, rings: &[OneThreadRing<Till>]) -> Result<()
 fn put_all_rings<W: Write>(out: &mut W, rings: &[OneThreadRing<Till>]) -> Result<(), WriteFault>
     requires some { 1 ≤ length rings.now }
     requires most { length rings.now < 2 ^ 32 }
-    ensures written { Writes (W.contents out.old) (W.contents out.new) result (text (content_of (map standing_of rings.now))) }
+    ensures written { Writes (W.contents out.old) (W.contents out.new) result
+        (text (content_of (map standing_of rings.now))) }
     ensures fits { IfOk result (λ _. Fits (content_of (map standing_of rings.now))) }
 {
     put_first_line(out, LATEST_VERSION)?;
@@ -58,7 +61,8 @@ fn put_all_rings<W: Write>(out: &mut W, rings: &[OneThreadRing<Till>]) -> Result
 pub fn put_rings<W: Write>(out: &mut W, served: &Served) -> Result<(), WriteFault>
     requires some { 1 ≤ length served.now }
     requires most { length served.now < 2 ^ 32 }
-    ensures written { Writes (W.contents out.old) (W.contents out.new) result (text (content_of served.now)) }
+    ensures written { Writes (W.contents out.old) (W.contents out.new) result
+        (text (content_of served.now)) }
     ensures fits { IfOk result (λ _. Fits (content_of served.now)) }
     ensures legal { IsLegalText (content_of served.now) }
 {
@@ -69,7 +73,8 @@ pub fn put_rings<W: Write>(out: &mut W, served: &Served) -> Result<(), WriteFaul
 fn save_by<W: Write + Drop>(alloc: Global, served: &Served, out: W) -> Option<W>
     requires some { 1 ≤ length served.now }
     requires most { length served.now < 2 ^ 32 }
-    ensures { IfSome result (λ after. Appends (W.contents out) (W.contents after) (text (content_of served.now))) }
+    ensures { IfSome result
+        (λ after. Appends (W.contents out) (W.contents after) (text (content_of served.now))) }
 {
     let Ok(mut buffer) = BufWriter::new(alloc, out) else {
         return None;
@@ -89,7 +94,9 @@ fn save_by<W: Write + Drop>(alloc: Global, served: &Served, out: W) -> Option<W>
 /// Puts a file with the saved text of all rings in the place of the one of this name, and says whether it did. If not, no
 /// file has changed: it could not be made, written or put there, or memory was wanting, or there is no ring or too many.
 pub fn save_rings<D: Disk>(alloc: Global, disk: &mut D, served: &Served, name: &str) -> bool
-    ensures saved { IsTrue result → Replaces (D.holds disk.old) (D.holds disk.new) name.now (Some (text (content_of served.now))) }
+    ensures saved { IsTrue result
+        → Replaces (D.holds disk.old) (D.holds disk.new) name.now
+        (Some (text (content_of served.now))) }
     ensures kept { IsFalse result → D.holds disk.new ≡ D.holds disk.old }
     ensures legal { IsTrue result → IsLegalText (content_of served.now) }
 {

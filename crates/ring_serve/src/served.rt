@@ -60,7 +60,8 @@ fn ring_of(call: &Call) -> u32
 /// A call of one of the rings.
 fn make_among(rings: &mut Vec<OneThreadRing<Till>>, call: &Call) -> Made
     requires { AreRight rings.old.items }
-    ensures turn { IsTurn (map standing_of rings.old.items) (seen call.now) (turn_seen_among (ring_of (seen call.now)) (map standing_of rings.new.items) result) }
+    ensures turn { IsTurn (map standing_of rings.old.items) (seen call.now)
+        (turn_seen_among (ring_of (seen call.now)) (map standing_of rings.new.items) result) }
     ensures right { AreRight rings.new.items }
 {
     let at = ring_of(call) as usize;
@@ -89,7 +90,8 @@ fn add_to(rings: &mut Vec<OneThreadRing<Till>>, ring: OneThreadRing<Till>) -> Re
     requires all { AreRight rings.old.items }
     requires ring { IsOneThreadRing till 0 ring }
     ensures right { AreRight rings.new.items }
-    ensures ok { OnOk result (map standing_of rings.new.items ≡ map standing_of rings.old.items ++ standing_of ring ∷ []) }
+    ensures ok { OnOk result (map standing_of rings.new.items
+        ≡ map standing_of rings.old.items ++ standing_of ring ∷ []) }
     ensures err { OnErr result (rings.new.items ≡ rings.old.items) }
 {
     rings.reserve(1)?;
@@ -144,7 +146,8 @@ impl Served {
 
     /// Makes a call.
     fn make(&mut self, call: &Call) -> Made
-        ensures { IsTurn self.old (seen call.now) (turn_seen_among (ring_of (seen call.now)) self.new result) }
+        ensures { IsTurn self.old (seen call.now)
+            (turn_seen_among (ring_of (seen call.now)) self.new result) }
     {
         make_among(&mut self.rings, call)
     }
@@ -154,7 +157,8 @@ impl Served {
 /// has more than 8 KiB, `refused order` where its order is 2 to the power 64 or more. `refused memory` can come at any line, and changes nothing. A `save` is answered `saved`: to save, or to
 /// answer that it was not done, is the caller's, as in [`serve`](crate::serve).
 pub fn answer_line(alloc: Global, served: &mut Served, line: &[u8]) -> Turned
-    ensures { IsTurnOfLine served.old line.now (turn_seen_among result.ring served.new result.made) }
+    ensures { IsTurnOfLine served.old line.now
+        (turn_seen_among result.ring served.new result.made) }
 {
     if line.len() > LINE_LIMIT {
         return no_call(Refusal::Syntax);
@@ -172,7 +176,11 @@ pub fn answer_line(alloc: Global, served: &mut Served, line: &[u8]) -> Turned
 
 /// A line that is no call.
 fn no_call(why: Refusal) -> Turned
-    ensures { result ≡ record { ring = 0; made = record { answer = answer.Refused why; recorded = recorded.Nothing } } }
+    ensures { result
+        ≡ record {
+          ring = 0;
+          made = record { answer = answer.Refused why; recorded = recorded.Nothing };
+        } }
 {
     Turned {
         ring: 0,

@@ -56,7 +56,8 @@ pub struct Pending {
 
 /// Writes the lines of what a turn recorded.
 fn note<J: Write>(served: &Served, turned: Turned, notes: &mut J) -> Result<(), WriteFault>
-    ensures { Writes (J.contents notes.old) (J.contents notes.new) result (notes_of (recorded_among turned.ring served.now turned.made.recorded)) }
+    ensures { Writes (J.contents notes.old) (J.contents notes.new) result
+        (notes_of (recorded_among turned.ring served.now turned.made.recorded)) }
 {
     match turned.made.recorded {
         Recorded::Nothing => Ok(()),
@@ -91,7 +92,8 @@ fn save_named<D: Disk>(
     keeping: Option<&str>,
     line: &[u8],
 ) -> bool
-    ensures { IsGiven (D.holds disk.old) (D.holds disk.new) (name_in line.now) served.now answer.Saved (cond result answer.Saved (answer.Refused refusal.File)) }
+    ensures { IsGiven (D.holds disk.old) (D.holds disk.new) (name_in line.now) served.now
+        answer.Saved (cond result answer.Saved (answer.Refused refusal.File)) }
 {
     let Ok(name) = str::from_utf8(name_of(line)) else {
         return false;
@@ -111,7 +113,8 @@ fn give<D: Disk>(
     line: &[u8],
     asked: Answer,
 ) -> Answer
-    ensures { IsGiven (D.holds disk.old) (D.holds disk.new) (name_in line.now) served.now asked result }
+    ensures { IsGiven (D.holds disk.old) (D.holds disk.new) (name_in line.now) served.now asked
+        result }
 {
     match asked {
         Answer::Saved => {
@@ -133,8 +136,12 @@ fn add_pending(
     keeps: bool,
     pending: &mut Pending,
 ) -> Result<(), ServeFault>
-    ensures answers { OnOk result (pending.new.answers.items ≡ pending.old.answers.items ++ answer_line given) }
-    ensures notes { OnOk result (pending.new.notes.items ≡ pending.old.notes.items ++ cond keeps (notes_of (recorded_among turned.ring served.now turned.made.recorded)) []) }
+    ensures answers { OnOk result
+        (pending.new.answers.items ≡ pending.old.answers.items ++ answer_line given) }
+    ensures notes { OnOk result (pending.new.notes.items
+        ≡ pending.old.notes.items
+        ++ cond keeps (notes_of (recorded_among turned.ring served.now turned.made.recorded))
+        []) }
 {
     pending.answers.extend_from_slice(given.line().as_bytes())?;
     if !keeps {
@@ -155,7 +162,12 @@ fn answer<D: Disk>(
     line: &[u8],
     pending: &mut Pending,
 ) -> Result<(), ServeFault>
-    ensures { (said : List ℕ) × (noted : List ℕ) × IsAnswered (is_some keeping.entry) served.old (D.holds disk.old) line.now said noted served.new (D.holds disk.new) × OnOk result ((pending.new.answers.items ≡ pending.old.answers.items ++ said) × (pending.new.notes.items ≡ pending.old.notes.items ++ noted)) }
+    ensures { (said : List ℕ)
+        × (noted : List ℕ)
+        × IsAnswered (is_some keeping.entry) served.old (D.holds disk.old) line.now said noted
+        served.new (D.holds disk.new)
+        × OnOk result ((pending.new.answers.items ≡ pending.old.answers.items ++ said)
+        × (pending.new.notes.items ≡ pending.old.notes.items ++ noted)) }
 {
     let turned = answer_line(alloc, served, line);
     let given = give(alloc, served, disk, keeping, line, turned.made.answer);
@@ -164,7 +176,8 @@ fn answer<D: Disk>(
 
 /// Keeps a byte of a line, unless the line is too long already.
 fn keep(line: &mut Vec<u8>, byte: u8) -> Result<(), AllocError>
-    ensures { OnOk result ((begun : List ℕ) → line.old.items ≡ cut begun → line.new.items ≡ cut (begun ++ byte ∷ [])) }
+    ensures { OnOk result ((begun : List ℕ) → line.old.items ≡ cut begun
+        → line.new.items ≡ cut (begun ++ byte ∷ [])) }
 {
     if line.len() > LINE_LIMIT {
         return Ok(());
@@ -183,7 +196,11 @@ fn take_byte<D: Disk>(
     byte: u8,
     pending: &mut Pending,
 ) -> Result<(), ServeFault>
-    ensures { (old : List Standing) (was : Option Held) (before after : Written) (bytes : List ℕ) → GoesOn (is_some keeping.entry) old was before after bytes served.old (D.holds disk.old) line.old.items pending.old → Serves result (is_some keeping.entry) old was before after (bytes ++ byte ∷ []) served.new (D.holds disk.new) line.new.items pending.new }
+    ensures { (old : List Standing) (was : Option Held) (before after : Written) (bytes : List ℕ)
+        → GoesOn (is_some keeping.entry) old was before after bytes served.old (D.holds disk.old)
+        line.old.items pending.old
+        → Serves result (is_some keeping.entry) old was before after (bytes ++ byte ∷ []) served.new
+        (D.holds disk.new) line.new.items pending.new }
 {
     keep(line, byte)?;
     if byte != b'\n' {
@@ -204,7 +221,11 @@ fn take_block<D: Disk>(
     block: &[u8],
     pending: &mut Pending,
 ) -> Result<(), ServeFault>
-    ensures { (old : List Standing) (was : Option Held) (before after : Written) (bytes : List ℕ) → GoesOn (is_some keeping.entry) old was before after bytes served.old (D.holds disk.old) line.old.items pending.old → Serves result (is_some keeping.entry) old was before after (bytes ++ block.now) served.new (D.holds disk.new) line.new.items pending.new }
+    ensures { (old : List Standing) (was : Option Held) (before after : Written) (bytes : List ℕ)
+        → GoesOn (is_some keeping.entry) old was before after bytes served.old (D.holds disk.old)
+        line.old.items pending.old
+        → Serves result (is_some keeping.entry) old was before after (bytes ++ block.now) served.new
+        (D.holds disk.new) line.new.items pending.new }
 {
     for byte in block {
         match take_byte(alloc, served, disk, keeping, line, *byte, pending) {
@@ -218,7 +239,8 @@ fn take_block<D: Disk>(
 /// Writes all of these bytes and flushes the writer, if there is one at least, and says whether it could.
 fn put_out<W: Write>(out: &mut W, bytes: &[u8]) -> bool
     ensures all { IsTrue result → Appends (W.contents out.old) (W.contents out.new) bytes.now }
-    ensures part { (left : List ℕ) × Wrote (W.contents out.old) (W.contents out.new) bytes.now left }
+    ensures part { (left : List ℕ)
+        × Wrote (W.contents out.old) (W.contents out.new) bytes.now left }
 {
     if bytes.is_empty() {
         return true;
@@ -236,7 +258,13 @@ fn commit<J: Write, W: Write>(
     out: &mut W,
 ) -> Result<(), ServeFault>
     ensures left { OnOk result ((pending.new.answers.items ≡ []) × (pending.new.notes.items ≡ [])) }
-    ensures told { (keeps : Bool) (old new : List Standing) (was is : Option Held) (before : Written) (bytes line : List ℕ) → GoesOn keeps old was before (record { journal = J.contents journal.old; out = W.contents out.old }) bytes new is line pending.old → Tells result keeps old was before (record { journal = J.contents journal.new; out = W.contents out.new }) bytes new is line }
+    ensures told { (keeps : Bool) (old new : List Standing) (was is : Option Held) (before : Written)
+        (bytes line : List ℕ)
+        → GoesOn keeps old was before
+        (record { journal = J.contents journal.old; out = W.contents out.old }) bytes new is line
+        pending.old
+        → Tells result keeps old was before
+        (record { journal = J.contents journal.new; out = W.contents out.new }) bytes new is line }
 {
     if !put_out(journal, pending.notes.as_slice()) {
         return Err(ServeFault::Journal);
@@ -269,8 +297,14 @@ pub fn serve<D: Disk, I: Read, J: Write, W: Write>(
     journal: &mut J,
     out: &mut W,
 ) -> Result<(), ServeFault>
-    ensures ok { OnOk result (ServesAll (is_some keeping.entry) served.old served.new (D.holds disk.old) (D.holds disk.new) (I.remaining input.old) (I.remaining input.new) (record { journal = J.contents journal.old; out = W.contents out.old }) (record { journal = J.contents journal.new; out = W.contents out.new })) }
-    ensures err { OnErr result (ServesSome (is_some keeping.entry) served.old served.new (D.holds disk.old) (D.holds disk.new) (I.remaining input.old) (I.remaining input.new) (record { journal = J.contents journal.old; out = W.contents out.old }) (record { journal = J.contents journal.new; out = W.contents out.new })) }
+    ensures ok { OnOk result (ServesAll (is_some keeping.entry) served.old served.new
+        (D.holds disk.old) (D.holds disk.new) (I.remaining input.old) (I.remaining input.new)
+        (record { journal = J.contents journal.old; out = W.contents out.old })
+        (record { journal = J.contents journal.new; out = W.contents out.new })) }
+    ensures err { OnErr result (ServesSome (is_some keeping.entry) served.old served.new
+        (D.holds disk.old) (D.holds disk.new) (I.remaining input.old) (I.remaining input.new)
+        (record { journal = J.contents journal.old; out = W.contents out.old })
+        (record { journal = J.contents journal.new; out = W.contents out.new })) }
 {
     let mut line = Vec::new(alloc);
     let mut pending = Pending {

@@ -24,7 +24,12 @@ fn surveys_of(ring: &OneThreadRing<Till>) -> Option<u64>
 
 /// What adds up over rings, with one ring more.
 fn with_ring(all: Totals, ring: &OneThreadRing<Till>) -> Option<Totals>
-    ensures { IfSome result (λ totals. totals ≡ record { events = all.events + length ring.now.book.history; granted = all.granted + granted_count ring.now.book.history; surveys = all.surveys + surveys_among ring.now.clients }) }
+    ensures { IfSome result (λ totals. totals
+        ≡ record {
+          events = all.events + length ring.now.book.history;
+          granted = all.granted + granted_count ring.now.book.history;
+          surveys = all.surveys + surveys_among ring.now.clients;
+        }) }
 {
     let history = ring.history();
     Some(Totals {

@@ -54,7 +54,9 @@ fn answer_of(reply: Reply) -> Answer
 /// A pass by a machine, for a seat.
 fn make_pass(ring: &mut OneThreadRing<Till>, seat: u32, machine: u32, order: u64) -> Made
     requires { IsOneThreadRing till 0 ring.old }
-    ensures turn { (at : ℕ) → IsTurnAt (standing_of ring.old) (pass at seat machine order) (turn_seen at (standing_of ring.new) result) }
+    ensures turn { (at : ℕ)
+        → IsTurnAt (standing_of ring.old) (pass at seat machine order)
+        (turn_seen at (standing_of ring.new) result) }
     ensures ring { IsOneThreadRing till 0 ring.new }
 {
     let from = ring.history().len();
@@ -73,7 +75,9 @@ fn make_pass(ring: &mut OneThreadRing<Till>, seat: u32, machine: u32, order: u64
 /// A fault, for a seat.
 fn make_fault(ring: &mut OneThreadRing<Till>, seat: u32, machine: u32, value: u32) -> Made
     requires { IsOneThreadRing till 0 ring.old }
-    ensures turn { (at : ℕ) → IsTurnAt (standing_of ring.old) (corrupt at seat machine value) (turn_seen at (standing_of ring.new) result) }
+    ensures turn { (at : ℕ)
+        → IsTurnAt (standing_of ring.old) (corrupt at seat machine value)
+        (turn_seen at (standing_of ring.new) result) }
     ensures ring { IsOneThreadRing till 0 ring.new }
 {
     let from = ring.history().len();
@@ -93,7 +97,9 @@ fn make_fault(ring: &mut OneThreadRing<Till>, seat: u32, machine: u32, value: u3
 /// A pass by a group of machines at once, for a seat.
 fn make_group(ring: &mut OneThreadRing<Till>, seat: u32, order: u64, machines: &[u32]) -> Made
     requires { IsOneThreadRing till 0 ring.old }
-    ensures turn { (at : ℕ) → IsTurnAt (standing_of ring.old) (group at seat order machines.now) (turn_seen at (standing_of ring.new) result) }
+    ensures turn { (at : ℕ)
+        → IsTurnAt (standing_of ring.old) (group at seat order machines.now)
+        (turn_seen at (standing_of ring.new) result) }
     ensures ring { IsOneThreadRing till 0 ring.new }
 {
     let from = ring.history().len();
@@ -117,7 +123,9 @@ fn make_group(ring: &mut OneThreadRing<Till>, seat: u32, order: u64, machines: &
 /// A survey, which the log of a seat keeps.
 fn make_survey(ring: &mut OneThreadRing<Till>, seat: u32) -> Made
     requires { IsOneThreadRing till 0 ring.old }
-    ensures turn { (at : ℕ) → IsTurnAt (standing_of ring.old) (survey at seat) (turn_seen at (standing_of ring.new) result) }
+    ensures turn { (at : ℕ)
+        → IsTurnAt (standing_of ring.old) (survey at seat)
+        (turn_seen at (standing_of ring.new) result) }
     ensures ring { IsOneThreadRing till 0 ring.new }
 {
     match ring.survey(seat) {
@@ -133,7 +141,8 @@ fn make_survey(ring: &mut OneThreadRing<Till>, seat: u32) -> Made
 /// A call of its ring.
 pub(crate) fn make(ring: &mut OneThreadRing<Till>, call: &Call) -> Made
     requires { IsOneThreadRing till 0 ring.old }
-    ensures turn { IsTurnAt (standing_of ring.old) (seen call.now) (turn_seen (ring_of (seen call.now)) (standing_of ring.new) result) }
+    ensures turn { IsTurnAt (standing_of ring.old) (seen call.now)
+        (turn_seen (ring_of (seen call.now)) (standing_of ring.new) result) }
     ensures ring { IsOneThreadRing till 0 ring.new }
 {
     match call {

@@ -30,7 +30,9 @@ sizes_of rings = map (λ ring. ring.size) rings
 
 -- the ring at this place
 abbrev pub ring_at : SettingsData → ℕ → RingData
-ring_at settings ring = unwrap_or (slice_get settings.rings ring) (record { size = record { n = 0; k = 0 }; start = [] })
+ring_at settings ring =
+    unwrap_or (slice_get settings.rings ring)
+    (record { size = record { n = 0; k = 0 }; start = [] })
 
 -- the seat of this number
 abbrev pub seat_at : SettingsData → ℕ → SeatData
@@ -42,8 +44,8 @@ pub record IsRingSetting (ring : RingData) : Type 0 where
   pub one_each : length ring.start ≡ ring.size.n
   pub below : All (λ v. v < ring.size.k) ring.start
 
--- a seat has no more actions than the limit, and a scripted one only such as these rings have a machine
--- and a value for
+-- a seat has no more actions than the limit, and a scripted one only such as these rings have a
+-- machine and a value for
 abbrev pub IsSeatFor : List Size → SeatData → Type 0
 IsSeatFor sizes (script actions) = (length actions ≤ action_limit) × All (IsActionFor sizes) actions
 IsSeatFor sizes (drawing role seed actions) = actions ≤ action_limit

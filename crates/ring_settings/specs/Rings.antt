@@ -48,7 +48,9 @@ first_over k place (v ∷ vs) = if nat_lt v k then first_over k (place + 1) vs e
 -- the fault of the start values of a ring of this size, if they have one
 abbrev pub values_fault : Size → List ℕ → Option RingCause
 values_fault size vs =
-    if length vs == size.n then option_map cause.Value (first_over size.k 0 vs) else Some cause.Length
+    if length vs == size.n
+    then option_map cause.Value (first_over size.k 0 vs)
+    else Some cause.Length
 
 -- a value where there is no fault, and the refusal of the ring at this place where there is one
 abbrev pub unless_fault : {A : Type 0} → ℕ → Option RingCause → A → Result A SettingsError

@@ -22,7 +22,8 @@ field_of role.Injector = Injector
 
 -- a seat with this script
 abbrev pub scripted_seat : List Size → ℕ → Data → Result SeatData SettingsError
-scripted_seat sizes seat d = then_with (script_items sizes seat (as_array d)) (λ actions. Ok (script actions))
+scripted_seat sizes seat d =
+    then_with (script_items sizes seat (as_array d)) (λ actions. Ok (script actions))
 
 -- a seat whose actions are drawn: no more than the limit
 abbrev pub drawn_seat : Role → Data → Result SeatData SettingsError
@@ -33,7 +34,8 @@ drawn_seat role d =
     Ok (drawing role seed actions))))
 
 -- a seat that has the member `script` is scripted, whatever else it has
-abbrev pub seat_by_script : Role → List Size → ℕ → Data → Option Data → Result SeatData SettingsError
+abbrev pub seat_by_script : Role → List Size → ℕ → Data → Option Data
+    → Result SeatData SettingsError
 seat_by_script role sizes seat d (Some s) = scripted_seat sizes seat s
 seat_by_script role sizes seat d None = drawn_seat role d
 
@@ -51,7 +53,8 @@ workers_items sizes (Some ds) =
     then each_from (seat_from role.Worker sizes) 0 ds else Err (Limit Workers)
 
 -- an injector that is absent or `null` is none; else it has the number after the workers'
-abbrev pub injector_after : List Size → List SeatData → Option Data → Result (List SeatData) SettingsError
+abbrev pub injector_after : List Size → List SeatData → Option Data
+    → Result (List SeatData) SettingsError
 injector_after sizes workers None = Ok workers
 injector_after sizes workers (Some d) =
     if is_some (as_null d) then Ok workers

@@ -114,10 +114,12 @@ fn read_workers(
     document: &Value,
 ) -> Result<Vec<SeatSetting>, SettingsError>
     requires { length sizes.now ≤ ring_limit }
-    ensures ok { IfOk result (λ v. workers_items sizes.now (option_and_then as_array (get (codes "workers") (view document.now)))
+    ensures ok { IfOk result (λ v. workers_items sizes.now
+        (option_and_then as_array (get (codes "workers") (view document.now)))
         ≡ Ok (map seat_data v.items)) }
     ensures err { IfErr result (λ e. e ≢ SettingsError.OutOfMemory
-        → workers_items sizes.now (option_and_then as_array (get (codes "workers") (view document.now)))
+        → workers_items sizes.now
+        (option_and_then as_array (get (codes "workers") (view document.now)))
         ≡ Err e) }
 {
     let Some(list) = document.get("workers").and_then(Value::as_array) else {
@@ -138,10 +140,12 @@ fn with_injector(
     document: &Value,
 ) -> Result<Vec<SeatSetting>, SettingsError>
     requires { length sizes.now ≤ ring_limit }
-    ensures ok { IfOk result (λ v. injector_after sizes.now (map seat_data workers.items) (get (codes "injector") (view document.now))
+    ensures ok { IfOk result (λ v. injector_after sizes.now (map seat_data workers.items)
+        (get (codes "injector") (view document.now))
         ≡ Ok (map seat_data v.items)) }
     ensures err { IfErr result (λ e. e ≢ SettingsError.OutOfMemory
-        → injector_after sizes.now (map seat_data workers.items) (get (codes "injector") (view document.now))
+        → injector_after sizes.now (map seat_data workers.items)
+        (get (codes "injector") (view document.now))
         ≡ Err e) }
 {
     let Some(value) = document.get("injector") else {

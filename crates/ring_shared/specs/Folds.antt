@@ -1,4 +1,5 @@
--- What a list of events does to a ring, whatever the resource: the ring behind it, its survey, and its summary.
+-- What a list of events does to a ring, whatever the resource: the ring behind it, its survey, and
+-- its summary.
 use Rattle.std.specs.Prelude.{◌≡◌, ℕ, Bool, true, false, ◌-◌, ◌<◌, List, [], ◌∷◌, length, take, Option, Some, None}
 use mathlib.Core.List.{IsPrefix}
 use Rattle.ring_model.specs.Ring.{Ring, privileged_count, first_privileged, rest, written}
@@ -29,16 +30,19 @@ unfoldable pub survey_of : Ring → List Event → Survey
 survey_of start h = survey_from (ring_after start h) (length h) (calm h)
 
 -- a ring, a position and a calm are those at the end of these events
-pub record IsSummary (start : Ring) (h : List Event) (ring : Ring) (position : ℕ) (calm_there : ℕ) : Type 0 where
+pub record IsSummary (start : Ring) (h : List Event) (ring : Ring) (position : ℕ) (calm_there : ℕ) :
+    Type 0 where
   pub ring_is : ring ≡ ring_after start h
   pub position_is : position ≡ length h
   pub calm_is : calm_there ≡ calm h
 
--- the last of these events left this value in this machine and changed no other, and the calm at their end is this
+-- the last of these events left this value in this machine and changed no other, and the calm at
+-- their end is this
 pub record IsWritten (start : Ring) (h : List Event) (machine value calm_there : ℕ) : Type 0 where
   pub machine_is : machine < length start.values
   pub value_is : value < start.k
-  pub ring_is : 0 < length h → ring_after start h ≡ written (ring_after start (take (length h - 1) h)) machine value
+  pub ring_is : 0 < length h
+      → ring_after start h ≡ written (ring_after start (take (length h - 1) h)) machine value
   pub calm_is : calm_there ≡ calm h
 
 -- what a change does is what these events did: the last of them alone, or all of them
@@ -52,12 +56,15 @@ is_block (Write machine value) = false
 is_block (Become ring) = true
 
 -- a ring, a position and a calm are those behind a beginning of these events
-pub record IsSummaryWithin (start : Ring) (h : List Event) (ring : Ring) (position : ℕ) (calm_there : ℕ) : Type 0 where
+pub record IsSummaryWithin (start : Ring) (h : List Event) (ring : Ring) (position : ℕ)
+    (calm_there : ℕ) : Type 0 where
   pub past : List Event
   pub begins : IsPrefix past h
   pub of_past : IsSummary start past ring position calm_there
 
--- what answers for these events: their survey, beside a summary of a beginning of them, or a summary of them where it was not made yet
+-- what answers for these events: their survey, beside a summary of a beginning of them, or a
+-- summary of them where it was not made yet
 abbrev pub AnswersFor : Ring → List Event → Option Survey → Ring → ℕ → ℕ → Type 0
-AnswersFor start h (Some s) ring position calm_there = (s ≡ survey_of start h) × IsSummaryWithin start h ring position calm_there
+AnswersFor start h (Some s) ring position calm_there =
+    (s ≡ survey_of start h) × IsSummaryWithin start h ring position calm_there
 AnswersFor start h None ring position calm_there = IsSummary start h ring position calm_there

@@ -1,4 +1,5 @@
--- What a group pass does to the book and to the seat of a ring, and what a client is told of it (this project's own).
+-- What a group pass does to the book and to the seat of a ring, and what a client is told of it
+-- (this project's own).
 use Rattle.std.specs.Prelude.{◌≡◌, ◌≢◌, ◌⊎◌, ℕ, ◌+◌, ◌<◌, ◌≤◌, List, [], ◌∷◌, ◌++◌, length, Result, IsErrOf, OnErr}
 use mathlib.Core.List.{IsPrefix}
 use Rattle.ring_model.specs.Ring.{Ring}
@@ -20,11 +21,14 @@ use Rattle.ring_shared.specs.Holding.{IsHeld}
 -- the receipts of events that stand one behind the other in a history, from this position on
 abbrev pub receipts_from : ℕ → List Event → List Entry
 receipts_from position [] = []
-receipts_from position (e ∷ es) = entry.Receipt (record { position = position; event = e }) ∷ receipts_from (position + 1) es
+receipts_from position (e ∷ es) =
+    entry.Receipt (record { position = position; event = e }) ∷ receipts_from (position + 1) es
 
--- A client was told of a group: its log has the receipt of each member besides, from the answer's first position on, for which it took at
--- most a place each of its room, and what it has seen ends with the block, which begins there.
-pub record IsGroupLogged (n : ℕ) (before after : Client) (order : ℕ) (machines : List ℕ) (r : GroupReceipt) : Type 0 where
+-- A client was told of a group: its log has the receipt of each member besides, from the answer's
+-- first position on, for which it took at most a place each of its room, and what it has seen ends
+-- with the block, which begins there.
+pub record IsGroupLogged (n : ℕ) (before after : Client) (order : ℕ) (machines : List ℕ)
+    (r : GroupReceipt) : Type 0 where
   pub events : List Event
   pub block : IsBlockOf n before.number order (move_order machines) events
   pub count : r.count ≡ length machines
@@ -35,9 +39,12 @@ pub record IsGroupLogged (n : ℕ) (before after : Client) (order : ℕ) (machin
   pub seen : after.seen ≡ past ++ events
   pub first : length past ≡ r.first
 
--- The group was passed: the book has its block besides, the seat's log the receipts of the block, the seat has seen the whole history,
--- which begins with what it had seen, and the book is as it is whenever the lock is free.
-pub record IsGroupUnderLock {C : Type 0} (w : Works C) (first : C) (start : Ring) (seats : ℕ) (legal : List Event → Type 0) (old new : BookView C) (before after : Client) (order : ℕ) (machines : List ℕ) (r : GroupReceipt) : Type 0 where
+-- The group was passed: the book has its block besides, the seat's log the receipts of the block,
+-- the seat has seen the whole history, which begins with what it had seen, and the book is as it is
+-- whenever the lock is free.
+pub record IsGroupUnderLock {C : Type 0} (w : Works C) (first : C) (start : Ring) (seats : ℕ)
+    (legal : List Event → Type 0) (old new : BookView C) (before after : Client) (order : ℕ)
+    (machines : List ℕ) (r : GroupReceipt) : Type 0 where
   pub recorded : IsGroupRecorded w old new before.number order machines r
   pub told : IsGroupLogged (length start.values) before after order machines r
   pub all : after.seen ≡ new.history
@@ -48,13 +55,20 @@ pub record IsGroupUnderLock {C : Type 0} (w : Works C) (first : C) (start : Ring
 abbrev pub IsRefusedFor : GroupError → Result GroupReceipt GroupError → Type 0
 IsRefusedFor e result = IsErrOf result e ⊎ IsErrOf result OutOfMemory
 
--- When a group is refused: each refusal has its cause, in this order, and where there is the cause the group is refused, unless memory
--- is wanting. A refusal leaves the book and the seat as they were.
-pub record IsGroupRefused {C : Type 0} (old new : BookView C) (before after : Client) (machines : List ℕ) (result : Result GroupReceipt GroupError) : Type 0 where
+-- When a group is refused: each refusal has its cause, in this order, and where there is the cause
+-- the group is refused, unless memory is wanting. A refusal leaves the book and the seat as they
+-- were.
+pub record IsGroupRefused {C : Type 0} (old new : BookView C) (before after : Client)
+    (machines : List ℕ) (result : Result GroupReceipt GroupError) : Type 0 where
   pub whole : length machines ≡ length old.now.ring.values → IsRefusedFor WholeRing result
   pub whole_only : IsErrOf result WholeRing → length machines ≡ length old.now.ring.values
-  pub unprivileged : (m : ℕ) → length machines ≢ length old.now.ring.values → IsLeastWithout old.now.ring.values machines m → IsRefusedFor (NotPrivileged m) result
-  pub unprivileged_only : (m : ℕ) → IsErrOf result (NotPrivileged m) → (length machines ≢ length old.now.ring.values) × IsLeastWithout old.now.ring.values machines m
-  pub full : CanMove old.now.ring.values machines → event_limit < length old.history + length machines → IsRefusedFor HistoryFull result
-  pub full_only : IsErrOf result HistoryFull → CanMove old.now.ring.values machines × (event_limit < length old.history + length machines)
+  pub unprivileged : (m : ℕ) → length machines ≢ length old.now.ring.values
+      → IsLeastWithout old.now.ring.values machines m → IsRefusedFor (NotPrivileged m) result
+  pub unprivileged_only : (m : ℕ) → IsErrOf result (NotPrivileged m)
+      → (length machines ≢ length old.now.ring.values)
+      × IsLeastWithout old.now.ring.values machines m
+  pub full : CanMove old.now.ring.values machines
+      → event_limit < length old.history + length machines → IsRefusedFor HistoryFull result
+  pub full_only : IsErrOf result HistoryFull
+      → CanMove old.now.ring.values machines × (event_limit < length old.history + length machines)
   pub unchanged : OnErr result ((new ≡ old) × IsUnchanged before after)

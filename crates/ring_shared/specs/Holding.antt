@@ -10,12 +10,14 @@ use Rattle.ring_book.specs.BookView.{BookView, IsBook}
 abbrev pub AreOfSeats : ℕ → List Event → Type 0
 AreOfSeats seats h = All (λ (e : Event). e.seat < seats) h
 
--- legal, as a name says it, is a history of the one-thread ring from the start and the resource's first content
+-- legal, as a name says it, is a history of the one-thread ring from the start and the resource's
+-- first content
 abbrev pub MeansLegal : {C : Type 0} → Works C → C → Ring → (List Event → Type 0) → Type 0
 MeansLegal w first start legal = (h : List Event) → legal h ↔ IsHistory w (opening start first) h
 
 -- a book, with the start, the seats and the legal histories of a name
-pub record IsHeld {C : Type 0} (w : Works C) (first : C) (start : Ring) (seats : ℕ) (legal : List Event → Type 0) (b : BookView C) : Type 0 where
+pub record IsHeld {C : Type 0} (w : Works C) (first : C) (start : Ring) (seats : ℕ)
+    (legal : List Event → Type 0) (b : BookView C) : Type 0 where
   pub book : IsBook w first b
   pub begins : b.start ≡ start
   pub of_seats : AreOfSeats seats b.history

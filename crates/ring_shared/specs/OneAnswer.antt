@@ -13,22 +13,26 @@ use Rattle.ring_shared.specs.Calls.{IsToldCall, IsCallUnderLock}
 use Rattle.ring_shared.specs.Groups.{IsGroupLogged, IsGroupUnderLock}
 
 -- What a group's call tells its client, as the clauses of `Ring::pass_group` say it.
-pub record IsToldGroup {C : Type 0} (w : Works C) (a : State C) (n : ℕ) (before after : Client) (order : ℕ) (machines : List ℕ) (r : GroupReceipt) : Type 0 where
+pub record IsToldGroup {C : Type 0} (w : Works C) (a : State C) (n : ℕ) (before after : Client)
+    (order : ℕ) (machines : List ℕ) (r : GroupReceipt) : Type 0 where
   pub told : IsGroupLogged n before after order machines r
   pub legal_and_whole : IsHistory w a after.seen
 
--- Two outcomes of one call behind the same events are the same: the receipt, and the seat then, room aside.
+-- Two outcomes of one call behind the same events are the same: the receipt, and the seat then,
+-- room aside.
 abbrev pub CallsAreToldAlike : Type 0 → Type 0
 CallsAreToldAlike C =
-    (w : Works C) (a : State C) (before one other : Client) (op : Op) (r s : Receipt) → IsToldCall w a before one op r → IsToldCall w a before other op s →
-    take r.position one.seen ≡ take s.position other.seen → (r ≡ s) × AreAlike one other
+    (w : Works C) (a : State C) (before one other : Client) (op : Op) (r s : Receipt)
+    → IsToldCall w a before one op r → IsToldCall w a before other op s
+    → take r.position one.seen ≡ take s.position other.seen → (r ≡ s) × AreAlike one other
 
 -- Two outcomes of one group's call behind the same events are the same.
 abbrev pub GroupsAreToldAlike : Type 0 → Type 0
 GroupsAreToldAlike C =
-    (w : Works C) (a : State C) (n : ℕ) (before one other : Client) (order : ℕ) (machines : List ℕ) (r s : GroupReceipt) →
-    IsToldGroup w a n before one order machines r → IsToldGroup w a n before other order machines s →
-    take r.first one.seen ≡ take s.first other.seen → (r ≡ s) × AreAlike one other
+    (w : Works C) (a : State C) (n : ℕ) (before one other : Client) (order : ℕ) (machines : List ℕ)
+    (r s : GroupReceipt) → IsToldGroup w a n before one order machines r
+    → IsToldGroup w a n before other order machines s
+    → take r.first one.seen ≡ take s.first other.seen → (r ≡ s) × AreAlike one other
 
 -- two books that hold the same, room aside
 pub record HoldTheSame {C : Type 0} (one other : BookView C) : Type 0 where
@@ -36,17 +40,21 @@ pub record HoldTheSame {C : Type 0} (one other : BookView C) : Type 0 where
   pub now : one.now ≡ other.now
   pub history : one.history ≡ other.history
 
--- Two outcomes of one call that is made under the lock are the same, whichever histories a name calls legal: the receipt, the book, and
--- the seat then, room aside.
+-- Two outcomes of one call that is made under the lock are the same, whichever histories a name
+-- calls legal: the receipt, the book, and the seat then, room aside.
 abbrev pub CallsHaveOneOutcome : Type 0 → (List Event → Type 0) → Type 0
 CallsHaveOneOutcome C legal =
-    (w : Works C) (first : C) (start : Ring) (seats : ℕ) (old one other : BookView C) (before after then : Client) (op : Op) (r s : Receipt) →
-    IsCallUnderLock w first start seats legal old one before after op r → IsCallUnderLock w first start seats legal old other before then op s →
-    (r ≡ s) × HoldTheSame one other × AreAlike after then
+    (w : Works C) (first : C) (start : Ring) (seats : ℕ) (old one other : BookView C)
+    (before after then : Client) (op : Op) (r s : Receipt)
+    → IsCallUnderLock w first start seats legal old one before after op r
+    → IsCallUnderLock w first start seats legal old other before then op s
+    → (r ≡ s) × HoldTheSame one other × AreAlike after then
 
 -- Two outcomes of one group's call under the lock are the same.
 abbrev pub GroupsHaveOneOutcome : Type 0 → (List Event → Type 0) → Type 0
 GroupsHaveOneOutcome C legal =
-    (w : Works C) (first : C) (start : Ring) (seats : ℕ) (old one other : BookView C) (before after then : Client) (order : ℕ) (machines : List ℕ) (r s : GroupReceipt) →
-    IsGroupUnderLock w first start seats legal old one before after order machines r → IsGroupUnderLock w first start seats legal old other before then order machines s →
-    (r ≡ s) × HoldTheSame one other × AreAlike after then
+    (w : Works C) (first : C) (start : Ring) (seats : ℕ) (old one other : BookView C)
+    (before after then : Client) (order : ℕ) (machines : List ℕ) (r s : GroupReceipt)
+    → IsGroupUnderLock w first start seats legal old one before after order machines r
+    → IsGroupUnderLock w first start seats legal old other before then order machines s
+    → (r ≡ s) × HoldTheSame one other × AreAlike after then

@@ -25,10 +25,13 @@ pub record IsDraft {C : Type 0} (d : Drafted C) : Type 0 where
 -- this many seats, numbered in their order, that have called nothing and seen nothing
 pub record AreFresh (number_of_seats : ℕ) (seats : List Client) : Type 0 where
   pub count : length seats ≡ number_of_seats
-  pub each : (i : ℕ) → i < number_of_seats → (s : Client) × (slice_get seats i ≡ Some s) × IsFreshClient i s
+  pub each : (i : ℕ) → i < number_of_seats
+      → (s : Client) × (slice_get seats i ≡ Some s) × IsFreshClient i s
 
--- what a ring keeps beside its lock: how many seats it has, that its start is a ring, and what legal means
-pub record IsRingOf {C : Type 0} (w : Works C) (first : C) (start : Ring) (seats : ℕ) (legal : List Event → Type 0) (counted : ℕ) : Type 0 where
+-- what a ring keeps beside its lock: how many seats it has, that its start is a ring, and what
+-- legal means
+pub record IsRingOf {C : Type 0} (w : Works C) (first : C) (start : Ring) (seats : ℕ)
+    (legal : List Event → Type 0) (counted : ℕ) : Type 0 where
   pub count : counted ≡ seats
   pub start_ring : IsRingState start
   pub means_legal : MeansLegal w first start legal

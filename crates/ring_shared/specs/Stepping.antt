@@ -2,12 +2,14 @@
 use Rattle.std.specs.Prelude.{ℕ, ◌+◌, ◌==◌, nat_lt, Bool, true, false, List, length}
 use Rattle.ring_model.specs.declared.events.Event.{Event}
 
--- the list that an operation leads to, and whether it may be several events longer than the one that is shown
+-- the list that an operation leads to, and whether it may be several events longer than the one
+-- that is shown
 pub record Told : Type 0 where
   pub list : List Event
   pub block : Bool
 
--- whether a list of m events is the next to show behind one of n: one event longer, or longer at all
+-- whether a list of m events is the next to show behind one of n: one event longer, or longer at
+-- all
 abbrev pub is_next : Bool → ℕ → ℕ → Bool
 is_next true n m = nat_lt n m
 is_next false n m = m == n + 1

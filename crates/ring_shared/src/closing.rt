@@ -81,23 +81,38 @@ impl<N: Name, R: Resource + Drop> Ring<N, R> {
         // The history is one of the one-thread ring, which settles as the laws say, and serves those who ask.
         ensures start { IfOk result (λ c. c.book.start ≡ N.start) }
         ensures book { IfOk result (λ c. IsBook R.works R.first c.book) }
-        ensures legal_and_whole { IfOk result (λ c. IsHistory R.works (opening N.start R.first) c.book.history) }
-        ensures settlement { IfOk result (λ c. Settlement R.works (opening N.start R.first) c.book.history) }
-        ensures progress { IfOk result (λ c. Progress R.works (opening N.start R.first) c.book.history) }
+        ensures legal_and_whole { IfOk result
+            (λ c. IsHistory R.works (opening N.start R.first) c.book.history) }
+        ensures settlement { IfOk result
+            (λ c. Settlement R.works (opening N.start R.first) c.book.history) }
+        ensures progress { IfOk result
+            (λ c. Progress R.works (opening N.start R.first) c.book.history) }
 
         // It holds each client's calls, and no others; each reply and survey is right where it stands.
-        ensures logs { IfOk result (λ c. (vec_len c.logs ≡ N.seats) × AreNumbered c.logs.items × All (HasLog c.logs.items) seats.items) }
+        ensures logs { IfOk result (λ c. (vec_len c.logs ≡ N.seats)
+            × AreNumbered c.logs.items
+            × All (HasLog c.logs.items) seats.items) }
         ensures of_seats { IfOk result (λ c. AreOfSeats N.seats c.book.history) }
-        ensures fits { IfOk result (λ c. All (λ l. Fits R.works (opening N.start R.first) c.book.history l.seat l.entries.items) c.logs.items) }
-        ensures calls { IfOk result (λ c. All (λ l. length (calls_of l.seat c.book.history) ≡ length (receipts_of l.entries.items)) c.logs.items) }
+        ensures fits { IfOk result (λ c.
+            All (λ l. Fits R.works (opening N.start R.first) c.book.history l.seat l.entries.items)
+            c.logs.items) }
+        ensures calls { IfOk result (λ c. All
+            (λ l. length (calls_of l.seat c.book.history) ≡ length (receipts_of l.entries.items))
+            c.logs.items) }
 
         // What each seat has seen begins it.
         ensures seen { IfOk result (λ c. All (λ s. IsPrefix s.seen c.book.history) seats.items) }
 
         // Each refusal has its reason, and hands back what was given.
-        ensures missing { MatchResult result (λ _. ⊥) (λ f. f.reason ≡ CloseReason.SeatsMissing) ↔ vec_len seats < N.seats }
-        ensures mismatch { IfErr result (λ f. f.reason ≡ CloseReason.Mismatch → All (λ s. Fits R.works (opening N.start R.first) f.book.history s.number s.log) seats.items → ⊥) }
-        ensures fault { IfErr result (λ f. (f.book.start ≡ N.start) × IsBook R.works R.first f.book × AreOfSeats N.seats f.book.history × (f.seats.items ≡ seats.items)) }
+        ensures missing { MatchResult result (λ _. ⊥) (λ f. f.reason ≡ CloseReason.SeatsMissing)
+            ↔ vec_len seats < N.seats }
+        ensures mismatch { IfErr result (λ f. f.reason ≡ CloseReason.Mismatch
+            → All (λ s. Fits R.works (opening N.start R.first) f.book.history s.number s.log)
+            seats.items → ⊥) }
+        ensures fault { IfErr result (λ f. (f.book.start ≡ N.start)
+            × IsBook R.works R.first f.book
+            × AreOfSeats N.seats f.book.history
+            × (f.seats.items ≡ seats.items)) }
     {
         let Ring {
             shared,
@@ -128,9 +143,14 @@ fn room_for_logs<N: Name, R: Resource + Drop>(
     requires { count ≡ N.seats }
     ensures room { IfOk result (λ v. (length seats.now ≤ vec_capacity v) × (v.items ≡ [])) }
     ensures all { IfOk result (λ _. N.seats ≤ length seats.now) }
-    ensures fits { IfOk result (λ _. All (λ s. Fits R.works (opening book.now.start R.first) book.now.history s.number s.log) seats.now) }
-    ensures missing { MatchResult result (λ _. ⊥) (λ e. e ≡ CloseReason.SeatsMissing) ↔ length seats.now < N.seats }
-    ensures mismatch { IfErr result (λ e. e ≡ CloseReason.Mismatch → All (λ s. Fits R.works (opening book.now.start R.first) book.now.history s.number s.log) seats.now → ⊥) }
+    ensures fits { IfOk result (λ _.
+        All (λ s. Fits R.works (opening book.now.start R.first) book.now.history s.number s.log)
+        seats.now) }
+    ensures missing { MatchResult result (λ _. ⊥) (λ e. e ≡ CloseReason.SeatsMissing)
+        ↔ length seats.now < N.seats }
+    ensures mismatch { IfErr result (λ e. e ≡ CloseReason.Mismatch
+        → All (λ s. Fits R.works (opening book.now.start R.first) book.now.history s.number s.log)
+        seats.now → ⊥) }
 {
     if seats.len() < count as usize {
         return Err(CloseReason::SeatsMissing);
@@ -168,7 +188,9 @@ fn all_fit<N: Name, R: Resource + Drop>(
     book: &Book<R>,
     seats: &[Seat<N>],
 ) -> Result<bool, AllocError>
-    ensures { IfOk result (λ b. IsTrue b ↔ All (λ s. Fits R.works (opening book.now.start R.first) book.now.history s.number s.log) seats.now) }
+    ensures { IfOk result (λ b. IsTrue b
+        ↔ All (λ s. Fits R.works (opening book.now.start R.first) book.now.history s.number s.log)
+        seats.now) }
 {
     let logs = logs_of(alloc, seats)?;
     logs_fit(alloc, book, logs.as_slice())
@@ -219,7 +241,9 @@ fn logs_by_number<N: Name>(mut seats: Vec<Seat<N>>, logs: Vec<Log>) -> Vec<Log>
     requires all { N.seats ≤ length seats.items }
     requires room { vec_len seats ≤ vec_capacity logs }
     requires empty { logs.items ≡ [] }
-    ensures numbered { (vec_len result ≡ N.seats) × AreNumbered result.items × All (HasLog result.items) seats.items }
+    ensures numbered { (vec_len result ≡ N.seats)
+        × AreNumbered result.items
+        × All (HasLog result.items) seats.items }
     ensures sorted { (ss : List Client) × IsPermutation seats.items ss × AreLogsOf ss result.items }
 {
     all_given(seats.as_slice());

@@ -126,7 +126,8 @@ impl<N: Name> Model for End<N> {
 
     ghost view = { λ e. e.seen.log };
 
-    ghost invariant = { λ e. (e.count ≡ length e.seen.log) × (e.seen.book ≡ N.log) × (length e.seen.log ≤ event_limit) };
+    ghost invariant = { λ e.
+        (e.count ≡ length e.seen.log) × (e.seen.book ≡ N.log) × (length e.seen.log ≤ event_limit) };
 }
 
 impl<N: Name> End<N> {

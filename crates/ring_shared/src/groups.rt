@@ -28,7 +28,9 @@ fn show_block<N: Name, R: Resource + Drop, W: Wait>(
     requires held { IsHeld R.works R.first N.start N.seats N.legal book.now }
     requires ring { ring ≡ book.now.now.ring }
     requires longer { length writer.old.desk.shown.value < length book.now.history }
-    requires none { fold stepped writer.old.desk.shown.value (drop writer.old.behind writer.old.log.items) ≡ writer.old.desk.shown.value }
+    requires none { fold stepped writer.old.desk.shown.value
+        (drop writer.old.behind writer.old.log.items)
+        ≡ writer.old.desk.shown.value }
     requires front { front.now ≡ book.now.history }
     ensures shown { writer.new.desk.shown.value ≡ book.now.history }
     ensures pending { drop writer.new.behind writer.new.log.items ≡ [] }
@@ -64,10 +66,17 @@ fn log_group<N: Name, R: Resource + Drop>(
 ) -> Result<GroupReceipt, GroupError>
     requires rising { Rises 0 (length book.old.now.ring.values) machines.now }
     requires some { 1 ≤ length machines.now }
-    ensures ok { IfOk result (λ r. IsGroupRecorded R.works book.old book.new seat.old.number order machines.now r) }
+    ensures ok { IfOk result
+        (λ r. IsGroupRecorded R.works book.old book.new seat.old.number order machines.now r) }
     ensures book { IfOk result (λ _. IsBook R.works R.first book.new) }
     ensures within { seat.old.number < N.seats }
-    ensures logged { IfOk result (λ r. seat.new ≡ record { number = seat.old.number; log = seat.old.log ++ receipts_from r.first (drop r.first book.new.history); seen = seat.old.seen; room = seat.new.room }) }
+    ensures logged { IfOk result (λ r. seat.new
+        ≡ record {
+          number = seat.old.number;
+          log = seat.old.log ++ receipts_from r.first (drop r.first book.new.history);
+          seen = seat.old.seen;
+          room = seat.new.room;
+        }) }
     ensures room { IfOk result (λ _. seat.old.room ≤ seat.new.room + length machines.now) }
     ensures refused { IsGroupRefused book.old book.new seat.old seat.new machines.now result }
 {
@@ -101,7 +110,8 @@ impl<N: Name, R: Resource + Drop> Locked<N, R> {
     ) -> Result<GroupReceipt, GroupError>
         requires rising { Rises 0 (length N.start.values) machines.now }
         requires some { 1 ≤ length machines.now }
-        ensures ok { IfOk result (λ r. IsGroupUnderLock R.works R.first N.start N.seats N.legal self.old self.new seat.old seat.new order machines.now r) }
+        ensures ok { IfOk result (λ r. IsGroupUnderLock R.works R.first N.start N.seats N.legal
+            self.old self.new seat.old seat.new order machines.now r) }
         ensures refused { IsGroupRefused self.old self.new seat.old seat.new machines.now result }
         ensures size { length self.old.now.ring.values ≡ length N.start.values }
     {

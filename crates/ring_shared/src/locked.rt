@@ -51,13 +51,18 @@ where
 
     ghost view = { λ l. l.book };
 
-    ghost invariant = { λ l. IsHeld R.works R.first N.start N.seats N.legal l.book × (l.front ≡ l.book.history) × (l.writer.desk.shown.value ≡ l.book.history) × (fold stepped l.writer.desk.shown.value (drop l.writer.behind l.writer.log.items) ≡ l.book.history) };
+    ghost invariant = { λ l. IsHeld R.works R.first N.start N.seats N.legal l.book
+        × (l.front ≡ l.book.history)
+        × (l.writer.desk.shown.value ≡ l.book.history)
+        × (fold stepped l.writer.desk.shown.value (drop l.writer.behind l.writer.log.items)
+        ≡ l.book.history) };
 }
 
 /// Shows readers what is pending, in the place of the copy that they see.
 #[inline(always)]
 pub(crate) fn turn<N: Name, W: Wait>(rt: &W, writer: &mut RingWriter<N>)
-    ensures shown { writer.new.desk.shown.value ≡ fold stepped writer.old.desk.shown.value (drop writer.old.behind writer.old.log.items) }
+    ensures shown { writer.new.desk.shown.value
+        ≡ fold stepped writer.old.desk.shown.value (drop writer.old.behind writer.old.log.items) }
     ensures pending { drop writer.new.behind writer.new.log.items ≡ [] }
 {
     replace_with(writer, rt, |writer, rt| {
@@ -71,7 +76,10 @@ pub(crate) fn turn<N: Name, W: Wait>(rt: &W, writer: &mut RingWriter<N>)
 #[inline(always)]
 #[tactic(auto, using(crate::proofs::Stepped::stepped_last))]
 pub(crate) fn show<N: Name, W: Wait>(rt: &W, writer: &mut RingWriter<N>, operation: Operation<N>)
-    requires { stepped (fold stepped writer.old.desk.shown.value (drop writer.old.behind writer.old.log.items)) operation ≡ operation.list }
+    requires { stepped
+        (fold stepped writer.old.desk.shown.value (drop writer.old.behind writer.old.log.items))
+        operation
+        ≡ operation.list }
     ensures shown { writer.new.desk.shown.value ≡ operation.list }
     ensures pending { drop writer.new.behind writer.new.log.items ≡ [] }
 {
@@ -100,7 +108,9 @@ impl<N: Name, R: Resource + Drop> Locked<N, R> {
         requires held { IsHeld R.works R.first N.start N.seats N.legal book }
         requires front { front ≡ book.history }
         requires shown { writer.desk.shown.value ≡ book.history }
-        requires pending { fold stepped writer.desk.shown.value (drop writer.behind writer.log.items) ≡ book.history }
+        requires pending { fold stepped writer.desk.shown.value
+            (drop writer.behind writer.log.items)
+            ≡ book.history }
         ensures { result ≡ book }
     {
         Locked {
@@ -123,7 +133,8 @@ impl<N: Name, R: Resource + Drop> Locked<N, R> {
     ) -> Result<Receipt, BookError>
         requires call { IsCallOf N.start op }
         requires alone { IsAlone op }
-        ensures ok { IfOk result (λ r. IsCallUnderLock R.works R.first N.start N.seats N.legal self.old self.new seat.old seat.new op r) }
+        ensures ok { IfOk result (λ r. IsCallUnderLock R.works R.first N.start N.seats N.legal
+            self.old self.new seat.old seat.new op r) }
         ensures refused { IsRefusedUnderLock self.old self.new seat.old seat.new result }
     {
         let receipt = log_call(&mut self.book, seat, op)?;
@@ -152,7 +163,8 @@ impl<N: Name, R: Resource + Drop> Locked<N, R> {
         order: u64,
     ) -> Result<Receipt, BookError>
         requires { machine < length N.start.values }
-        ensures ok { IfOk result (λ r. IsCallUnderLock R.works R.first N.start N.seats N.legal self.old self.new seat.old seat.new (Op.Pass machine order) r) }
+        ensures ok { IfOk result (λ r. IsCallUnderLock R.works R.first N.start N.seats N.legal
+            self.old self.new seat.old seat.new (Op.Pass machine order) r) }
         ensures refused { IsRefusedUnderLock self.old self.new seat.old seat.new result }
     {
         self.call(rt, seat, Op::Pass { machine, order })
@@ -173,7 +185,8 @@ impl<N: Name, R: Resource + Drop> Locked<N, R> {
     ) -> Result<Receipt, BookError>
         requires machine { machine < length N.start.values }
         requires value { value < N.start.k }
-        ensures ok { IfOk result (λ r. IsCallUnderLock R.works R.first N.start N.seats N.legal self.old self.new seat.old seat.new (Op.Corrupt machine value) r) }
+        ensures ok { IfOk result (λ r. IsCallUnderLock R.works R.first N.start N.seats N.legal
+            self.old self.new seat.old seat.new (Op.Corrupt machine value) r) }
         ensures refused { IsRefusedUnderLock self.old self.new seat.old seat.new result }
     {
         self.call(rt, seat, Op::Corrupt { machine, value })
@@ -231,7 +244,13 @@ fn log_call<N: Name, R: Resource + Drop>(
     ensures ok { IfOk result (λ r. IsRecorded R.works book.old book.new seat.old.number op r) }
     ensures book { IfOk result (λ _. IsBook R.works R.first book.new) }
     ensures within { seat.old.number < N.seats }
-    ensures logged { IfOk result (λ r. seat.new ≡ record { number = seat.old.number; log = seat.old.log ++ Entry.Receipt r ∷ []; seen = seat.old.seen; room = seat.new.room }) }
+    ensures logged { IfOk result (λ r. seat.new
+        ≡ record {
+          number = seat.old.number;
+          log = seat.old.log ++ Entry.Receipt r ∷ [];
+          seen = seat.old.seen;
+          room = seat.new.room;
+        }) }
     ensures room { IfOk result (λ _. seat.old.room ≤ seat.new.room + 1) }
     ensures refused { IsRefusedUnderLock book.old book.new seat.old seat.new result }
 {

@@ -46,7 +46,8 @@ impl<R: Resource + Drop> Model for Draft<R> {
 
     ghost view = { λ d. record { book = d.book; seats = d.seats; log = d.opened.seen.book } };
 
-    ghost invariant = { λ d. IsDraft (record { book = d.book; seats = d.seats; log = d.opened.seen.book }) };
+    ghost invariant = { λ d.
+        IsDraft (record { book = d.book; seats = d.seats; log = d.opened.seen.book }) };
 }
 
 /// A draft that was not made: the book as it was.
@@ -341,7 +342,8 @@ impl<N: Name, R: Resource + Drop> Ring<N, R> {
         order: u64,
     ) -> Result<Receipt, BookError>
         requires { machine < length N.start.values }
-        ensures told { IfOk result (λ r. IsToldCall R.works (opening N.start R.first) seat.old seat.new (Op.Pass machine order) r) }
+        ensures told { IfOk result (λ r. IsToldCall R.works (opening N.start R.first) seat.old
+            seat.new (Op.Pass machine order) r) }
         ensures number { seat.new.number ≡ seat.old.number }
         ensures later { IsPrefix seat.old.seen seat.new.seen }
         ensures err { OnErr result (IsUnchanged seat.old seat.new) }
@@ -367,7 +369,8 @@ impl<N: Name, R: Resource + Drop> Ring<N, R> {
     ) -> Result<Receipt, BookError>
         requires machine { machine < length N.start.values }
         requires value { value < N.start.k }
-        ensures told { IfOk result (λ r. IsToldCall R.works (opening N.start R.first) seat.old seat.new (Op.Corrupt machine value) r) }
+        ensures told { IfOk result (λ r. IsToldCall R.works (opening N.start R.first) seat.old
+            seat.new (Op.Corrupt machine value) r) }
         ensures number { seat.new.number ≡ seat.old.number }
         ensures later { IsPrefix seat.old.seen seat.new.seen }
         ensures err { OnErr result (IsUnchanged seat.old seat.new) }
@@ -396,11 +399,15 @@ impl<N: Name, R: Resource + Drop> Ring<N, R> {
     ) -> Result<GroupReceipt, GroupError>
         requires rising { Rises 0 (length N.start.values) machines.now }
         requires some { 1 ≤ length machines.now }
-        ensures told { IfOk result (λ r. IsGroupLogged (length N.start.values) seat.old seat.new order machines.now r) }
-        ensures legal_and_whole { IfOk result (λ r. IsHistory R.works (opening N.start R.first) seat.new.seen) }
+        ensures told { IfOk result
+            (λ r. IsGroupLogged (length N.start.values) seat.old seat.new order machines.now r) }
+        ensures legal_and_whole { IfOk result
+            (λ r. IsHistory R.works (opening N.start R.first) seat.new.seen) }
         ensures later { IsPrefix seat.old.seen seat.new.seen }
-        ensures whole { length machines.now ≡ length N.start.values → IsRefusedFor GroupError.WholeRing result }
-        ensures whole_only { IsErrOf result GroupError.WholeRing → length machines.now ≡ length N.start.values }
+        ensures whole { length machines.now ≡ length N.start.values
+            → IsRefusedFor GroupError.WholeRing result }
+        ensures whole_only { IsErrOf result GroupError.WholeRing
+            → length machines.now ≡ length N.start.values }
         ensures err { OnErr result (IsUnchanged seat.old seat.new) }
     {
         let mut locked = take(rt, &self.door, &self.shared);
@@ -420,11 +427,13 @@ impl<N: Name, R: Resource + Drop> Ring<N, R> {
         ensures logged { IfOk result (λ s. seat.new.log ≡ seat.old.log ++ Entry.Survey s ∷ []) }
         ensures room { IfOk result (λ s. seat.old.room ≤ seat.new.room + 1) }
         ensures with_room { 1 ≤ seat.old.room → IsOk result }
-        ensures told { IfOk result (λ s. s ≡ survey_at R.works (opening N.start R.first) seat.new.seen (length seat.new.seen)) }
+        ensures told { IfOk result (λ s.
+            s ≡ survey_at R.works (opening N.start R.first) seat.new.seen (length seat.new.seen)) }
         ensures legal_and_whole { IsHistory R.works (opening N.start R.first) seat.new.seen }
         ensures of_seats { AreOfSeats N.seats seat.new.seen }
         ensures later { IsPrefix seat.old.seen seat.new.seen }
-        ensures calm { IfOk result (λ s. bound (length N.start.values) ≤ s.calm → (s.privileged ≡ 1) × (s.rest ≡ 0)) }
+        ensures calm { IfOk result
+            (λ s. bound (length N.start.values) ≤ s.calm → (s.privileged ≡ 1) × (s.rest ≡ 0)) }
         ensures err { OnErr result (seat.new ≡ seat.old) }
     {
         let _ = &self.shared; // says: what the ring's name calls legal is a history of the one-thread ring
@@ -438,11 +447,13 @@ impl<N: Name, R: Resource + Drop> Ring<N, R> {
         ensures number { seat.new.number ≡ seat.old.number }
         ensures log { seat.new.log ≡ seat.old.log }
         ensures room { seat.new.room ≡ seat.old.room }
-        ensures told { result ≡ survey_at R.works (opening N.start R.first) seat.new.seen (length seat.new.seen) }
+        ensures told { result
+            ≡ survey_at R.works (opening N.start R.first) seat.new.seen (length seat.new.seen) }
         ensures legal_and_whole { IsHistory R.works (opening N.start R.first) seat.new.seen }
         ensures of_seats { AreOfSeats N.seats seat.new.seen }
         ensures later { IsPrefix seat.old.seen seat.new.seen }
-        ensures calm { bound (length N.start.values) ≤ result.calm → (result.privileged ≡ 1) × (result.rest ≡ 0) }
+        ensures calm { bound (length N.start.values) ≤ result.calm
+            → (result.privileged ≡ 1) × (result.rest ≡ 0) }
     {
         let _ = &self.shared; // says: what the ring's name calls legal is a history of the one-thread ring
         seat.glance()

@@ -50,9 +50,16 @@ impl<N: Name> Model for Seat<N> {
 
     ghost Value = { Client };
 
-    ghost view = { λ s. record { number = s.number; log = s.log.items; seen = s.front; room = vec_capacity s.log - length s.log.items } };
+    ghost view = { λ s. record {
+      number = s.number;
+      log = s.log.items;
+      seen = s.front;
+      room = vec_capacity s.log - length s.log.items;
+    } };
 
-    ghost invariant = { λ s. (s.number < N.seats) × (s.number < seat_limit) × AnswersFor N.start s.front s.last s.summary.ring s.summary.position s.summary.calm };
+    ghost invariant = { λ s. (s.number < N.seats)
+        × (s.number < seat_limit)
+        × AnswersFor N.start s.front s.last s.summary.ring s.summary.position s.summary.calm };
 }
 
 /// Enters, and answers what is shown then.
@@ -93,7 +100,8 @@ fn refresh<N: Name>(reader: &mut RingReader<N>, front: &mut Front<N>) -> Option<
 
 /// What answers for a front.
 fn answer<N: Name>(last: &Option<Survey>, summary: &Summary, front: &Front<N>) -> Survey
-    requires { AnswersFor N.start front.now last.now summary.now.ring summary.now.position summary.now.calm }
+    requires { AnswersFor N.start front.now last.now summary.now.ring summary.now.position
+        summary.now.calm }
     ensures { result ≡ survey_of N.start front.now }
 {
     match last {
@@ -109,8 +117,10 @@ fn renew<N: Name>(
     last: &mut Option<Survey>,
     summary: &Summary,
 ) -> Survey
-    requires { AnswersFor N.start front.old last.old summary.now.ring summary.now.position summary.now.calm }
-    ensures answers { AnswersFor N.start front.new last.new summary.now.ring summary.now.position summary.now.calm }
+    requires { AnswersFor N.start front.old last.old summary.now.ring summary.now.position
+        summary.now.calm }
+    ensures answers { AnswersFor N.start front.new last.new summary.now.ring summary.now.position
+        summary.now.calm }
     ensures legal { N.legal front.new }
     ensures of_seats { AreOfSeats N.seats front.new }
     ensures survey { result ≡ survey_of N.start front.new }
@@ -162,8 +172,10 @@ impl<N: Name> Seat<N> {
     /// Of what two seats of one ring's name have seen the shorter begins the longer. It changes neither: it is called
     /// for its clauses.
     pub fn compare(&self, other: &Seat<N>)
-        ensures shorter { length self.now.seen ≤ length other.now.seen → IsPrefix self.now.seen other.now.seen }
-        ensures longer { length other.now.seen ≤ length self.now.seen → IsPrefix other.now.seen self.now.seen }
+        ensures shorter { length self.now.seen ≤ length other.now.seen
+            → IsPrefix self.now.seen other.now.seen }
+        ensures longer { length other.now.seen ≤ length self.now.seen
+            → IsPrefix other.now.seen self.now.seen }
     {
         self.front.compare(&other.front);
     }
@@ -261,7 +273,13 @@ impl<N: Name> Seat<N> {
     pub(crate) fn go_on(&mut self, shown: &Shown<N>, effect: Effect)
         requires later { IsPrefix self.old.seen shown.now }
         requires effect { IsWritten N.start shown.now effect.machine effect.value effect.calm }
-        ensures { self.new ≡ record { number = self.old.number; log = self.old.log; seen = shown.now; room = self.old.room } }
+        ensures { self.new
+            ≡ record {
+              number = self.old.number;
+              log = self.old.log;
+              seen = shown.now;
+              room = self.old.room;
+            } }
     {
         self.front = shown.front();
         self.last = None;
@@ -271,7 +289,13 @@ impl<N: Name> Seat<N> {
     /// Sees what is shown, which begins with what was seen.
     pub(crate) fn catch_up(&mut self, shown: &Shown<N>)
         requires { IsPrefix self.old.seen shown.now }
-        ensures { self.new ≡ record { number = self.old.number; log = self.old.log; seen = shown.now; room = self.old.room } }
+        ensures { self.new
+            ≡ record {
+              number = self.old.number;
+              log = self.old.log;
+              seen = shown.now;
+              room = self.old.room;
+            } }
     {
         self.front = shown.front();
         self.last = None;
@@ -307,7 +331,8 @@ impl<N: Name> Seat<N> {
 
 /// Takes memory for `more` entries, and answers how many a log then has room for.
 fn reserve_entries(log: &mut Vec<Entry>, more: usize) -> Result<usize, AllocError>
-    ensures room { IfOk result (λ room. (more ≤ room) × (vec_len log.new + room ≡ vec_capacity log.new)) }
+    ensures room { IfOk result
+        (λ room. (more ≤ room) × (vec_len log.new + room ≡ vec_capacity log.new)) }
     ensures grows { vec_capacity log.old ≤ vec_capacity log.new }
     ensures same { log.new.items ≡ log.old.items }
 {

@@ -33,7 +33,8 @@ impl<N: Name> Model for Shown<N> {
 
     ghost view = { λ s. s.front };
 
-    ghost invariant = { λ s. IsSummary N.start s.front s.summary.ring s.summary.position s.summary.calm };
+    ghost invariant = { λ s.
+        IsSummary N.start s.front s.summary.ring s.summary.position s.summary.calm };
 }
 
 /// What events do to the ring of a summary.
@@ -87,8 +88,10 @@ impl<N: Name> Shown<N> {
 
     /// Writes the summary of the list over another, which is of a beginning of it.
     pub(crate) fn copy_to(&self, summary: &mut Summary)
-        requires { IsSummaryWithin N.start self.now summary.old.ring summary.old.position summary.old.calm }
-        ensures { IsSummary N.start self.now summary.new.ring summary.new.position summary.new.calm }
+        requires { IsSummaryWithin N.start self.now summary.old.ring summary.old.position
+            summary.old.calm }
+        ensures { IsSummary N.start self.now summary.new.ring summary.new.position
+            summary.new.calm }
     {
         summary.go_to(&self.summary.ring, self.summary.position, self.summary.calm);
     }
@@ -96,9 +99,11 @@ impl<N: Name> Shown<N> {
     /// Brings another summary up to the list, of which it has a beginning. Where it lacks the last event alone, nothing
     /// but what that event wrote is written.
     pub(crate) fn lead_on(&self, summary: &mut Summary, effect: Effect)
-        requires within { IsSummaryWithin N.start self.now summary.old.ring summary.old.position summary.old.calm }
+        requires within { IsSummaryWithin N.start self.now summary.old.ring summary.old.position
+            summary.old.calm }
         requires effect { IsWritten N.start self.now effect.machine effect.value effect.calm }
-        ensures { IsSummary N.start self.now summary.new.ring summary.new.position summary.new.calm }
+        ensures { IsSummary N.start self.now summary.new.ring summary.new.position
+            summary.new.calm }
     {
         self.front.len(); // says: it is not too long
         if summary.position + 1 == self.summary.position {

@@ -8,7 +8,8 @@ pub record Size : Type 0 where
   pub n : ℕ
   pub k : ℕ
 
--- Dijkstra's solution wants at least as many values as machines (CACM 17(11), 1974); the limits are this project's own
+-- Dijkstra's solution wants at least as many values as machines (CACM 17(11), 1974); the limits are
+-- this project's own
 pub record IsSize (size : Size) : Type 0 where
   pub machines : 2 ≤ size.n
   pub most_machines : size.n ≤ machine_limit

@@ -10,8 +10,10 @@ pub record IsFirstOver (k : ℕ) (values : List ℕ) (i : ℕ) : Type 0 where
   pub over : k ≤ slice_index values i
   pub least : (j : ℕ) → j < i → slice_index values j < k
 
--- each refusal says which fault is the first: the length, then the least value, and want of memory only where there is neither
+-- each refusal says which fault is the first: the length, then the least value, and want of memory
+-- only where there is neither
 abbrev pub IsFaultOf : Size → List ℕ → StateError → Type 0
 IsFaultOf size values Length = length values ≢ size.n
 IsFaultOf size values (Value i) = (length values ≡ size.n) × IsFirstOver size.k values i
-IsFaultOf size values OutOfMemory = (length values ≡ size.n) × ((i : ℕ) → i < length values → slice_index values i < size.k)
+IsFaultOf size values OutOfMemory =
+    (length values ≡ size.n) × ((i : ℕ) → i < length values → slice_index values i < size.k)

@@ -26,7 +26,8 @@ impl<C: Cell> Model for Packed<C> {
 
     ghost view = { λ p. record { k = p.k; values = map C.number p.cells.items } };
 
-    ghost invariant = { λ p. IsRingState (record { k = p.k; values = map C.number p.cells.items }) × (p.k ≤ C.most) };
+    ghost invariant = { λ p.
+        IsRingState (record { k = p.k; values = map C.number p.cells.items }) × (p.k ≤ C.most) };
 }
 
 impl<C: Cell> Packed<C> {
@@ -108,7 +109,11 @@ impl<C: Cell> Packed<C> {
     /// Whether a machine other than machine 0 holds `v`.
     pub(crate) fn holds_past_first(&self, v: u32) -> bool
         requires { v < self.now.k }
-        ensures held { IsTrue result ↔ ((i : ℕ) × (1 ≤ i) × (i < length self.now.values) × (slice_index self.now.values i ≡ v)) }
+        ensures held { IsTrue result
+            ↔ ((i : ℕ)
+            × (1 ≤ i)
+            × (i < length self.now.values)
+            × (slice_index self.now.values i ≡ v)) }
         ensures absent { result ≡ not (is_absent self.now.values v) }
     {
         C::holds_past_first(self.cells.as_slice(), v)

@@ -46,8 +46,10 @@ impl Params {
         ensures exact { IsOk result ↔ IsSize (record { n = n; k = k }) }
         ensures too_few { IsErrOf result ParamsError.TooFew ↔ n < 2 }
         ensures too_many { IsErrOf result ParamsError.TooMany ↔ machine_limit < n }
-        ensures few_values { IsErrOf result ParamsError.FewValues ↔ (2 ≤ n) × (n ≤ machine_limit) × (k < n) }
-        ensures many_values { IsErrOf result ParamsError.ManyValues ↔ (2 ≤ n) × (n ≤ machine_limit) × (value_limit < k) }
+        ensures few_values { IsErrOf result ParamsError.FewValues
+            ↔ (2 ≤ n) × (n ≤ machine_limit) × (k < n) }
+        ensures many_values { IsErrOf result ParamsError.ManyValues
+            ↔ (2 ≤ n) × (n ≤ machine_limit) × (value_limit < k) }
     {
         if n < 2 {
             return Err(ParamsError::TooFew);

@@ -75,7 +75,9 @@ impl RingState {
     /// The first that applies: `Length` where there are not n values, `Value(i)` with the least i whose
     /// value is not below K, `OutOfMemory`.
     pub fn from_values(alloc: Global, p: &Params, values: &[u32]) -> Result<RingState, StateError>
-        ensures ok { IfOk result (λ r. (r ≡ record { k = p.now.k; values = values.now }) × (length values.now ≡ p.now.n) × IsRingState r) }
+        ensures ok { IfOk result (λ r. (r ≡ record { k = p.now.k; values = values.now })
+            × (length values.now ≡ p.now.n)
+            × IsRingState r) }
         ensures err { IfErr result (λ e. IsFaultOf p.now values.now e) }
     {
         if values.len() != p.n() as usize {
@@ -160,7 +162,11 @@ impl RingState {
     /// Whether a machine other than machine 0 holds `v`, which is below K.
     pub fn holds_past_first(&self, v: u32) -> bool
         requires { v < self.now.k }
-        ensures held { IsTrue result ↔ ((i : ℕ) × (1 ≤ i) × (i < length self.now.values) × (slice_index self.now.values i ≡ v)) }
+        ensures held { IsTrue result
+            ↔ ((i : ℕ)
+            × (1 ≤ i)
+            × (i < length self.now.values)
+            × (slice_index self.now.values i ≡ v)) }
         ensures absent { result ≡ not (is_absent self.now.values v) }
     {
         of_either!(&self.cells, state => state.holds_past_first(v))

@@ -1,4 +1,5 @@
--- The report on what a farm hands out, as a plain function of it (this project's own lines), over the definitions of the one-thread ring.
+-- The report on what a farm hands out, as a plain function of it (this project's own lines), over
+-- the definitions of the one-thread ring.
 use Rattle.std.specs.Prelude.{ℕ, ◌+◌, Bool, true, false, List, [], ◌∷◌, ◌++◌, map, length, sum_by, count_by, codes}
 use Rattle.std.specs.Fmt.{decimal}
 use Rattle.std.specs.List.{range_with_len}
@@ -54,7 +55,8 @@ entries_among rings = sum_by (λ (r : RingOutcome). entries_of r.logs.items) rin
 abbrev pub entries_in : Outcome → ℕ
 entries_in o = entries_among o.rings.items
 
--- what is counted of a ring: its events, among them the granted passes, the passes that found no privilege and the corruptions, and the surveys in its logs
+-- what is counted of a ring: its events, among them the granted passes, the passes that found no
+-- privilege and the corruptions, and the surveys in its logs
 abbrev pub counts_of : RingOutcome → Counts
 counts_of r = record {
   events = length r.book.history;
@@ -76,13 +78,21 @@ totals_of rings = record {
 
 -- a ring's place and its size
 abbrev pub size_words : ℕ → ℕ → ℕ → List ℕ
-size_words place n k = codes "ring " ++ (decimal place ++ (codes " n " ++ (decimal n ++ (codes " k " ++ decimal k))))
+size_words place n k =
+    codes "ring " ++ (decimal place ++ (codes " n " ++ (decimal n ++ (codes " k " ++ decimal k))))
 
 -- what is counted of it, and the end of the line
 abbrev pub count_words : Counts → List ℕ
 count_words c =
-    codes " events " ++ (decimal c.events ++ (codes " granted " ++ (decimal c.granted ++ (codes " refused " ++ (decimal c.refused
-    ++ (codes " corrupted " ++ (decimal c.corrupted ++ (codes " surveys " ++ (decimal c.surveys ++ codes "\n")))))))))
+    codes " events "
+    ++ (decimal c.events
+    ++ (codes " granted "
+    ++ (decimal c.granted
+    ++ (codes " refused "
+    ++ (decimal c.refused
+    ++ (codes " corrupted "
+    ++ (decimal c.corrupted
+    ++ (codes " surveys " ++ (decimal c.surveys ++ codes "\n")))))))))
 
 -- the first line of a ring
 abbrev pub counts_line : ℕ → ℕ → ℕ → Counts → List ℕ
@@ -95,18 +105,29 @@ states_line values = codes "states " ++ (list_text values ++ codes "\n")
 -- what a survey says of it, and the bound of the rest
 abbrev pub standing_line : Survey → ℕ → List ℕ
 standing_line s limit =
-    codes "privileged " ++ (decimal s.privileged ++ (codes " first " ++ (decimal s.first ++ (codes " calm " ++ (decimal s.calm
-    ++ (codes " rest " ++ (decimal s.rest ++ (codes " bound " ++ (decimal limit ++ codes "\n")))))))))
+    codes "privileged "
+    ++ (decimal s.privileged
+    ++ (codes " first "
+    ++ (decimal s.first
+    ++ (codes " calm "
+    ++ (decimal s.calm
+    ++ (codes " rest "
+    ++ (decimal s.rest ++ (codes " bound " ++ (decimal limit ++ codes "\n")))))))))
 
 -- the granted passes of each machine: in all, and in the settled run
 abbrev pub grants_line : List ℕ → List ℕ → List ℕ
-grants_line each settled = codes "grants " ++ (list_text each ++ (codes " settled " ++ (list_text settled ++ codes "\n")))
+grants_line each settled =
+    codes "grants " ++ (list_text each ++ (codes " settled " ++ (list_text settled ++ codes "\n")))
 
 -- the number of rings, and what adds up over them
 abbrev pub total_line : ℕ → Totals → List ℕ
 total_line rings t =
-    codes "total rings " ++ (decimal rings ++ (codes " events " ++ (decimal t.events ++ (codes " granted " ++ (decimal t.granted
-    ++ (codes " surveys " ++ (decimal t.surveys ++ codes "\n")))))))
+    codes "total rings "
+    ++ (decimal rings
+    ++ (codes " events "
+    ++ (decimal t.events
+    ++ (codes " granted "
+    ++ (decimal t.granted ++ (codes " surveys " ++ (decimal t.surveys ++ codes "\n")))))))
 
 -- ---- the report
 
@@ -114,18 +135,20 @@ total_line rings t =
 abbrev pub each_machine : ℕ → (ℕ → ℕ) → List ℕ
 each_machine n number = map number (range_with_len 0 n)
 
--- What a book comes to: the state behind its whole history, the survey there with the bound, and the grants of each machine.
+-- What a book comes to: the state behind its whole history, the survey there with the bound, and
+-- the grants of each machine.
 abbrev pub end_lines : BookView ℕ → List ℕ
 end_lines b =
-    let n = length b.start.values in
-    let first = opening b.start 0 in
-    states_line (after till first b.history).ring.values
+    let n = length b.start.values in let first = opening b.start 0 in states_line
+    (after till first b.history).ring.values
     ++ (standing_line (survey_at till first b.history (length b.history)) (bound n)
-    ++ grants_line (each_machine n (λ i. grants_of i b.history)) (each_machine n (λ i. settled_grants_of till first i b.history)))
+    ++ grants_line (each_machine n (λ i. grants_of i b.history))
+    (each_machine n (λ i. settled_grants_of till first i b.history)))
 
 -- the four lines of the ring at a place
 abbrev pub ring_lines : ℕ → RingOutcome → List ℕ
-ring_lines place r = counts_line place (length r.book.start.values) r.book.start.k (counts_of r) ++ end_lines r.book
+ring_lines place r =
+    counts_line place (length r.book.start.values) r.book.start.k (counts_of r) ++ end_lines r.book
 
 -- the lines of rings, of which the first stands at the given place
 abbrev pub rings_from : ℕ → List RingOutcome → List ℕ

@@ -18,11 +18,14 @@ use Rattle.ring_saved.specs.declared.saved.SavedSurvey.{SavedSurvey}
 use Rattle.ring_saved.specs.Versions.{latest_version}
 use Rattle.ring_saved.specs.Content.{Content, Block}
 
--- the line of an event; where call and reply do not belong together there is none, and a refused pass stands for it
+-- the line of an event; where call and reply do not belong together there is none, and a refused
+-- pass stands for it
 abbrev pub saved_for : ℕ → Op → Reply → SavedEvent
-saved_for seat (Pass machine order) (Granted number result) = saved.Granted seat machine order number result
+saved_for seat (Pass machine order) (Granted number result) =
+    saved.Granted seat machine order number result
 saved_for seat (Pass machine order) _ = saved.Refused seat machine order
-saved_for seat (Member machine order left) (Granted number result) = saved.Member seat machine order left number result
+saved_for seat (Member machine order left) (Granted number result) =
+    saved.Member seat machine order left number result
 saved_for seat (Member machine order left) _ = saved.Refused seat machine order
 saved_for seat (Corrupt machine value) (Corrupted old) = saved.Corrupted seat machine value old
 saved_for seat (Corrupt machine value) _ = saved.Refused seat machine 0
@@ -33,9 +36,17 @@ saved_event e = saved_for e.seat e.op e.reply
 
 -- the line of a seat's survey
 abbrev pub saved_survey : ℕ → Survey → SavedSurvey
-saved_survey seat s = record { seat = seat; position = s.position; privileged = s.privileged; first = s.first; calm = s.calm; rest = s.rest }
+saved_survey seat s = record {
+  seat = seat;
+  position = s.position;
+  privileged = s.privileged;
+  first = s.first;
+  calm = s.calm;
+  rest = s.rest;
+}
 
--- the surveys among a seat's entries, in their order; the receipts are not written, since the history holds them
+-- the surveys among a seat's entries, in their order; the receipts are not written, since the
+-- history holds them
 abbrev pub entry_surveys : ℕ → List Entry → List SavedSurvey
 entry_surveys seat [] = []
 entry_surveys seat (entry.Receipt r ∷ log) = entry_surveys seat log
@@ -64,4 +75,8 @@ blocks_from place (r ∷ rs) = block_at place r ∷ blocks_from (place + 1) rs
 
 -- the saved text of an outcome, in the latest version, says these blocks, and their number
 abbrev pub saved_of : Outcome → Content
-saved_of o = record { version = latest_version; rings = blocks_from 0 o.rings.items; rings_said = length o.rings.items }
+saved_of o = record {
+  version = latest_version;
+  rings = blocks_from 0 o.rings.items;
+  rings_said = length o.rings.items;
+}

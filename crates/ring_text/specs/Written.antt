@@ -1,4 +1,5 @@
--- What a farm promises of what it hands out, and that the saved text of that is legal (this project's own).
+-- What a farm promises of what it hands out, and that the saved text of that is legal (this
+-- project's own).
 use Rattle.std.specs.Prelude.{◌≡◌, ℕ, ◌≤◌, length, slice_get, Some}
 use Rattle.std.specs.List.{All}
 use Rattle.ring_model.specs.Limits.{machine_limit, value_limit, seat_limit}
@@ -18,9 +19,10 @@ use Rattle.ring_text.specs.SavedOf.{saved_of}
 use Rattle.ring_check.specs.Legal.{IsLegalText}
 use Rattle.ring_check.specs.Meaning.{IsRightText}
 
--- A ring of an allowed size. Its history is a legal and whole one of a one-thread ring over the till
--- from the start values and the amount 0, the logs are no more than the seats may be and stand by the numbers of their seats, each event's seat is that of
--- one of them, and each log fits the history.
+-- A ring of an allowed size. Its history is a legal and whole one of a one-thread ring over the
+-- till from the start values and the amount 0, the logs are no more than the seats may be and stand
+-- by the numbers of their seats, each event's seat is that of one of them, and each log fits the
+-- history.
 pub record IsRightRun (r : RingOutcome) : Type 0 where
   pub ring : IsRing r.book.start
   pub most_machines : length r.book.start.values ≤ machine_limit
@@ -29,7 +31,9 @@ pub record IsRightRun (r : RingOutcome) : Type 0 where
   pub few : length r.logs.items ≤ seat_limit
   pub by_number : (seat : ℕ) (l : Log) → slice_get r.logs.items seat ≡ Some l → l.seat ≡ seat
   pub seats : AreOfSeats (length r.logs.items) r.book.history
-  pub fits : All (λ (l : Log). Fits till (opening r.book.start 0) r.book.history l.seat l.entries.items) r.logs.items
+  pub fits : All
+      (λ (l : Log). Fits till (opening r.book.start 0) r.book.history l.seat l.entries.items)
+      r.logs.items
 
 -- the saved text of right runs is legal
 abbrev pub WrittenIsLegal : Type 0
@@ -39,9 +43,11 @@ WrittenIsLegal = (o : Outcome) → All IsRightRun o.rings.items → IsLegalText 
 abbrev pub WrittenIsRight : Type 0
 WrittenIsRight = (o : Outcome) → All IsRightRun o.rings.items → IsRightText (saved_of o)
 
--- a fact of the saved text of each outcome of a farm: of what `run_farm` promises, by the record that its clause names
+-- a fact of the saved text of each outcome of a farm: of what `run_farm` promises, by the record
+-- that its clause names
 abbrev pub WherePromised : (Content → Type 0) → Type 0
-WherePromised holds = (settings : SettingsData) (o : Outcome) → IsFarmOf settings o → holds (saved_of o)
+WherePromised holds =
+    (settings : SettingsData) (o : Outcome) → IsFarmOf settings o → holds (saved_of o)
 
 -- there it is legal by the table of what is refused
 abbrev pub OutcomeIsLegal : Type 0

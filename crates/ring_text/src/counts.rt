@@ -47,7 +47,12 @@ impl Totals {
         requires events { self.old.events + counts.events < 2 ^ 64 }
         requires granted { self.old.granted + counts.granted < 2 ^ 64 }
         requires surveys { self.old.surveys + counts.surveys < 2 ^ 64 }
-        ensures { self.new ≡ record { events = self.old.events + counts.events; granted = self.old.granted + counts.granted; surveys = self.old.surveys + counts.surveys } }
+        ensures { self.new
+            ≡ record {
+              events = self.old.events + counts.events;
+              granted = self.old.granted + counts.granted;
+              surveys = self.old.surveys + counts.surveys;
+            } }
     {
         self.events += counts.events;
         self.granted += counts.granted;

@@ -18,7 +18,8 @@ use text_lines::WriteFault;
 /// As [`put_recorded`](ring_journal::put_recorded): the writer then holds a beginning of these lines, and a recovery drops
 /// the last of them, with what it leaves of a group.
 pub fn put_events<W: Write>(out: &mut W, ring: u32, events: &[Event]) -> Result<(), WriteFault>
-    ensures { Writes (W.contents out.old) (W.contents out.new) result (event_lines ring events.now) }
+    ensures { Writes (W.contents out.old) (W.contents out.new) result
+        (event_lines ring events.now) }
 {
     for event in events {
         let recorded = Recorded {
@@ -44,7 +45,8 @@ pub fn put_survey<W: Write>(
     seat: u32,
     survey: Survey,
 ) -> Result<(), WriteFault>
-    ensures { Writes (W.contents out.old) (W.contents out.new) result (recorded_line (recorded_survey ring seat survey)) }
+    ensures { Writes (W.contents out.old) (W.contents out.new) result
+        (recorded_line (recorded_survey ring seat survey)) }
 {
     let recorded = Recorded {
         ring,

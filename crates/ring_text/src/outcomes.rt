@@ -114,7 +114,8 @@ fn put_values<W: Write>(out: &mut W, state: &RingState) -> Result<(), WriteFault
 /// As [`write_outcome`], with a beginning of the line; so do the other pieces of a block.
 #[tactic(auto, using(text_lines::proofs::Writing::writes_then))]
 pub fn put_start<W: Write>(out: &mut W, start: &RingState) -> Result<(), WriteFault>
-    ensures { Writes (W.contents out.old) (W.contents out.new) result (start_line start.now.values) }
+    ensures { Writes (W.contents out.old) (W.contents out.new) result
+        (start_line start.now.values) }
 {
     match put(out, b"start ") {
         Ok(()) => put_values(out, start),
@@ -124,7 +125,8 @@ pub fn put_start<W: Write>(out: &mut W, start: &RingState) -> Result<(), WriteFa
 
 /// Writes the line of an event.
 fn put_event<W: Write>(out: &mut W, event: Event) -> Result<(), WriteFault>
-    ensures written { Writes (W.contents out.old) (W.contents out.new) result (event_line (saved_event event)) }
+    ensures written { Writes (W.contents out.old) (W.contents out.new) result
+        (event_line (saved_event event)) }
     ensures fits { IfOk result (λ _. EventFits latest_version (saved_event event)) }
 {
     put_event_line(out, saved_event(event))
@@ -132,8 +134,10 @@ fn put_event<W: Write>(out: &mut W, event: Event) -> Result<(), WriteFault>
 
 /// Writes a line for each event.
 fn put_events<W: Write>(out: &mut W, history: &[Event]) -> Result<(), WriteFault>
-    ensures written { Writes (W.contents out.old) (W.contents out.new) result (flat_map event_line (map saved_event history.now)) }
-    ensures fits { IfOk result (λ _. AllByRecursion (EventFits latest_version) (map saved_event history.now)) }
+    ensures written { Writes (W.contents out.old) (W.contents out.new) result
+        (flat_map event_line (map saved_event history.now)) }
+    ensures fits { IfOk result
+        (λ _. AllByRecursion (EventFits latest_version) (map saved_event history.now)) }
 {
     for event in history {
         match put_event(out, *event) {
@@ -146,7 +150,8 @@ fn put_events<W: Write>(out: &mut W, history: &[Event]) -> Result<(), WriteFault
 
 /// Writes the line of an entry that is a survey, and nothing for a receipt.
 fn put_entry<W: Write>(out: &mut W, seat: u32, entry: Entry) -> Result<(), WriteFault>
-    ensures written { Writes (W.contents out.old) (W.contents out.new) result (flat_map survey_line (entry_surveys seat (entry ∷ []))) }
+    ensures written { Writes (W.contents out.old) (W.contents out.new) result
+        (flat_map survey_line (entry_surveys seat (entry ∷ []))) }
     ensures fits { IfOk result (λ _. AllByRecursion SurveyFits (entry_surveys seat (entry ∷ []))) }
 {
     match entry {
@@ -157,7 +162,8 @@ fn put_entry<W: Write>(out: &mut W, seat: u32, entry: Entry) -> Result<(), Write
 
 /// Writes a line for each survey among a seat's entries.
 fn put_surveys<W: Write>(out: &mut W, seat: u32, entries: &[Entry]) -> Result<(), WriteFault>
-    ensures written { Writes (W.contents out.old) (W.contents out.new) result (flat_map survey_line (entry_surveys seat entries.now)) }
+    ensures written { Writes (W.contents out.old) (W.contents out.new) result
+        (flat_map survey_line (entry_surveys seat entries.now)) }
     ensures fits { IfOk result (λ _. AllByRecursion SurveyFits (entry_surveys seat entries.now)) }
 {
     for entry in entries {
@@ -171,7 +177,8 @@ fn put_surveys<W: Write>(out: &mut W, seat: u32, entries: &[Entry]) -> Result<()
 
 /// Writes the surveys log by log, each with its log's seat.
 fn put_logs<W: Write>(out: &mut W, logs: &[Log]) -> Result<(), WriteFault>
-    ensures written { Writes (W.contents out.old) (W.contents out.new) result (flat_map survey_line (flat_map log_surveys logs.now)) }
+    ensures written { Writes (W.contents out.old) (W.contents out.new) result
+        (flat_map survey_line (flat_map log_surveys logs.now)) }
     ensures fits { IfOk result (λ _. AllByRecursion SurveyFits (flat_map log_surveys logs.now)) }
 {
     for log in logs {
@@ -186,8 +193,10 @@ fn put_logs<W: Write>(out: &mut W, logs: &[Log]) -> Result<(), WriteFault>
 /// Writes the events, and the line that ends them.
 #[tactic(auto, using(text_lines::proofs::Writing::writes_then))]
 pub fn put_history<W: Write>(out: &mut W, history: &[Event]) -> Result<(), WriteFault>
-    ensures written { Writes (W.contents out.old) (W.contents out.new) result (flat_map event_line (map saved_event history.now) ++ end_line (length history.now)) }
-    ensures fits { IfOk result (λ _. AllByRecursion (EventFits latest_version) (map saved_event history.now)) }
+    ensures written { Writes (W.contents out.old) (W.contents out.new) result
+        (flat_map event_line (map saved_event history.now) ++ end_line (length history.now)) }
+    ensures fits { IfOk result
+        (λ _. AllByRecursion (EventFits latest_version) (map saved_event history.now)) }
 {
     match put_events(out, history) {
         Ok(()) => put_end_line(out, history.len() as u64),
@@ -197,7 +206,8 @@ pub fn put_history<W: Write>(out: &mut W, history: &[Event]) -> Result<(), Write
 
 /// Writes the first line of a ring, which says its place and its size.
 pub fn put_size<W: Write>(out: &mut W, place: u32, start: &RingState) -> Result<(), WriteFault>
-    ensures { Writes (W.contents out.old) (W.contents out.new) result (ring_line place (length start.now.values) start.now.k) }
+    ensures { Writes (W.contents out.old) (W.contents out.new) result
+        (ring_line place (length start.now.values) start.now.k) }
 {
     let size = start.params();
     put_ring_line(out, place, size.n(), size.k())
@@ -205,7 +215,8 @@ pub fn put_size<W: Write>(out: &mut W, place: u32, start: &RingState) -> Result<
 
 /// Writes the block of a ring at its place.
 fn put_block<W: Write>(out: &mut W, place: u32, ring: &RingOutcome) -> Result<(), WriteFault>
-    ensures written { Writes (W.contents out.old) (W.contents out.new) result (block_text (block_at place ring.now)) }
+    ensures written { Writes (W.contents out.old) (W.contents out.new) result
+        (block_text (block_at place ring.now)) }
     ensures fits { IfOk result (λ _. BlockFits latest_version (block_at place ring.now)) }
 {
     let start = ring.book.start();
@@ -219,8 +230,10 @@ fn put_block<W: Write>(out: &mut W, place: u32, ring: &RingOutcome) -> Result<()
 /// Writes the blocks of the rings, each with its place from 0.
 fn put_blocks<W: Write>(out: &mut W, rings: &[RingOutcome]) -> Result<(), WriteFault>
     requires { length rings.now ≤ ring_limit }
-    ensures written { Writes (W.contents out.old) (W.contents out.new) result (flat_map block_text (blocks_from 0 rings.now)) }
-    ensures fits { IfOk result (λ _. AllByRecursion (BlockFits latest_version) (blocks_from 0 rings.now)) }
+    ensures written { Writes (W.contents out.old) (W.contents out.new) result
+        (flat_map block_text (blocks_from 0 rings.now)) }
+    ensures fits { IfOk result
+        (λ _. AllByRecursion (BlockFits latest_version) (blocks_from 0 rings.now)) }
 {
     for (place, ring) in rings.iter().enumerate() {
         match put_block(out, place as u32, ring) {
@@ -245,7 +258,8 @@ fn put_blocks<W: Write>(out: &mut W, rings: &[RingOutcome]) -> Result<(), WriteF
 pub fn write_outcome<W: Write>(outcome: &Outcome, out: &mut W) -> Result<(), WriteFault>
     requires some { 1 ≤ length outcome.now.rings.items }
     requires most { length outcome.now.rings.items ≤ ring_limit }
-    ensures written { Writes (W.contents out.old) (W.contents out.new) result (text (saved_of outcome.now)) }
+    ensures written { Writes (W.contents out.old) (W.contents out.new) result
+        (text (saved_of outcome.now)) }
     ensures fits { IfOk result (λ _. Fits (saved_of outcome.now)) }
 {
     put_first_line(out, LATEST_VERSION)?;

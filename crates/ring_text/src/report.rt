@@ -66,7 +66,8 @@ fn put_counts_line<W: Write>(
     k: u32,
     counts: Counts,
 ) -> Result<(), WriteFault>
-    ensures { Writes (W.contents out.old) (W.contents out.new) result (counts_line place n k counts) }
+    ensures { Writes (W.contents out.old) (W.contents out.new) result
+        (counts_line place n k counts) }
 {
     match put_size(out, place, n, k) {
         Ok(()) => put_counts(out, counts),
@@ -83,7 +84,8 @@ fn put_worded_list<W: Write, F: Fn(u32) -> u64>(
     number: F,
 ) -> Result<(), WriteFault>
     requires { (i : ℕ) → i < count → F.pre number i }
-    ensures { (numbers : List ℕ) → AreAnswers (F.post number) count numbers → Writes (W.contents out.old) (W.contents out.new) result (word.now ++ list_text numbers) }
+    ensures { (numbers : List ℕ) → AreAnswers (F.post number) count numbers
+        → Writes (W.contents out.old) (W.contents out.new) result (word.now ++ list_text numbers) }
 {
     match put(out, word) {
         Ok(()) => put_list(out, count, number),
@@ -93,7 +95,8 @@ fn put_worded_list<W: Write, F: Fn(u32) -> u64>(
 
 /// The line of a ring's values.
 fn put_states_line<W: Write>(out: &mut W, state: &RingState) -> Result<(), WriteFault>
-    ensures { Writes (W.contents out.old) (W.contents out.new) result (states_line state.now.values) }
+    ensures { Writes (W.contents out.old) (W.contents out.new) result
+        (states_line state.now.values) }
 {
     let n = state.params().n();
     match put_worded_list(out, b"states ", n, |machine| state.get(machine) as u64) {
@@ -135,7 +138,8 @@ fn put_standing_line<W: Write>(out: &mut W, survey: Survey, limit: u64) -> Resul
 fn put_settled_grants<W: Write>(out: &mut W, grants: &GrantBook, n: u32) -> Result<(), WriteFault>
     requires each { length grants.now.each ≡ n }
     requires settled { length grants.now.settled ≡ n }
-    ensures { Writes (W.contents out.old) (W.contents out.new) result (codes " settled " ++ (list_text grants.now.settled ++ codes "\n")) }
+    ensures { Writes (W.contents out.old) (W.contents out.new) result
+        (codes " settled " ++ (list_text grants.now.settled ++ codes "\n")) }
 {
     match put_worded_list(out, b" settled ", n, |machine| grants.settled_of(machine)) {
         Ok(()) => put(out, b"\n"),
@@ -147,7 +151,8 @@ fn put_settled_grants<W: Write>(out: &mut W, grants: &GrantBook, n: u32) -> Resu
 fn put_grants_line<W: Write>(out: &mut W, grants: &GrantBook, n: u32) -> Result<(), WriteFault>
     requires each { length grants.now.each ≡ n }
     requires settled { length grants.now.settled ≡ n }
-    ensures { Writes (W.contents out.old) (W.contents out.new) result (grants_line grants.now.each grants.now.settled) }
+    ensures { Writes (W.contents out.old) (W.contents out.new) result
+        (grants_line grants.now.each grants.now.settled) }
 {
     match put_worded_list(out, b"grants ", n, |machine| grants.of(machine)) {
         Ok(()) => put_settled_grants(out, grants, n),
@@ -157,7 +162,8 @@ fn put_grants_line<W: Write>(out: &mut W, grants: &GrantBook, n: u32) -> Result<
 
 /// The state behind a book's whole history.
 fn end_state(book: &Book<Till>) -> &RingState
-    ensures { result.now.values ≡ (after till (opening book.now.start 0) book.now.history).ring.values }
+    ensures { result.now.values
+        ≡ (after till (opening book.now.start 0) book.now.history).ring.values }
 {
     book.state()
 }

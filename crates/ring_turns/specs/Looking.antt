@@ -18,12 +18,17 @@ abbrev pub IsFirst : {C : Type 0} → Works C → State C → List Event → ℕ
 IsFirst w a h i = i ≡ first_privileged (after w a h).ring.values
 
 -- the client called for a pass of this machine on this order, was told of it, and it was granted
-pub record IsGrantedPass {C : Type 0} (w : Works C) (a : State C) (before after : Client) (machine order : ℕ) (r : Receipt) : Type 0 where
+pub record IsGrantedPass {C : Type 0} (w : Works C) (a : State C) (before after : Client)
+    (machine order : ℕ) (r : Receipt) : Type 0 where
   pub told : IsToldCall w a before after (Pass machine order) r
   pub granted : is_granted r.event.reply ≡ true
 
--- one look of a client that waits since this place: its own machine was granted its pass, another's was passed on, or nothing was called
+-- one look of a client that waits since this place: its own machine was granted its pass, another's
+-- was passed on, or nothing was called
 abbrev pub IsLook : {C : Type 0} → Works C → State C → Client → Client → ℕ → ℕ → Look → Type 0
-IsLook w a before after at order (Taken r) = IsGrantedPass w a before after before.number order r × HasWaited w a after.seen before.number at r.position
-IsLook w a before after at order (PassedOn r) = (m : ℕ) × (m ≢ before.number) × IsGrantedPass w a before after m on_order r
+IsLook w a before after at order (Taken r) =
+    IsGrantedPass w a before after before.number order r
+    × HasWaited w a after.seen before.number at r.position
+IsLook w a before after at order (PassedOn r) =
+    (m : ℕ) × (m ≢ before.number) × IsGrantedPass w a before after m on_order r
 IsLook w a before after at order Waits = after.log ≡ before.log

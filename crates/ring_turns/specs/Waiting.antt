@@ -8,12 +8,17 @@ use Rattle.ring_model.specs.declared.events.Event.{Event}
 
 -- each client that waits asked at a place of the history, and its machine was granted nothing since
 abbrev pub AreWaiting : List (Option ℕ) → List Event → Type 0
-AreWaiting waits h = (i p : ℕ) → slice_get waits i ≡ Some (Some p) → (p ≤ length h) × (grants_of i (drop p h) ≡ 0)
+AreWaiting waits h =
+    (i p : ℕ) → slice_get waits i ≡ Some (Some p) → (p ≤ length h) × (grants_of i (drop p h) ≡ 0)
 
--- From place p to place q machine i was granted nothing; and, with no corruption between, the machine d steps to its right was granted
--- at most d passes, and each machine at most one if the ring was settled at p.
-pub record HasWaited {C : Type 0} (w : Works C) (a : State C) (h : List Event) (i p q : ℕ) : Type 0 where
-  pub ordered : p ≤ q
-  pub none : grants_of i (between h p q) ≡ 0
-  pub few : NoCorruption h p q → (d : ℕ) → grants_of ((i + d) % length a.ring.values) (between h p q) ≤ d
-  pub once : NoCorruption h p q → is_settled (values_at w a h p) ≡ true → (j : ℕ) → j < length a.ring.values → grants_of j (between h p q) ≤ 1
+-- From place p to place q machine i was granted nothing; and, with no corruption between, the
+-- machine d steps to its right was granted at most d passes, and each machine at most one if the
+-- ring was settled at p.
+pub record HasWaited {C : Type 0} (w : Works C) (a : State C) (h : List Event) (i p q : ℕ) : Type 0
+  where
+    pub ordered : p ≤ q
+    pub none : grants_of i (between h p q) ≡ 0
+    pub few : NoCorruption h p q → (d : ℕ)
+        → grants_of ((i + d) % length a.ring.values) (between h p q) ≤ d
+    pub once : NoCorruption h p q → is_settled (values_at w a h p) ≡ true → (j : ℕ)
+        → j < length a.ring.values → grants_of j (between h p q) ≤ 1

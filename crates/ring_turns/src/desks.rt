@@ -163,7 +163,9 @@ impl<N: Name> Desk<N> {
         seat: &mut Seat<N>,
     ) -> Result<u64, AllocError>
         ensures place { IfOk result (λ p. p ≡ length seat.new.seen) }
-        ensures logged { IfOk result (λ p. seat.new.log ≡ seat.old.log ++ Entry.Survey (survey_at R.works (opening N.start R.first) seat.new.seen p) ∷ []) }
+        ensures logged { IfOk result (λ p. seat.new.log
+            ≡ seat.old.log
+            ++ Entry.Survey (survey_at R.works (opening N.start R.first) seat.new.seen p) ∷ []) }
         ensures number { seat.new.number ≡ seat.old.number }
         ensures later { IsPrefix seat.old.seen seat.new.seen }
         ensures err { OnErr result (IsUnchanged seat.old seat.new) }
@@ -210,7 +212,8 @@ impl<N: Name> Desk<N> {
         requires first { IsFirst R.works (opening N.start R.first) self.old.last machine }
         requires free { (p : ℕ) → slice_get self.old.waits machine ≡ Some (Some p) → ⊥ }
         ensures place { IfOk result (λ r. seat.new.seen ≡ self.old.last ++ r.event ∷ []) }
-        ensures told { IfOk result (λ r. IsGrantedPass R.works (opening N.start R.first) seat.old seat.new machine order r) }
+        ensures told { IfOk result (λ r.
+            IsGrantedPass R.works (opening N.start R.first) seat.old seat.new machine order r) }
         ensures number { seat.new.number ≡ seat.old.number }
         ensures later { IsPrefix seat.old.seen seat.new.seen }
         ensures err { OnErr result (IsUnchanged seat.old seat.new) }
@@ -234,8 +237,10 @@ impl<N: Name> Desk<N> {
         requires start { IsRing N.start }
         requires machine { seat.old.number < length N.start.values }
         requires first { IsFirst R.works (opening N.start R.first) self.old.last seat.old.number }
-        ensures told { IfOk result (λ r. IsGrantedPass R.works (opening N.start R.first) seat.old seat.new seat.old.number order r) }
-        ensures waited { IfOk result (λ r. HasWaited R.works (opening N.start R.first) seat.new.seen seat.old.number asked_at r.position) }
+        ensures told { IfOk result (λ r. IsGrantedPass R.works (opening N.start R.first) seat.old
+            seat.new seat.old.number order r) }
+        ensures waited { IfOk result (λ r. HasWaited R.works (opening N.start R.first) seat.new.seen
+            seat.old.number asked_at r.position) }
         ensures number { seat.new.number ≡ seat.old.number }
         ensures later { IsPrefix seat.old.seen seat.new.seen }
         ensures err { OnErr result (IsUnchanged seat.old seat.new) }
@@ -258,7 +263,8 @@ impl<N: Name> Desk<N> {
     ) -> Result<Look, BookError>
         requires start { IsRing N.start }
         requires machine { seat.old.number < length N.start.values }
-        ensures look { IfOk result (λ l. IsLook R.works (opening N.start R.first) seat.old seat.new asked_at order l) }
+        ensures look { IfOk result
+            (λ l. IsLook R.works (opening N.start R.first) seat.old seat.new asked_at order l) }
         ensures number { seat.new.number ≡ seat.old.number }
         ensures later { IsPrefix seat.old.seen seat.new.seen }
         ensures err { OnErr result (seat.new.log ≡ seat.old.log) }
@@ -286,11 +292,14 @@ impl<N: Name> Desk<N> {
     ) -> Result<Receipt, BookError>
         requires machine { machine < length N.start.values }
         requires value { value < N.start.k }
-        ensures call { IfOk result (λ r. (r.event.seat ≡ seat.old.number) × (r.event.op ≡ Op.Corrupt machine value)) }
+        ensures call { IfOk result
+            (λ r. (r.event.seat ≡ seat.old.number) × (r.event.op ≡ Op.Corrupt machine value)) }
         ensures number { seat.new.number ≡ seat.old.number }
         ensures logged { IfOk result (λ r. seat.new.log ≡ seat.old.log ++ Entry.Receipt r ∷ []) }
-        ensures told { IfOk result (λ r. (length seat.new.seen ≡ r.position + 1) × (slice_get seat.new.seen r.position ≡ Some r.event)) }
-        ensures legal_and_whole { IfOk result (λ r. IsHistory R.works (opening N.start R.first) seat.new.seen) }
+        ensures told { IfOk result (λ r. (length seat.new.seen ≡ r.position + 1)
+            × (slice_get seat.new.seen r.position ≡ Some r.event)) }
+        ensures legal_and_whole { IfOk result
+            (λ r. IsHistory R.works (opening N.start R.first) seat.new.seen) }
         ensures later { IsPrefix seat.old.seen seat.new.seen }
         ensures err { OnErr result (IsUnchanged seat.old seat.new) }
     {

@@ -68,7 +68,8 @@ fn await_turn<N: Name, R: Resource + Drop, W: Wait>(
     order: u64,
 ) -> Result<Receipt, BookError>
     requires client { seat.old.number < turns.now }
-    ensures told { IfOk result (λ r. IsTaken (spared R.works) (opening N.start R.first) seat.old seat.new asked_at order r) }
+    ensures told { IfOk result (λ r.
+        IsTaken (spared R.works) (opening N.start R.first) seat.old seat.new asked_at order r) }
     ensures number { seat.new.number ≡ seat.old.number }
     ensures later { IsPrefix seat.old.seen seat.new.seen }
     ensures err { OnErr result (HasPassedOn seat.old.number seat.old.log seat.new.log) }
@@ -130,8 +131,10 @@ impl<N: Name, R: Resource + Drop> Turns<N, R> {
         order: u64,
     ) -> Result<Turn, BookError>
         requires client { seat.old.number < self.now }
-        ensures turn { IfOk result (λ t. IsTurn (spared R.works) (opening N.start R.first) seat.old seat.new order t) }
-        ensures waited { IfOk result (λ t. HasWaited (spared R.works) (opening N.start R.first) seat.new.seen seat.old.number t.asked_at t.receipt.position) }
+        ensures turn { IfOk result
+            (λ t. IsTurn (spared R.works) (opening N.start R.first) seat.old seat.new order t) }
+        ensures waited { IfOk result (λ t. HasWaited (spared R.works) (opening N.start R.first)
+            seat.new.seen seat.old.number t.asked_at t.receipt.position) }
         ensures number { seat.new.number ≡ seat.old.number }
         ensures later { IsPrefix seat.old.seen seat.new.seen }
         ensures err { OnErr result (HasNoTurn seat.old seat.new) }
@@ -155,11 +158,14 @@ impl<N: Name, R: Resource + Drop> Turns<N, R> {
     ) -> Result<Receipt, BookError>
         requires machine { machine < length N.start.values }
         requires value { value < N.start.k }
-        ensures call { IfOk result (λ r. (r.event.seat ≡ seat.old.number) × (r.event.op ≡ Op.Corrupt machine value)) }
+        ensures call { IfOk result
+            (λ r. (r.event.seat ≡ seat.old.number) × (r.event.op ≡ Op.Corrupt machine value)) }
         ensures number { seat.new.number ≡ seat.old.number }
         ensures logged { IfOk result (λ r. seat.new.log ≡ seat.old.log ++ Entry.Receipt r ∷ []) }
-        ensures told { IfOk result (λ r. (length seat.new.seen ≡ r.position + 1) × (slice_get seat.new.seen r.position ≡ Some r.event)) }
-        ensures legal_and_whole { IfOk result (λ r. IsHistory (spared R.works) (opening N.start R.first) seat.new.seen) }
+        ensures told { IfOk result (λ r. (length seat.new.seen ≡ r.position + 1)
+            × (slice_get seat.new.seen r.position ≡ Some r.event)) }
+        ensures legal_and_whole { IfOk result
+            (λ r. IsHistory (spared R.works) (opening N.start R.first) seat.new.seen) }
         ensures later { IsPrefix seat.old.seen seat.new.seen }
         ensures err { OnErr result (IsUnchanged seat.old seat.new) }
     {
@@ -180,17 +186,33 @@ impl<N: Name, R: Resource + Drop> Turns<N, R> {
         requires { IsDistinct eqb (map (λ s. s.number) seats.items) }
         ensures start { IfOk result (λ c. c.book.start ≡ N.start) }
         ensures book { IfOk result (λ c. IsBook (spared R.works) R.first c.book) }
-        ensures legal_and_whole { IfOk result (λ c. IsHistory (spared R.works) (opening N.start R.first) c.book.history) }
-        ensures settlement { IfOk result (λ c. Settlement (spared R.works) (opening N.start R.first) c.book.history) }
-        ensures progress { IfOk result (λ c. Progress (spared R.works) (opening N.start R.first) c.book.history) }
-        ensures logs { IfOk result (λ c. (vec_len c.logs ≡ N.seats) × AreNumbered c.logs.items × All (HasLog c.logs.items) seats.items) }
+        ensures legal_and_whole { IfOk result
+            (λ c. IsHistory (spared R.works) (opening N.start R.first) c.book.history) }
+        ensures settlement { IfOk result
+            (λ c. Settlement (spared R.works) (opening N.start R.first) c.book.history) }
+        ensures progress { IfOk result
+            (λ c. Progress (spared R.works) (opening N.start R.first) c.book.history) }
+        ensures logs { IfOk result (λ c. (vec_len c.logs ≡ N.seats)
+            × AreNumbered c.logs.items
+            × All (HasLog c.logs.items) seats.items) }
         ensures of_seats { IfOk result (λ c. AreOfSeats N.seats c.book.history) }
-        ensures fits { IfOk result (λ c. All (λ l. Fits (spared R.works) (opening N.start R.first) c.book.history l.seat l.entries.items) c.logs.items) }
-        ensures calls { IfOk result (λ c. All (λ l. length (calls_of l.seat c.book.history) ≡ length (receipts_of l.entries.items)) c.logs.items) }
+        ensures fits { IfOk result (λ c. All (λ l.
+            Fits (spared R.works) (opening N.start R.first) c.book.history l.seat l.entries.items)
+            c.logs.items) }
+        ensures calls { IfOk result (λ c. All
+            (λ l. length (calls_of l.seat c.book.history) ≡ length (receipts_of l.entries.items))
+            c.logs.items) }
         ensures seen { IfOk result (λ c. All (λ s. IsPrefix s.seen c.book.history) seats.items) }
-        ensures missing { MatchResult result (λ _. ⊥) (λ f. f.reason ≡ CloseReason.SeatsMissing) ↔ vec_len seats < N.seats }
-        ensures mismatch { IfErr result (λ f. f.reason ≡ CloseReason.Mismatch → All (λ s. Fits (spared R.works) (opening N.start R.first) f.book.history s.number s.log) seats.items → ⊥) }
-        ensures fault { IfErr result (λ f. (f.book.start ≡ N.start) × IsBook (spared R.works) R.first f.book × AreOfSeats N.seats f.book.history × (f.seats.items ≡ seats.items)) }
+        ensures missing { MatchResult result (λ _. ⊥) (λ f. f.reason ≡ CloseReason.SeatsMissing)
+            ↔ vec_len seats < N.seats }
+        ensures mismatch { IfErr result (λ f. f.reason ≡ CloseReason.Mismatch
+            → All
+            (λ s. Fits (spared R.works) (opening N.start R.first) f.book.history s.number s.log)
+            seats.items → ⊥) }
+        ensures fault { IfErr result (λ f. (f.book.start ≡ N.start)
+            × IsBook (spared R.works) R.first f.book
+            × AreOfSeats N.seats f.book.history
+            × (f.seats.items ≡ seats.items)) }
     {
         let Turns {
             ring,

@@ -6,14 +6,16 @@ use Rattle.text_lines.specs.Reading.{Reader, Either, Branch}
 use Rattle.text_lines.specs.Spelling.{OfEither, of_either}
 
 -- The bytes are the beginning of the spelling of something that fits.
-pub record ShortOf {A : Type 0} (Fits : A → Type 0) (spell : A → List ℕ) (bytes : List ℕ) : Type 0 where
-  pub value : A
-  pub more : List ℕ
-  pub fits : Fits value
-  pub viable : bytes ++ more ≡ spell value
+pub record ShortOf {A : Type 0} (Fits : A → Type 0) (spell : A → List ℕ) (bytes : List ℕ) : Type 0
+  where
+    pub value : A
+    pub more : List ℕ
+    pub fits : Fits value
+    pub viable : bytes ++ more ≡ spell value
 
 -- Up to a byte some spelling goes on, and with that byte none does, whatever follows it.
-pub record BadAt {A : Type 0} (Fits : A → Type 0) (spell : A → List ℕ) (at : Reader A) (bytes : List ℕ) : Type 0 where
+pub record BadAt {A : Type 0} (Fits : A → Type 0) (spell : A → List ℕ) (at : Reader A)
+    (bytes : List ℕ) : Type 0 where
   pub front : List ℕ
   pub byte : ℕ
   pub back : List ℕ
@@ -24,12 +26,16 @@ pub record BadAt {A : Type 0} (Fits : A → Type 0) (spell : A → List ℕ) (at
   pub viable : front ++ more ≡ spell value
   pub dead : (w : List ℕ) → at (front ++ byte ∷ w) ≡ Err (Bad (suc (length w)))
 
--- The reader reads just the spellings of what fits: what it takes is spelled so; what is spelled so it takes, whatever stands behind; where it finds the bytes short, they can go on; where it finds a bad byte, nothing goes on with it.
-pub record Reads {A : Type 0} (Fits : A → Type 0) (spell : A → List ℕ) (at : Reader A) : Type 0 where
-  pub takes : (bytes : List ℕ) (a : A) (rest : List ℕ) → at bytes ≡ Ok (a, rest) → Fits a × (bytes ≡ spell a ++ rest)
-  pub again : (a : A) (rest : List ℕ) → Fits a → at (spell a ++ rest) ≡ Ok (a, rest)
-  pub short : (bytes : List ℕ) → at bytes ≡ Err Short → ShortOf Fits spell bytes
-  pub bad : (bytes : List ℕ) (left : ℕ) → at bytes ≡ Err (Bad left) → BadAt Fits spell at bytes
+-- The reader reads just the spellings of what fits: what it takes is spelled so; what is spelled so
+-- it takes, whatever stands behind; where it finds the bytes short, they can go on; where it finds
+-- a bad byte, nothing goes on with it.
+pub record Reads {A : Type 0} (Fits : A → Type 0) (spell : A → List ℕ) (at : Reader A) : Type 0
+  where
+    pub takes : (bytes : List ℕ) (a : A) (rest : List ℕ) → at bytes ≡ Ok (a, rest)
+        → Fits a × (bytes ≡ spell a ++ rest)
+    pub again : (a : A) (rest : List ℕ) → Fits a → at (spell a ++ rest) ≡ Ok (a, rest)
+    pub short : (bytes : List ℕ) → at bytes ≡ Err Short → ShortOf Fits spell bytes
+    pub bad : (bytes : List ℕ) (left : ℕ) → at bytes ≡ Err (Bad left) → BadAt Fits spell at bytes
 
 -- the text begins with the byte
 abbrev pub StartsWith : ℕ → List ℕ → Type 0
@@ -50,7 +56,8 @@ AreApart [] = Unit {0}
 AreApart (r ∷ rs) = AllByRecursion (λ q. q.byte ≢ r.byte) rs × AreApart rs
 
 -- Each item fits at the state where it stands, and so does what ends them.
-abbrev pub RunFits : {S A E : Type 0} → (S → A → Type 0) → (S → E → Type 0) → (A → S) → S → List A → E → Type 0
+abbrev pub RunFits : {S A E : Type 0} → (S → A → Type 0) → (S → E → Type 0) → (A → S) → S → List A
+    → E → Type 0
 RunFits F G next st [] e = G st e
 RunFits F G next st (a ∷ xs) e = F st a × RunFits F G next (next a) xs e
 
@@ -58,9 +65,12 @@ RunFits F G next st (a ∷ xs) e = F st a × RunFits F G next (next a) xs e
 abbrev pub many : {A E : Type 0} → (A → List ℕ) → (E → List ℕ) → List A × E → List ℕ
 many s t p = flat_map s p.0 ++ t p.1
 
--- What a repetition needs: at each valid state the reader of an item or of the end has the law, each item leads to a valid state and has a byte, and something can end the items.
-pub record Repeats {S A E : Type 0} (Valid : S → Type 0) (F : S → A → Type 0) (s : A → List ℕ) (G : S → E → Type 0) (t : E → List ℕ) (item : S → Reader (Either A E)) (next : A → S) : Type 0 where
-  pub reads : (st : S) → Valid st → Reads (OfEither (F st) (G st)) (of_either s t) (item st)
-  pub keeps : (st : S) (a : A) → F st a → Valid (next a)
-  pub some : (st : S) (a : A) → F st a → 0 < length (s a)
-  pub final : (st : S) → Valid st → (e : E) × G st e
+-- What a repetition needs: at each valid state the reader of an item or of the end has the law,
+-- each item leads to a valid state and has a byte, and something can end the items.
+pub record Repeats {S A E : Type 0} (Valid : S → Type 0) (F : S → A → Type 0) (s : A → List ℕ)
+    (G : S → E → Type 0) (t : E → List ℕ) (item : S → Reader (Either A E)) (next : A → S) : Type 0
+  where
+    pub reads : (st : S) → Valid st → Reads (OfEither (F st) (G st)) (of_either s t) (item st)
+    pub keeps : (st : S) (a : A) → F st a → Valid (next a)
+    pub some : (st : S) (a : A) → F st a → 0 < length (s a)
+    pub final : (st : S) → Valid st → (e : E) × G st e

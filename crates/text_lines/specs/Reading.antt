@@ -5,7 +5,8 @@ use Rattle.text_lines.specs.declared.fault.Fault.TheVariants.{Short, Bad}
 use Rattle.text_lines.specs.declared.fault.Stop.{Stop}
 use Rattle.text_lines.specs.declared.fault.Stop.TheVariants as stops
 
--- What a reader is to its contract: from the bytes, a value and what stands behind it (this project's own).
+-- What a reader is to its contract: from the bytes, a value and what stands behind it (this
+-- project's own).
 abbrev pub Reader : Type 0 → Type 0
 Reader A = List ℕ → Result (A × List ℕ) Fault
 
@@ -20,7 +21,8 @@ abbrev pub Fails : {Y : Type 0} → Stop → Result Y Fault → Type 0
 Fails stops.Memory read = Unit {0}
 Fails (stops.Fault f) read = read ≡ Err f
 
--- What a function returned, seen by view, is what the function on lists gives, unless memory ran out.
+-- What a function returned, seen by view, is what the function on lists gives, unless memory ran
+-- out.
 abbrev pub Gives : {X Y : Type 0} → (X → Y) → Result X Stop → Result Y Fault → Type 0
 Gives view (Ok x) read = read ≡ Ok (view x)
 Gives view (Err e) read = Fails e read
@@ -50,17 +52,24 @@ grows limit value b = nat_lt 0 value && (is_digit b && nat_lt (value * 10 + (b -
 -- the digits behind the first, up to the byte that ends the number
 unfoldable pub digits_at : ℕ → ℕ → ℕ → List ℕ → Result (ℕ × List ℕ) Fault
 digits_at limit stop value [] = Err Short
-digits_at limit stop value (b ∷ bs) = if b == stop then Ok (value, bs) else (if grows limit value b then digits_at limit stop (value * 10 + (b - 48)) bs else Err (Bad (suc (length bs))))
+digits_at limit stop value (b ∷ bs) =
+    if b == stop
+    then Ok (value, bs)
+    else (if grows limit value b
+    then digits_at limit stop (value * 10 + (b - 48)) bs
+    else Err (Bad (suc (length bs))))
 
 -- a number below the limit, and the byte that ends it
 unfoldable pub number_at : ℕ → ℕ → Reader ℕ
 number_at limit stop [] = Err Short
-number_at limit stop (b ∷ bs) = if is_digit b then digits_at limit stop (b - 48) bs else Err (Bad (suc (length bs)))
+number_at limit stop (b ∷ bs) =
+    if is_digit b then digits_at limit stop (b - 48) bs else Err (Bad (suc (length bs)))
 
 -- the same, but not 0
 unfoldable pub positive_at : ℕ → ℕ → Reader ℕ
 positive_at limit stop [] = Err Short
-positive_at limit stop (b ∷ bs) = if b == 48 then Err (Bad (suc (length bs))) else number_at limit stop (b ∷ bs)
+positive_at limit stop (b ∷ bs) =
+    if b == 48 then Err (Bad (suc (length bs))) else number_at limit stop (b ∷ bs)
 
 -- ---- one reader of others
 
@@ -104,17 +113,22 @@ choice_at [] = none_at
 choice_at (r ∷ rs) = or_at r.byte r.at (choice_at rs)
 
 -- an item and the others, or what ends the items
-abbrev pub many_with : {S A E : Type 0} → (S → Result ((List A × E) × List ℕ) Fault) → (A → S) → Either A E → List ℕ → Result ((List A × E) × List ℕ) Fault
+abbrev pub many_with : {S A E : Type 0} → (S → Result ((List A × E) × List ℕ) Fault) → (A → S)
+    → Either A E → List ℕ → Result ((List A × E) × List ℕ) Fault
 many_with others next (this a) after = others (next a) >>= λ y. Ok ((a ∷ y.0.0, y.0.1), y.1)
 many_with others next (that e) after = Ok (([], e), after)
 
 -- fewer items than the number says
-unfoldable pub some_at : {S A E : Type 0} → (S → Reader (Either A E)) → (A → S) → ℕ → S → Reader (List A × E)
+unfoldable pub some_at : {S A E : Type 0} → (S → Reader (Either A E)) → (A → S) → ℕ → S
+    → Reader (List A × E)
 some_at item next zero st bytes = Err Short
-some_at item next (suc fuel) st bytes = item st bytes >>= λ x. many_with (λ u. some_at item next fuel u x.1) next x.0 x.1
+some_at item next (suc fuel) st bytes =
+    item st bytes >>= λ x. many_with (λ u. some_at item next fuel u x.1) next x.0 x.1
 
--- Items up to the one that ends them. What may come next depends on a state, which the item before it fixes. An item has a byte at least, so that there are no more of them than bytes.
-abbrev pub many_at : {S A E : Type 0} → (S → Reader (Either A E)) → (A → S) → S → Reader (List A × E)
+-- Items up to the one that ends them. What may come next depends on a state, which the item before
+-- it fixes. An item has a byte at least, so that there are no more of them than bytes.
+abbrev pub many_at : {S A E : Type 0} → (S → Reader (Either A E)) → (A → S) → S
+    → Reader (List A × E)
 many_at item next st bytes = some_at item next (suc (length bytes)) st bytes
 
 -- ---- a line of numbers
@@ -127,7 +141,9 @@ stop_of (suc k) = 32
 -- so many numbers below the limit
 unfoldable pub row_at : ℕ → ℕ → Reader (List ℕ)
 row_at limit zero bytes = Ok ([], bytes)
-row_at limit (suc k) bytes = as_at (λ (p : ℕ × List ℕ). p.0 ∷ p.1) (then_at (number_at limit (stop_of k)) (λ _. row_at limit k)) bytes
+row_at limit (suc k) bytes =
+    as_at (λ (p : ℕ × List ℕ). p.0 ∷ p.1)
+    (then_at (number_at limit (stop_of k)) (λ _. row_at limit k)) bytes
 
 -- ---- all of the bytes
 

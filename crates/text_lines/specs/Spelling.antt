@@ -26,7 +26,8 @@ list_text numbers = join_with_byte 44 (map decimal numbers)
 abbrev pub numbers_text : List ℕ → List ℕ → List ℕ → List ℕ
 numbers_text between behind [] = []
 numbers_text between behind (x ∷ []) = decimal x ++ behind
-numbers_text between behind (x ∷ y ∷ xs) = decimal x ++ (between ++ numbers_text between behind (y ∷ xs))
+numbers_text between behind (x ∷ y ∷ xs) =
+    decimal x ++ (between ++ numbers_text between behind (y ∷ xs))
 
 -- what stands behind a number with so many behind it
 abbrev pub stop_text : List ℕ → List ℕ → ℕ → List ℕ

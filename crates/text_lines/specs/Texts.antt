@@ -30,20 +30,25 @@ pub record IsFirstBadLine (IsText : List ℕ → Type 0) (bytes : List ℕ) (lin
   pub bad : Begins IsText (first_lines line bytes) → ⊥
   pub good : (k : ℕ) → k < line → Begins IsText (first_lines k bytes)
 
--- The answer is right, memory aside: the value whose spelling the bytes are, seen by view, or that they are cut short, or else their first bad line.
-abbrev pub IsRightAnswer : {X A : Type 0} → (X → A) → (A → Type 0) → (A → List ℕ) → List ℕ → Result X ReadError → Type 0
+-- The answer is right, memory aside: the value whose spelling the bytes are, seen by view, or that
+-- they are cut short, or else their first bad line.
+abbrev pub IsRightAnswer : {X A : Type 0} → (X → A) → (A → Type 0) → (A → List ℕ) → List ℕ
+    → Result X ReadError → Type 0
 IsRightAnswer view Fits spell bytes (Ok x) = Fits (view x) × (bytes ≡ spell (view x))
 IsRightAnswer view Fits spell bytes (Err Truncated) = IsCutShort (Spells Fits spell) bytes
-IsRightAnswer view Fits spell bytes (Err (Syntax line)) = IsFirstBadLine (Spells Fits spell) bytes line
+IsRightAnswer view Fits spell bytes (Err (Syntax line)) =
+    IsFirstBadLine (Spells Fits spell) bytes line
 IsRightAnswer view Fits spell bytes (Err OutOfMemory) = Unit {0}
 
 -- no text begins another one
 abbrev pub NoneBeginsAnother : (List ℕ → Type 0) → Type 0
 NoneBeginsAnother IsText = (bytes more : List ℕ) → IsText bytes → IsText (bytes ++ more) → more ≡ []
 
--- At most one answer is right: a text is neither cut short nor has a bad line, what is cut short has no bad line, and there is one first bad line.
+-- At most one answer is right: a text is neither cut short nor has a bad line, what is cut short
+-- has no bad line, and there is one first bad line.
 pub record AnswersAreApart (IsText : List ℕ → Type 0) (bytes : List ℕ) : Type 0 where
-  pub text : IsText bytes → (IsCutShort IsText bytes → ⊥) × ((line : ℕ) → IsFirstBadLine IsText bytes line → ⊥)
+  pub text : IsText bytes
+      → (IsCutShort IsText bytes → ⊥) × ((line : ℕ) → IsFirstBadLine IsText bytes line → ⊥)
   pub cut : IsCutShort IsText bytes → (line : ℕ) → IsFirstBadLine IsText bytes line → ⊥
   pub line : (l m : ℕ) → IsFirstBadLine IsText bytes l → IsFirstBadLine IsText bytes m → l ≡ m
 

@@ -56,14 +56,17 @@ pub fn refusal(bytes: &[u8], stop: Stop) -> ReadError
 
 /// A reader with the law of a spelling answers right, and no spelling begins another one.
 pub fn readers_answer_right<T>()
-    ensures right { (fits : T → Bool) (spell : T → List ℕ) (at : Reader T) → Reads (λ a. IsTrue (fits a)) spell at
-        → (bytes : List ℕ) (read : Result T Stop) → Gives (λ x. x) read (whole_at at bytes)
+    ensures right { (fits : T → Bool) (spell : T → List ℕ) (at : Reader T)
+        → Reads (λ a. IsTrue (fits a)) spell at → (bytes : List ℕ) (read : Result T Stop)
+        → Gives (λ x. x) read (whole_at at bytes)
         → IsRightAnswer (λ x. x) (λ a. IsTrue (fits a)) spell bytes (answer_of bytes read) }
-    ensures apart { (fits : T → Bool) (spell : T → List ℕ) (at : Reader T) → Reads (λ a. IsTrue (fits a)) spell at
+    ensures apart { (fits : T → Bool) (spell : T → List ℕ) (at : Reader T)
+        → Reads (λ a. IsTrue (fits a)) spell at
         → NoneBeginsAnother (Spells (λ a. IsTrue (fits a)) spell) }
 {}
 
 /// Where no text begins another one, at most one answer to some bytes is right.
 pub fn answers_are_apart()
-    ensures { (is_text : List ℕ → Bool) → NoneBeginsAnother (λ bytes. IsTrue (is_text bytes)) → (bytes : List ℕ) → AnswersAreApart (λ bytes. IsTrue (is_text bytes)) bytes }
+    ensures { (is_text : List ℕ → Bool) → NoneBeginsAnother (λ bytes. IsTrue (is_text bytes))
+        → (bytes : List ℕ) → AnswersAreApart (λ bytes. IsTrue (is_text bytes)) bytes }
 {}

@@ -20,7 +20,8 @@ pub fn put_list<W: Write, F: Fn(u32) -> u64>(
     number: F,
 ) -> Result<(), WriteFault>
     requires { (i : ℕ) → i < count → F.pre number i }
-    ensures { (numbers : List ℕ) → AreAnswers (F.post number) count numbers → Writes (W.contents out.old) (W.contents out.new) result (list_text numbers) }
+    ensures { (numbers : List ℕ) → AreAnswers (F.post number) count numbers
+        → Writes (W.contents out.old) (W.contents out.new) result (list_text numbers) }
 {
     put_numbers(out, count as usize, b",", b"", |i| number(i as u32))
 }

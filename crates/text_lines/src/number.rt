@@ -40,7 +40,8 @@ fn is_digit(b: u8) -> bool
 #[inline(always)]
 fn are_eight_digits(bytes: &[u8]) -> bool
     requires { 8 ≤ length bytes.now }
-    ensures { result ≡ true → (place : ℕ) → place < 8 → is_digit (slice_index bytes.now place) ≡ true }
+    ensures { result ≡ true → (place : ℕ) → place < 8
+        → is_digit (slice_index bytes.now place) ≡ true }
 {
     let mut all = true;
     for i in 0..8 {
@@ -54,7 +55,9 @@ fn are_eight_digits(bytes: &[u8]) -> bool
 #[inline(always)]
 fn eight_more(first: u64, bytes: &[u8]) -> Option<u64>
     requires { (1 ≤ first) × (first ≤ 9) }
-    ensures goes_on { IfSome result (λ value. (limit stop : ℕ) → 1_000_000_000 ≤ limit → is_digit stop ≡ false → digits_at limit stop value (drop 8 bytes.now) ≡ digits_at limit stop first bytes.now) }
+    ensures goes_on { IfSome result (λ value.
+        (limit stop : ℕ) → 1_000_000_000 ≤ limit → is_digit stop ≡ false
+        → digits_at limit stop value (drop 8 bytes.now) ≡ digits_at limit stop first bytes.now) }
     ensures below { IfSome result (λ value. value < 1_000_000_000) }
     ensures long { IfSome result (λ value. 8 ≤ length bytes.now) }
 {
@@ -72,7 +75,8 @@ fn eight_more(first: u64, bytes: &[u8]) -> Option<u64>
 #[inline(always)]
 fn begin(first: u64, max: u64, stop: u8, bytes: &[u8]) -> (u64, &[u8])
     requires { (9 ≤ max) × (first ≤ 9) }
-    ensures goes_on { digits_at (max + 1) stop result.0 result.1.now ≡ digits_at (max + 1) stop first bytes.now }
+    ensures goes_on { digits_at (max + 1) stop result.0 result.1.now
+        ≡ digits_at (max + 1) stop first bytes.now }
     ensures below { result.0 ≤ max }
 {
     if first == 0 || max <= u32::MAX as u64 || is_digit(stop) {

@@ -33,7 +33,9 @@ pub fn put_numbers<W: Write, F: Fn(usize) -> u64>(
     number: F,
 ) -> Result<(), WriteFault>
     requires { (i : ℕ) → i < count → F.pre number i }
-    ensures text { (numbers : List ℕ) → AreAnswers (F.post number) count numbers → Writes (W.contents out.old) (W.contents out.new) result (numbers_text between.now behind.now numbers) }
+    ensures text { (numbers : List ℕ) → AreAnswers (F.post number) count numbers
+        → Writes (W.contents out.old) (W.contents out.new) result
+        (numbers_text between.now behind.now numbers) }
     ensures asked { IfOk result (λ _. (i : ℕ) → i < count → (answer : ℕ) × F.post number i answer) }
 {
     for i in 0..count {

@@ -41,7 +41,8 @@ pub fn put<W: Write>(out: &mut W, bytes: &[u8]) -> Result<(), WriteFault>
 /// `WriteFault` at the first error or write of 0 bytes. The writer then holds a beginning of the
 /// pieces put together, but not all of it, behind what it held.
 pub fn put_all<W: Write>(out: &mut W, pieces: &[&[u8]]) -> Result<(), WriteFault>
-    ensures { Writes (W.contents out.old) (W.contents out.new) result (flat_map (λ p. p.now) pieces.now) }
+    ensures { Writes (W.contents out.old) (W.contents out.new) result
+        (flat_map (λ p. p.now) pieces.now) }
 {
     for piece in pieces {
         match put(out, piece) {

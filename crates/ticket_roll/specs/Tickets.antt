@@ -1,4 +1,5 @@
--- A roll of numbered tickets, and which of them the clients of a desk were given (this project's own).
+-- A roll of numbered tickets, and which of them the clients of a desk were given (this project's
+-- own).
 use Rattle.std.specs.Prelude.{ℕ, ◌+◌, ◌≤◌, ◌↔◌, ◌==◌, nat_lt, Bool, false, cond, List}
 use Rattle.std.specs.List.{sum_by, count_by}
 use Rattle.ring_model.specs.History.{Works}
@@ -12,7 +13,8 @@ use Rattle.ring_shared.specs.declared.seats.Log.{Log}
 abbrev pub roll_size : ℕ
 roll_size = 60
 
--- its content is how many tickets are gone: the work takes the next one and answers its number, or 0 where none is left
+-- its content is how many tickets are gone: the work takes the next one and answers its number, or
+-- 0 where none is left
 abbrev pub roll : Works ℕ
 roll = record {
   after = λ gone machine order. cond (nat_lt gone roll_size) (gone + 1) gone;

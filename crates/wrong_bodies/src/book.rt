@@ -39,7 +39,8 @@ pub fn passes_under_another_seat<R: Resource + Drop>(
     requires seat { other < seat_limit }
     requires machine { machine < length book.old.now.ring.values }
     requires apart { other ≢ seat }
-    ensures wrong { IfOk result (λ r. IsRecorded R.works book.old book.new seat (Op.Pass machine order) r → ⊥) }
+    ensures wrong { IfOk result
+        (λ r. IsRecorded R.works book.old book.new seat (Op.Pass machine order) r → ⊥) }
 {
     book.pass(other, machine, order)
 }
@@ -55,7 +56,8 @@ pub fn passes_with_another_order<R: Resource + Drop>(
     requires seat { seat < seat_limit }
     requires machine { machine < length book.old.now.ring.values }
     requires apart { other ≢ order }
-    ensures wrong { IfOk result (λ r. IsRecorded R.works book.old book.new seat (Op.Pass machine order) r → ⊥) }
+    ensures wrong { IfOk result
+        (λ r. IsRecorded R.works book.old book.new seat (Op.Pass machine order) r → ⊥) }
 {
     book.pass(seat, machine, other)
 }
@@ -71,7 +73,8 @@ pub fn passes_another_machine<R: Resource + Drop>(
     requires seat { seat < seat_limit }
     requires machine { other < length book.old.now.ring.values }
     requires apart { other ≢ machine }
-    ensures wrong { IfOk result (λ r. IsRecorded R.works book.old book.new seat (Op.Pass machine order) r → ⊥) }
+    ensures wrong { IfOk result
+        (λ r. IsRecorded R.works book.old book.new seat (Op.Pass machine order) r → ⊥) }
 {
     book.pass(seat, other, order)
 }
@@ -85,7 +88,8 @@ pub fn passes_twice<R: Resource + Drop>(
 ) -> Result<Receipt, BookError>
     requires seat { seat < seat_limit }
     requires machine { machine < length book.old.now.ring.values }
-    ensures wrong { IfOk result (λ r. IsRecorded R.works book.old book.new seat (Op.Pass machine order) r → ⊥) }
+    ensures wrong { IfOk result
+        (λ r. IsRecorded R.works book.old book.new seat (Op.Pass machine order) r → ⊥) }
 {
     let first = book.pass(seat, machine, order)?;
     book.pass(seat, machine, order)?;
@@ -99,7 +103,8 @@ pub fn answers_without_an_event<R: Resource + Drop>(
     machine: u32,
     order: u64,
 ) -> Result<Receipt, BookError>
-    ensures wrong { IfOk result (λ r. IsRecorded R.works book.old book.new seat (Op.Pass machine order) r → ⊥) }
+    ensures wrong { IfOk result
+        (λ r. IsRecorded R.works book.old book.new seat (Op.Pass machine order) r → ⊥) }
 {
     Ok(Receipt {
         position: book.history().len() as u64,
@@ -120,7 +125,8 @@ pub fn tells_another_position<R: Resource + Drop>(
 ) -> Result<Receipt, BookError>
     requires seat { seat < seat_limit }
     requires machine { machine < length book.old.now.ring.values }
-    ensures wrong { IfOk result (λ r. IsRecorded R.works book.old book.new seat (Op.Pass machine order) r → ⊥) }
+    ensures wrong { IfOk result
+        (λ r. IsRecorded R.works book.old book.new seat (Op.Pass machine order) r → ⊥) }
 {
     let receipt = book.pass(seat, machine, order)?;
     Ok(Receipt {
@@ -140,7 +146,8 @@ pub fn tells_a_refused_pass_as_granted<R: Resource + Drop>(
     requires seat { seat < seat_limit }
     requires machine { machine < length book.old.now.ring.values }
     requires refused { is_privileged book.old.now.ring.values machine ≡ false }
-    ensures wrong { IfOk result (λ r. IsRecorded R.works book.old book.new seat (Op.Pass machine order) r → ⊥) }
+    ensures wrong { IfOk result
+        (λ r. IsRecorded R.works book.old book.new seat (Op.Pass machine order) r → ⊥) }
 {
     let receipt = book.pass(seat, machine, order)?;
     Ok(replied(
@@ -163,7 +170,8 @@ pub fn tells_a_granted_pass_as_refused<R: Resource + Drop>(
     requires seat { seat < seat_limit }
     requires machine { machine < length book.old.now.ring.values }
     requires granted { is_privileged book.old.now.ring.values machine ≡ true }
-    ensures wrong { IfOk result (λ r. IsRecorded R.works book.old book.new seat (Op.Pass machine order) r → ⊥) }
+    ensures wrong { IfOk result
+        (λ r. IsRecorded R.works book.old book.new seat (Op.Pass machine order) r → ⊥) }
 {
     let receipt = book.pass(seat, machine, order)?;
     Ok(replied(receipt, Reply::NotPrivileged))
@@ -179,7 +187,8 @@ pub fn tells_another_grant<R: Resource + Drop>(
 ) -> Result<Receipt, BookError>
     requires seat { seat < seat_limit }
     requires machine { machine < length book.old.now.ring.values }
-    ensures wrong { IfOk result (λ r. IsRecorded R.works book.old book.new seat (Op.Pass machine order) r → ⊥) }
+    ensures wrong { IfOk result
+        (λ r. IsRecorded R.works book.old book.new seat (Op.Pass machine order) r → ⊥) }
 {
     let receipt = book.pass(seat, machine, order)?;
     let reply = another_grant(receipt.event.reply);
@@ -196,7 +205,8 @@ pub fn tells_another_result<R: Resource + Drop>(
 ) -> Result<Receipt, BookError>
     requires seat { seat < seat_limit }
     requires machine { machine < length book.old.now.ring.values }
-    ensures wrong { IfOk result (λ r. IsRecorded R.works book.old book.new seat (Op.Pass machine order) r → ⊥) }
+    ensures wrong { IfOk result
+        (λ r. IsRecorded R.works book.old book.new seat (Op.Pass machine order) r → ⊥) }
 {
     let receipt = book.pass(seat, machine, order)?;
     let reply = another_result(receipt.event.reply);
@@ -239,7 +249,8 @@ pub fn is_full_one_event_early<R: Resource + Drop>(
     requires seat { seat < seat_limit }
     requires machine { machine < length book.old.now.ring.values }
     requires almost { length book.old.history + 1 ≡ event_limit }
-    ensures wrong { (IsErrOf result BookError.HistoryFull ↔ (length book.old.history ≡ event_limit)) → ⊥ }
+    ensures wrong { (IsErrOf result BookError.HistoryFull ↔ (length book.old.history ≡ event_limit))
+        → ⊥ }
 {
     if book.history().len() + 1 >= EVENT_LIMIT {
         return Err(BookError::HistoryFull);
@@ -257,7 +268,8 @@ pub fn tells_a_full_history_as_want_of_memory<R: Resource + Drop>(
     requires seat { seat < seat_limit }
     requires machine { machine < length book.old.now.ring.values }
     requires full { length book.old.history ≡ event_limit }
-    ensures wrong { (IsErrOf result BookError.HistoryFull ↔ (length book.old.history ≡ event_limit)) → ⊥ }
+    ensures wrong { (IsErrOf result BookError.HistoryFull ↔ (length book.old.history ≡ event_limit))
+        → ⊥ }
 {
     let Ok(receipt) = book.pass(seat, machine, order) else {
         return Err(BookError::OutOfMemory);
@@ -277,7 +289,8 @@ pub fn corrupts_with_another_value<R: Resource + Drop>(
     requires machine { machine < length book.old.now.ring.values }
     requires value { other < book.old.now.ring.k }
     requires apart { other ≢ value }
-    ensures wrong { IfOk result (λ r. IsRecorded R.works book.old book.new seat (Op.Corrupt machine value) r → ⊥) }
+    ensures wrong { IfOk result
+        (λ r. IsRecorded R.works book.old book.new seat (Op.Corrupt machine value) r → ⊥) }
 {
     book.corrupt(seat, machine, other)
 }
@@ -294,7 +307,8 @@ pub fn corrupts_another_machine<R: Resource + Drop>(
     requires machine { other < length book.old.now.ring.values }
     requires value { value < book.old.now.ring.k }
     requires apart { other ≢ machine }
-    ensures wrong { IfOk result (λ r. IsRecorded R.works book.old book.new seat (Op.Corrupt machine value) r → ⊥) }
+    ensures wrong { IfOk result
+        (λ r. IsRecorded R.works book.old book.new seat (Op.Corrupt machine value) r → ⊥) }
 {
     book.corrupt(seat, other, value)
 }
@@ -311,7 +325,8 @@ pub fn corrupts_under_another_seat<R: Resource + Drop>(
     requires machine { machine < length book.old.now.ring.values }
     requires value { value < book.old.now.ring.k }
     requires apart { other ≢ seat }
-    ensures wrong { IfOk result (λ r. IsRecorded R.works book.old book.new seat (Op.Corrupt machine value) r → ⊥) }
+    ensures wrong { IfOk result
+        (λ r. IsRecorded R.works book.old book.new seat (Op.Corrupt machine value) r → ⊥) }
 {
     book.corrupt(other, machine, value)
 }
@@ -328,7 +343,8 @@ pub fn tells_the_new_value<R: Resource + Drop>(
     requires machine { machine < length book.old.now.ring.values }
     requires value { value < book.old.now.ring.k }
     requires apart { slice_index book.old.now.ring.values machine ≢ value }
-    ensures wrong { IfOk result (λ r. IsRecorded R.works book.old book.new seat (Op.Corrupt machine value) r → ⊥) }
+    ensures wrong { IfOk result
+        (λ r. IsRecorded R.works book.old book.new seat (Op.Corrupt machine value) r → ⊥) }
 {
     let receipt = book.corrupt(seat, machine, value)?;
     Ok(replied(receipt, Reply::Corrupted { old: value }))
@@ -343,7 +359,8 @@ pub fn records_a_pass_for_a_corruption<R: Resource + Drop>(
 ) -> Result<Receipt, BookError>
     requires seat { seat < seat_limit }
     requires machine { machine < length book.old.now.ring.values }
-    ensures wrong { IfOk result (λ r. IsRecorded R.works book.old book.new seat (Op.Corrupt machine value) r → ⊥) }
+    ensures wrong { IfOk result
+        (λ r. IsRecorded R.works book.old book.new seat (Op.Corrupt machine value) r → ⊥) }
 {
     book.pass(seat, machine, value as u64)
 }
@@ -362,7 +379,8 @@ pub fn refuses_the_last_place<R: Resource + Drop>(
     more: u32,
 ) -> Result<(), BookError>
     requires just { length book.old.history + more ≡ event_limit }
-    ensures wrong { (IsErrOf result BookError.HistoryFull ↔ (event_limit < length book.old.history + more)) → ⊥ }
+    ensures wrong { (IsErrOf result BookError.HistoryFull
+        ↔ (event_limit < length book.old.history + more)) → ⊥ }
 {
     if book.history().len() + more as usize >= EVENT_LIMIT {
         return Err(BookError::HistoryFull);

@@ -20,7 +20,8 @@ use std::alloc::Global;
 pub fn tells_another_line(alloc: Global, saved: &Saved) -> Result<Summary, CheckError>
     requires few { length (lines (content saved.now)) + 1 < 2 ^ 64 }
     requires bad { IsLegalText (content saved.now) → ⊥ }
-    ensures wrong { result ≢ Err CheckError.OutOfMemory → IsRightCheck (content saved.now) result → ⊥ }
+    ensures wrong { result ≢ Err CheckError.OutOfMemory → IsRightCheck (content saved.now) result
+        → ⊥ }
 {
     match check_saved(alloc, saved) {
         Err(CheckError::Bad { line, kind }) => Err(CheckError::Bad {
@@ -35,7 +36,8 @@ pub fn tells_another_line(alloc: Global, saved: &Saved) -> Result<Summary, Check
 pub fn tells_another_kind(alloc: Global, saved: &Saved) -> Result<Summary, CheckError>
     requires few { length (lines (content saved.now)) + 1 < 2 ^ 64 }
     requires bad { IsLegalText (content saved.now) → ⊥ }
-    ensures wrong { result ≢ Err CheckError.OutOfMemory → IsRightCheck (content saved.now) result → ⊥ }
+    ensures wrong { result ≢ Err CheckError.OutOfMemory → IsRightCheck (content saved.now) result
+        → ⊥ }
 {
     match check_saved(alloc, saved) {
         Err(CheckError::Bad { line, kind }) => Err(CheckError::Bad {
@@ -50,7 +52,8 @@ pub fn tells_another_kind(alloc: Global, saved: &Saved) -> Result<Summary, Check
 pub fn calls_a_bad_text_legal(alloc: Global, saved: &Saved) -> Result<Summary, CheckError>
     requires few { length (lines (content saved.now)) + 1 < 2 ^ 64 }
     requires bad { IsLegalText (content saved.now) → ⊥ }
-    ensures wrong { result ≢ Err CheckError.OutOfMemory → IsRightCheck (content saved.now) result → ⊥ }
+    ensures wrong { result ≢ Err CheckError.OutOfMemory → IsRightCheck (content saved.now) result
+        → ⊥ }
 {
     match check_saved(alloc, saved) {
         Err(CheckError::Bad { .. }) => Ok(Summary {
@@ -68,7 +71,8 @@ pub fn calls_a_bad_text_legal(alloc: Global, saved: &Saved) -> Result<Summary, C
 pub fn calls_a_legal_text_bad(alloc: Global, saved: &Saved) -> Result<Summary, CheckError>
     requires few { length (lines (content saved.now)) + 1 < 2 ^ 64 }
     requires legal { IsLegalText (content saved.now) }
-    ensures wrong { result ≢ Err CheckError.OutOfMemory → IsRightCheck (content saved.now) result → ⊥ }
+    ensures wrong { result ≢ Err CheckError.OutOfMemory → IsRightCheck (content saved.now) result
+        → ⊥ }
 {
     match check_saved(alloc, saved) {
         Ok(_) => Err(CheckError::Bad {
@@ -145,7 +149,9 @@ pub fn calls_a_wrong_count_legal(
 
 /// The granted passes of a block are counted: here all events that are no corruptions, where a pass was refused.
 pub fn counts_refused_passes(events: &[SavedEvent]) -> u64
-    requires some { granted_count (map event_of events.now) + corrupted_count (map event_of events.now) < length events.now }
+    requires some { granted_count (map event_of events.now)
+        + corrupted_count (map event_of events.now)
+        < length events.now }
     ensures wrong { result ≡ granted_count (map event_of events.now) → ⊥ }
 {
     events.len() as u64 - count_events(events).corrupted
@@ -160,7 +166,10 @@ pub fn counts_another_number_of_corruptions(events: &[SavedEvent]) -> u64
 
 /// The table's test says which event may come behind a history: a test that says otherwise of any event does not.
 pub fn tests_groups_in_another_way()
-    ensures wrong { (test : ℕ → List Event → Event → Bool) (n : ℕ) (h : List Event) (e : Event) → test n (run_of h) e ≢ may_come n (run_of h) e → ((test n (run_of h) e ≡ true → MayCome n (run_of h) e.seat e.op) × (MayCome n (run_of h) e.seat e.op → test n (run_of h) e ≡ true)) → ⊥ }
+    ensures wrong { (test : ℕ → List Event → Event → Bool) (n : ℕ) (h : List Event) (e : Event)
+        → test n (run_of h) e ≢ may_come n (run_of h) e
+        → ((test n (run_of h) e ≡ true → MayCome n (run_of h) e.seat e.op)
+        × (MayCome n (run_of h) e.seat e.op → test n (run_of h) e ≡ true)) → ⊥ }
 {
     members_law();
 }

@@ -21,7 +21,8 @@ pub fn passes_a_group_under_another_seat<R: Resource + Drop>(
     requires rising { Rises 0 (length book.old.now.ring.values) machines.now }
     requires some { 1 ≤ length machines.now }
     requires apart { other ≢ seat }
-    ensures wrong { IfOk result (λ r. IsGroupRecorded R.works book.old book.new seat order machines.now r → ⊥) }
+    ensures wrong { IfOk result
+        (λ r. IsGroupRecorded R.works book.old book.new seat order machines.now r → ⊥) }
 {
     let receipt = book.pass_group(other, machines, order)?;
     Ok(receipt)
@@ -39,7 +40,8 @@ pub fn passes_a_group_with_another_order<R: Resource + Drop>(
     requires rising { Rises 0 (length book.old.now.ring.values) machines.now }
     requires some { 1 ≤ length machines.now }
     requires apart { other ≢ order }
-    ensures wrong { IfOk result (λ r. IsGroupRecorded R.works book.old book.new seat order machines.now r → ⊥) }
+    ensures wrong { IfOk result
+        (λ r. IsGroupRecorded R.works book.old book.new seat order machines.now r → ⊥) }
 {
     let receipt = book.pass_group(seat, machines, other)?;
     Ok(receipt)
@@ -58,7 +60,8 @@ pub fn leaves_members_out<R: Resource + Drop>(
     requires some { 1 ≤ length fewer.now }
     requires apart { length fewer.now < length machines.now }
     requires count { length machines.now ≤ machine_limit }
-    ensures wrong { IfOk result (λ r. IsGroupRecorded R.works book.old book.new seat order machines.now r → ⊥) }
+    ensures wrong { IfOk result
+        (λ r. IsGroupRecorded R.works book.old book.new seat order machines.now r → ⊥) }
 {
     let receipt = book.pass_group(seat, fewer, order)?;
     Ok(GroupReceipt {
@@ -81,7 +84,8 @@ pub fn passes_a_group_in_pieces<R: Resource + Drop>(
     requires rising { Rises 0 (length book.old.now.ring.values) others.now }
     requires some { 1 ≤ length others.now }
     requires several { 2 ≤ length machines.now }
-    ensures wrong { IfOk result (λ r. IsGroupRecorded R.works book.old book.new seat order machines.now r → ⊥) }
+    ensures wrong { IfOk result
+        (λ r. IsGroupRecorded R.works book.old book.new seat order machines.now r → ⊥) }
 {
     let receipt = book.pass_group(seat, &[machine], order)?;
     book.pass_group(seat, others, order)?;
@@ -97,7 +101,8 @@ pub fn passes_a_group_as_a_call<R: Resource + Drop>(
 ) -> Result<GroupReceipt, BookError>
     requires seat { seat < seat_limit }
     requires machine { machine < length book.old.now.ring.values }
-    ensures wrong { IfOk result (λ r. IsGroupRecorded R.works book.old book.new seat order (machine ∷ []) r → ⊥) }
+    ensures wrong { IfOk result
+        (λ r. IsGroupRecorded R.works book.old book.new seat order (machine ∷ []) r → ⊥) }
 {
     let receipt = book.pass(seat, machine, order)?;
     Ok(GroupReceipt {
@@ -116,7 +121,8 @@ pub fn tells_another_first_position<R: Resource + Drop>(
     requires seat { seat < seat_limit }
     requires rising { Rises 0 (length book.old.now.ring.values) machines.now }
     requires some { 1 ≤ length machines.now }
-    ensures wrong { IfOk result (λ r. IsGroupRecorded R.works book.old book.new seat order machines.now r → ⊥) }
+    ensures wrong { IfOk result
+        (λ r. IsGroupRecorded R.works book.old book.new seat order machines.now r → ⊥) }
 {
     let receipt = book.pass_group(seat, machines, order)?;
     Ok(GroupReceipt {
@@ -135,7 +141,8 @@ pub fn tells_one_member_less<R: Resource + Drop>(
     requires seat { seat < seat_limit }
     requires rising { Rises 0 (length book.old.now.ring.values) machines.now }
     requires some { 1 ≤ length machines.now }
-    ensures wrong { IfOk result (λ r. IsGroupRecorded R.works book.old book.new seat order machines.now r → ⊥) }
+    ensures wrong { IfOk result
+        (λ r. IsGroupRecorded R.works book.old book.new seat order machines.now r → ⊥) }
 {
     let receipt = book.pass_group(seat, machines, order)?;
     Ok(GroupReceipt {
@@ -155,7 +162,8 @@ pub fn lets_the_whole_ring_pass<R: Resource + Drop>(
     requires seat { seat < seat_limit }
     requires machine { machine < length book.old.now.ring.values }
     requires whole { length machines.now ≡ length book.old.now.ring.values }
-    ensures wrong { IfOk result (λ _. (IsErrOf result GroupError.WholeRing ↔ (length machines.now ≡ length book.old.now.ring.values)) → ⊥) }
+    ensures wrong { IfOk result (λ _. (IsErrOf result GroupError.WholeRing
+        ↔ (length machines.now ≡ length book.old.now.ring.values)) → ⊥) }
 {
     book.pass_group(seat, &[machine], order)
 }
@@ -171,7 +179,8 @@ pub fn tells_the_whole_ring_as_unprivileged<R: Resource + Drop>(
     requires rising { Rises 0 (length book.old.now.ring.values) machines.now }
     requires some { 1 ≤ length machines.now }
     requires whole { length machines.now ≡ length book.old.now.ring.values }
-    ensures wrong { (IsErrOf result GroupError.WholeRing ↔ (length machines.now ≡ length book.old.now.ring.values)) → ⊥ }
+    ensures wrong { (IsErrOf result GroupError.WholeRing
+        ↔ (length machines.now ≡ length book.old.now.ring.values)) → ⊥ }
 {
     let Ok(receipt) = book.pass_group(seat, machines, order) else {
         return Err(GroupError::NotPrivileged(0));
@@ -193,7 +202,9 @@ pub fn tells_another_machine_without_privilege<R: Resource + Drop>(
     requires some { 1 ≤ length machines.now }
     requires fewer { length machines.now ≢ length book.old.now.ring.values }
     requires least { IsLeastWithout book.old.now.ring.values machines.now least }
-    ensures wrong { (IsErrOf result (GroupError.NotPrivileged least) ↔ (length machines.now ≢ length book.old.now.ring.values) × IsLeastWithout book.old.now.ring.values machines.now least) → ⊥ }
+    ensures wrong { (IsErrOf result (GroupError.NotPrivileged least)
+        ↔ (length machines.now ≢ length book.old.now.ring.values)
+        × IsLeastWithout book.old.now.ring.values machines.now least) → ⊥ }
 {
     match book.pass_group(seat, machines, order) {
         Err(GroupError::NotPrivileged(machine)) => {
@@ -210,7 +221,9 @@ pub fn is_full_for_a_group_one_event_early<R: Resource + Drop>(
 ) -> Result<GroupReceipt, GroupError>
     requires able { CanMove book.old.now.ring.values machines.now }
     requires just { length book.old.history + length machines.now ≡ event_limit }
-    ensures wrong { (IsErrOf result GroupError.HistoryFull ↔ CanMove book.old.now.ring.values machines.now × (event_limit < length book.old.history + length machines.now)) → ⊥ }
+    ensures wrong { (IsErrOf result GroupError.HistoryFull
+        ↔ CanMove book.old.now.ring.values machines.now
+        × (event_limit < length book.old.history + length machines.now)) → ⊥ }
 {
     Err(GroupError::HistoryFull)
 }
@@ -222,7 +235,8 @@ pub fn refuses_a_group_with_room<R: Resource + Drop>(
 ) -> Result<GroupReceipt, GroupError>
     requires able { CanMove book.old.now.ring.values machines.now }
     requires room { length machines.now ≤ book.old.room }
-    ensures wrong { (CanMove book.old.now.ring.values machines.now → length machines.now ≤ book.old.room → IsOk result) → ⊥ }
+    ensures wrong { (CanMove book.old.now.ring.values machines.now
+        → length machines.now ≤ book.old.room → IsOk result) → ⊥ }
 {
     Err(GroupError::OutOfMemory)
 }

@@ -50,7 +50,9 @@ pub fn tells_the_state_as_the_start<R: Resource + Drop>(book: &Book<R>) -> &Ring
 #[tactic(auto, using(crate::proofs::Surveys::open_rest))]
 pub fn surveys_no_rest<R: Resource + Drop>(book: &Book<R>) -> Survey
     requires unsettled { is_settled book.now.now.ring.values ≡ false }
-    ensures wrong { result ≡ survey_at R.works (opening book.now.start R.first) book.now.history (length book.now.history) → ⊥ }
+    ensures wrong { result
+        ≡ survey_at R.works (opening book.now.start R.first) book.now.history
+        (length book.now.history) → ⊥ }
 {
     Survey {
         rest: 0,
@@ -61,7 +63,9 @@ pub fn surveys_no_rest<R: Resource + Drop>(book: &Book<R>) -> Survey
 /// A survey tells the rest now: this one that at the start, where the two differ.
 pub fn surveys_the_rest_at_the_start<R: Resource + Drop>(book: &Book<R>) -> Survey
     requires apart { rest book.now.start ≢ rest book.now.now.ring }
-    ensures wrong { result ≡ survey_at R.works (opening book.now.start R.first) book.now.history (length book.now.history) → ⊥ }
+    ensures wrong { result
+        ≡ survey_at R.works (opening book.now.start R.first) book.now.history
+        (length book.now.history) → ⊥ }
 {
     Survey {
         rest: ring_settle::rest(book.start()),
@@ -73,7 +77,9 @@ pub fn surveys_the_rest_at_the_start<R: Resource + Drop>(book: &Book<R>) -> Surv
 #[tactic(auto, using(crate::proofs::Surveys::survey_here))]
 pub fn surveys_machine_0_as_the_first<R: Resource + Drop>(book: &Book<R>) -> Survey
     requires apart { first_privileged book.now.now.ring.values ≢ 0 }
-    ensures wrong { result ≡ survey_at R.works (opening book.now.start R.first) book.now.history (length book.now.history) → ⊥ }
+    ensures wrong { result
+        ≡ survey_at R.works (opening book.now.start R.first) book.now.history
+        (length book.now.history) → ⊥ }
 {
     Survey {
         first: 0,
@@ -85,7 +91,9 @@ pub fn surveys_machine_0_as_the_first<R: Resource + Drop>(book: &Book<R>) -> Sur
 #[tactic(auto, using(crate::proofs::Surveys::survey_here))]
 pub fn surveys_one_privileged_machine<R: Resource + Drop>(book: &Book<R>) -> Survey
     requires unsettled { is_settled book.now.now.ring.values ≡ false }
-    ensures wrong { result ≡ survey_at R.works (opening book.now.start R.first) book.now.history (length book.now.history) → ⊥ }
+    ensures wrong { result
+        ≡ survey_at R.works (opening book.now.start R.first) book.now.history
+        (length book.now.history) → ⊥ }
 {
     Survey {
         privileged: 1,
@@ -95,7 +103,9 @@ pub fn surveys_one_privileged_machine<R: Resource + Drop>(book: &Book<R>) -> Sur
 
 /// A survey tells the calm: this one another.
 pub fn surveys_another_calm<R: Resource + Drop>(book: &Book<R>) -> Survey
-    ensures wrong { result ≡ survey_at R.works (opening book.now.start R.first) book.now.history (length book.now.history) → ⊥ }
+    ensures wrong { result
+        ≡ survey_at R.works (opening book.now.start R.first) book.now.history
+        (length book.now.history) → ⊥ }
 {
     let survey = book.survey();
     Survey {
@@ -107,7 +117,9 @@ pub fn surveys_another_calm<R: Resource + Drop>(book: &Book<R>) -> Survey
 /// A survey stands behind all events: this one tells that it stands before the first.
 pub fn surveys_before_all_events<R: Resource + Drop>(book: &Book<R>) -> Survey
     requires some { 1 ≤ length book.now.history }
-    ensures wrong { result ≡ survey_at R.works (opening book.now.start R.first) book.now.history (length book.now.history) → ⊥ }
+    ensures wrong { result
+        ≡ survey_at R.works (opening book.now.start R.first) book.now.history
+        (length book.now.history) → ⊥ }
 {
     Survey {
         position: 0,
@@ -126,7 +138,9 @@ pub fn keeps_the_calm_over_a_corruption<R: Resource + Drop>(
     requires machine { machine < length book.old.now.ring.values }
     requires value { value < book.old.now.ring.k }
     requires some { 1 ≤ calm book.old.history }
-    ensures wrong { IfOk result (λ s. s ≡ survey_at R.works (opening book.new.start R.first) book.new.history (length book.new.history) → ⊥) }
+    ensures wrong { IfOk result (λ s. s
+        ≡ survey_at R.works (opening book.new.start R.first) book.new.history
+        (length book.new.history) → ⊥) }
 {
     let calm = book.survey().calm;
     book.corrupt(seat, machine, value)?;
@@ -171,7 +185,8 @@ pub fn counts_no_corruption<R: Resource + Drop>(
 
 /// Each granted pass is counted: here another number of them.
 pub fn counts_another_number_of_grants<R: Resource + Drop>(book: &Book<R>) -> u64
-    ensures wrong { result ≡ sum_below (λ i. grants_of i book.now.history) (length book.now.start.values) → ⊥ }
+    ensures wrong { result
+        ≡ sum_below (λ i. grants_of i book.now.history) (length book.now.start.values) → ⊥ }
 {
     another(book.grants().total())
 }
@@ -192,8 +207,11 @@ pub fn counts_the_grants_of_another_machine<R: Resource + Drop>(
 /// The grants of the settled run alone are told: here all, where some stand before it.
 pub fn counts_grants_before_the_settled_run<R: Resource + Drop>(book: &Book<R>, machine: u32) -> u64
     requires machine { machine < length book.now.start.values }
-    requires apart { grants_of machine book.now.history ≢ settled_grants_of R.works (opening book.now.start R.first) machine book.now.history }
-    ensures wrong { result ≡ settled_grants_of R.works (opening book.now.start R.first) machine book.now.history → ⊥ }
+    requires apart { grants_of machine book.now.history
+        ≢ settled_grants_of R.works (opening book.now.start R.first) machine book.now.history }
+    ensures wrong { result
+        ≡ settled_grants_of R.works (opening book.now.start R.first) machine book.now.history
+        → ⊥ }
 {
     book.grants().of(machine)
 }

@@ -18,7 +18,9 @@ pub fn answers_the_other_way<R: Resource + Drop>(
     book: &Book<R>,
     logs: &[ClientLog],
 ) -> Result<bool, AllocError>
-    ensures wrong { IfOk result (λ b. (IsTrue b ↔ All (λ l. Fits R.works (opening book.now.start R.first) book.now.history l.number l.log) logs.now) → ⊥) }
+    ensures wrong { IfOk result (λ b. (IsTrue b
+        ↔ All (λ l. Fits R.works (opening book.now.start R.first) book.now.history l.number l.log)
+        logs.now) → ⊥) }
 {
     Ok(!logs_fit(alloc, book, logs)?)
 }
@@ -28,8 +30,12 @@ pub fn lets_all_logs_fit<R: Resource + Drop>(
     book: &Book<R>,
     logs: &[ClientLog],
 ) -> Result<bool, AllocError>
-    requires mismatch { All (λ l. Fits R.works (opening book.now.start R.first) book.now.history l.number l.log) logs.now → ⊥ }
-    ensures wrong { IfOk result (λ b. (IsTrue b ↔ All (λ l. Fits R.works (opening book.now.start R.first) book.now.history l.number l.log) logs.now) → ⊥) }
+    requires mismatch { All
+        (λ l. Fits R.works (opening book.now.start R.first) book.now.history l.number l.log)
+        logs.now → ⊥ }
+    ensures wrong { IfOk result (λ b. (IsTrue b
+        ↔ All (λ l. Fits R.works (opening book.now.start R.first) book.now.history l.number l.log)
+        logs.now) → ⊥) }
 {
     Ok(true)
 }
@@ -39,8 +45,12 @@ pub fn lets_no_logs_fit<R: Resource + Drop>(
     book: &Book<R>,
     logs: &[ClientLog],
 ) -> Result<bool, AllocError>
-    requires all { All (λ l. Fits R.works (opening book.now.start R.first) book.now.history l.number l.log) logs.now }
-    ensures wrong { IfOk result (λ b. (IsTrue b ↔ All (λ l. Fits R.works (opening book.now.start R.first) book.now.history l.number l.log) logs.now) → ⊥) }
+    requires all { All
+        (λ l. Fits R.works (opening book.now.start R.first) book.now.history l.number l.log)
+        logs.now }
+    ensures wrong { IfOk result (λ b. (IsTrue b
+        ↔ All (λ l. Fits R.works (opening book.now.start R.first) book.now.history l.number l.log)
+        logs.now) → ⊥) }
 {
     Ok(false)
 }
@@ -52,9 +62,15 @@ pub fn leaves_logs_out<R: Resource + Drop>(
     logs: &[ClientLog],
     some: &[ClientLog],
 ) -> Result<bool, AllocError>
-    requires some { All (λ l. Fits R.works (opening book.now.start R.first) book.now.history l.number l.log) some.now }
-    requires mismatch { All (λ l. Fits R.works (opening book.now.start R.first) book.now.history l.number l.log) logs.now → ⊥ }
-    ensures wrong { IfOk result (λ b. (IsTrue b ↔ All (λ l. Fits R.works (opening book.now.start R.first) book.now.history l.number l.log) logs.now) → ⊥) }
+    requires some { All
+        (λ l. Fits R.works (opening book.now.start R.first) book.now.history l.number l.log)
+        some.now }
+    requires mismatch { All
+        (λ l. Fits R.works (opening book.now.start R.first) book.now.history l.number l.log)
+        logs.now → ⊥ }
+    ensures wrong { IfOk result (λ b. (IsTrue b
+        ↔ All (λ l. Fits R.works (opening book.now.start R.first) book.now.history l.number l.log)
+        logs.now) → ⊥) }
 {
     logs_fit(alloc, book, some)
 }
@@ -69,9 +85,12 @@ pub fn lets_a_call_be_lost<R: Resource + Drop>(
     whole: &[ClientLog],
     seat: u32,
 ) -> Result<bool, AllocError>
-    requires whole { whole.now ≡ record { number = seat; log = front.now ++ Entry.Receipt last ∷ [] } ∷ [] }
-    requires fits { Fits R.works (opening book.now.start R.first) book.now.history seat (front.now ++ Entry.Receipt last ∷ []) }
-    ensures wrong { IfOk result (λ b. (IsTrue b ↔ Fits R.works (opening book.now.start R.first) book.now.history seat front.now) → ⊥) }
+    requires whole { whole.now
+        ≡ record { number = seat; log = front.now ++ Entry.Receipt last ∷ [] } ∷ [] }
+    requires fits { Fits R.works (opening book.now.start R.first) book.now.history seat
+        (front.now ++ Entry.Receipt last ∷ []) }
+    ensures wrong { IfOk result (λ b. (IsTrue b
+        ↔ Fits R.works (opening book.now.start R.first) book.now.history seat front.now) → ⊥) }
 {
     logs_fit(alloc, book, whole)
 }
@@ -84,7 +103,9 @@ pub fn lets_a_survey_inside_a_block_fit<R: Resource + Drop>(
     survey: Survey,
 ) -> Result<bool, AllocError>
     requires inside { left_after (take survey.position book.now.history) ≢ 0 }
-    ensures wrong { IfOk result (λ b. (IsTrue b ↔ Fits R.works (opening book.now.start R.first) book.now.history seat (Entry.Survey survey ∷ [])) → ⊥) }
+    ensures wrong { IfOk result (λ b. (IsTrue b
+        ↔ Fits R.works (opening book.now.start R.first) book.now.history seat
+        (Entry.Survey survey ∷ [])) → ⊥) }
 {
     Ok(true)
 }

@@ -28,7 +28,8 @@ pub fn writes_another_value<W: Write>(
     requires fits { Fits (content saved.now) }
     requires apart { content other.now ≢ content saved.now }
     requires known { IsSome (W.contents out.old) }
-    ensures wrong { IfOk result (λ _. Writes (W.contents out.old) (W.contents out.new) result (text (content saved.now)) → ⊥) }
+    ensures wrong { IfOk result (λ _.
+        Writes (W.contents out.old) (W.contents out.new) result (text (content saved.now)) → ⊥) }
 {
     write_saved(other, out)?;
     Ok(())
@@ -44,7 +45,8 @@ pub fn tells_faults_the_other_way<W: Write>(
     requires version { IsVersion saved.now.version }
     requires members { saved.now.version ≡ first_version → HasNoMember (content saved.now) }
     requires known { IsSome (W.contents out.old) }
-    ensures wrong { Writes (W.contents out.old) (W.contents out.new) result (text (content saved.now)) → ⊥ }
+    ensures wrong { Writes (W.contents out.old) (W.contents out.new) result
+        (text (content saved.now)) → ⊥ }
 {
     match write_saved(saved, out) {
         Ok(()) => Err(fault),
@@ -160,7 +162,8 @@ pub fn tells_what_is_cut_short_as_a_bad_line(
 /// The first bad line is told: here another.
 #[tactic(auto, using(crate::proofs::Texts::one_bad_line))]
 pub fn tells_another_bad_line(alloc: Global, bytes: &[u8]) -> Result<Saved, ReadError>
-    ensures wrong { IfErr result (λ error. (line : ℕ) → error ≡ ReadError.Syntax line → IsRightRead bytes.now result → ⊥) }
+    ensures wrong { IfErr result
+        (λ error. (line : ℕ) → error ≡ ReadError.Syntax line → IsRightRead bytes.now result → ⊥) }
 {
     match read_saved(alloc, bytes) {
         Err(ReadError::Syntax(line)) => Err(ReadError::Syntax(another(line))),

@@ -23,7 +23,8 @@ pub fn tells_another_number_of_repairs<R: Resource + Drop>(
     seat: u32,
 ) -> Result<u64, BookError>
     requires { seat < seat_limit }
-    ensures wrong { IfOk result (λ passes. length book.new.history ≡ length book.old.history + passes → ⊥) }
+    ensures wrong { IfOk result
+        (λ passes. length book.new.history ≡ length book.old.history + passes → ⊥) }
 {
     let passes = book.settle(seat)?;
     Ok(another(passes))
@@ -39,7 +40,8 @@ pub fn settles_under_another_seat<R: Resource + Drop>(
     requires seat { other < seat_limit }
     requires apart { other ≢ seat }
     requires unsettled { is_settled book.old.now.ring.values ≡ false }
-    ensures wrong { IfOk result (λ _. (passes : List Event) → IsRepairedBy R.works book.old book.new seat passes → ⊥) }
+    ensures wrong { IfOk result
+        (λ _. (passes : List Event) → IsRepairedBy R.works book.old book.new seat passes → ⊥) }
 {
     book.settle(other)
 }
@@ -53,7 +55,8 @@ pub fn settles_from_another_machine<R: Resource + Drop>(
     requires seat { seat < seat_limit }
     requires machine { machine < length book.old.now.ring.values }
     requires apart { machine ≢ first_privileged book.old.now.ring.values }
-    ensures wrong { IfOk result (λ _. (passes : List Event) → IsRepairedBy R.works book.old book.new seat passes → ⊥) }
+    ensures wrong { IfOk result
+        (λ _. (passes : List Event) → IsRepairedBy R.works book.old book.new seat passes → ⊥) }
 {
     book.pass(seat, machine, 0)?;
     let passes = book.settle(seat)?;
@@ -68,7 +71,8 @@ pub fn settles_with_another_order<R: Resource + Drop>(
 ) -> Result<u64, BookError>
     requires seat { seat < seat_limit }
     requires apart { order ≢ 0 }
-    ensures wrong { IfOk result (λ _. (passes : List Event) → IsRepairedBy R.works book.old book.new seat passes → ⊥) }
+    ensures wrong { IfOk result
+        (λ _. (passes : List Event) → IsRepairedBy R.works book.old book.new seat passes → ⊥) }
 {
     let machine = book.state().first();
     book.pass(seat, machine, order)?;
@@ -83,7 +87,8 @@ pub fn passes_in_a_settled_ring<R: Resource + Drop>(
 ) -> Result<u64, BookError>
     requires seat { seat < seat_limit }
     requires settled { is_settled book.old.now.ring.values ≡ true }
-    ensures wrong { IfOk result (λ _. (is_settled book.old.now.ring.values ≡ true → result ≡ Ok 0) → ⊥) }
+    ensures wrong { IfOk result
+        (λ _. (is_settled book.old.now.ring.values ≡ true → result ≡ Ok 0) → ⊥) }
 {
     let machine = book.state().first();
     book.pass(seat, machine, 0)?;
@@ -96,7 +101,8 @@ pub fn settles_one_pass_late<R: Resource + Drop>(
     seat: u32,
 ) -> Result<u64, BookError>
     requires { seat < seat_limit }
-    ensures wrong { IfOk result (λ _. (passes : List Event) → IsRepairedBy R.works book.old book.new seat passes → ⊥) }
+    ensures wrong { IfOk result
+        (λ _. (passes : List Event) → IsRepairedBy R.works book.old book.new seat passes → ⊥) }
 {
     let passes = book.settle(seat)?;
     let machine = book.state().first();

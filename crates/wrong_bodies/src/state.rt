@@ -62,7 +62,9 @@ pub fn takes_a_value_over_k(
     place: usize,
 ) -> Result<RingState, StateError>
     requires over { IsFirstOver p.now.k values.now place }
-    ensures wrong { IfOk result (λ r. (r ≡ record { k = p.now.k; values = values.now }) × (length values.now ≡ p.now.n) × IsRingState r → ⊥) }
+    ensures wrong { IfOk result (λ r. (r ≡ record { k = p.now.k; values = values.now })
+        × (length values.now ≡ p.now.n)
+        × IsRingState r → ⊥) }
 {
     RingState::from_values(alloc, p, others)
 }

@@ -38,7 +38,9 @@ pub fn bad_text_that_passes<W: Write>(
     bytes: &[u8],
     out: &mut W,
 ) -> Option<Result<(), ToolError<'static>>>
-    ensures wrong { IfSome result (λ answer. OnOk answer ((sums : Summary) × IsLegalSavedText bytes.now sums × Appends (W.contents out.old) (W.contents out.new) (legal_line sums) → ⊥)) }
+    ensures wrong { IfSome result (λ answer. OnOk answer ((sums : Summary)
+        × IsLegalSavedText bytes.now sums
+        × Appends (W.contents out.old) (W.contents out.new) (legal_line sums) → ⊥)) }
 {
     match check_bytes(alloc, bytes, out) {
         Err(ToolError::Bad(_, _)) => Some(Ok(())),
@@ -54,7 +56,8 @@ pub fn legal_text_that_is_told_as_bad<W: Write>(
     line: u64,
     kind: Kind,
 ) -> Option<ToolError<'static>>
-    ensures wrong { IfSome result (λ e. IsCheckRefusal bytes.now (W.contents out.old) (W.contents out.new) e → ⊥) }
+    ensures wrong { IfSome result
+        (λ e. IsCheckRefusal bytes.now (W.contents out.old) (W.contents out.new) e → ⊥) }
 {
     match check_bytes(alloc, bytes, out) {
         Ok(()) => Some(ToolError::Bad(line, kind)),
@@ -69,7 +72,10 @@ pub fn bad_text_with_a_value(
     saved: Saved,
     sums: Summary,
 ) -> Option<Result<(Saved, Summary), ToolError<'static>>>
-    ensures wrong { IfSome result (λ answer. IfOk answer (λ x. (legal : IsLegalSavedText bytes.now x.1) × (legal.content ≡ content x.0) × IsLegalText (content x.0) → ⊥)) }
+    ensures wrong { IfSome result (λ answer.
+        IfOk answer (λ x. (legal : IsLegalSavedText bytes.now x.1)
+        × (legal.content ≡ content x.0)
+        × IsLegalText (content x.0) → ⊥)) }
 {
     match legal_saved(alloc, bytes) {
         Err(ToolError::Bad(_, _)) => Some(Ok((saved, sums))),
@@ -85,7 +91,8 @@ pub fn sums_of_another_text<W: Write>(
 ) -> Result<(), WriteFault>
     requires known { IsSome (W.contents out.old) }
     requires apart { legal_line other.now ≢ legal_line sums.now }
-    ensures wrong { IfOk result (λ _. Writes (W.contents out.old) (W.contents out.new) result (legal_line sums.now) → ⊥) }
+    ensures wrong { IfOk result
+        (λ _. Writes (W.contents out.old) (W.contents out.new) result (legal_line sums.now) → ⊥) }
 {
     write_sums(out, other)?;
     Ok(())
@@ -94,7 +101,8 @@ pub fn sums_of_another_text<W: Write>(
 /// What is read of a file is all that its reader gives: the last byte is cut off.
 pub fn file_that_is_cut<R: Read>(alloc: Global, reader: &mut R, limit: u64) -> Option<Vec<u8>>
     requires known { IsSome (R.remaining reader.old) }
-    ensures wrong { IfSome result (λ bytes. Consumes (R.remaining reader.old) (R.remaining reader.new) bytes.items → ⊥) }
+    ensures wrong { IfSome result
+        (λ bytes. Consumes (R.remaining reader.old) (R.remaining reader.new) bytes.items → ⊥) }
 {
     let Ok(mut bytes) = read_limited(alloc, reader, limit) else {
         return None;
@@ -111,7 +119,8 @@ pub fn file_at_the_limit_that_is_refused<R: Read>(
 ) -> Result<Vec<u8>, ReadFault>
     requires some { 1 ≤ limit }
     requires known { IsSome (R.remaining reader.old) }
-    ensures wrong { IsErrOf result ReadFault.TooLarge → IsOver limit (R.remaining reader.old) (R.remaining reader.new) → ⊥ }
+    ensures wrong { IsErrOf result ReadFault.TooLarge
+        → IsOver limit (R.remaining reader.old) (R.remaining reader.new) → ⊥ }
 {
     read_limited(alloc, reader, limit - 1)
 }
@@ -152,7 +161,8 @@ pub fn file_over_the_limit_that_is_read<R: Read>(
     limit: u64,
 ) -> Option<Vec<u8>>
     requires known { IsSome (R.remaining reader.old) }
-    ensures wrong { IfSome result (λ bytes. Consumes (R.remaining reader.old) (R.remaining reader.new) bytes.items → ⊥) }
+    ensures wrong { IfSome result
+        (λ bytes. Consumes (R.remaining reader.old) (R.remaining reader.new) bytes.items → ⊥) }
 {
     let Err(ReadFault::TooLarge) = read_limited(alloc, reader, limit) else {
         return None;
@@ -163,7 +173,8 @@ pub fn file_over_the_limit_that_is_read<R: Read>(
 /// A whole file is all that its reader gives: the last byte is cut off.
 pub fn whole_file_that_is_cut<R: Read>(alloc: Global, file: &str, reader: &mut R) -> Option<Vec<u8>>
     requires known { IsSome (R.remaining reader.old) }
-    ensures wrong { IfSome result (λ bytes. IsAllOf most_bytes (R.remaining reader.old) (R.remaining reader.new) bytes.items → ⊥) }
+    ensures wrong { IfSome result (λ bytes.
+        IsAllOf most_bytes (R.remaining reader.old) (R.remaining reader.new) bytes.items → ⊥) }
 {
     let Ok(mut bytes) = read_whole(alloc, file, reader) else {
         return None;
@@ -179,7 +190,8 @@ pub fn failed_read_that_is_too_large<R: Read>(
     limit: u64,
 ) -> Option<ReadFault>
     requires known { IsSome (R.remaining reader.old) }
-    ensures wrong { IfSome result (λ _. IsOver limit (R.remaining reader.old) (R.remaining reader.new) → ⊥) }
+    ensures wrong { IfSome result
+        (λ _. IsOver limit (R.remaining reader.old) (R.remaining reader.new) → ⊥) }
 {
     let Err(ReadFault::Failed) = read_limited(alloc, reader, limit) else {
         return None;
@@ -194,7 +206,8 @@ pub fn large_file_that_fails<R: Read>(
     limit: u64,
 ) -> Option<ReadFault>
     requires known { IsSome (R.remaining reader.old) }
-    ensures wrong { IfSome result (λ _. IsWithin limit (R.remaining reader.old) (R.remaining reader.new) → ⊥) }
+    ensures wrong { IfSome result
+        (λ _. IsWithin limit (R.remaining reader.old) (R.remaining reader.new) → ⊥) }
 {
     let Err(ReadFault::TooLarge) = read_limited(alloc, reader, limit) else {
         return None;
@@ -223,7 +236,8 @@ pub fn check_that_is_told_twice<W: Write>(
     out: &mut W,
 ) -> Result<(), ToolError<'static>>
     requires known { IsSome (W.contents out.old) }
-    ensures wrong { OnOk result ((sums : Summary) → IsLegalSavedText bytes.now sums → Appends (W.contents out.old) (W.contents out.new) (legal_line sums) → ⊥) }
+    ensures wrong { OnOk result ((sums : Summary) → IsLegalSavedText bytes.now sums
+        → Appends (W.contents out.old) (W.contents out.new) (legal_line sums) → ⊥) }
 {
     check_bytes(alloc, bytes, out)?;
     check_bytes(alloc, bytes, out)?;

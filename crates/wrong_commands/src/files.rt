@@ -41,7 +41,8 @@ pub fn history_that_is_not_saved<D: Disk, W: Write>(
     requires few { entries_in outcome.now < 2 ^ 64 }
     requires known { IsSome (D.holds _disk.old) }
     requires others { IsHeld (D.holds _disk.old) _file.now (text (saved_of outcome.now)) → ⊥ }
-    ensures wrong { OnOk result (Replaces (D.holds _disk.old) (D.holds _disk.new) _file.now (Some (text (saved_of outcome.now))) → ⊥) }
+    ensures wrong { OnOk result (Replaces (D.holds _disk.old) (D.holds _disk.new) _file.now
+        (Some (text (saved_of outcome.now))) → ⊥) }
 {
     write_report(outcome, out)?;
     Ok(())
@@ -63,7 +64,8 @@ pub fn history_in_another_file<'a, D: Disk, W: Write>(
     requires named { is_dash other.now ≡ false }
     requires apart { IsApart (D.holds disk.old) other.now (Some _file.now) }
     requires others { IsHeld (D.holds disk.old) _file.now (text (saved_of outcome.now)) → ⊥ }
-    ensures wrong { OnOk result (Replaces (D.holds disk.old) (D.holds disk.new) _file.now (Some (text (saved_of outcome.now))) → ⊥) }
+    ensures wrong { OnOk result (Replaces (D.holds disk.old) (D.holds disk.new) _file.now
+        (Some (text (saved_of outcome.now))) → ⊥) }
 {
     save_and_report(alloc, disk, outcome, other, true, out)?;
     Ok(())
@@ -84,7 +86,8 @@ pub fn outcome_that_is_anothers<'a, D: Disk, W: Write>(
     requires few { entries_in other.now < 2 ^ 64 }
     requires known { IsSome (W.contents out.old) }
     requires apart { told quiet other.now ≢ told quiet outcome.now }
-    ensures wrong { OnOk result (Appends (W.contents out.old) (W.contents out.new) (told quiet outcome.now) → ⊥) }
+    ensures wrong { OnOk result
+        (Appends (W.contents out.old) (W.contents out.new) (told quiet outcome.now) → ⊥) }
 {
     save_and_report(alloc, disk, other, file, quiet, out)?;
     Ok(())
@@ -103,7 +106,8 @@ pub fn quiet_run_that_reports<'a, D: Disk, W: Write>(
     requires most { length outcome.now.rings.items ≤ ring_limit }
     requires few { entries_in outcome.now < 2 ^ 64 }
     requires known { IsSome (W.contents out.old) }
-    ensures wrong { OnOk result (Appends (W.contents out.old) (W.contents out.new) (told quiet outcome.now) → ⊥) }
+    ensures wrong { OnOk result
+        (Appends (W.contents out.old) (W.contents out.new) (told quiet outcome.now) → ⊥) }
 {
     save_and_report(alloc, disk, outcome, file, !quiet, out)?;
     Ok(())
@@ -121,7 +125,9 @@ pub fn history_over_the_settings<'a, D: Disk, W: Write>(
     requires most { length outcome.now.rings.items ≤ ring_limit }
     requires few { entries_in outcome.now < 2 ^ 64 }
     requires one { IsApart (D.holds disk.old) words.now.settings.now (history_file words.now) → ⊥ }
-    ensures wrong { OnOk result ((was : Option (List ℕ)) (is : Option (List ℕ)) → IsRunAnswer words.now (D.holds disk.old) (D.holds disk.new) was is (W.contents out.old) (W.contents out.new) → ⊥) }
+    ensures wrong { OnOk result ((was : Option (List ℕ)) (is : Option (List ℕ))
+        → IsRunAnswer words.now (D.holds disk.old) (D.holds disk.new) was is (W.contents out.old)
+        (W.contents out.new) → ⊥) }
 {
     save_and_report(alloc, disk, outcome, words.settings, words.quiet, out)?;
     Ok(())
@@ -140,7 +146,9 @@ pub fn check_of_a_constant<D: Disk, W: Write>(
     requires named { is_dash _words.now.file.now ≡ false }
     requires held { IsHeld (D.holds _disk.now) _words.now.file.now _held.now }
     requires bad { (sums : Summary) → IsLegalSavedText _held.now sums → ⊥ }
-    ensures wrong { OnOk result ((was : Option (List ℕ)) (is : Option (List ℕ)) → IsCheckAnswer _words.now (D.holds _disk.now) was is (W.contents out.old) (W.contents out.new) → ⊥) }
+    ensures wrong { OnOk result ((was : Option (List ℕ)) (is : Option (List ℕ))
+        → IsCheckAnswer _words.now (D.holds _disk.now) was is (W.contents out.old)
+        (W.contents out.new) → ⊥) }
 {
     check_bytes(alloc, constant, out)?;
     Ok(())
@@ -158,7 +166,8 @@ pub fn picture_over_the_history<'a, D: Disk, W: Write, E: Write>(
 ) -> Result<(), ToolError<'a>>
     requires drawn { (bytes : List ℕ) × IsDrawing unread.now bytes drawing.now }
     requires named { is_dash _words.now.picture.now ≡ false }
-    requires one { IsApart (D.holds disk.old) _words.now.file.now (Some _words.now.picture.now) → ⊥ }
+    requires one { IsApart (D.holds disk.old) _words.now.file.now (Some _words.now.picture.now)
+        → ⊥ }
     ensures wrong { OnOk result (IsPictureApart _words.now (D.holds disk.old) → ⊥) }
 {
     hand_over(alloc, disk, drawing, unread, out, err)?;
@@ -175,8 +184,11 @@ pub fn picture_for_nobody<D: Disk, W: Write, E: Write>(
 ) -> Result<(), WriteFault>
     requires known { IsSome (D.holds _disk.old) }
     requires named { is_dash _words.now.picture.now ≡ false }
-    requires others { IsHeld (D.holds _disk.old) _words.now.picture.now (picture_of _words.now drawing.now) → ⊥ }
-    ensures wrong { OnOk result (IsHanded _words.now.picture.now (picture_of _words.now drawing.now) (legal_line drawing.now.sums) (D.holds _disk.old) (D.holds _disk.new) (W.contents out.old) (W.contents out.new) (E.contents _err.old) (E.contents _err.new) → ⊥) }
+    requires others { IsHeld (D.holds _disk.old) _words.now.picture.now
+        (picture_of _words.now drawing.now) → ⊥ }
+    ensures wrong { OnOk result (IsHanded _words.now.picture.now (picture_of _words.now drawing.now)
+        (legal_line drawing.now.sums) (D.holds _disk.old) (D.holds _disk.new) (W.contents out.old)
+        (W.contents out.new) (E.contents _err.old) (E.contents _err.new) → ⊥) }
 {
     write_sums(out, &drawing.sums)?;
     Ok(())

@@ -15,7 +15,8 @@ pub fn tells_a_wait_as_granted(
     number: u64,
     told: u64,
 ) -> Option<Turned>
-    ensures wrong { IfSome result (λ t. IsTurnOfLine served.old line.now (turn_seen_among t.ring served.new t.made) → ⊥) }
+    ensures wrong { IfSome result
+        (λ t. IsTurnOfLine served.old line.now (turn_seen_among t.ring served.new t.made) → ⊥) }
 {
     let Turned { ring, made } = answer_line(alloc, served, line);
     match made.answer {
@@ -37,7 +38,8 @@ pub fn tells_a_wait_as_granted(
 /// The numbers of a ring's grants go on from its history: here they begin at 1. It gives up unless the line is granted a later
 /// number.
 pub fn begins_at_one(alloc: Global, served: &mut Served, line: &[u8]) -> Option<Turned>
-    ensures wrong { IfSome result (λ t. IsTurnOfLine served.old line.now (turn_seen_among t.ring served.new t.made) → ⊥) }
+    ensures wrong { IfSome result
+        (λ t. IsTurnOfLine served.old line.now (turn_seen_among t.ring served.new t.made) → ⊥) }
 {
     let Turned { ring, made } = answer_line(alloc, served, line);
     match made.answer {
@@ -61,7 +63,8 @@ pub fn records_a_refused_call(
     seat: u32,
     survey: Survey,
 ) -> Option<Turned>
-    ensures wrong { IfSome result (λ t. IsTurnOfLine served.old line.now (turn_seen_among t.ring served.new t.made) → ⊥) }
+    ensures wrong { IfSome result
+        (λ t. IsTurnOfLine served.old line.now (turn_seen_among t.ring served.new t.made) → ⊥) }
 {
     let Turned { ring, made } = answer_line(alloc, served, line);
     match (made.answer, made.recorded) {
@@ -79,7 +82,8 @@ pub fn records_a_refused_call(
 
 /// A survey is recorded: here it is not. It gives up unless the line is one.
 pub fn forgets_a_survey(alloc: Global, served: &mut Served, line: &[u8]) -> Option<Turned>
-    ensures wrong { IfSome result (λ t. IsTurnOfLine served.old line.now (turn_seen_among t.ring served.new t.made) → ⊥) }
+    ensures wrong { IfSome result
+        (λ t. IsTurnOfLine served.old line.now (turn_seen_among t.ring served.new t.made) → ⊥) }
 {
     let Turned { ring, made } = answer_line(alloc, served, line);
     match (made.answer, made.recorded) {
@@ -102,7 +106,8 @@ pub fn exchanges_the_rings(
     line: &[u8],
     other: u32,
 ) -> Option<Turned>
-    ensures wrong { IfSome result (λ t. IsTurnOfLine served.old line.now (turn_seen_among t.ring served.new t.made) → ⊥) }
+    ensures wrong { IfSome result
+        (λ t. IsTurnOfLine served.old line.now (turn_seen_among t.ring served.new t.made) → ⊥) }
 {
     let Turned { ring, made } = answer_line(alloc, served, line);
     match (made.answer, made.recorded) {

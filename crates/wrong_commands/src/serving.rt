@@ -18,7 +18,10 @@ pub fn answers_before_the_journal<D: Disk, I: Read>(
     input: &mut I,
     journal: &mut Vec<u8>,
 ) -> Option<Vec<u8>>
-    ensures wrong { IfSome result (λ out. ServesAll true served.old served.new (D.holds disk.old) (D.holds disk.new) (I.remaining input.old) (I.remaining input.new) (record { journal = Some journal.old.items; out = Some [] }) (record { journal = Some journal.new.items; out = Some out.items }) → ⊥) }
+    ensures wrong { IfSome result (λ out. ServesAll true served.old served.new (D.holds disk.old)
+        (D.holds disk.new) (I.remaining input.old) (I.remaining input.new)
+        (record { journal = Some journal.old.items; out = Some [] })
+        (record { journal = Some journal.new.items; out = Some out.items }) → ⊥) }
 {
     let mut out = Vec::new(alloc);
     match serve(

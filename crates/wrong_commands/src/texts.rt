@@ -24,7 +24,8 @@ pub fn text_of_another_outcome<W: Write>(
     requires most { length other.now.rings.items ≤ ring_limit }
     requires known { IsSome (W.contents out.old) }
     requires apart { saved_of other.now ≢ saved_of outcome.now }
-    ensures wrong { IfOk result (λ _. Writes (W.contents out.old) (W.contents out.new) result (text (saved_of outcome.now)) → Fits (saved_of outcome.now) → ⊥) }
+    ensures wrong { IfOk result (λ _. Writes (W.contents out.old) (W.contents out.new) result
+        (text (saved_of outcome.now)) → Fits (saved_of outcome.now) → ⊥) }
 {
     write_outcome(other, out)?;
     Ok(())
@@ -38,7 +39,8 @@ pub fn text_without_its_last_ring<W: Write>(
     requires some { 2 ≤ length outcome.old.rings.items }
     requires most { length outcome.old.rings.items ≤ ring_limit }
     requires known { IsSome (W.contents out.old) }
-    ensures wrong { IfOk result (λ _. Writes (W.contents out.old) (W.contents out.new) result (text (saved_of outcome.old)) → Fits (saved_of outcome.old) → ⊥) }
+    ensures wrong { IfOk result (λ _. Writes (W.contents out.old) (W.contents out.new) result
+        (text (saved_of outcome.old)) → Fits (saved_of outcome.old) → ⊥) }
 {
     outcome.rings.pop();
     write_outcome(outcome, out)?;
@@ -53,7 +55,8 @@ pub fn text_that_is_written_twice<W: Write>(
     requires some { 1 ≤ length outcome.now.rings.items }
     requires most { length outcome.now.rings.items ≤ ring_limit }
     requires known { IsSome (W.contents out.old) }
-    ensures wrong { IfOk result (λ _. Writes (W.contents out.old) (W.contents out.new) result (text (saved_of outcome.now)) → ⊥) }
+    ensures wrong { IfOk result (λ _.
+        Writes (W.contents out.old) (W.contents out.new) result (text (saved_of outcome.now)) → ⊥) }
 {
     write_outcome(outcome, out)?;
     write_outcome(outcome, out)?;
@@ -70,7 +73,8 @@ pub fn text_in_the_first_version<W: Write>(
     requires same { content saved.now ≡ record (saved_of outcome.now) { version = first_version } }
     requires members { HasNoMember (content saved.now) }
     requires known { IsSome (W.contents out.old) }
-    ensures wrong { IfOk result (λ _. Writes (W.contents out.old) (W.contents out.new) result (text (saved_of outcome.now)) → Fits (saved_of outcome.now) → ⊥) }
+    ensures wrong { IfOk result (λ _. Writes (W.contents out.old) (W.contents out.new) result
+        (text (saved_of outcome.now)) → Fits (saved_of outcome.now) → ⊥) }
 {
     write_saved(saved, out)?;
     Ok(())
@@ -82,7 +86,8 @@ pub fn report_without_its_rings<W: Write>(outcome: &Outcome, out: &mut W) -> Res
     requires most { length outcome.now.rings.items ≤ ring_limit }
     requires few { entries_in outcome.now < 2 ^ 64 }
     requires known { IsSome (W.contents out.old) }
-    ensures wrong { IfOk result (λ _. Writes (W.contents out.old) (W.contents out.new) result (report outcome.now) → ⊥) }
+    ensures wrong { IfOk result
+        (λ _. Writes (W.contents out.old) (W.contents out.new) result (report outcome.now) → ⊥) }
 {
     write_total(outcome, out)?;
     Ok(())
@@ -98,7 +103,8 @@ pub fn report_of_another_outcome<W: Write>(
     requires few { entries_in other.now < 2 ^ 64 }
     requires known { IsSome (W.contents out.old) }
     requires apart { report other.now ≢ report outcome.now }
-    ensures wrong { IfOk result (λ _. Writes (W.contents out.old) (W.contents out.new) result (report outcome.now) → ⊥) }
+    ensures wrong { IfOk result
+        (λ _. Writes (W.contents out.old) (W.contents out.new) result (report outcome.now) → ⊥) }
 {
     write_report(other, out)?;
     Ok(())
@@ -114,7 +120,8 @@ pub fn total_of_another_outcome<W: Write>(
     requires few { entries_in other.now < 2 ^ 64 }
     requires known { IsSome (W.contents out.old) }
     requires apart { farm_line other.now ≢ farm_line outcome.now }
-    ensures wrong { IfOk result (λ _. Writes (W.contents out.old) (W.contents out.new) result (farm_line outcome.now) → ⊥) }
+    ensures wrong { IfOk result
+        (λ _. Writes (W.contents out.old) (W.contents out.new) result (farm_line outcome.now) → ⊥) }
 {
     write_total(other, out)?;
     Ok(())
@@ -126,7 +133,8 @@ pub fn total_with_the_rings<W: Write>(outcome: &Outcome, out: &mut W) -> Result<
     requires most { length outcome.now.rings.items ≤ ring_limit }
     requires few { entries_in outcome.now < 2 ^ 64 }
     requires known { IsSome (W.contents out.old) }
-    ensures wrong { IfOk result (λ _. Writes (W.contents out.old) (W.contents out.new) result (farm_line outcome.now) → ⊥) }
+    ensures wrong { IfOk result
+        (λ _. Writes (W.contents out.old) (W.contents out.new) result (farm_line outcome.now) → ⊥) }
 {
     write_report(outcome, out)?;
     Ok(())

@@ -34,7 +34,16 @@ pub fn file_that_is_made_before_the_check<'a, D: CountedDisk, I: Read, W: Write,
     out: &mut W,
     err: &mut E,
 ) -> Result<(), ToolError<'a>>
-    ensures wrong { ((bytes : List ℕ) (c : Content) (sums : Summary) → IsNamed words.now.file.now (D.holds disk.old) (I.remaining input.old) (I.remaining input.new) bytes → IsUpgradeOf bytes c sums → ⊥) → (disk.new ≡ disk.old) ⊎ ((bytes : List ℕ) × (c : Content) × (sums : Summary) × IsNamed words.now.file.now (D.holds disk.old) (I.remaining input.old) (I.remaining input.new) bytes × IsUpgradeOf bytes c sums) → ⊥ }
+    ensures wrong { ((bytes : List ℕ) (c : Content) (sums : Summary)
+        → IsNamed words.now.file.now (D.holds disk.old) (I.remaining input.old)
+        (I.remaining input.new) bytes → IsUpgradeOf bytes c sums → ⊥)
+        → (disk.new ≡ disk.old)
+        ⊎ ((bytes : List ℕ)
+        × (c : Content)
+        × (sums : Summary)
+        × IsNamed words.now.file.now (D.holds disk.old) (I.remaining input.old)
+        (I.remaining input.new) bytes
+        × IsUpgradeOf bytes c sums) → ⊥ }
 {
     let _early = disk.make_counted(words.new);
     upgrade::run(alloc, disk, words, input, out, err)
@@ -51,7 +60,8 @@ pub fn file_that_is_emptied_before_the_check<'a, D: Disk, I: Read, W: Write, E: 
 ) -> Option<ToolError<'a>>
     requires known { IsSome (D.holds disk.old) }
     requires some { IsHeld (D.holds disk.old) words.now.new.now [] → ⊥ }
-    ensures wrong { IfSome result (λ e. e ≢ ToolError.Write → D.holds disk.new ≡ D.holds disk.old → ⊥) }
+    ensures wrong { IfSome result
+        (λ e. e ≢ ToolError.Write → D.holds disk.new ≡ D.holds disk.old → ⊥) }
 {
     let Ok(made) = disk.make(words.new) else {
         return None;

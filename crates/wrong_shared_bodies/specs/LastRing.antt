@@ -6,4 +6,5 @@ use Rattle.ring_farm.specs.Headline.{IsFarmRing}
 
 -- the outcome has all that is promised of the last ring of the settings
 abbrev pub IsLastRing : SettingsData → RingOutcome → Type 0
-IsLastRing settings r = IsFarmRing settings (length settings.rings - 1) (ring_at settings (length settings.rings - 1)) r
+IsLastRing settings r =
+    IsFarmRing settings (length settings.rings - 1) (ring_at settings (length settings.rings - 1)) r

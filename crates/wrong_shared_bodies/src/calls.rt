@@ -20,7 +20,8 @@ pub fn pass_with_another_order<N: Name, R: Resource + Drop, W: Wait>(
 ) -> Result<Receipt, BookError>
     requires machine { machine < length N.start.values }
     requires apart { other ≢ order }
-    ensures wrong { IfOk result (λ r. (r.event.seat ≡ seat.old.number) × (r.event.op ≡ Op.Pass machine order) → ⊥) }
+    ensures wrong { IfOk result
+        (λ r. (r.event.seat ≡ seat.old.number) × (r.event.op ≡ Op.Pass machine order) → ⊥) }
 {
     ring.pass(rt, seat, machine, other)
 }
@@ -36,7 +37,8 @@ pub fn pass_by_another_machine<N: Name, R: Resource + Drop, W: Wait>(
 ) -> Result<Receipt, BookError>
     requires machine { other < length N.start.values }
     requires apart { other ≢ machine }
-    ensures wrong { IfOk result (λ r. (r.event.seat ≡ seat.old.number) × (r.event.op ≡ Op.Pass machine order) → ⊥) }
+    ensures wrong { IfOk result
+        (λ r. (r.event.seat ≡ seat.old.number) × (r.event.op ≡ Op.Pass machine order) → ⊥) }
 {
     ring.pass(rt, seat, other, order)
 }
@@ -52,7 +54,8 @@ pub fn pass_under_another_seat<N: Name, R: Resource + Drop, W: Wait>(
 ) -> Result<Receipt, BookError>
     requires machine { machine < length N.start.values }
     requires apart { other.old.number ≢ seat.now.number }
-    ensures wrong { IfOk result (λ r. (r.event.seat ≡ seat.now.number) × (r.event.op ≡ Op.Pass machine order) → ⊥) }
+    ensures wrong { IfOk result
+        (λ r. (r.event.seat ≡ seat.now.number) × (r.event.op ≡ Op.Pass machine order) → ⊥) }
 {
     ring.pass(rt, other, machine, order)
 }
@@ -68,7 +71,8 @@ pub fn pass_told_to_another_seat<N: Name, R: Resource + Drop, W: Wait>(
 ) -> Result<Receipt, BookError>
     requires machine { machine < length N.start.values }
     requires fresh { seat.now.seen ≡ [] }
-    ensures wrong { IfOk result (λ r. (length seat.now.seen ≡ r.position + 1) × (slice_get seat.now.seen r.position ≡ Some r.event) → ⊥) }
+    ensures wrong { IfOk result (λ r. (length seat.now.seen ≡ r.position + 1)
+        × (slice_get seat.now.seen r.position ≡ Some r.event) → ⊥) }
 {
     ring.pass(rt, other, machine, order)
 }
@@ -92,7 +96,8 @@ pub fn pass_with_an_invented_reply<N: Name, R: Resource + Drop, W: Wait>(
     order: u64,
 ) -> Result<Receipt, BookError>
     requires machine { machine < length N.start.values }
-    ensures wrong { IfOk result (λ r. (length seat.new.seen ≡ r.position + 1) × (slice_get seat.new.seen r.position ≡ Some r.event) → ⊥) }
+    ensures wrong { IfOk result (λ r. (length seat.new.seen ≡ r.position + 1)
+        × (slice_get seat.new.seen r.position ≡ Some r.event) → ⊥) }
 {
     let receipt = ring.pass(rt, seat, machine, order)?;
     Ok(Receipt {
@@ -114,7 +119,8 @@ pub fn pass_at_another_position<N: Name, R: Resource + Drop, W: Wait>(
     order: u64,
 ) -> Result<Receipt, BookError>
     requires machine { machine < length N.start.values }
-    ensures wrong { IfOk result (λ r. (length seat.new.seen ≡ r.position + 1) × (slice_get seat.new.seen r.position ≡ Some r.event) → ⊥) }
+    ensures wrong { IfOk result (λ r. (length seat.new.seen ≡ r.position + 1)
+        × (slice_get seat.new.seen r.position ≡ Some r.event) → ⊥) }
 {
     let receipt = ring.pass(rt, seat, machine, order)?;
     Ok(Receipt {
@@ -189,7 +195,8 @@ pub fn corrupt_with_another_value<N: Name, R: Resource + Drop, W: Wait>(
     requires machine { machine < length N.start.values }
     requires value { other < N.start.k }
     requires apart { other ≢ value }
-    ensures wrong { IfOk result (λ r. (r.event.seat ≡ seat.old.number) × (r.event.op ≡ Op.Corrupt machine value) → ⊥) }
+    ensures wrong { IfOk result
+        (λ r. (r.event.seat ≡ seat.old.number) × (r.event.op ≡ Op.Corrupt machine value) → ⊥) }
 {
     ring.corrupt(rt, seat, machine, other)
 }
@@ -203,7 +210,8 @@ pub fn corrupt_that_passes<N: Name, R: Resource + Drop, W: Wait>(
     value: u32,
 ) -> Result<Receipt, BookError>
     requires machine { machine < length N.start.values }
-    ensures wrong { IfOk result (λ r. (r.event.seat ≡ seat.old.number) × (r.event.op ≡ Op.Corrupt machine value) → ⊥) }
+    ensures wrong { IfOk result
+        (λ r. (r.event.seat ≡ seat.old.number) × (r.event.op ≡ Op.Corrupt machine value) → ⊥) }
 {
     ring.pass(rt, seat, machine, u64::from(value))
 }

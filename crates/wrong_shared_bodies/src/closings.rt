@@ -23,7 +23,9 @@ pub fn logs_in_another_order<N: Name, R: Resource + Drop, W: Wait>(
     seats: Vec<Seat<N>>,
 ) -> Option<Closed<R>>
     requires distinct { IsDistinct eqb (map (λ s. s.number) seats.items) }
-    ensures wrong { IfSome result (λ c. (vec_len c.logs ≡ N.seats) × AreNumbered c.logs.items × All (HasLog c.logs.items) seats.items → ⊥) }
+    ensures wrong { IfSome result (λ c. (vec_len c.logs ≡ N.seats)
+        × AreNumbered c.logs.items
+        × All (HasLog c.logs.items) seats.items → ⊥) }
 {
     let Ok(mut closed) = ring.close(rt, alloc, seats) else {
         return None;
@@ -47,7 +49,9 @@ pub fn log_of_another_seat<N: Name, R: Resource + Drop, W: Wait>(
     seats: Vec<Seat<N>>,
 ) -> Option<Closed<R>>
     requires distinct { IsDistinct eqb (map (λ s. s.number) seats.items) }
-    ensures wrong { IfSome result (λ c. (vec_len c.logs ≡ N.seats) × AreNumbered c.logs.items × All (HasLog c.logs.items) seats.items → ⊥) }
+    ensures wrong { IfSome result (λ c. (vec_len c.logs ≡ N.seats)
+        × AreNumbered c.logs.items
+        × All (HasLog c.logs.items) seats.items → ⊥) }
 {
     let Ok(mut closed) = ring.close(rt, alloc, seats) else {
         return None;
@@ -75,7 +79,9 @@ pub fn log_that_is_not_handed_out<N: Name, R: Resource + Drop, W: Wait>(
 ) -> Result<Closed<R>, CloseFault<N, R>>
     requires distinct { IsDistinct eqb (map (λ s. s.number) seats.items) }
     requires some { 1 ≤ N.seats }
-    ensures wrong { IfOk result (λ c. (vec_len c.logs ≡ N.seats) × AreNumbered c.logs.items × All (HasLog c.logs.items) seats.items → ⊥) }
+    ensures wrong { IfOk result (λ c. (vec_len c.logs ≡ N.seats)
+        × AreNumbered c.logs.items
+        × All (HasLog c.logs.items) seats.items → ⊥) }
 {
     let mut closed = ring.close(rt, alloc, seats)?;
     closed.logs.pop();
@@ -90,7 +96,9 @@ pub fn log_without_its_last_receipt<N: Name, R: Resource + Drop, W: Wait>(
     seats: Vec<Seat<N>>,
 ) -> Option<Closed<R>>
     requires distinct { IsDistinct eqb (map (λ s. s.number) seats.items) }
-    ensures wrong { IfSome result (λ c. All (λ l. Fits R.works (opening N.start R.first) c.book.history l.seat l.entries.items) c.logs.items → ⊥) }
+    ensures wrong { IfSome result (λ c.
+        All (λ l. Fits R.works (opening N.start R.first) c.book.history l.seat l.entries.items)
+        c.logs.items → ⊥) }
 {
     let Ok(mut closed) = ring.close(rt, alloc, seats) else {
         return None;
@@ -142,7 +150,9 @@ pub fn event_that_no_client_was_told<N: Name, R: Resource + Drop, W: Wait>(
 ) -> Option<Closed<R>>
     requires distinct { IsDistinct eqb (map (λ s. s.number) seats.items) }
     requires some { 1 ≤ N.seats }
-    ensures wrong { IfSome result (λ c. All (λ l. length (calls_of l.seat c.book.history) ≡ length (receipts_of l.entries.items)) c.logs.items → ⊥) }
+    ensures wrong { IfSome result (λ c.
+        All (λ l. length (calls_of l.seat c.book.history) ≡ length (receipts_of l.entries.items))
+        c.logs.items → ⊥) }
 {
     let Ok(mut closed) = ring.close(rt, alloc, seats) else {
         return None;
@@ -162,7 +172,8 @@ pub fn missing_seats_told_as_a_mismatch<N: Name, R: Resource + Drop, W: Wait>(
 ) -> Result<Closed<R>, CloseFault<N, R>>
     requires distinct { IsDistinct eqb (map (λ s. s.number) seats.items) }
     requires missing { vec_len seats < N.seats }
-    ensures wrong { (MatchResult result (λ _. ⊥) (λ f. f.reason ≡ CloseReason.SeatsMissing) ↔ vec_len seats < N.seats) → ⊥ }
+    ensures wrong { (MatchResult result (λ _. ⊥) (λ f. f.reason ≡ CloseReason.SeatsMissing)
+        ↔ vec_len seats < N.seats) → ⊥ }
 {
     match ring.close(rt, alloc, seats) {
         Ok(closed) => Ok(closed),
@@ -182,7 +193,9 @@ pub fn fitting_logs_told_as_a_mismatch<N: Name, R: Resource + Drop, W: Wait>(
     seats: Vec<Seat<N>>,
 ) -> Option<Result<Closed<R>, CloseFault<N, R>>>
     requires distinct { IsDistinct eqb (map (λ s. s.number) seats.items) }
-    ensures wrong { IfSome result (λ answer. IfErr answer (λ f. f.reason ≡ CloseReason.Mismatch → All (λ s. Fits R.works (opening N.start R.first) f.book.history s.number s.log) seats.items → ⊥) → ⊥) }
+    ensures wrong { IfSome result (λ answer. IfErr answer (λ f. f.reason ≡ CloseReason.Mismatch
+        → All (λ s. Fits R.works (opening N.start R.first) f.book.history s.number s.log)
+        seats.items → ⊥) → ⊥) }
 {
     let Ok(closed) = ring.close(rt, alloc, seats) else {
         return None;
@@ -203,7 +216,10 @@ pub fn seat_that_is_not_handed_back<N: Name, R: Resource + Drop, W: Wait>(
 ) -> Result<Closed<R>, CloseFault<N, R>>
     requires distinct { IsDistinct eqb (map (λ s. s.number) seats.items) }
     requires some { 1 ≤ vec_len seats }
-    ensures wrong { IfErr result (λ f. (f.book.start ≡ N.start) × IsBook R.works R.first f.book × AreOfSeats N.seats f.book.history × (f.seats.items ≡ seats.items) → ⊥) }
+    ensures wrong { IfErr result (λ f. (f.book.start ≡ N.start)
+        × IsBook R.works R.first f.book
+        × AreOfSeats N.seats f.book.history
+        × (f.seats.items ≡ seats.items) → ⊥) }
 {
     match ring.close(rt, alloc, seats) {
         Ok(closed) => Ok(closed),

@@ -29,7 +29,8 @@ pub fn pass_for_another_seat<R: Resource + Drop>(
     order: u64,
 ) -> Result<Receipt, CallError>
     requires { other ≢ seat }
-    ensures wrong { IfOk result (λ r. IsRecorded R.works ring.old.book ring.new.book seat (op.Pass machine order) r → ⊥) }
+    ensures wrong { IfOk result
+        (λ r. IsRecorded R.works ring.old.book ring.new.book seat (op.Pass machine order) r → ⊥) }
 {
     ring.pass(other, machine, order)
 }
@@ -70,7 +71,8 @@ pub fn group_recorded_machine_by_machine<R: Resource + Drop>(
     machine: u32,
     order: u64,
 ) -> Result<GroupReceipt, CallError>
-    ensures wrong { IfOk result (λ r. IsGroupRecorded R.works ring.old.book ring.new.book seat order (machine ∷ []) r → ⊥) }
+    ensures wrong { IfOk result
+        (λ r. IsGroupRecorded R.works ring.old.book ring.new.book seat order (machine ∷ []) r → ⊥) }
 {
     match ring.pass(seat, machine, order) {
         Ok(receipt) => Ok(GroupReceipt {
@@ -115,7 +117,8 @@ pub fn save_of_another_rings_history<W: Write>(
 ) -> Result<(), WriteFault>
     requires known { IsSome (W.contents out.old) }
     requires apart { text (saved_alone other.now) ≢ text (saved_alone ring.now) }
-    ensures wrong { IfOk result (λ _. Writes (W.contents out.old) (W.contents out.new) result (text (saved_alone ring.now)) → ⊥) }
+    ensures wrong { IfOk result (λ _.
+        Writes (W.contents out.old) (W.contents out.new) result (text (saved_alone ring.now)) → ⊥) }
 {
     other.save(out)?;
     Ok(())
@@ -127,7 +130,8 @@ pub fn survey_that_is_not_logged<R: Resource + Drop>(
     seat: u32,
 ) -> Result<Survey, CallError>
     requires { seat + 1 ≤ length ring.old.clients }
-    ensures wrong { IfOk result (λ s. ring.new.clients ≡ told_more ring.old.clients seat (entry.Survey s ∷ []) → ⊥) }
+    ensures wrong { IfOk result
+        (λ s. ring.new.clients ≡ told_more ring.old.clients seat (entry.Survey s ∷ []) → ⊥) }
 {
     Ok(ring.glance())
 }

@@ -39,7 +39,8 @@ pub fn rings_in_another_order<G: Gate + Sync, W: Threads + Wait + Sync>(
     gate: &G,
 ) -> Option<Outcome>
     requires two { 2 ≤ length settings.now.rings }
-    requires apart { (ring_at settings.now (length settings.now.rings - 2)).start ≢ (ring_at settings.now (length settings.now.rings - 1)).start }
+    requires apart { (ring_at settings.now (length settings.now.rings - 2)).start
+        ≢ (ring_at settings.now (length settings.now.rings - 1)).start }
     ensures wrong { IfSome result (λ o. IsFarmOf settings.now o → ⊥) }
 {
     let Ok(mut outcome) = run_farm(rt, alloc, settings, gate) else {
@@ -185,7 +186,10 @@ pub fn seat_with_anothers_plan<G: Gate + Sync, W: Threads + Wait + Sync>(
     settings: &Settings,
     gate: &G,
 ) -> Option<RingOutcome>
-    requires apart { planned (length settings.now.rings - 1) (plan_of settings.now (length settings.now.seats - 2)) ≢ planned (length settings.now.rings - 1) (plan_of settings.now (length settings.now.seats - 1)) }
+    requires apart { planned (length settings.now.rings - 1)
+        (plan_of settings.now (length settings.now.seats - 2))
+        ≢ planned (length settings.now.rings - 1)
+        (plan_of settings.now (length settings.now.seats - 1)) }
     ensures wrong { IfSome result (λ r. IsLastRing settings.now r → ⊥) }
 {
     let mut ring = last_ring(rt, alloc, settings, gate)?;

@@ -22,7 +22,8 @@ pub fn group_with_another_order<N: Name, R: Resource + Drop, W: Wait>(
     requires rising { Rises 0 (length N.start.values) machines.now }
     requires some { 1 ≤ length machines.now }
     requires apart { other ≢ order }
-    ensures wrong { IfOk result (λ r. IsGroupLogged (length N.start.values) seat.old seat.new order machines.now r → ⊥) }
+    ensures wrong { IfOk result
+        (λ r. IsGroupLogged (length N.start.values) seat.old seat.new order machines.now r → ⊥) }
 {
     let receipt = ring.pass_group(rt, seat, machines, other)?;
     Ok(receipt)
@@ -40,7 +41,8 @@ pub fn group_without_one_machine<N: Name, R: Resource + Drop, W: Wait>(
     requires rising { Rises 0 (length N.start.values) fewer.now }
     requires some { 1 ≤ length fewer.now }
     requires apart { length fewer.now < length machines.now }
-    ensures wrong { IfOk result (λ r. IsGroupLogged (length N.start.values) seat.old seat.new order machines.now r → ⊥) }
+    ensures wrong { IfOk result
+        (λ r. IsGroupLogged (length N.start.values) seat.old seat.new order machines.now r → ⊥) }
 {
     ring.pass_group(rt, seat, fewer, order)
 }
@@ -61,7 +63,8 @@ pub fn group_without_one_receipt<N: Name, R: Resource + Drop, W: Wait>(
     requires apart { length fewer.now < length machines.now }
     requires leaves_out { length machines.now < length N.start.values }
     requires count { count ≡ length machines.now }
-    ensures wrong { IfOk result (λ r. IsGroupLogged (length N.start.values) seat.old seat.new order machines.now r → ⊥) }
+    ensures wrong { IfOk result
+        (λ r. IsGroupLogged (length N.start.values) seat.old seat.new order machines.now r → ⊥) }
 {
     let receipt = ring.pass_group(rt, seat, fewer, order)?;
     Ok(GroupReceipt {
@@ -80,7 +83,8 @@ pub fn group_at_another_position<N: Name, R: Resource + Drop, W: Wait>(
 ) -> Result<GroupReceipt, GroupError>
     requires rising { Rises 0 (length N.start.values) machines.now }
     requires some { 1 ≤ length machines.now }
-    ensures wrong { IfOk result (λ r. IsGroupLogged (length N.start.values) seat.old seat.new order machines.now r → ⊥) }
+    ensures wrong { IfOk result
+        (λ r. IsGroupLogged (length N.start.values) seat.old seat.new order machines.now r → ⊥) }
 {
     let receipt = ring.pass_group(rt, seat, machines, order)?;
     Ok(GroupReceipt {
@@ -100,7 +104,8 @@ pub fn group_that_is_shown_in_pieces<N: Name, R: Resource + Drop, W: Wait>(
     requires rising { Rises 0 (length N.start.values) machines.now }
     requires some { 2 ≤ length machines.now }
     requires leaves_out { length machines.now < length N.start.values }
-    ensures wrong { IfOk result (λ _. IsHistory R.works (opening N.start R.first) (take (length seat.new.seen - 1) seat.new.seen) → ⊥) }
+    ensures wrong { IfOk result (λ _. IsHistory R.works (opening N.start R.first)
+        (take (length seat.new.seen - 1) seat.new.seen) → ⊥) }
 {
     let receipt = ring.pass_group(rt, seat, machines, order)?;
     Ok(receipt)
@@ -117,7 +122,8 @@ pub fn group_refused_as_the_whole_ring<N: Name, R: Resource + Drop, W: Wait>(
     requires rising { Rises 0 (length N.start.values) machines.now }
     requires some { 1 ≤ length machines.now }
     requires leaves_out { length machines.now < length N.start.values }
-    ensures wrong { (IsErrOf result GroupError.WholeRing → length machines.now ≡ length N.start.values) → ⊥ }
+    ensures wrong { (IsErrOf result GroupError.WholeRing
+        → length machines.now ≡ length N.start.values) → ⊥ }
 {
     let _ = ring.pass_group(rt, seat, machines, order);
     Err(GroupError::WholeRing)
@@ -134,7 +140,8 @@ pub fn whole_ring_refused_as_full<N: Name, R: Resource + Drop, W: Wait>(
     requires rising { Rises 0 (length N.start.values) machines.now }
     requires some { 1 ≤ length machines.now }
     requires whole { length machines.now ≡ length N.start.values }
-    ensures wrong { (length machines.now ≡ length N.start.values → IsRefusedFor GroupError.WholeRing result) → ⊥ }
+    ensures wrong { (length machines.now ≡ length N.start.values
+        → IsRefusedFor GroupError.WholeRing result) → ⊥ }
 {
     let _ = ring.pass_group(rt, seat, machines, order);
     Err(GroupError::HistoryFull)

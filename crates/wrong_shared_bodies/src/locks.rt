@@ -21,7 +21,8 @@ pub fn book_records_another_order<N: Name, R: Resource + Drop, W: Wait>(
 ) -> Result<Receipt, BookError>
     requires machine { machine < length N.start.values }
     requires apart { other ≢ order }
-    ensures wrong { IfOk result (λ r. IsCallUnderLock R.works R.first N.start N.seats N.legal locked.old locked.new seat.old seat.new (Op.Pass machine order) r → ⊥) }
+    ensures wrong { IfOk result (λ r. IsCallUnderLock R.works R.first N.start N.seats N.legal
+        locked.old locked.new seat.old seat.new (Op.Pass machine order) r → ⊥) }
 {
     locked.pass(rt, seat, machine, other)
 }
@@ -37,7 +38,8 @@ pub fn book_records_another_seat<N: Name, R: Resource + Drop, W: Wait>(
 ) -> Result<Receipt, BookError>
     requires machine { machine < length N.start.values }
     requires apart { other.old.number ≢ seat.now.number }
-    ensures wrong { IfOk result (λ r. IsCallUnderLock R.works R.first N.start N.seats N.legal locked.old locked.new seat.now seat.now (Op.Pass machine order) r → ⊥) }
+    ensures wrong { IfOk result (λ r. IsCallUnderLock R.works R.first N.start N.seats N.legal
+        locked.old locked.new seat.now seat.now (Op.Pass machine order) r → ⊥) }
 {
     locked.pass(rt, other, machine, order)
 }
@@ -51,7 +53,8 @@ pub fn call_that_is_made_twice<N: Name, R: Resource + Drop, W: Wait>(
     order: u64,
 ) -> Result<Receipt, BookError>
     requires machine { machine < length N.start.values }
-    ensures wrong { IfOk result (λ r. IsCallUnderLock R.works R.first N.start N.seats N.legal locked.old locked.new seat.old seat.new (Op.Pass machine order) r → ⊥) }
+    ensures wrong { IfOk result (λ r. IsCallUnderLock R.works R.first N.start N.seats N.legal
+        locked.old locked.new seat.old seat.new (Op.Pass machine order) r → ⊥) }
 {
     locked.pass(rt, seat, machine, order)?;
     locked.pass(rt, seat, machine, order)
@@ -67,7 +70,8 @@ pub fn call_refused_after_it_was_recorded<N: Name, R: Resource + Drop, W: Wait>(
 ) -> Option<Result<Receipt, BookError>>
     requires machine { machine < length N.start.values }
     requires value { value < N.start.k }
-    ensures wrong { IfSome result (λ answer. IsRefusedUnderLock locked.old locked.new seat.old seat.new answer → ⊥) }
+    ensures wrong { IfSome result
+        (λ answer. IsRefusedUnderLock locked.old locked.new seat.old seat.new answer → ⊥) }
 {
     if locked.corrupt(rt, seat, machine, value).is_err() {
         return None;
@@ -87,7 +91,8 @@ pub fn book_records_another_value<N: Name, R: Resource + Drop, W: Wait>(
     requires machine { machine < length N.start.values }
     requires value { other < N.start.k }
     requires apart { other ≢ value }
-    ensures wrong { IfOk result (λ r. IsCallUnderLock R.works R.first N.start N.seats N.legal locked.old locked.new seat.old seat.new (Op.Corrupt machine value) r → ⊥) }
+    ensures wrong { IfOk result (λ r. IsCallUnderLock R.works R.first N.start N.seats N.legal
+        locked.old locked.new seat.old seat.new (Op.Corrupt machine value) r → ⊥) }
 {
     locked.corrupt(rt, seat, machine, other)
 }
@@ -102,7 +107,8 @@ pub fn book_records_a_group_elsewhere<N: Name, R: Resource + Drop, W: Wait>(
 ) -> Result<GroupReceipt, GroupError>
     requires rising { Rises 0 (length N.start.values) machines.now }
     requires some { 1 ≤ length machines.now }
-    ensures wrong { IfOk result (λ r. IsGroupUnderLock R.works R.first N.start N.seats N.legal locked.old locked.new seat.old seat.new order machines.now r → ⊥) }
+    ensures wrong { IfOk result (λ r. IsGroupUnderLock R.works R.first N.start N.seats N.legal
+        locked.old locked.new seat.old seat.new order machines.now r → ⊥) }
 {
     let receipt = locked.pass_group(rt, seat, machines, order)?;
     Ok(GroupReceipt {

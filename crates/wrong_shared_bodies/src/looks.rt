@@ -16,7 +16,8 @@ pub fn glance_at_the_opening_state<N: Name, R: Resource + Drop>(
     seat: &mut Seat<N>,
 ) -> Survey
     requires some { 1 ≤ length seat.old.seen }
-    ensures wrong { result ≡ survey_at R.works (opening N.start R.first) seat.new.seen (length seat.new.seen) → ⊥ }
+    ensures wrong { result
+        ≡ survey_at R.works (opening N.start R.first) seat.new.seen (length seat.new.seen) → ⊥ }
 {
     let glance = ring.glance(seat);
     Survey {
@@ -30,7 +31,8 @@ pub fn glance_at_another_position<N: Name, R: Resource + Drop>(
     ring: &Ring<N, R>,
     seat: &mut Seat<N>,
 ) -> Survey
-    ensures wrong { result ≡ survey_at R.works (opening N.start R.first) seat.new.seen (length seat.new.seen) → ⊥ }
+    ensures wrong { result
+        ≡ survey_at R.works (opening N.start R.first) seat.new.seen (length seat.new.seen) → ⊥ }
 {
     let glance = ring.glance(seat);
     Survey {
@@ -44,7 +46,8 @@ pub fn glance_at_another_first_machine<N: Name, R: Resource + Drop>(
     ring: &Ring<N, R>,
     seat: &mut Seat<N>,
 ) -> Survey
-    ensures wrong { result ≡ survey_at R.works (opening N.start R.first) seat.new.seen (length seat.new.seen) → ⊥ }
+    ensures wrong { result
+        ≡ survey_at R.works (opening N.start R.first) seat.new.seen (length seat.new.seen) → ⊥ }
 {
     let glance = ring.glance(seat);
     Survey {
@@ -97,7 +100,8 @@ pub fn survey_with_another_rest<N: Name, R: Resource + Drop>(
     ring: &Ring<N, R>,
     seat: &mut Seat<N>,
 ) -> Result<Survey, AllocError>
-    ensures wrong { IfOk result (λ s. s ≡ survey_at R.works (opening N.start R.first) seat.new.seen (length seat.new.seen) → ⊥) }
+    ensures wrong { IfOk result (λ s.
+        s ≡ survey_at R.works (opening N.start R.first) seat.new.seen (length seat.new.seen) → ⊥) }
 {
     let survey = ring.survey(seat)?;
     Ok(Survey {

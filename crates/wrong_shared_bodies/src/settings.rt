@@ -21,7 +21,8 @@ pub fn plans_with_the_injector_first(
     settings: &Settings,
 ) -> Result<Vec<Plan>, AllocError>
     requires apart { plan_of settings.now (length settings.now.seats - 1) ≢ plan_of settings.now 0 }
-    ensures wrong { IfOk result (λ ps. ((seat : ℕ) (d : Plan) → seat < vec_len ps → plan_actions (slice_index_or ps.items seat d) ≡ plan_of settings.now seat) → ⊥) }
+    ensures wrong { IfOk result (λ ps. ((seat : ℕ) (d : Plan) → seat < vec_len ps
+        → plan_actions (slice_index_or ps.items seat d) ≡ plan_of settings.now seat) → ⊥) }
 {
     let mut plans = plans(alloc, settings)?;
     let last = plans.len() - 1;
@@ -51,7 +52,8 @@ pub fn draw_that_takes_a_word_more<G: Rng>(
 ) -> Result<Plan, AllocError>
     requires some { 0 < length rings.now }
     requires most { actions ≤ action_limit }
-    requires moves { (next_u32 (left_after actions (G.stream g.old))).1 ≢ left_after actions (G.stream g.old) }
+    requires moves { (next_u32 (left_after actions (G.stream g.old))).1
+        ≢ left_after actions (G.stream g.old) }
     ensures wrong { IfOk result (λ p. G.stream g.new ≡ left_after actions (G.stream g.old) → ⊥) }
 {
     let plan = draw_plan(alloc, g, role, rings, actions)?;
@@ -69,7 +71,8 @@ pub fn draw_that_corrupts<G: Rng>(
     requires some { 0 < length rings.now }
     requires one { 1 ≤ actions }
     requires most { actions ≤ action_limit }
-    ensures wrong { IfOk result (λ p. p.actions.items ≡ drawn Role.Worker rings.now actions (G.stream g.old) → ⊥) }
+    ensures wrong { IfOk result
+        (λ p. p.actions.items ≡ drawn Role.Worker rings.now actions (G.stream g.old) → ⊥) }
 {
     let plan = draw_plan(alloc, g, Role::Injector, rings, actions)?;
     Ok(plan)
@@ -86,7 +89,8 @@ pub fn draw_of_fewer_actions<G: Rng>(
     requires some { 0 < length rings.now }
     requires one { 1 ≤ actions }
     requires most { actions ≤ action_limit }
-    ensures wrong { IfOk result (λ p. p.actions.items ≡ drawn role rings.now actions (G.stream g.old) → ⊥) }
+    ensures wrong { IfOk result
+        (λ p. p.actions.items ≡ drawn role rings.now actions (G.stream g.old) → ⊥) }
 {
     let plan = draw_plan(alloc, g, role, rings, actions - 1)?;
     Ok(plan)
@@ -106,7 +110,8 @@ pub fn settings_of_other_bytes(
 
 /// The first ring with a fault is told, by its place: another place is told.
 pub fn fault_of_another_ring(alloc: Global, bytes: &[u8]) -> Option<Result<Settings, SettingsError>>
-    ensures wrong { IfSome result (λ answer. IfErr answer (λ e. (e ≢ SettingsError.OutOfMemory → settings_of bytes.now ≡ Err e) → ⊥)) }
+    ensures wrong { IfSome result (λ answer.
+        IfErr answer (λ e. (e ≢ SettingsError.OutOfMemory → settings_of bytes.now ≡ Err e) → ⊥)) }
 {
     match read_settings(alloc, bytes) {
         Err(SettingsError::Ring(place, cause)) => {
@@ -122,7 +127,8 @@ pub fn fault_of_another_entry(
     alloc: Global,
     bytes: &[u8],
 ) -> Option<Result<Settings, SettingsError>>
-    ensures wrong { IfSome result (λ answer. IfErr answer (λ e. (e ≢ SettingsError.OutOfMemory → settings_of bytes.now ≡ Err e) → ⊥)) }
+    ensures wrong { IfSome result (λ answer.
+        IfErr answer (λ e. (e ≢ SettingsError.OutOfMemory → settings_of bytes.now ≡ Err e) → ⊥)) }
 {
     match read_settings(alloc, bytes) {
         Err(SettingsError::Script(seat, place)) => {
@@ -138,7 +144,8 @@ pub fn settings_that_are_refused(
     alloc: Global,
     bytes: &[u8],
 ) -> Option<Result<Settings, SettingsError>>
-    ensures wrong { IfSome result (λ answer. IfErr answer (λ e. (e ≢ SettingsError.OutOfMemory → settings_of bytes.now ≡ Err e) → ⊥)) }
+    ensures wrong { IfSome result (λ answer.
+        IfErr answer (λ e. (e ≢ SettingsError.OutOfMemory → settings_of bytes.now ≡ Err e) → ⊥)) }
 {
     match read_settings(alloc, bytes) {
         Ok(_) => Some(Err(SettingsError::Json)),

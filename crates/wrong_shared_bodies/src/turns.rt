@@ -22,7 +22,8 @@ pub fn turn_by_anothers_machine<N: Name, R: Resource + Drop, W: Wait>(
 ) -> Result<Turn, BookError>
     requires client { other.old.number < turns.now }
     requires apart { other.old.number ≢ seat.now.number }
-    ensures wrong { IfOk result (λ t. IsTurn (spared R.works) (opening N.start R.first) seat.now seat.now order t → ⊥) }
+    ensures wrong { IfOk result
+        (λ t. IsTurn (spared R.works) (opening N.start R.first) seat.now seat.now order t → ⊥) }
 {
     turns.take_turn(rt, other, order)
 }
@@ -35,7 +36,8 @@ pub fn turn_that_was_not_granted<N: Name, R: Resource + Drop, W: Wait>(
     order: u64,
 ) -> Result<Turn, BookError>
     requires client { seat.old.number < turns.now }
-    ensures wrong { IfOk result (λ t. IsTurn (spared R.works) (opening N.start R.first) seat.old seat.new order t → ⊥) }
+    ensures wrong { IfOk result
+        (λ t. IsTurn (spared R.works) (opening N.start R.first) seat.old seat.new order t → ⊥) }
 {
     let turn = turns.take_turn(rt, seat, order)?;
     let event = Event {
@@ -59,7 +61,8 @@ pub fn turn_from_another_place<N: Name, R: Resource + Drop, W: Wait>(
     order: u64,
 ) -> Result<Turn, BookError>
     requires client { seat.old.number < turns.now }
-    ensures wrong { IfOk result (λ t. IsTurn (spared R.works) (opening N.start R.first) seat.old seat.new order t → ⊥) }
+    ensures wrong { IfOk result
+        (λ t. IsTurn (spared R.works) (opening N.start R.first) seat.old seat.new order t → ⊥) }
 {
     let turn = turns.take_turn(rt, seat, order)?;
     Ok(Turn {
@@ -76,7 +79,8 @@ pub fn wait_in_which_its_machine_was_granted<N: Name, R: Resource + Drop, W: Wai
     order: u64,
 ) -> Result<Turn, BookError>
     requires client { seat.old.number < turns.now }
-    ensures wrong { IfOk result (λ t. HasWaited (spared R.works) (opening N.start R.first) seat.new.seen seat.old.number t.asked_at t.receipt.position → ⊥) }
+    ensures wrong { IfOk result (λ t. HasWaited (spared R.works) (opening N.start R.first)
+        seat.new.seen seat.old.number t.asked_at t.receipt.position → ⊥) }
 {
     let first = turns.take_turn(rt, seat, order)?;
     let second = turns.take_turn(rt, seat, order)?;

@@ -26,10 +26,12 @@ impl<R: Resource + Drop> Book<R> {
     pub fn pass(&mut self, seat: u32, machine: u32, order: u64) -> Result<Receipt, BookError>
         requires seat { seat < seat_limit }
         requires machine { machine < length self.old.now.ring.values }
-        ensures ok { IfOk result (λ r. IsRecorded R.works self.old self.new seat (Op.Pass machine order) r) }
+        ensures ok { IfOk result
+            (λ r. IsRecorded R.works self.old self.new seat (Op.Pass machine order) r) }
         ensures book { IsBook R.works R.first self.new }
         ensures settlement { Settlement R.works (opening self.new.start R.first) self.new.history }
-        ensures full { IsErrOf result BookError.HistoryFull ↔ (length self.old.history ≡ event_limit) }
+        ensures full { IsErrOf result BookError.HistoryFull
+            ↔ (length self.old.history ≡ event_limit) }
         ensures err { OnErr result (self.new ≡ self.old) }
         ensures succeeds { 1 ≤ self.old.room → IsOk result }
         ensures room { OnOk result (self.old.room ≤ self.new.room + 1) }
@@ -60,10 +62,12 @@ impl<R: Resource + Drop> Book<R> {
         requires seat { seat < seat_limit }
         requires machine { machine < length self.old.now.ring.values }
         requires value { value < self.old.now.ring.k }
-        ensures ok { IfOk result (λ r. IsRecorded R.works self.old self.new seat (Op.Corrupt machine value) r) }
+        ensures ok { IfOk result
+            (λ r. IsRecorded R.works self.old self.new seat (Op.Corrupt machine value) r) }
         ensures book { IsBook R.works R.first self.new }
         ensures settlement { Settlement R.works (opening self.new.start R.first) self.new.history }
-        ensures full { IsErrOf result BookError.HistoryFull ↔ (length self.old.history ≡ event_limit) }
+        ensures full { IsErrOf result BookError.HistoryFull
+            ↔ (length self.old.history ≡ event_limit) }
         ensures err { OnErr result (self.new ≡ self.old) }
         ensures succeeds { 1 ≤ self.old.room → IsOk result }
         ensures room { OnOk result (self.old.room ≤ self.new.room + 1) }
@@ -95,7 +99,8 @@ impl<R: Resource + Drop> Book<R> {
         ensures same { self.new ≡ record self.old { room = self.new.room } }
         ensures grows { self.old.room ≤ self.new.room }
         ensures book { IsBook R.works R.first self.new }
-        ensures full { IsErrOf result BookError.HistoryFull ↔ (event_limit < length self.old.history + more) }
+        ensures full { IsErrOf result BookError.HistoryFull
+            ↔ (event_limit < length self.old.history + more) }
         ensures succeeds { more ≤ self.old.room → IsOk result }
         ensures err { OnErr result (self.new ≡ self.old) }
     {
@@ -111,14 +116,17 @@ impl<R: Resource + Drop> Book<R> {
     /// As for `pass`. The passes that were granted until then stay recorded.
     pub fn settle(&mut self, seat: u32) -> Result<u64, BookError>
         requires { seat < seat_limit }
-        ensures repairs { (passes : List Event) × IsRepairedBy R.works self.old self.new seat passes }
+        ensures repairs { (passes : List Event)
+            × IsRepairedBy R.works self.old self.new seat passes }
         ensures ok { OnOk result (is_settled self.new.now.ring.values ≡ true) }
-        ensures number { IfOk result (λ passes. length self.new.history ≡ length self.old.history + passes) }
+        ensures number { IfOk result
+            (λ passes. length self.new.history ≡ length self.old.history + passes) }
         ensures few { IfOk result (λ passes. passes ≤ rest self.old.now.ring) }
         ensures none { is_settled self.old.now.ring.values ≡ true → result ≡ Ok 0 }
         ensures book { IsBook R.works R.first self.new }
         ensures settlement { Settlement R.works (opening self.new.start R.first) self.new.history }
-        ensures full { IfErr result (λ e. (e ≡ BookError.HistoryFull) ↔ (length self.new.history ≡ event_limit)) }
+        ensures full { IfErr result
+            (λ e. (e ≡ BookError.HistoryFull) ↔ (length self.new.history ≡ event_limit)) }
         ensures err { OnErr result (is_settled self.new.now.ring.values ≡ false) }
         ensures succeeds { rest self.old.now.ring ≤ self.old.room → IsOk result }
     {

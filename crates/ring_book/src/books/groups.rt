@@ -56,14 +56,22 @@ impl<R: Resource + Drop> Book<R> {
         requires seat { seat < seat_limit }
         requires rising { Rises 0 (length self.old.now.ring.values) machines.now }
         requires some { 1 ≤ length machines.now }
-        ensures ok { IfOk result (λ r. IsGroupRecorded R.works self.old self.new seat order machines.now r) }
+        ensures ok { IfOk result
+            (λ r. IsGroupRecorded R.works self.old self.new seat order machines.now r) }
         ensures book { IsBook R.works R.first self.new }
         ensures settlement { Settlement R.works (opening self.new.start R.first) self.new.history }
-        ensures whole { IsErrOf result GroupError.WholeRing ↔ (length machines.now ≡ length self.old.now.ring.values) }
-        ensures unprivileged { (m : ℕ) → IsErrOf result (GroupError.NotPrivileged m) ↔ (length machines.now ≢ length self.old.now.ring.values) × IsLeastWithout self.old.now.ring.values machines.now m }
-        ensures full { IsErrOf result GroupError.HistoryFull ↔ CanMove self.old.now.ring.values machines.now × (event_limit < length self.old.history + length machines.now) }
+        ensures whole { IsErrOf result GroupError.WholeRing
+            ↔ (length machines.now ≡ length self.old.now.ring.values) }
+        ensures unprivileged { (m : ℕ)
+            → IsErrOf result (GroupError.NotPrivileged m)
+            ↔ (length machines.now ≢ length self.old.now.ring.values)
+            × IsLeastWithout self.old.now.ring.values machines.now m }
+        ensures full { IsErrOf result GroupError.HistoryFull
+            ↔ CanMove self.old.now.ring.values machines.now
+            × (event_limit < length self.old.history + length machines.now) }
         ensures err { OnErr result (self.new ≡ self.old) }
-        ensures succeeds { CanMove self.old.now.ring.values machines.now → length machines.now ≤ self.old.room → IsOk result }
+        ensures succeeds { CanMove self.old.now.ring.values machines.now
+            → length machines.now ≤ self.old.room → IsOk result }
         ensures room { OnOk result (self.old.room ≤ self.new.room + length machines.now) }
     {
         if machines.len() == self.parts.ring.params().n() as usize {

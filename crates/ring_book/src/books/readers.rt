@@ -54,11 +54,14 @@ impl<R: Resource + Drop> Book<R> {
 
     /// What a reader learns of the ring behind all events.
     pub fn survey(&self) -> Survey
-        ensures is { result ≡ survey_at R.works (opening self.now.start R.first) self.now.history (length self.now.history) }
+        ensures is { result
+            ≡ survey_at R.works (opening self.now.start R.first) self.now.history
+            (length self.now.history) }
         ensures book { IsBook R.works R.first self.now }
         ensures settlement { Settlement R.works (opening self.now.start R.first) self.now.history }
         ensures progress { Progress R.works (opening self.now.start R.first) self.now.history }
-        ensures calm { bound (length self.now.start.values) ≤ result.calm → (result.privileged ≡ 1) × (result.rest ≡ 0) }
+        ensures calm { bound (length self.now.start.values) ≤ result.calm
+            → (result.privileged ≡ 1) × (result.rest ≡ 0) }
     {
         let privileged = self.parts.ring.privileged();
         Survey {
@@ -80,7 +83,8 @@ impl<R: Resource + Drop> Book<R> {
 
     /// The granted passes of the history.
     pub fn grants(&self) -> &GrantBook
-        ensures is { IsGrantsOf R.works (opening self.now.start R.first) self.now.history (length self.now.start.values) result.now }
+        ensures is { IsGrantsOf R.works (opening self.now.start R.first) self.now.history
+            (length self.now.start.values) result.now }
         ensures book { IsBook R.works R.first self.now }
     {
         self.parts.tally.grants()

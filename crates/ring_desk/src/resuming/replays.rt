@@ -25,7 +25,10 @@ fn replay_pass(
 ) -> Result<usize, ResumeError>
     ensures count { IfOk result (λ n. n ≡ 1) }
     ensures kept { OnOk result (Keeps ring.old ring.new) }
-    ensures goes { (e : Event) (es : List Event) → e.seat ≡ seat → e.op ≡ op.Pass machine order → Goes ring.old (e ∷ es) → IfOk result (λ _. Went ring.old ring.new (e ∷ []) × Goes ring.new es) × IfErr result (λ x. IsWantOfMemory x) }
+    ensures goes { (e : Event) (es : List Event) → e.seat ≡ seat → e.op ≡ op.Pass machine order
+        → Goes ring.old (e ∷ es)
+        → IfOk result (λ _. Went ring.old ring.new (e ∷ []) × Goes ring.new es)
+        × IfErr result (λ x. IsWantOfMemory x) }
 {
     match ring.pass(seat, machine, order) {
         Ok(_) => Ok(1),
@@ -42,7 +45,10 @@ fn replay_fault(
 ) -> Result<usize, ResumeError>
     ensures count { IfOk result (λ n. n ≡ 1) }
     ensures kept { OnOk result (Keeps ring.old ring.new) }
-    ensures goes { (e : Event) (es : List Event) → e.seat ≡ seat → e.op ≡ op.Corrupt machine value → Goes ring.old (e ∷ es) → IfOk result (λ _. Went ring.old ring.new (e ∷ []) × Goes ring.new es) × IfErr result (λ x. IsWantOfMemory x) }
+    ensures goes { (e : Event) (es : List Event) → e.seat ≡ seat → e.op ≡ op.Corrupt machine value
+        → Goes ring.old (e ∷ es)
+        → IfOk result (λ _. Went ring.old ring.new (e ∷ []) × Goes ring.new es)
+        × IfErr result (λ x. IsWantOfMemory x) }
 {
     match ring.corrupt(seat, machine, value) {
         Ok(_) => Ok(1),
@@ -61,7 +67,12 @@ fn replay_group(
     requires some { 1 ≤ length members.now }
     ensures count { IfOk result (λ n. n ≡ length members.now) }
     ensures kept { OnOk result (Keeps ring.old ring.new) }
-    ensures goes { (ms : List ℕ) (es : List Event) → IsBlockOf (length ring.old.book.start.values) seat order ms (map event_of members.now) → IsWhole (length ring.old.book.start.values) es → Goes ring.old (map event_of members.now ++ es) → IfOk result (λ _. Went ring.old ring.new (map event_of members.now) × Goes ring.new es) × IfErr result (λ x. IsWantOfMemory x) }
+    ensures goes { (ms : List ℕ) (es : List Event)
+        → IsBlockOf (length ring.old.book.start.values) seat order ms (map event_of members.now)
+        → IsWhole (length ring.old.book.start.values) es
+        → Goes ring.old (map event_of members.now ++ es)
+        → IfOk result (λ _. Went ring.old ring.new (map event_of members.now) × Goes ring.new es)
+        × IfErr result (λ x. IsWantOfMemory x) }
 {
     let Ok(machines) = machines_of(alloc, members) else {
         return Err(ResumeError::OutOfMemory);
@@ -81,7 +92,10 @@ fn replay_call(
     requires some { 1 ≤ length events.now }
     ensures kept { OnOk result (Keeps ring.old ring.new) }
     ensures count { IfOk result (λ n. (1 ≤ n) × (n ≤ length events.now)) }
-    ensures goes { Goes ring.old (map event_of events.now) → IfOk result (λ n. Went ring.old ring.new (take n (map event_of events.now)) × Goes ring.new (drop n (map event_of events.now))) × IfErr result (λ x. IsWantOfMemory x) }
+    ensures goes { Goes ring.old (map event_of events.now)
+        → IfOk result (λ n. Went ring.old ring.new (take n (map event_of events.now))
+        × Goes ring.new (drop n (map event_of events.now)))
+        × IfErr result (λ x. IsWantOfMemory x) }
 {
     match events[0] {
         SavedEvent::Granted {
@@ -120,7 +134,10 @@ pub(crate) fn replay(
     events: &[SavedEvent],
 ) -> Result<(), ResumeError>
     ensures kept { OnOk result (Keeps ring.old ring.new) }
-    ensures goes { Goes ring.old (map event_of events.now) → IfOk result (λ _. Went ring.old ring.new (map event_of events.now) × IsOneThreadRing till 0 ring.new) × IfErr result (λ x. IsWantOfMemory x) }
+    ensures goes { Goes ring.old (map event_of events.now)
+        → IfOk result (λ _.
+        Went ring.old ring.new (map event_of events.now) × IsOneThreadRing till 0 ring.new)
+        × IfErr result (λ x. IsWantOfMemory x) }
 {
     let mut place = 0;
     for _ in 0..events.len() {

@@ -69,7 +69,8 @@ pub(crate) fn by_place(
     surveys: &[SavedSurvey],
 ) -> Result<Vec<SavedSurvey>, AllocError>
     ensures climbs { IfOk result (λ v. Climbs 0 v.items) }
-    ensures places { IfOk result (λ v. (place : ℕ) → filter (stands_at place) v.items ≡ filter (stands_at place) surveys.now) }
+    ensures places { IfOk result (λ v.
+        (place : ℕ) → filter (stands_at place) v.items ≡ filter (stands_at place) surveys.now) }
     ensures same { IfOk result (λ v. IsPermutation surveys.now v.items) }
 {
     let mut sorted = Vec::from_slice(alloc, surveys)?;
@@ -85,7 +86,12 @@ fn replay_until(
     until: u64,
 ) -> Result<(), ResumeError>
     ensures kept { OnOk result (Keeps ring.old ring.new) }
-    ensures goes { Awaits ring.old (map event_of events.now) [] → length ring.old.book.history ≤ until → until ≤ length events.now → left_after (take until (map event_of events.now)) ≡ 0 → IfOk result (λ _. (ring.new.book.history ≡ take until (map event_of events.now)) × Surveyed ring.old ring.new [] × IsOneThreadRing till 0 ring.new) × IfErr result (λ x. IsWantOfMemory x) }
+    ensures goes { Awaits ring.old (map event_of events.now) [] → length ring.old.book.history ≤ until
+        → until ≤ length events.now → left_after (take until (map event_of events.now)) ≡ 0
+        → IfOk result (λ _. (ring.new.book.history ≡ take until (map event_of events.now))
+        × Surveyed ring.old ring.new []
+        × IsOneThreadRing till 0 ring.new)
+        × IfErr result (λ x. IsWantOfMemory x) }
 {
     let place = ring.history_length();
     if until < place || (events.len() as u64) < until {
@@ -102,7 +108,10 @@ fn replay_survey(
     survey: SavedSurvey,
 ) -> Result<(), ResumeError>
     ensures kept { OnOk result (Keeps ring.old ring.new) }
-    ensures goes { (ss : List SavedSurvey) → Awaits ring.old (map event_of events.now) (survey ∷ ss) → IfOk result (λ _. Awaits ring.new (map event_of events.now) ss × Surveyed ring.old ring.new (survey ∷ [])) × IfErr result (λ x. IsWantOfMemory x) }
+    ensures goes { (ss : List SavedSurvey) → Awaits ring.old (map event_of events.now) (survey ∷ ss)
+        → IfOk result (λ _.
+        Awaits ring.new (map event_of events.now) ss × Surveyed ring.old ring.new (survey ∷ []))
+        × IfErr result (λ x. IsWantOfMemory x) }
 {
     match replay_until(alloc, ring, events, survey.position) {
         Ok(()) => match ring.survey(survey.seat) {
@@ -121,7 +130,11 @@ pub(crate) fn replay_all(
     surveys: &[SavedSurvey],
 ) -> Result<(), ResumeError>
     ensures kept { OnOk result (Keeps ring.old ring.new) }
-    ensures goes { Awaits ring.old (map event_of events.now) surveys.now → IfOk result (λ _. (ring.new.book.history ≡ map event_of events.now) × Surveyed ring.old ring.new surveys.now × IsOneThreadRing till 0 ring.new) × IfErr result (λ x. IsWantOfMemory x) }
+    ensures goes { Awaits ring.old (map event_of events.now) surveys.now
+        → IfOk result (λ _. (ring.new.book.history ≡ map event_of events.now)
+        × Surveyed ring.old ring.new surveys.now
+        × IsOneThreadRing till 0 ring.new)
+        × IfErr result (λ x. IsWantOfMemory x) }
 {
     for survey in surveys {
         match replay_survey(alloc, ring, events, *survey) {
