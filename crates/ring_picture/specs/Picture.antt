@@ -141,8 +141,7 @@ curve_height b from columns = height_of (highest_rest b from columns) (bound b.n
 -- the head of the file, lines that are as thick in each part of the page, and a white page
 abbrev pub page_opening : List ℕ
 page_opening =
-    codes "<svg xmlns=\"http://www.w3.org/2000/svg\" viewBox=\"0 0 1000 640\"
-    font-family=\"sans-serif\" font-size=\"15\">\n"
+    codes "<svg xmlns=\"http://www.w3.org/2000/svg\" viewBox=\"0 0 1000 640\" font-family=\"sans-serif\" font-size=\"15\">\n"
 
 abbrev pub line_style : List ℕ
 line_style = codes "<style>rect,path,polyline{vector-effect:non-scaling-stroke}</style>\n"
@@ -156,26 +155,26 @@ abbrev pub title_text : Block → ℕ → ℕ → List ℕ
 title_text b from count =
     page_opening
     ++ (line_style
-      ++ (white_page
-        ++ (codes "<text x=\"70\" y=\"36\" font-size=\"22\">ring "
-          ++ (decimal b.index
-            ++ (codes ": n "
-              ++ (decimal b.n
-                ++ (codes ", K "
-                  ++ (decimal b.k
-                    ++ (codes "</text>\n<text x=\"70\" y=\"62\">events "
-                      ++ (decimal from
-                        ++ (codes " to "
-                          ++ (decimal (from + count)
-                            ++ (codes " of "
-                              ++ (decimal (length b.events)
-                                ++ (codes ", granted "
-                                  ++ (decimal (granted_count (history b))
-                                    ++ (codes ", corrupted "
-                                      ++ (decimal (corrupted_count (history b))
-                                        ++ (codes ", surveys "
-                                          ++ (decimal (length b.surveys)
-                                            ++ codes "</text>\n"))))))))))))))))))))
+    ++ (white_page
+    ++ (codes "<text x=\"70\" y=\"36\" font-size=\"22\">ring "
+    ++ (decimal b.index
+    ++ (codes ": n "
+    ++ (decimal b.n
+    ++ (codes ", K "
+    ++ (decimal b.k
+    ++ (codes "</text>\n<text x=\"70\" y=\"62\">events "
+    ++ (decimal from
+    ++ (codes " to "
+    ++ (decimal (from + count)
+    ++ (codes " of "
+    ++ (decimal (length b.events)
+    ++ (codes ", granted "
+    ++ (decimal (granted_count (history b))
+    ++ (codes ", corrupted "
+    ++ (decimal (corrupted_count (history b))
+    ++ (codes ", surveys "
+    ++ (decimal (length b.surveys)
+    ++ codes "</text>\n"))))))))))))))))))))
 
 -- five ticks of equal distance, and the names of the axes
 abbrev pub ticks : List ℕ
@@ -183,16 +182,14 @@ ticks = codes "<path d=\"M70 380v5M295 380v5M520 380v5M745 380v5M970 380v5\" str
 
 abbrev pub machine_axis : List ℕ
 machine_axis =
-    codes "<text x=\"24\" y=\"230\" text-anchor=\"middle\"
-    transform=\"rotate(-90 24 230)\">machine</text>\n"
+    codes "<text x=\"24\" y=\"230\" text-anchor=\"middle\" transform=\"rotate(-90 24 230)\">machine</text>\n"
 
 abbrev pub first_machine : List ℕ
 first_machine = codes "<text x=\"62\" y=\"94\" text-anchor=\"end\">0</text>\n"
 
 abbrev pub event_axis : List ℕ
 event_axis =
-    codes "<text x=\"520\" y=\"402\" text-anchor=\"middle\">granted passes and other
-    events</text>\n"
+    codes "<text x=\"520\" y=\"402\" text-anchor=\"middle\">granted passes and other events</text>\n"
 
 -- the axes: with the ticks and the names, the first and the last machine, the first and the last
 -- place, and the number at the top of the curves and 0
@@ -200,30 +197,28 @@ abbrev pub axes_text : ℕ → ℕ → ℕ → ℕ → List ℕ
 axes_text n from count height =
     ticks
     ++ (machine_axis
-      ++ (first_machine
-        ++ (codes "<text x=\"62\" y=\"380\" text-anchor=\"end\">"
-          ++ (decimal (n - 1)
-            ++ (codes "</text>\n<text x=\"70\" y=\"402\">"
-              ++ (decimal from
-                ++ (codes "</text>\n"
-                  ++ (event_axis
-                    ++ (codes "<text x=\"970\" y=\"402\" text-anchor=\"end\">"
-                      ++ (decimal (from + count)
-                        ++ (codes "</text>\n<text x=\"62\" y=\"436\" text-anchor=\"end\">"
-                          ++ (decimal height
-                            ++ codes "</text>\n<text x=\"62\" y=\"590\"
-                              text-anchor=\"end\">0</text>\n"))))))))))))
+    ++ (first_machine
+    ++ (codes "<text x=\"62\" y=\"380\" text-anchor=\"end\">"
+    ++ (decimal (n - 1)
+    ++ (codes "</text>\n<text x=\"70\" y=\"402\">"
+    ++ (decimal from
+    ++ (codes "</text>\n"
+    ++ (event_axis
+    ++ (codes "<text x=\"970\" y=\"402\" text-anchor=\"end\">"
+    ++ (decimal (from + count)
+    ++ (codes "</text>\n<text x=\"62\" y=\"436\" text-anchor=\"end\">"
+    ++ (decimal height
+    ++ codes "</text>\n<text x=\"62\" y=\"590\" text-anchor=\"end\">0</text>\n"))))))))))))
 
 -- the beginning of the rows, of which the columns and the units are stretched over their part of
 -- the page
 abbrev pub rows_opening : ℕ → ℕ → List ℕ
 rows_opening n columns =
-    codes "<rect x=\"70\" y=\"80\" width=\"900\" height=\"300\" fill=\"#f3f3f3\"/>\n<svg x=\"70\"
-      y=\"80\" width=\"900\" height=\"300\" viewBox=\"0 0 "
+    codes "<rect x=\"70\" y=\"80\" width=\"900\" height=\"300\" fill=\"#f3f3f3\"/>\n<svg x=\"70\" y=\"80\" width=\"900\" height=\"300\" viewBox=\"0 0 "
     ++ (decimal columns
-      ++ (codes " "
-        ++ (decimal (4 * n)
-          ++ codes "\" preserveAspectRatio=\"none\" fill=\"#15489f\" stroke=\"#15489f\">\n")))
+    ++ (codes " "
+    ++ (decimal (4 * n)
+    ++ codes "\" preserveAspectRatio=\"none\" fill=\"#15489f\" stroke=\"#15489f\">\n")))
 
 -- what stands between the rows and the marks of refused passes, between these and those of
 -- corruptions, and behind them
@@ -239,27 +234,22 @@ corruptions_opening =
 -- height is cut off
 abbrev pub curves_opening : ℕ → ℕ → ℕ → List ℕ
 curves_opening columns height limit =
-    codes "\"/>\n</svg>\n<rect x=\"70\" y=\"430\" width=\"900\" height=\"160\"
-      fill=\"#f3f3f3\"/>\n<text x=\"970\" y=\"424\" text-anchor=\"end\">bound "
+    codes "\"/>\n</svg>\n<rect x=\"70\" y=\"430\" width=\"900\" height=\"160\" fill=\"#f3f3f3\"/>\n<text x=\"970\" y=\"424\" text-anchor=\"end\">bound "
     ++ (decimal limit
-      ++ (codes "</text>\n<svg x=\"70\" y=\"430\" width=\"900\" height=\"160\" viewBox=\"0 0 "
-        ++ (decimal columns
-          ++ (codes " "
-            ++ (decimal height
-              ++ (codes "\" preserveAspectRatio=\"none\" fill=\"none\">\n<g transform=\"translate(.5
-                  "
-                ++ (decimal height ++ (codes ") scale(1 -1)\">\n<path d=\"M0 "
-                  ++ (decimal limit
-                    ++ (codes "h"
-                      ++ (decimal columns
-                        ++ codes "\" stroke=\"#555\" stroke-width=\"1.5\" stroke-dasharray=\"2
-                          3\"/>\n<polyline stroke=\"#111\" stroke-width=\"2.5\"
-                          points=\"")))))))))))
+    ++ (codes "</text>\n<svg x=\"70\" y=\"430\" width=\"900\" height=\"160\" viewBox=\"0 0 "
+    ++ (decimal columns
+    ++ (codes " "
+    ++ (decimal height
+    ++ (codes "\" preserveAspectRatio=\"none\" fill=\"none\">\n<g transform=\"translate(.5 "
+    ++ (decimal height ++ (codes ") scale(1 -1)\">\n<path d=\"M0 "
+    ++ (decimal limit
+    ++ (codes "h"
+    ++ (decimal columns
+    ++ codes "\" stroke=\"#555\" stroke-width=\"1.5\" stroke-dasharray=\"2 3\"/>\n<polyline stroke=\"#111\" stroke-width=\"2.5\" points=\"")))))))))))
 
 abbrev pub calm_opening : List ℕ
 calm_opening =
-    codes "\"/>\n<polyline stroke=\"#0a7d4f\" stroke-width=\"1.5\" stroke-dasharray=\"5 3\"
-    points=\""
+    codes "\"/>\n<polyline stroke=\"#0a7d4f\" stroke-width=\"1.5\" stroke-dasharray=\"5 3\" points=\""
 
 -- the end of the curves
 abbrev pub curves_end : List ℕ
@@ -268,33 +258,27 @@ curves_end = codes "\"/>\n</g>\n</svg>\n<g font-size=\"14\">\n"
 -- what each colour means: a word beside a piece of it
 abbrev pub privileged_key : List ℕ
 privileged_key =
-    codes "<rect x=\"70\" y=\"608\" width=\"16\" height=\"10\" fill=\"#15489f\"/>\n<text x=\"92\"
-    y=\"618\">privileged</text>\n"
+    codes "<rect x=\"70\" y=\"608\" width=\"16\" height=\"10\" fill=\"#15489f\"/>\n<text x=\"92\" y=\"618\">privileged</text>\n"
 
 abbrev pub corruption_key : List ℕ
 corruption_key =
-    codes "<path d=\"M200 606v14\" stroke=\"#e69f00\" stroke-width=\"5\"
-    stroke-linecap=\"round\"/>\n<text x=\"212\" y=\"618\">corruption</text>\n"
+    codes "<path d=\"M200 606v14\" stroke=\"#e69f00\" stroke-width=\"5\" stroke-linecap=\"round\"/>\n<text x=\"212\" y=\"618\">corruption</text>\n"
 
 abbrev pub refusal_key : List ℕ
 refusal_key =
-    codes "<path d=\"M322 610v6\" stroke=\"#888\" stroke-width=\"1.5\"
-    stroke-linecap=\"square\"/>\n<text x=\"332\" y=\"618\">refused pass</text>\n"
+    codes "<path d=\"M322 610v6\" stroke=\"#888\" stroke-width=\"1.5\" stroke-linecap=\"square\"/>\n<text x=\"332\" y=\"618\">refused pass</text>\n"
 
 abbrev pub rest_key : List ℕ
 rest_key =
-    codes "<path d=\"M456 613h24\" stroke=\"#111\" stroke-width=\"2.5\"/>\n<text x=\"488\"
-    y=\"618\">rest</text>\n"
+    codes "<path d=\"M456 613h24\" stroke=\"#111\" stroke-width=\"2.5\"/>\n<text x=\"488\" y=\"618\">rest</text>\n"
 
 abbrev pub calm_key : List ℕ
 calm_key =
-    codes "<path d=\"M556 613h24\" stroke=\"#0a7d4f\" stroke-width=\"1.5\" stroke-dasharray=\"5
-    3\"/>\n<text x=\"588\" y=\"618\">calm, cut off at the top</text>\n"
+    codes "<path d=\"M556 613h24\" stroke=\"#0a7d4f\" stroke-width=\"1.5\" stroke-dasharray=\"5 3\"/>\n<text x=\"588\" y=\"618\">calm, cut off at the top</text>\n"
 
 abbrev pub bound_key : List ℕ
 bound_key =
-    codes "<path d=\"M776 613h24\" stroke=\"#555\" stroke-width=\"1.5\" stroke-dasharray=\"2
-    3\"/>\n<text x=\"808\" y=\"618\">bound</text>\n"
+    codes "<path d=\"M776 613h24\" stroke=\"#555\" stroke-width=\"1.5\" stroke-dasharray=\"2 3\"/>\n<text x=\"808\" y=\"618\">bound</text>\n"
 
 -- the end of the page
 abbrev pub page_end : List ℕ
@@ -304,7 +288,7 @@ abbrev pub ending_text : List ℕ
 ending_text =
     curves_end
     ++ (privileged_key
-      ++ (corruption_key ++ (refusal_key ++ (rest_key ++ (calm_key ++ (bound_key ++ page_end))))))
+    ++ (corruption_key ++ (refusal_key ++ (rest_key ++ (calm_key ++ (bound_key ++ page_end))))))
 
 -- ---- the picture: the upper part, the marks over its rows, and the lower part
 
@@ -312,7 +296,7 @@ abbrev pub upper_part : Block → ℕ → ℕ → List ℕ
 upper_part b from count =
     title_text b from count
     ++ (axes_text b.n from count (curve_height b from (count + 1))
-      ++ (rows_opening b.n (count + 1) ++ rows_text b from (count + 1)))
+    ++ (rows_opening b.n (count + 1) ++ rows_text b from (count + 1)))
 
 abbrev pub marks_part : Block → ℕ → ℕ → List ℕ
 marks_part b from count =
