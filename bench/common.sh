@@ -24,15 +24,25 @@ build() {
     (cd "$top/crates/$1" && rt run -- ${2:+"$2"} >"$out/$1-build.log" 2>&1) || { cat "$out/$1-build.log"; exit 1; }
 }
 
-# program TREE NAME FOLDER [WORD]: proves and builds a program that stands as text in bench/NAME of a tree of this
-# repository, where each file's name ends in .txt and `libraries` has what it stands on, and leaves it as FOLDER/NAME. It is
-# built in a folder of its own, beside copies of the crates below it with the work that they keep, and run once with the word
-program() {
+# place TREE NAME ROOM [KIND]: makes a crate of ROOM of what stands as text in bench/NAME of a tree of this repository, where
+# each file's name ends in .txt and `libraries` has what it stands on. KIND is `staticlib` for a library for C
+place() {
+    echo "$2${4:+ $4}: $(cat "$1/bench/$2/libraries")" >>"$3/crates.txt"
+    (cd "$1/bench/$2" && find src proofs specs -name '*.txt' 2>/dev/null) | while read -r file; do
+        mkdir -p "$3/crates/$2/$(dirname "$file")"
+        cp "$1/bench/$2/$file" "$3/crates/$2/${file%.txt}"
+    done
+}
+
+# alone TREE NAME [KIND]: makes a folder `room` of its own, and in it that crate beside copies of the crates below it with
+# the work that they keep
+alone() {
     room=$(mktemp -d)
-    mkdir -p "$room/crates/$2" "$3"
-    cp "$1/HANDLES" "$room"
+    mkdir -p "$room/crates"
+    cp "$1/HANDLES" "$1/crates.txt" "$room"
+    place "$1" "$2" "$room" "${3:-}"
     # its line and those of the crates below: what a line of the list names joins the list
-    { cat "$1/crates.txt"; echo "$2: $(cat "$1/bench/$2/libraries")"; } | awk -v program="$2" '
+    awk -v program="$2" '
         /^[a-z]/ { name = $1; sub(/:/, "", name); line[name] = $0 }
         END {
             queue[1] = program; last = 1; seen[program] = 1
@@ -41,14 +51,18 @@ program() {
                 count = split(line[queue[i]], names, /[ :]+/)
                 for (j = 2; j <= count; j++) if ((names[j] in line) && !(names[j] in seen)) { seen[names[j]] = 1; queue[++last] = names[j] }
             }
-        }' >"$room/crates.txt"
+        }' "$room/crates.txt" >"$room/lines"
+    mv "$room/lines" "$room/crates.txt"
     for below in $(sed 's/[ :].*//' "$room/crates.txt"); do
         [ "$below" = "$2" ] || cp -a "$1/crates/$below" "$room/crates"
     done
-    (cd "$1/bench/$2" && find src proofs specs -name '*.txt' 2>/dev/null) | while read -r file; do
-        mkdir -p "$room/crates/$2/$(dirname "$file")"
-        cp "$1/bench/$2/$file" "$room/crates/$2/${file%.txt}"
-    done
+}
+
+# program TREE NAME FOLDER [WORD]: proves and builds the program that stands as text in bench/NAME of a tree of this
+# repository, leaves it as FOLDER/NAME, and runs it once with the word
+program() {
+    mkdir -p "$3"
+    alone "$1" "$2"
     echo "proving and building $2"
     (cd "$room/crates/$2" && rt run -- ${4:+"$4"} >"$out/$2-build.log" 2>&1) || { cat "$out/$2-build.log"; echo "left in $room"; exit 1; }
     cp "$room/crates/$2/out/$2" "$3"

@@ -346,12 +346,12 @@ class Trial:
                 self.differs(page, block.number, f"the settings are refused: {fault}")
         elif text.startswith("legal rings") and not PLACEHOLDER.search(text):
             self.compare(page, block, self.run("ring_tool check -", self.place, self.history)[0])
-        elif text.startswith("client 0 turns"):
-            with open(f"{self.top}/crates/turns_desk/stdout", encoding="utf-8") as file:
-                self.compare(page, block, file.read())
-        elif text.startswith("tickets "):
+        elif text.startswith(("tickets ", "client 0 turns")):
+            wanted = text.strip("\n").split("\n")
             with open(f"{self.top}/crates/ticket_desk/stdout", encoding="utf-8") as file:
-                self.compare(page, block, file.read())
+                said = file.read().split("\n")
+            first = said.index(wanted[0]) if wanted[0] in said else 0
+            self.compare(page, block, "\n".join(said[first : first + len(wanted)]))
 
     def play_commands(self, page, block):
         """Runs the commands of a block, and returns what those of the program printed."""

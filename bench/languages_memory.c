@@ -1,4 +1,4 @@
-/* Plays one scene twice by the calls from C, and compares what the two saved. A call that is refused for want of memory must
+/* Plays one scene twice by the calls from C, and compares the two saved texts. A call that is refused because memory runs out must
  * have changed nothing, and is made once more; so where one request for memory is refused, as bench/languages.sh has it with
  * bench/refuse_memory.c, both scenes end alike. Status 0 if they do. */
 #include "wozgirt.h"
@@ -77,7 +77,7 @@ static int is_legal(const struct scene *scene)
     return code == WOZGIRT_DONE;
 }
 
-/* The scene: a ring that is opened, called and saved, and one that goes on from there. */
+/* The scene: a ring that is opened, called and saved, and one that resumes from there. */
 static int play(struct scene *first, struct scene *second)
 {
     struct wozgirt_ring ring = {0}, on = {0};

@@ -2,13 +2,15 @@
 definition, as crate.File.Name, and the top of the tree. For docs/THEORY.md and bench/documents.py.
 
 A definition stands on each that its text names, in its own file or by an import from another crate's specs/; what std and the
-types of the sources (`declared`) say is not counted. A line counts if it is a definition's, without its comment."""
+types of the sources (`declared`) say is not counted. A line counts if it is a definition's, without its comment. In a section,
+`module _ {..} (..) where`, each definition stands on what the section's head names, which is no line of its own."""
 
 import os
 import re
 import sys
 
 HEAD = re.compile(r"^(?:(?:abbrev|unfoldable|opaque) )*pub (?:(?:record|data) )?([^\s:(]+)")
+SECTION = re.compile(r"^module _ (.*) where$")
 USE = re.compile(r"^use Rattle\.(\w+)\.specs\.([\w.]+)\.\{(.*)\}")
 
 
@@ -16,11 +18,17 @@ class File:
     """A file of specs/: its definitions, and where the names that it imports are defined."""
 
     def __init__(self, path):
-        self.lines_of, self.imports, self.says = {}, {}, []
-        name, begun = None, False
+        self.lines_of, self.imports, self.says, self.section_of = {}, {}, [], {}
+        name, begun, section = None, False, ""
         with open(path, encoding="utf-8") as file:
             lines = file.read().split("\n")
         for line in lines:
+            if section and line.startswith("  "):
+                line = line[2:]
+            elif line:
+                opened = SECTION.match(line)
+                section = opened[1] if opened else ""
+                name = None if opened else name
             head, use = HEAD.match(line), USE.match(line)
             begun = begun or bool(use)
             if use:
@@ -32,12 +40,12 @@ class File:
                     self.says.append(line.lstrip("- "))
             elif head:
                 name = head[1]
-                self.lines_of[name] = [line]
+                self.lines_of[name], self.section_of[name] = [line], section
             elif name and line.strip():
                 self.lines_of[name].append(line)
 
     def below(self, name):
-        for word in re.findall(r"[\w◌]+", "\n".join(self.lines_of[name])):
+        for word in re.findall(r"[\w◌]+", "\n".join([self.section_of[name], *self.lines_of[name]])):
             if word in self.lines_of:
                 yield None, None, word
             elif word in self.imports:

@@ -1,7 +1,7 @@
 // Refuses requests for memory of a process, preloaded, by one of:
 //   REFUSED_REQUEST   the number of the one request, from 1;
 //   LARGEST_REQUEST   the largest number of bytes that one request may be for;
-//   REFUSED_FROM      a number of bytes: a request for just so many is the mark from which on each is refused, itself too, up to
+//   REFUSED_FROM      a number of bytes: a request for just that many is the mark from which on each is refused, itself too, up to
 //                     a request for one byte more. A test makes the two requests round the calls that take no memory.
 // If it refused a request, it makes the file that REFUSED_MARK names. If that request came between the two marks, it adds a
 // byte to the file that REFUSED_BETWEEN names, so that a call that asks for memory is found even if it does without.
@@ -17,7 +17,7 @@
 static atomic_long requests;
 static atomic_int behind_mark;
 
-// whether it is the one request, is for too many bytes, or comes behind the mark
+// whether it is the one request, is for too many bytes, or comes after the mark
 static int is_named(size_t size) {
     const char *number = getenv("REFUSED_REQUEST");
     const char *largest = getenv("LARGEST_REQUEST");

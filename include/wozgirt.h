@@ -1,19 +1,20 @@
-/* Wozgirt for C and C++, and for whatever calls C: Dijkstra's token rings, one ring for each resource, and the separate
- * checker of their saved histories. The static library is `ring_desk_c`; docs/LANGUAGES.md tells how it is built, and what
- * is proved of it.
+/* Wozgirt for C and C++, and for each language that calls C: Dijkstra's token rings, one ring for each resource, and the
+ * separate checker of their saved histories. The static library is `ring_desk_c`; docs/LANGUAGES.md says how it is built,
+ * and what is proved of it.
  *
- * What the caller has to keep, since nothing checks it:
+ * The caller has to keep these rules, since nothing checks them:
  *
  *   1. A ring begins as `struct wozgirt_ring ring = {0};`. One of the three functions `wozgirt_open..` opens it,
  *      `wozgirt_close` ends it, and nobody else writes it. No other function takes a ring that is not open.
- *   2. One call at a time has a ring: threads that share one hold a mutex around each call. Different rings, and
+ *   2. A ring is not thread-safe: threads that share one hold a mutex around each call. Different rings, and
  *      `wozgirt_check`, need none.
  *   3. Pointers are not null and point to as many elements as their length says, which nobody else writes during the
- *      call, and what is written is apart from what is read. For a list of none any address that is not null serves.
+ *      call, and the written memory is apart from the memory that is read. For an empty list any address that is
+ *      not null serves.
  *   4. malloc, realloc and free are one allocator's.
  *
- * Each number is looked at: a seat, machine, value or group that a ring has not is refused, and then nothing has changed.
- * Each function answers a code of `enum wozgirt_code`, if nothing else is said.
+ * Each number is checked: a seat, machine, value or group that a ring does not have is refused, and then nothing has
+ * changed. Each function returns a code of `enum wozgirt_code`, if nothing else is said.
  */
 #ifndef WOZGIRT_H
 #define WOZGIRT_H
@@ -24,7 +25,7 @@ extern "C" {
 #endif
 
 enum wozgirt_code {
-    WOZGIRT_DONE = 0,           /* granted, written, opened, told, saved, legal */
+    WOZGIRT_DONE = 0,           /* granted, written, opened, answered, saved, legal */
     WOZGIRT_WAITS = 1,          /* the machine is not privileged: the pass was recorded, and did no work */
     /* a call is refused, and nothing has changed */
     WOZGIRT_NO_SEAT = 16,
@@ -32,7 +33,7 @@ enum wozgirt_code {
     WOZGIRT_NO_VALUE = 18,      /* the value is not below K */
     WOZGIRT_NOT_RISING = 19,    /* the machines of a group do not rise below n, or there are none */
     WOZGIRT_WHOLE_RING = 20,    /* the group is the whole ring */
-    WOZGIRT_NOT_PRIVILEGED = 21, /* a machine of the group is not privileged: the least such one is told */
+    WOZGIRT_NOT_PRIVILEGED = 21, /* a machine of the group is not privileged: the least such one is returned */
     WOZGIRT_HISTORY_FULL = 22,  /* a history has at most 4,000,000 events */
     WOZGIRT_NO_MEMORY = 23,
     /* a ring is not opened, and the struct is as it was */
@@ -41,12 +42,12 @@ enum wozgirt_code {
     WOZGIRT_BAD_VALUES = 34,    /* K is not n to 65,536 */
     WOZGIRT_BAD_LENGTH = 35,    /* there are not n start values */
     WOZGIRT_BAD_START = 36,     /* a start value is not below K */
-    /* bytes are no saved text, or a saved ring is not gone on with */
+    /* bytes are not a saved text, or a saved ring is not resumed */
     WOZGIRT_SYNTAX = 48,
     WOZGIRT_TRUNCATED = 49,
     WOZGIRT_NO_RING = 50,       /* the text has no ring at this place */
     WOZGIRT_DIFFERS = 51,       /* its history or a survey of it is not legal */
-    /* a saved text is not legal: what is wrong with its first bad line */
+    /* a saved text is not legal: the fault of its first bad line */
     WOZGIRT_PARAMETER = 64,
     WOZGIRT_RANGE = 65,
     WOZGIRT_REPLY = 66,
@@ -54,8 +55,8 @@ enum wozgirt_code {
     WOZGIRT_SURVEY = 68,
     WOZGIRT_GROUP = 69,
     /* a ring is not saved */
-    WOZGIRT_NO_TILL = 80,       /* a saved text tells of tills, and the ring is over none */
-    WOZGIRT_TOO_SMALL = 81      /* the buffer: the size that is wanted is told */
+    WOZGIRT_NO_TILL = 80,       /* a saved text is of tills, and the ring is not over one */
+    WOZGIRT_TOO_SMALL = 81      /* the buffer: the size that is needed is returned */
 };
 
 /* What the code means, in English. */
@@ -93,30 +94,30 @@ static inline const char *wozgirt_text(uint32_t code)
     }
 }
 
-/* A ring. What it points to is the library's. */
+/* A ring. The memory that it points to is the library's. */
 struct wozgirt_ring {
     void *at;
 };
 
-/* What a call was answered. */
+/* The answer to a call. */
 struct wozgirt_answer {
-    uint64_t position; /* how many events of the history stand before it */
+    uint64_t position; /* how many events of the history are before it */
     uint64_t number;   /* of a granted pass: which grant of the ring it is, from 1 and without a gap: a fencing token */
     uint64_t result;   /* of a granted pass: the resource's answer; of a fault: the value that was written over */
 };
 
-/* What a group was answered. */
+/* The answer to a group. */
 struct wozgirt_group {
-    uint64_t first;   /* how many events stand before its first member */
+    uint64_t first;   /* how many events are before its first member */
     uint32_t count;   /* how many members it has */
     uint32_t machine; /* with WOZGIRT_NOT_PRIVILEGED: the least machine that is not */
 };
 
-/* What is to be seen of a ring. */
+/* A survey of a ring. */
 struct wozgirt_sight {
     uint64_t position;   /* how many events the history has */
     uint64_t calm;       /* how many passes were granted since the last fault */
-    uint64_t rest;       /* so many granted passes at most are left until one machine is privileged */
+    uint64_t rest;       /* at most this many granted passes are left until one machine is privileged */
     uint32_t privileged; /* how many machines are privileged */
     uint32_t first;      /* the least of them */
 };
@@ -128,17 +129,17 @@ struct wozgirt_sums {
     uint32_t rings;
 };
 
-/* Opens a ring of n machines and K values that starts so, over a till: each granted pass adds its order, and is answered
- * the new amount. It has so many seats, from 0. */
+/* Opens a ring of n machines and K values that starts so, over a till: each granted pass adds its order, and the
+ * answer is the new amount. It has `seats` seats, from 0. */
 uint32_t wozgirt_open(struct wozgirt_ring *ring, uint32_t n, uint32_t k, const uint32_t *start, size_t start_length,
                       uint32_t seats);
 
-/* The same over a resource that does no work, of which nothing is saved. */
+/* The same over a resource that does no work, and then nothing can be saved. */
 uint32_t wozgirt_open_idle(struct wozgirt_ring *ring, uint32_t n, uint32_t k, const uint32_t *start, size_t start_length,
                            uint32_t seats);
 
-/* Opens a ring that goes on where the one at this place, from 0, of a saved text ended, with its surveys.
- * If one of its calls is refused, the code of that call; a legal ring with enough seats is refused for want of memory alone. */
+/* Opens a ring that resumes the one at this place, from 0, of a saved text, with its surveys. If one of its calls is
+ * refused, the code of that call; a legal ring with enough seats is refused only if memory runs out. */
 uint32_t wozgirt_open_saved(struct wozgirt_ring *ring, const uint8_t *text, size_t length, uint32_t place, uint32_t seats);
 
 /* A seat asks for a machine's pass: WOZGIRT_DONE where it was granted, WOZGIRT_WAITS where the machine is not privileged. */
@@ -153,15 +154,15 @@ uint32_t wozgirt_pass_group(struct wozgirt_ring *ring, uint32_t seat, const uint
 uint32_t wozgirt_corrupt(struct wozgirt_ring *ring, uint32_t seat, uint32_t machine, uint32_t value,
                          struct wozgirt_answer *answer);
 
-/* What is to be seen of the ring, which the seat's log keeps; a glance is kept nowhere. */
+/* The survey of the ring, which the seat's log keeps; a glance is kept nowhere. */
 uint32_t wozgirt_survey(struct wozgirt_ring *ring, uint32_t seat, struct wozgirt_sight *sight);
 uint32_t wozgirt_glance(struct wozgirt_ring *ring, struct wozgirt_sight *sight);
 
 /* How many events the history has. */
 uint64_t wozgirt_history_length(struct wozgirt_ring *ring);
 
-/* Copies the saved text of the ring as it is now into the buffer, and tells its size. WOZGIRT_TOO_SMALL: nothing is copied,
- * but the size is told, so a buffer of length 0 asks for it. The ring goes on as it was. */
+/* Copies the saved text of the ring as it is now into the buffer, and returns its size. WOZGIRT_TOO_SMALL: nothing is
+ * copied, but the size is returned, so a buffer of length 0 asks for it. The ring stays as it was. */
 uint32_t wozgirt_save(struct wozgirt_ring *ring, uint8_t *buffer, size_t length, uint64_t *size);
 
 /* Ends the ring; the struct is not to be used then. */

@@ -24,7 +24,7 @@ static void stop_on(uint32_t code, const char *what)
     }
 }
 
-/* What the ring guards: it takes a grant's number as its fencing token, and each only once. */
+/* The guarded resource: it takes a grant's number as its fencing token, and each only once. */
 static void work(uint64_t token)
 {
     if (token != last_token + 1) {

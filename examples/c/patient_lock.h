@@ -1,7 +1,7 @@
 /* How threads should wait for a ring. A call takes some tens of nanoseconds, and to take the ring over from another
  * processor costs as much as many calls. So a thread that finds the lock held tries a few times and then sleeps, each time
- * for longer, which leaves the ring for a while to the one that has it. A thread that slept so often waits at the mutex
- * itself: every unlock wakes it until it has the lock. */
+ * for longer, and so backs off from the one that has the ring. A thread that slept many times waits at the mutex itself:
+ * every unlock wakes it until it has the lock. */
 #ifndef PATIENT_LOCK_H
 #define PATIENT_LOCK_H
 

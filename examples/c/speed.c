@@ -1,7 +1,7 @@
-/* What calls from C cost: passes on one thread, without and under a mutex, on four threads, the checker on what one left, and how
- * long a thread waits for its turn. Each round is on a ring of its own, which takes its memory anew, and the rounds are made in
- * turn; the middle one counts. It saves the longest history, so that the same text can be given to `ring_tool check`:
- * speed HISTORY */
+/* The cost of calls from C: passes on one thread, without and under a mutex, on four threads, the checker on the history of
+ * one, and how long a thread waits for its turn. Each round is on a ring of its own, which takes its memory anew, and the
+ * rounds are made in turn; the middle one counts. It saves the longest history, so that the same text can be given to
+ * `ring_tool check`: speed HISTORY */
 #define _POSIX_C_SOURCE 200809L /* clock_gettime, nanosleep */
 #include "patient_lock.h"
 #include "wozgirt.h"
@@ -81,7 +81,7 @@ static void *lone_client(void *given)
     return NULL;
 }
 
-/* Has so many threads work, each for a seat. */
+/* Has that many threads work, each for a seat. */
 static void on_threads(int count, void *(*work)(void *))
 {
     pthread_t threads[THREADS];
@@ -130,7 +130,7 @@ static double middle(double *rounds)
     return rounds[ROUNDS / 2];
 }
 
-/* Saves a history of many passes to the file, and tells how long the check of it takes. */
+/* Saves a history of many passes to the file, and prints how long the check of it takes. */
 static void check_saved(const char *name)
 {
     uint64_t size = 0;

@@ -3,7 +3,7 @@
     with Ring(n=3, k=3, start=[0, 2, 0], seats=2) as ring:
         grant = ring.pass_(seat=0, machine=0, order=5)
 
-`include/wozgirt.h` tells what each call answers. A ring holds a lock of its own, so threads may share it. The library is the
+`include/wozgirt.h` says what each call returns. A ring holds a lock of its own, so threads may share it. The library is the
 one that the environment's WOZGIRT_LIBRARY names, or `libwozgirt.so`.
 """
 
@@ -78,7 +78,7 @@ class Grant:
 
 @dataclass(frozen=True)
 class Sight:
-    """What is to be seen of a ring."""
+    """A survey of a ring."""
 
     position: int
     calm: int
@@ -168,7 +168,7 @@ class Ring:
 
     @classmethod
     def from_saved(cls, text: bytes, place: int, seats: int) -> Ring:
-        """A ring that goes on where the one at this place of a saved text ended."""
+        """A ring that resumes the one at this place of a saved text."""
         self = cls.__new__(cls)
         self._lock, self._ring = threading.Lock(), _Ring()
         _told(_library.wozgirt_open_saved(byref(self._ring), text, len(text), place, seats))
@@ -187,7 +187,7 @@ class Ring:
         return Grant(answer.position, answer.number, answer.result) if code == Code.DONE else None
 
     def pass_group(self, seat: int, machines: Sequence[int], order: int) -> int:
-        """Machines whose numbers rise pass at once: how many events stand before the first."""
+        """Machines whose numbers rise pass at once: returns how many events are before the first."""
         answer, numbers = _Group(), (c_uint32 * max(1, len(machines)))(*machines)
         with self._lock:
             code = _library.wozgirt_pass_group(self._open(), seat, numbers, len(machines), order, byref(answer))
@@ -195,14 +195,14 @@ class Ring:
         return answer.first
 
     def corrupt(self, seat: int, machine: int, value: int) -> int:
-        """Writes a value into a machine: the value that stood there."""
+        """Writes a value into a machine, and returns the old one."""
         answer = _Answer()
         with self._lock:
             _told(_library.wozgirt_corrupt(self._open(), seat, machine, value, byref(answer)))
         return answer.result
 
     def survey(self, seat: int) -> Sight:
-        """What is to be seen of the ring, which the seat's log keeps."""
+        """The survey of the ring, which the seat's log keeps."""
         sight = _Sight()
         with self._lock:
             _told(_library.wozgirt_survey(self._open(), seat, byref(sight)))

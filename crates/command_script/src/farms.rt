@@ -8,7 +8,7 @@ use std::rt::Files;
 use std::sync::Wait;
 use std::thread::Threads;
 
-/// The line of the check that belongs to a report, by its total, and so many corruptions; `None` if the report has no total.
+/// The line of the check that belongs to a report, by its total, and a number of corruptions; `None` if the report has no total.
 fn legal_line_of(
     alloc: Global,
     report: &str,

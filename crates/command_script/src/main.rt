@@ -21,7 +21,7 @@ use std::rt::Files;
 use std::sync::Wait;
 use std::thread::Threads;
 
-/// Writes how many bytes the file of this name has, and the bytes, with an end of line behind them where they have none; or
+/// Writes how many bytes the file of this name has, and the bytes, with an end of line after them where they have none; or
 /// that there is no such file.
 fn show<R: AllocGlobal + Files, W: Write>(rt: &R, name: &str, out: &mut W) -> io::Result<()> {
     let Ok(text) = fs::read(rt, name) else {
@@ -78,7 +78,7 @@ fn play_file<R: AllocGlobal + Files, W: Write>(
     }
 }
 
-/// Plays a line of the script. The text at hand is used up by each line that is no part of it.
+/// Plays a line of the script. The text at hand is used up by each line that is not a part of it.
 fn play<R: AllocGlobal + Files<File = File> + Threads + Wait + Sync, W: Write>(
     rt: &R,
     line: &str,

@@ -3,7 +3,7 @@
 use std::alloc::Global;
 use std::io::{self, ErrorKind, Read, Write};
 
-/// A writer into memory. It takes at most `at_most` bytes a call. What would go past `room` bytes it does not take, and then
+/// A writer into memory. It takes at most `at_most` bytes a call. Bytes past the first `room` it does not take, and then
 /// fails or, where it is `mute`, takes none. Its flush fails where it is `stuck`.
 #[derive(Drop)]
 pub struct Paper {

@@ -10,7 +10,7 @@ use std::rt::Files;
 use std::sync::Wait;
 use std::thread::Threads;
 
-/// The words of a run, each a text of its own: what stands between the bars of a line, and none where it is empty.
+/// The words of a run, each a text of its own: the part between two bars of a line, and none where it is empty.
 pub fn words_of(alloc: Global, line: &str) -> Result<Vec<String>, AllocError> {
     let mut words = Vec::new(alloc);
     if line.is_empty() {
@@ -22,7 +22,7 @@ pub fn words_of(alloc: Global, line: &str) -> Result<Vec<String>, AllocError> {
     Ok(words)
 }
 
-/// A run that is over: its status, what it printed, and what it told as an error.
+/// A run that is over: its status, what it printed, and its error text.
 #[derive(Drop)]
 pub struct Ended {
     pub status: u8,
@@ -57,7 +57,7 @@ pub fn run_plainly<R: AllocGlobal + Files<File = File> + Threads + Wait + Sync>(
     run_over(rt, words, &mut text, printed, told)
 }
 
-/// Writes what a run printed, its status, and what it told.
+/// Writes what a run printed, its status, and its error text.
 pub fn write_ended<W: Write>(ended: &Ended, out: &mut W) -> io::Result<()> {
     out.write_all(&ended.printed.text)?;
     writeln!(out, "status {}", ended.status)?;

@@ -18,7 +18,7 @@ fn add_copy(text: &mut Vec<u8>, number: u32, piece: &str) -> io::Result<()> {
     }
 }
 
-/// Adds as many copies of a piece as the number before it says, and this end behind each.
+/// Adds as many copies of a piece as the number before it says, and this end after each.
 fn add_copies(text: &mut Vec<u8>, copies: &str, end: &[u8]) -> io::Result<()> {
     let Some((count, piece)) = copies.split_once(' ') else {
         return Err(unplayed());
@@ -41,14 +41,14 @@ fn add_byte(text: &mut Vec<u8>, number: &str) -> io::Result<()> {
     }
 }
 
-/// Where the piece stands first.
+/// The place where the piece occurs first.
 fn place_of(text: &[u8], piece: &[u8]) -> Option<usize> {
     (0..text.len()).find(|place| text
         .get(*place..)
         .is_some_and(|rest| rest.starts_with(piece)))
 }
 
-/// Puts the second of two pieces, which have a bar between them, in the place of the first, where that stands first.
+/// Replaces the first of two pieces, which have a bar between them, by the second, where the first occurs first.
 fn change(text: &mut Vec<u8>, pieces: &str) -> io::Result<()> {
     let Some((old, new)) = pieces.split_once('|') else {
         return Err(unplayed());
@@ -60,7 +60,7 @@ fn change(text: &mut Vec<u8>, pieces: &str) -> io::Result<()> {
     Ok(())
 }
 
-/// Puts a piece in the place of so many bytes from a place on.
+/// Replaces a number of bytes from a place on by a piece.
 fn replace(text: &mut Vec<u8>, place: usize, count: usize, new: &[u8]) -> Result<(), AllocError> {
     let mut rest = text.split_off(place.min(text.len()))?;
     text.extend_from_slice(new)?;
@@ -71,7 +71,7 @@ fn replace(text: &mut Vec<u8>, place: usize, count: usize, new: &[u8]) -> Result
     Ok(())
 }
 
-/// Plays a line that makes the text at hand, or goes on with it. Answers whether it is one.
+/// Plays a line that makes the text at hand, or continues it. Answers whether it is one.
 pub fn edit<R: AllocGlobal + Files, W: Write>(
     rt: &R,
     line: &str,

@@ -18,7 +18,7 @@ fn paper_of(alloc: Global, room: usize, mute: bool) -> Paper {
     }
 }
 
-/// Whether a run whose standard output was cut here printed just the beginning of the whole that goes into it, and says so.
+/// Whether a run whose standard output was cut here printed just the prefix of the whole that goes into it, and says so.
 fn is_cut(ended: &Ended, whole: &[u8], room: usize) -> bool {
     let front = whole.get(..room).unwrap_or(b"no such beginning");
     ended.status == 1
@@ -26,7 +26,7 @@ fn is_cut(ended: &Ended, whole: &[u8], room: usize) -> bool {
         && ended.told.text.as_slice() == b"cannot write\n".as_slice()
 }
 
-/// Whether a run whose standard error was cut here told just the beginning of the whole that goes into it, and has its status.
+/// Whether a run whose standard error was cut here wrote just the prefix of the whole that goes into it, and has its status.
 fn is_cut_error(ended: &Ended, whole: &Ended, room: usize) -> bool {
     let front = whole.told.text.get(..room).unwrap_or(b"no such beginning");
     ended.status == whole.status
@@ -34,7 +34,7 @@ fn is_cut_error(ended: &Ended, whole: &Ended, room: usize) -> bool {
         && ended.told.text.as_slice() == front
 }
 
-/// Whether the program does as it ought to where what it prints, or what it tells as an error where it prints nothing, goes to a
+/// Whether the program does as it ought to where what it prints, or its error text where it prints nothing, goes to a
 /// writer with this room.
 fn is_cut_at<R: AllocGlobal + Files<File = File> + Threads + Wait + Sync>(
     rt: &R,
@@ -133,7 +133,7 @@ struct Answer {
     count: u32,
 }
 
-/// Counts an answer: what a run printed and told.
+/// Counts an answer: what a run printed and reported.
 fn count_answer(alloc: Global, answers: &mut Vec<Answer>, ended: &Ended) -> Result<(), AllocError> {
     let mut text = Vec::from_slice(alloc, &ended.printed.text)?;
     text.extend_from_slice(&ended.told.text)?;
@@ -156,7 +156,7 @@ fn write_answers<W: Write>(answers: &[Answer], out: &mut W) -> io::Result<()> {
     Ok(())
 }
 
-/// Runs the program on a line of words with each beginning of the text, from none of it to all but its last byte.
+/// Runs the program on a line of words with each prefix of the text, from none of it to all but its last byte.
 pub fn run_cuts<R: AllocGlobal + Files<File = File> + Threads + Wait + Sync, W: Write>(
     rt: &R,
     line: &str,
@@ -182,10 +182,10 @@ fn changed_at(alloc: Global, text: &[u8], place: usize, byte: u8) -> Result<Vec<
     Ok(changed)
 }
 
-/// The bytes that are tried in the place of each byte of a text.
+/// The bytes that are tried instead of each byte of a text.
 const OTHERS: [u8; 8] = [b'\n', b'\r', b' ', b'0', b'1', b'9', b'g', 255];
 
-/// Runs the program on a line of words with each text that has one of [`OTHERS`] in the place of another byte.
+/// Runs the program on a line of words with each text that has one of [`OTHERS`] instead of another byte.
 pub fn run_other_bytes<R: AllocGlobal + Files<File = File> + Threads + Wait + Sync, W: Write>(
     rt: &R,
     line: &str,

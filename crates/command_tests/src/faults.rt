@@ -1,4 +1,4 @@
-//! The line of each fault, also of those that no words lead to, and the words of the checker's answers.
+//! The line of each fault, also of those that no command line causes, and the words of the checker's answers.
 
 use ring_check::{CheckError, Kind};
 use ring_commands::endings::tell;
@@ -79,6 +79,7 @@ fn each_fault_has_its_line(rt: HostRuntime) {
         ),
         (ToolError::InUse("kept.txt"), 1, "kept.txt is in use\n"),
         (ToolError::Full(15), 1, "ring 15: the history is full\n"),
+        (ToolError::TotalsTooLarge, 1, "the totals are too large\n"),
         (
             ToolError::Journal("kept.txt", RecoverError::Truncated),
             1,

@@ -1,9 +1,11 @@
-//! Tests of the commands that are no row of the script of `command_script`: readers that fail or give too much, and faults that
-//! no words lead to.
+//! Tests of the commands that are no row of the script of `command_script`: readers that fail or give too much, faults that
+//! no words lead to, and what files hold.
 #![tactic(auto)]
 
 #[cfg(test)]
 mod faults;
+#[cfg(test)]
+mod files;
 #[cfg(test)]
 mod lists;
 #[cfg(test)]

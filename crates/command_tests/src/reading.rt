@@ -42,7 +42,7 @@ impl Read for Giver<'_> {
     }
 }
 
-/// Reads the text, so many bytes at a time, and compares.
+/// Reads the text, a number of bytes at a time, and compares.
 fn expect_bytes<R: Abort + AllocGlobal>(rt: &R, text: &[u8], at_most: usize, limit: u64) {
     let mut reader = Giver {
         at_most,
@@ -54,7 +54,7 @@ fn expect_bytes<R: Abort + AllocGlobal>(rt: &R, text: &[u8], at_most: usize, lim
     }
 }
 
-/// Reads the text, so many bytes at a time, and compares the refusal and how much was read until it came.
+/// Reads the text, a number of bytes at a time, and compares the refusal and how much was read until it came.
 fn expect_refusal<R: Abort + AllocGlobal>(
     rt: &R,
     reader: &mut Giver<'_>,
@@ -106,7 +106,7 @@ fn one_byte_over_the_limit_ends_it(rt: HostRuntime) -> Result<(), Fail> {
             );
         }
     }
-    // An error that stands behind that byte is not met.
+    // An error after that byte is not met.
     let mut reader = Giver {
         error: Some(ErrorKind::BrokenPipe),
         ..Giver::new(b"token")

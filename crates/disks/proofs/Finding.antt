@@ -6,9 +6,9 @@ use Rattle.std.proofs.lemmas.Slice.Eq.{bytes_eq-Decides}
 use Rattle.std.proofs.lemmas.Bool.{false_from_ne_true}
 use Rattle.disks.specs.Held.{Held, IsReplaced, IsOneFile, bytes_of}
 use Rattle.disks.specs.Entries.{found, held_of}
-use Rattle.disks.specs.declared.memory.Entry.{Entry}
+use Rattle.disks.specs.declared.memory.StoredFile.{StoredFile}
 
-pub found_push : (before : Option (List ℕ)) (es : List Entry) (e : Entry) (name : List ℕ) →
+pub found_push : (before : Option (List ℕ)) (es : List StoredFile) (e : StoredFile) (name : List ℕ) →
     found before (es ++ e ∷ []) name ≡ cond (bytes_eq (string_bytes e.name) name) (Some e.bytes.items) (found before es name)
 found_push before [] e name = refl
 found_push before (x ∷ xs) e name = found_push (cond (bytes_eq (string_bytes x.name) name) (Some x.bytes.items) before) xs e name
@@ -20,7 +20,7 @@ pub pass : (t : Bool) (x y : Option (List ℕ)) → t ≡ false → cond t x y �
 pass t x y is = ap (λ b. cond b x y) is
 
 -- an entry more replaces the file of its name
-pub pushed : (es : List Entry) (e : Entry) (name bytes : List ℕ) → string_bytes e.name ≡ name → e.bytes.items ≡ bytes →
+pub pushed : (es : List StoredFile) (e : StoredFile) (name bytes : List ℕ) → string_bytes e.name ≡ name → e.bytes.items ≡ bytes →
     IsReplaced (held_of es) (held_of (es ++ e ∷ [])) name bytes
 pushed es e name bytes named holds = record {
   places = λ other. refl;
@@ -34,14 +34,14 @@ pushed es e name bytes named holds = record {
 }
 
 -- one entry further
-pub kept : (next last : Option (List ℕ)) (es : List Entry) (i : ℕ) (e : Entry) (name : List ℕ) (all : Option (List ℕ)) → i < length es → e ≡ get_or es i e →
+pub kept : (next last : Option (List ℕ)) (es : List StoredFile) (i : ℕ) (e : StoredFile) (name : List ℕ) (all : Option (List ℕ)) → i < length es → e ≡ get_or es i e →
     next ≡ cond (bytes_eq (string_bytes e.name) name) (Some e.bytes.items) last → found last (drop i es) name ≡ all → found next (drop (i + 1) es) name ≡ all
 kept next last es i e name all within is now before =
     ap (λ (o : Option (List ℕ)). found o (drop (i + 1) es) name) now
-    ∙ ap (λ (x : Entry). found last (x ∷ drop (i + 1) es) name) is
+    ∙ ap (λ (x : StoredFile). found last (x ∷ drop (i + 1) es) name) is
     ∙ sym (at_drop_more (λ xs. found last xs name) es i e within)
     ∙ before
 
 -- at the end
-pub ended : (last : Option (List ℕ)) (es : List Entry) (i : ℕ) (name : List ℕ) (all : Option (List ℕ)) → length es ≤ i → found last (drop i es) name ≡ all → all ≡ last
+pub ended : (last : Option (List ℕ)) (es : List StoredFile) (i : ℕ) (name : List ℕ) (all : Option (List ℕ)) → length es ≤ i → found last (drop i es) name ≡ all → all ≡ last
 ended last es i name all past before = sym before ∙ at_drop_all (λ xs. found last xs name) es i past

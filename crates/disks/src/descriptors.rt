@@ -5,7 +5,7 @@ use std::io;
 use std::os::fd::{AsRawFd, IntoRawFd};
 use std::rt::Files;
 
-/// Takes descriptor 0, if it is free, for writing alone.
+/// Takes descriptor 0, if it is free, only for writing.
 fn take_first<R: Files<File = File>>(rt: &R) -> io::Result<()> {
     let first = OpenOptions::new().write(true).open(rt, "/dev/null")?;
     if first.as_raw_fd() == 0 {
@@ -14,8 +14,9 @@ fn take_first<R: Files<File = File>>(rt: &R) -> io::Result<()> {
     Ok(())
 }
 
-/// Sees to it that the descriptors 0, 1 and 2 are taken, so that no file that is opened later gets one of them, and what is
-/// printed cannot go into a file. One that was closed still fails if it is read or written: it cannot be used in its direction.
+/// Ensures that the descriptors 0, 1 and 2 are taken, so that no file that is opened later gets one of them, and
+/// printed text cannot go into a file. One that was closed still fails if it is read or written: it cannot be used in its
+/// direction.
 pub fn take_low<R: Files<File = File>>(rt: &R) -> io::Result<()> {
     take_first(rt)?;
     for _ in 0..3 {

@@ -1,4 +1,4 @@
-//! What is done with files.
+//! The operations on files.
 
 ghost use Rattle.std.specs.Prelude.{◌≡◌, ℕ, List, Option, None, IfOk, IfSome, OnOk, OnErr, false};
 ghost use Rattle.disks.specs.Held.{Held, IsOneFile, Opens, Starts, Grows, Replaces};
@@ -7,8 +7,8 @@ use std::io::{self, Read, Write};
 
 /// Files that are read by their names, and replaced as a whole.
 ///
-/// A file is made beside the one that it is to replace, which keeps what it holds until the new one is finished. A new
-/// file that is let go before that was never there. No call empties a file or changes what it holds in place; one that is
+/// A file is made beside the one that it is to replace, which keeps its content until the new one is finished. A new
+/// file that is let go before that was never there. No call empties a file or changes its content in place; one that is
 /// grown has more at its end.
 pub trait Disk {
     /// A file that is open for reading.
@@ -20,7 +20,7 @@ pub trait Disk {
     /// A file that is written at its end.
     type Grown: Write + Drop;
 
-    /// What the files hold, if that is known.
+    /// The content of the files, if that is known.
     ghost holds: { Self → Option Held } = { λ _. None };
 
     /// Opens the file of this name. The reader has the bytes that the file holds now.
@@ -38,7 +38,7 @@ pub trait Disk {
         ensures empty { IfOk result (λ made. Starts (holds self.old) (Self.New.contents made)) }
         ensures kept { holds self.new ≡ holds self.old };
 
-    /// Puts a new file in the place of the one of this name, for which it was made.
+    /// Puts a new file into the place of the one of this name, for which it was made.
     ///
     /// # Errors
     ///
@@ -48,13 +48,13 @@ pub trait Disk {
             (Replaces (holds self.old) (holds self.new) name.now (Self.New.contents made)) }
         ensures kept { OnErr result (holds self.new ≡ holds self.old) };
 
-    /// Opens a file to be written at its end; it is made, empty, if it is not there. Its writer has what the file holds. With
-    /// `synced` each flush has what was written on the disk.
+    /// Opens a file to be written at its end; it is made, empty, if it is not there. Its writer has the content of the file. With
+    /// `synced` each flush puts the written bytes on the disk.
     ///
     /// # Errors
     ///
-    /// `WouldBlock` if somebody else has it open so; `InvalidInput` if it is no regular file; or it cannot be opened. What
-    /// files hold is not touched.
+    /// `WouldBlock` if somebody else has it open so; `InvalidInput` if it is not a regular file; or it cannot be opened. The
+    /// content of files is not touched.
     fn grow(&mut self, name: &str, synced: bool) -> io::Result<Self::Grown>
         ensures opened { IfOk result
             (λ grown. Grows (holds self.old) name.now (Self.Grown.contents grown)) }
@@ -65,8 +65,8 @@ pub trait Disk {
     /// # Errors
     ///
     /// It is not known to be on the disk.
-    fn settle(&mut self, grown: Self::Grown, name: &str) -> io::Result<()>
-        ensures settled { OnOk result
+    fn close_synced(&mut self, grown: Self::Grown, name: &str) -> io::Result<()>
+        ensures closed { OnOk result
             (Replaces (holds self.old) (holds self.new) name.now (Self.Grown.contents grown)) }
         ensures kept { OnErr result (holds self.new ≡ holds self.old) };
 }

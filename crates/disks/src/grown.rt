@@ -9,7 +9,7 @@ use std::rt::Files;
 #[derive(Drop)]
 pub struct GrownFile {
     file: File,
-    /// Whether a flush has what was written on the disk.
+    /// Whether a flush puts the written bytes on the disk.
     synced: bool,
 }
 
@@ -28,8 +28,8 @@ impl Write for GrownFile {
 }
 
 impl GrownFile {
-    /// Has all that was written on the disk.
-    pub(crate) fn settle(self) -> io::Result<()> {
+    /// Puts all written bytes on the disk.
+    pub(crate) fn close_synced(self) -> io::Result<()> {
         self.file.sync_all()
     }
 }

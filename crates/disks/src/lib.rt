@@ -1,4 +1,4 @@
-//! Files by their names: what a program does with them, and what they then hold.
+//! Files by their names: the operations of a program on them, and their content afterwards.
 #![tactic(auto)]
 
 mod descriptors;
@@ -6,11 +6,13 @@ mod disk;
 mod grown;
 mod memory;
 mod part;
+mod replacing;
 mod system;
 
 pub use descriptors::take_low;
 pub use disk::Disk;
 pub use grown::GrownFile;
-pub use memory::{Entry, MemoryDisk};
+pub use memory::{MemoryDisk, StoredFile};
 pub use part::NewFile;
+pub use replacing::{Contents, ContentsFault, ReplaceFault, replace};
 pub use system::SystemDisk;

@@ -11,7 +11,7 @@ use std::io::{self, Cursor, ErrorKind};
 
 /// A file that was finished.
 #[derive(Drop)]
-pub struct Entry {
+pub struct StoredFile {
     pub name: String,
     pub bytes: Vec<u8>,
 }
@@ -20,11 +20,11 @@ pub struct Entry {
 #[derive(Drop)]
 pub struct MemoryDisk {
     pub alloc: Global,
-    pub entries: Vec<Entry>,
+    pub entries: Vec<StoredFile>,
 }
 
 /// The bytes of the last of these entries with this name.
-fn last<'e>(entries: &'e [Entry], name: &str) -> Option<&'e [u8]>
+fn last<'e>(entries: &'e [StoredFile], name: &str) -> Option<&'e [u8]>
     ensures { option_map (λ b. b.now) result ≡ found None entries.now name.now }
 {
     let mut last = None;
@@ -62,7 +62,7 @@ impl Disk for MemoryDisk {
 
     fn finish(&mut self, made: Vec<u8>, name: &str) -> io::Result<()> {
         let name = String::from_str(self.alloc, name)?;
-        self.entries.push(Entry { name, bytes: made })?;
+        self.entries.push(StoredFile { name, bytes: made })?;
         Ok(())
     }
 
@@ -73,9 +73,9 @@ impl Disk for MemoryDisk {
         }
     }
 
-    fn settle(&mut self, grown: Vec<u8>, name: &str) -> io::Result<()> {
+    fn close_synced(&mut self, grown: Vec<u8>, name: &str) -> io::Result<()> {
         let name = String::from_str(self.alloc, name)?;
-        self.entries.push(Entry { name, bytes: grown })?;
+        self.entries.push(StoredFile { name, bytes: grown })?;
         Ok(())
     }
 }

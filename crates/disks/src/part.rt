@@ -21,7 +21,7 @@ pub struct NewFile<'a, R: Files> {
     file: R::File,
     /// The name that it was made for.
     name: String,
-    /// None if the target is no regular file, or leads nowhere: it is written as it stands.
+    /// None if the target is not a regular file, or leads nowhere: it is written as it is.
     beside: Option<Beside>,
 }
 
@@ -50,7 +50,7 @@ impl<R: Files> Write for NewFile<'_, R> {
 }
 
 impl<R: Files> NewFile<'_, R> {
-    /// Puts it in the place of its target, if this is the name that it was made for.
+    /// Puts it into the place of its target, if this is the name that it was made for.
     pub(crate) fn put(self, name: &str) -> io::Result<()> {
         if self.name.as_str() != name {
             return Err(io::Error::from(ErrorKind::InvalidInput));
@@ -72,7 +72,7 @@ impl<R: Files> NewFile<'_, R> {
     }
 }
 
-/// Has the file on the disk, under its target's name.
+/// Syncs the file, under its target's name.
 fn put_beside<R: Files>(files: &R, file: &R::File, beside: &Beside) -> io::Result<()> {
     file.sync_all()?;
     fs::rename(files, beside.part.as_str(), beside.target.as_str())?;
@@ -80,7 +80,7 @@ fn put_beside<R: Files>(files: &R, file: &R::File, beside: &Beside) -> io::Resul
     Ok(())
 }
 
-/// Has the folder of a file on the disk. The file is in its place by then, so a fault of it is none of the file's.
+/// Syncs the folder of a file. The file is in its place by then, so a fault of the folder is not one of the file.
 fn sync_folder<R: Files>(files: &R, target: &str) {
     let folder = match target.rsplit_once('/') {
         None => ".",
@@ -127,7 +127,7 @@ fn made_beside<'a, R: Files + AllocGlobal>(
     Err(io::Error::from(ErrorKind::AlreadyExists))
 }
 
-/// Opens a file to be written as it stands; it is made if it is not there.
+/// Opens a file to be written as it is; it is made if it is not there.
 fn standing<'a, R: Files + AllocGlobal>(files: &'a R, name: &str) -> io::Result<NewFile<'a, R>> {
     let kept = String::from_str(files.alloc(), name)?;
     Ok(NewFile {
@@ -153,7 +153,7 @@ fn made_over<'a, R: Files + AllocGlobal>(
 }
 
 /// Makes a new file for this name: beside its target, if that is a regular file or is not there; else the target is
-/// opened to be written as it stands.
+/// opened to be written as it is.
 pub(crate) fn made_for<'a, R: Files + AllocGlobal>(
     files: &'a R,
     name: &str,

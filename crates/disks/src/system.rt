@@ -8,10 +8,10 @@ use std::io::{self, ErrorKind};
 use std::os::unix::fs::MetadataExt;
 use std::rt::Files;
 
-/// The system's files. Nothing is said of what they hold.
+/// The system's files. Nothing is said of their content.
 ///
-/// A regular file is replaced as a whole: the new one lies beside it, as `NAME.part` (with a number behind if that is there),
-/// and is renamed. What is no regular file (a device, a pipe, a link that leads nowhere) is written as it stands.
+/// A regular file is replaced as a whole: the new one lies beside it, as `NAME.part` (with a number after it if that is there),
+/// and is renamed. Any other target (a device, a pipe, a link that leads nowhere) is written as it is.
 #[derive(Drop)]
 pub struct SystemDisk<'a, R> {
     pub files: &'a R,
@@ -49,7 +49,7 @@ impl<'a, R: Files<File = File> + AllocGlobal> Disk for SystemDisk<'a, R> {
         grown(self.files, name, synced)
     }
 
-    fn settle(&mut self, grown: GrownFile, _name: &str) -> io::Result<()> {
-        grown.settle()
+    fn close_synced(&mut self, grown: GrownFile, _name: &str) -> io::Result<()> {
+        grown.close_synced()
     }
 }

@@ -1,4 +1,4 @@
-//! Rings that lines drive: readers, writers and files that fail. What a dialogue is answered, and what its journal has, is a row
+//! Rings that lines drive: readers, writers and files that fail. The answers to a dialogue, and its journal, are rows
 //! of `command_script`.
 
 mod files;

@@ -1,4 +1,4 @@
-//! Farms: what they hand out, how their threads run, and what they refuse.
+//! Farms: their outcomes, how their threads run, and their refusals.
 
 mod arrivals;
 mod gates;
@@ -26,7 +26,7 @@ const IDLE: &str =
 const CROSSING: &str =
     r#"{"rings":[{"n":2,"k":2,"start":[0,0]}],"workers":[{"script":[["pass",0,0,7]]},{"script":[["pass",0,1,7]]}]}"#;
 
-/// What a farm makes of settings under a gate.
+/// The result of a farm with settings under a gate.
 fn ran<G: Gate + Sync, W: Threads + Wait + Abort + Sync>(
     rt: &W,
     alloc: Global,

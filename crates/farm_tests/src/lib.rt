@@ -1,5 +1,5 @@
 //! Tests of settings, of farms, of rings that are called by numbers and by lines, and of the texts that are written of them, by
-//! their public calls alone.
+//! their public calls only.
 #![tactic(auto)]
 
 #[cfg(test)]

@@ -17,7 +17,7 @@ pub(crate) const REFUSALS: [Refusal; 3] = [
     Refusal::TakesNone,
 ];
 
-/// A writer with room for so many bytes that takes at most so many a call.
+/// A writer with room for a number of bytes that takes at most a number of them a call.
 #[derive(Drop)]
 pub(crate) struct Scripted {
     pub(crate) held: Vec<u8>,
@@ -60,7 +60,7 @@ pub(crate) fn writer_with(alloc: Global, room: usize, at_most: usize, then: Refu
     }
 }
 
-/// A request for so many bytes, and one for a byte more, stand round calls that take no memory: `bench/refused_memory.sh`
+/// A request for this many bytes, and one for a byte more, enclose calls that take no memory: `bench/refused_memory.sh`
 /// refuses each request from the one to the other.
 const MARK: usize = 1_234_567;
 

@@ -1,5 +1,5 @@
-//! Texts: what is written of outcomes and values, to writers that take all, take little at a time, or stop; and what is
-//! read.
+//! Texts: the writing of outcomes and values, to writers that take all, take little at a time, or stop; and their
+//! reading.
 
 mod outcomes;
 mod pieces;
@@ -21,10 +21,10 @@ use std::process::Abort;
 use text_lines::{put, put_all, put_list};
 use toy::Item;
 
-/// What is written.
+/// The written text.
 #[derive(Clone, Copy)]
 enum What<'a> {
-    /// The saved text of what a farm handed out, the report on it, and the last line of that report alone.
+    /// The saved text of a farm's outcome, the report on it, and only the last line of that report.
     Outcome(&'a Outcome),
     Report(&'a Outcome),
     Total(&'a Outcome),
@@ -120,7 +120,7 @@ fn is_put<W: Write>(rt: &impl Abort, alloc: Global, what: What, out: &mut W) -> 
     }
 }
 
-/// A writer that takes at most so many bytes a call takes the text, and nothing behind it.
+/// A writer that takes at most this many bytes a call takes the text, and nothing after it.
 fn is_whole(rt: &impl Abort, alloc: Global, what: What, text: &[u8]) {
     for at_most in [1, 2, 3, 1000, 65_536, 2_000_000] {
         let mut out = writer_with(alloc, text.len(), at_most, Refusal::Fails);
@@ -129,7 +129,7 @@ fn is_whole(rt: &impl Abort, alloc: Global, what: What, text: &[u8]) {
     }
 }
 
-/// It is written as this text; and a writer that stops, in whatever way, holds the beginning that it has room for, and is
+/// It is written as this text; and a writer that stops, in whatever way, holds the prefix that it has room for, and is
 /// not asked again.
 fn is_written(rt: &impl Abort, alloc: Global, what: What, text: &[u8]) {
     is_whole(rt, alloc, what, text);

@@ -57,7 +57,7 @@ raised_at counts m k l = elim (cases_eq k m) [
       omega arith
 ]
 
--- the settled run goes on over an event, or ends with it
+-- the settled run continues over an event, or ends with it
 run_goes_on : {C : Type 0} (w : Works C) (a : State C) (h : List Event) (e : Event) → is_settled (after w a h).ring.values ≡ true → is_corrupted e.reply ≡ false →
     settled_run w a (h ++ e ∷ []) ≡ settled_run w a h ++ e ∷ []
 run_goes_on w a h e s q =

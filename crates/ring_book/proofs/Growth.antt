@@ -4,9 +4,9 @@ use Rattle.std.specs.Prelude.{◌==◌, slice_index}
 use Rattle.std.specs.List.{count_by}
 use Rattle.std.proofs.lemmas.List.{length-set, take_all}
 use Rattle.std.proofs.lemmas.List.Sums.{length-filter, count_by-le-length}
-use Rattle.ring_model.specs.Ring.{Ring, is_privileged, moved, moved_value, is_settled, privileged_count, first_privileged, rest}
+use Rattle.ring_model.specs.Ring.{Ring, is_privileged, moved, moved_value, is_settled}
 use Rattle.ring_model.specs.History.{Works, State, opening, granted_state, IsGrant, Step, StepOf, next, after, IsLegal}
-use Rattle.ring_model.specs.Surveys.{survey_at, calm}
+use Rattle.ring_model.specs.Surveys.{survey_at, survey_from, calm}
 use Rattle.ring_model.specs.Grants.{is_grant_of, settled_grants_of}
 use Rattle.ring_model.specs.Groups.{IsAlone, IsWhole}
 use Rattle.ring_model.proofs.Wholes.{whole_none, whole_push}
@@ -18,7 +18,6 @@ use Rattle.ring_model.specs.declared.events.Reply.{Reply}
 use Rattle.ring_model.specs.declared.events.Reply.TheVariants.{Granted, NotPrivileged, Corrupted}
 use Rattle.ring_model.specs.declared.events.Event.{Event}
 use Rattle.ring_model.specs.declared.events.Receipt.{Receipt}
-use Rattle.ring_model.specs.declared.events.Survey.{Survey}
 use Rattle.ring_model.proofs.Moves.{length_move}
 use Rattle.ring_model.proofs.Settled.{move_ring, settled_stays}
 use Rattle.ring_model.proofs.Places.{set_ring}
@@ -109,13 +108,6 @@ IsOpen-push w first old e b room h fits step =
       whole = tt;
     }
 
-pub IsBook-push : {C : Type 0} (w : Works C) (first : C) (old : BookView C) (e : Event) (b : State C) (room : ℕ) →
-    IsBook w first old → length old.history + 1 + room ≤ event_limit → Step w old.now e b → IsAlone e.op →
-    IsBook w first (record { start = old.start; now = b; history = old.history ++ e ∷ []; room = room })
-IsBook-push w first old e b room h fits step alone =
-    closed_of w first (record { start = old.start; now = b; history = old.history ++ e ∷ []; room = room }) (IsOpen-push w first old e b room (open_of w first old h) fits step)
-    (whole_push (length old.start.values) old.history e h.whole alone)
-
 -- the length of a book's history, as a bound of what counts in it
 pub calls_few : (seat : ℕ) (h : List Event) → length (calls_of seat h) ≤ length h
 calls_few seat h =
@@ -163,33 +155,33 @@ IsOpenKept-pass w first old t b seat m order number result room settled None k f
 IsOpenKept-pass w first old t b seat m order number result room settled (Some left) k fits grant few s =
     IsOpenKept-grant w first old t b seat m order number result room settled (Member m order left) (λ i. refl) k fits grant grant few s
 
--- a whole history stays whole by a pass by itself
-pub pass_keeps : {C : Type 0} (w : Works C) (first : C) (old new : BookView C) (t : TallyView) (seat m order : ℕ) (r : Receipt) →
-    IsOpenKept w first new t → IsRecorded w old new seat (Pass m order) r → IsWhole (length old.start.values) old.history → IsKept w first new t
-pass_keeps w first old new t seat m order r kept rec whole =
-    kept_closed w first new t kept
-    (rw (rec.same_start, rec.grown) (whole_push (length old.start.values) old.history r.event whole (subst IsAlone (sym rec.of_call) tt)))
-
 -- by a pass that was not granted
-pub IsKept-idle : {C : Type 0} (w : Works C) (first : C) (old : BookView C) (t : TallyView) (b : State C) (seat m order room : ℕ) →
-    IsKept w first old t → length old.history + 1 + room ≤ event_limit → StepOf w old.now (Pass m order) NotPrivileged b → seat < seat_limit →
-    IsKept w first (record { start = old.start; now = b; history = old.history ++ record { seat = seat; op = Pass m order; reply = NotPrivileged } ∷ []; room = room })
+pub IsOpenKept-idle : {C : Type 0} (w : Works C) (first : C) (old : BookView C) (t : TallyView) (b : State C) (seat m order room : ℕ) →
+    IsOpenKept w first old t → length old.history + 1 + room ≤ event_limit → StepOf w old.now (Pass m order) NotPrivileged b → seat < seat_limit →
+    IsOpenKept w first (record { start = old.start; now = b; history = old.history ++ record { seat = seat; op = Pass m order; reply = NotPrivileged } ∷ []; room = room })
     (after_call t seat)
-IsKept-idle w first old t b seat m order room k fits step few = record {
-  book = IsBook-push w first old (record { seat = seat; op = Pass m order; reply = NotPrivileged }) b room k.book fits step tt;
+IsOpenKept-idle w first old t b seat m order room k fits step few = record {
+  book = IsOpen-push w first old (record { seat = seat; op = Pass m order; reply = NotPrivileged }) b room k.book fits step;
   tally = IsTallyOf-idle w (opening old.start first) old.history t b seat m order k.tally (rw k.book.current step) few;
 }
 
 -- and by a corruption
-pub IsKept-corruption : {C : Type 0} (w : Works C) (first : C) (old : BookView C) (t : TallyView) (b : State C) (seat m value was room : ℕ) (settled : Bool) →
-    IsKept w first old t → length old.history + 1 + room ≤ event_limit → StepOf w old.now (Corrupt m value) (Corrupted was) b → seat < seat_limit →
+pub IsOpenKept-corruption : {C : Type 0} (w : Works C) (first : C) (old : BookView C) (t : TallyView) (b : State C) (seat m value was room : ℕ) (settled : Bool) →
+    IsOpenKept w first old t → length old.history + 1 + room ≤ event_limit → StepOf w old.now (Corrupt m value) (Corrupted was) b → seat < seat_limit →
     settled ≡ is_settled b.ring.values →
-    IsKept w first (record { start = old.start; now = b; history = old.history ++ record { seat = seat; op = Corrupt m value; reply = Corrupted was } ∷ []; room = room })
+    IsOpenKept w first (record { start = old.start; now = b; history = old.history ++ record { seat = seat; op = Corrupt m value; reply = Corrupted was } ∷ []; room = room })
     (after_call (after_corruption t settled) seat)
-IsKept-corruption w first old t b seat m value was room settled k fits step few s = record {
-  book = IsBook-push w first old (record { seat = seat; op = Corrupt m value; reply = Corrupted was }) b room k.book fits step tt;
+IsOpenKept-corruption w first old t b seat m value was room settled k fits step few s = record {
+  book = IsOpen-push w first old (record { seat = seat; op = Corrupt m value; reply = Corrupted was }) b room k.book fits step;
   tally = IsTallyOf-corruption w (opening old.start first) old.history t b seat m value was settled k.tally (rw k.book.current step) few s;
 }
+
+-- a whole history stays whole by a call by itself
+pub alone_keeps : {C : Type 0} (w : Works C) (first : C) (old new : BookView C) (t : TallyView) (seat : ℕ) (op : Op) (r : Receipt) → IsAlone op →
+    IsOpenKept w first new t → IsRecorded w old new seat op r → IsWhole (length old.start.values) old.history → IsKept w first new t
+alone_keeps w first old new t seat op r alone kept rec whole =
+    kept_closed w first new t kept
+    (rw (rec.same_start, rec.grown) (whole_push (length old.start.values) old.history r.event whole (subst IsAlone (sym rec.of_call) alone)))
 
 -- a settled ring stays settled by a move, so the counted mark and the look at the new values together are right
 pub settled_mark : {C : Type 0} (w : Works C) (first : C) (old : BookView C) (t : TallyView) (m : ℕ) → IsOpenKept w first old t → m < length old.now.ring.values →
@@ -198,21 +190,9 @@ settled_mark w first old t m k l e y =
     let now : is_settled old.now.ring.values ≡ true = sym (k.tally.settled ∙ ap (λ (s : State _). is_settled s.ring.values) k.book.current) ∙ y in
     settled_stays old.now.ring m k.book.now_ring.ring l e now
 
--- a survey behind all events
-pub survey_end : {C : Type 0} (w : Works C) (a : State C) (h : List Event) → survey_at w a h (length h) ≡ record {
-  position = length h;
-  privileged = privileged_count (after w a h).ring.values;
-  first = first_privileged (after w a h).ring.values;
-  calm = calm h;
-  rest = rest (after w a h).ring;
-}
-survey_end w a h = ap (λ (front : List Event). let s : Survey = record {
-  position = length h;
-  privileged = privileged_count (after w a front).ring.values;
-  first = first_privileged (after w a front).ring.values;
-  calm = calm front;
-  rest = rest (after w a front).ring;
-} in s) (take_all (length h) h (omega arith))
+-- a survey after all events
+pub survey_end : {C : Type 0} (w : Works C) (a : State C) (h : List Event) → survey_at w a h (length h) ≡ survey_from (after w a h).ring (length h) (calm h)
+survey_end w a h = ap (λ (front : List Event). survey_from (after w a front).ring (length h) (calm front)) (take_all (length h) h (omega arith))
 
 -- a book with no events
 pub IsKept-new : {C : Type 0} (w : Works C) (first : C) (start ring : Ring) (content : C) (events : EventsView) (t : TallyView) (n : ℕ) (settled : Bool) →

@@ -1,4 +1,4 @@
--- What the history laws say of a book, and how its repairs go on.
+-- The history laws for a book, and the steps of its repairs.
 use Rattle.std.proofs.Common.{◌≡◌, ℕ, ◌-◌, ◌<◌, ◌≤◌, true, false, List, [], ◌∷◌, ◌++◌, length, append_assoc, append-nil, refl, sym, ◌∙◌, ap, subst, inl, inr, arith}
 use Rattle.std.proofs.lemmas.Bool.{cases_lt, both_ways, eqb-true}
 use Rattle.ring_model.specs.Ring.{is_privileged, moved, is_settled, privileged_count, first_privileged, rest, bound}
@@ -51,7 +51,7 @@ AreRepairs-push w a seat (d ∷ es) e h more = (h.0, h.1, h.2, h.3, h.4, AreRepa
 pub no_repairs : {C : Type 0} (w : Works C) (old : BookView C) (seat : ℕ) → IsRepairedBy w old old seat []
 no_repairs w old seat = record { repairs = tt; grown = sym (append-nil old.history); now = refl; same_start = refl }
 
--- what a recorded pass of the first privileged machine of an unsettled ring is
+-- a recorded pass of the first privileged machine of an unsettled ring
 pub record IsTurn {C : Type 0} (w : Works C) (old b c : BookView C) (seat : ℕ) (passes : List Event) : Type 0 where
   pub made : IsRepairedBy w old c seat passes
   pub falls : rest c.now.ring < rest b.now.ring

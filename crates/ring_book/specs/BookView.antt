@@ -1,4 +1,4 @@
--- What contracts see of a book.
+-- The book as contracts see it.
 use Rattle.std.specs.Prelude.{◌≡◌, ◌++◌, ◌∷◌, ◌+◌, ◌≤◌, ℕ, List, [], length, Option, None, Some}
 use Rattle.ring_model.specs.Ring.{Ring}
 use Rattle.ring_model.specs.History.{Works, State, Step, opening, after, IsLegal}
@@ -29,7 +29,7 @@ view_of b = record {
   room = b.events.room;
 }
 
--- What is true of a book whose history ends in some way: it is legal, step by step, from the start
+-- The invariant of a book whose history ends in some way: it is legal, step by step, from the start
 -- and leads to the state now (the one-thread ring under a central daemon, Dijkstra 1974), within
 -- the limits of this project.
 pub record IsBookThat {C : Type 0} (ends : ℕ → List Event → Type 0) (w : Works C) (first : C)
@@ -42,16 +42,16 @@ pub record IsBookThat {C : Type 0} (ends : ℕ → List Event → Type 0) (w : W
   pub same_size : size_of b.now.ring ≡ size_of b.start
   pub whole : ends (length b.start.values) b.history
 
--- What is true of a book at every moment: its history is whole, a row of groups and of calls by
+-- The invariant of a book at every moment: its history is whole, a row of groups and of calls by
 -- themselves.
 abbrev pub IsBook : {C : Type 0} → Works C → C → BookView C → Type 0
 IsBook w first b = IsBookThat IsWhole w first b
 
--- What is true of it also between the members of a group: its history may end anywhere.
+-- Its invariant also between the members of a group: its history may end anywhere.
 abbrev pub IsOpen : {C : Type 0} → Works C → C → BookView C → Type 0
 IsOpen w first b = IsBookThat (λ n h. Unit {0}) w first b
 
--- besides, each running count is that of the history
+-- also, each running count is that of the history
 pub record IsKept {C : Type 0} (w : Works C) (first : C) (b : BookView C) (t : TallyView) : Type 0
   where
     pub book : IsBook w first b
@@ -68,7 +68,7 @@ abbrev pub IsFresh : {C : Type 0} → Ring → C → BookView C → Type 0
 IsFresh start first b = (b.start ≡ start) × (b.now ≡ opening start first) × (b.history ≡ [])
 
 -- One call was recorded: the state made one step by the receipt's event, which is the call's and
--- stands at the end of the history, at the receipt's position.
+-- is at the end of the history, at the receipt's position.
 pub record IsRecorded {C : Type 0} (w : Works C) (old new : BookView C) (seat : ℕ) (op : Op)
     (r : Receipt) : Type 0 where
   pub step : Step w old.now r.event new.now
@@ -78,7 +78,7 @@ pub record IsRecorded {C : Type 0} (w : Works C) (old new : BookView C) (seat : 
   pub of_call : r.event.op ≡ op
   pub same_start : new.start ≡ old.start
 
--- the call of a granted pass: by itself, or as a member of a group of which so many are left
+-- the call of a granted pass: by itself, or as a member of a group with this many left after it
 abbrev pub pass_of : ℕ → ℕ → Option ℕ → Op
 pass_of machine order None = Pass machine order
 pass_of machine order (Some left) = Member machine order left

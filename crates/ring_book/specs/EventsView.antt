@@ -1,4 +1,4 @@
--- What contracts see of a list of events.
+-- The list of events as contracts see it.
 use Rattle.std.specs.Prelude.{ℕ, List}
 use Rattle.ring_model.specs.declared.events.Event.{Event}
 

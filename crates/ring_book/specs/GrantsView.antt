@@ -1,4 +1,4 @@
--- What contracts see of the counted grants.
+-- The counted grants as contracts see them.
 use Rattle.std.specs.Prelude.{◌≡◌, ◌+◌, ◌<◌, ℕ, List, length, slice_index, slice_set, cond, Bool, replicate}
 use Rattle.ring_model.specs.Numbers.{sum_below}
 use Rattle.ring_model.specs.History.{Works, State}
@@ -28,7 +28,7 @@ raised counts i = slice_set counts i (slice_index counts i + 1)
 abbrev pub no_grants : ℕ → GrantsView
 no_grants n = record { total = 0; each = replicate n 0; settled = replicate n 0 }
 
--- one grant more, of machine i, in the settled run where that goes on
+-- one grant more, of machine i, in the settled run where that continues
 abbrev pub one_grant : GrantsView → ℕ → Bool → GrantsView
 one_grant g i settled = record {
   total = g.total + 1;

@@ -1,4 +1,4 @@
--- What contracts see of a group pass.
+-- The group pass as contracts see it.
 use Rattle.std.specs.Prelude.{◌≡◌, ◌++◌, ◌<◌, ℕ, List, length, true, false}
 use Rattle.ring_model.specs.Ring.{is_privileged}
 use Rattle.ring_model.specs.History.{Works, after, IsLegal}

@@ -71,7 +71,7 @@ impl GrantBook {
         self.settled[machine as usize]
     }
 
-    /// Counts a grant of `machine`, in the settled run too where that goes on: there the grants go round.
+    /// Counts a grant of `machine`, in the settled run too where that continues: there the grants go round.
     pub(crate) fn add(&mut self, machine: u32, settled: bool)
         requires machine { machine < length self.old.each }
         requires fits { self.old.total + 1 < 2 ^ 64 }

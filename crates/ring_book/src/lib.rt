@@ -9,8 +9,9 @@ pub mod laws;
 mod open_books;
 mod resources;
 mod tallies;
+mod wholes;
 
-pub use books::{Book, GroupError, GroupReceipt, NotMade};
+pub use books::{Book, GroupError, GroupReceipt, HistoryError, NotMade};
 pub use events::BookError;
 pub use grants::GrantBook;
 pub use resources::{Idle, Resource, Till};

@@ -5,6 +5,9 @@ ghost use Rattle.ring_model.specs.Limits.{seat_limit};
 ghost use Rattle.ring_book.specs.BookView.{view_of, pass_of, IsOpenKept, IsRecorded};
 ghost use Rattle.ring_book.specs.GroupView.{HasMoved};
 
+mod calls;
+mod replays;
+
 use crate::events::Events;
 use crate::resources::Resource;
 use crate::tallies::Tally;
@@ -23,7 +26,7 @@ pub(crate) struct OpenBook<R: Resource + Drop> {
 }
 
 impl<R: Resource + Drop> OpenBook<R> {
-    /// A pass by a privileged machine, by itself or as a member of a group of which so many are left: it does the
+    /// A pass by a privileged machine, by itself or as a member of a group with `left` members after it: it does the
     /// work and moves, and is recorded.
     #[inline(always)]
     pub(crate) fn grant(
@@ -78,7 +81,7 @@ impl<R: Resource + Drop> OpenBook<R> {
     }
 }
 
-/// The call of a pass by itself, or of a member of a group of which so many are left.
+/// The call of a pass by itself, or of a member of a group with `left` members after it.
 #[inline(always)]
 fn pass_of(machine: u32, order: u64, left: Option<u32>) -> Op
     ensures { result ≡ pass_of machine order left }

@@ -3,7 +3,7 @@ ghost use Rattle.ring_model.specs.History.{Works};
 
 use std::marker::Model;
 
-/// What a ring arbitrates: a granted pass does its work.
+/// The resource that a ring arbitrates: a granted pass does its work.
 ///
 /// Contracts see the implementation's own value as its content: the first one, and two functions of the
 /// content, the machine and the order, which are the content afterwards and the answer.

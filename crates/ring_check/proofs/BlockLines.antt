@@ -157,7 +157,7 @@ text_right X u s h w =
     let none = finds_none (first_fault (nothing s.version) (flat_map block_lines s.rings)) u h in
     good_none (nothing s.version) (lines s) (text_parts s ∙ rw (none, w) refl)
 
--- what is found is what the checker may answer
+-- the checker may answer the fault that is found
 pub right_bad : (s : Content) (line : ℕ) (kind : Kind) → first_fault (nothing s.version) (lines s) ≡ Some (line, kind) → IsFirstBad s.version (lines s) line kind
 right_bad s line kind h =
     let f = found (nothing s.version) (lines s) (line, kind) h in

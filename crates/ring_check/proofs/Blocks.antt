@@ -60,11 +60,11 @@ ring_of version n k s p b e =
     let enough = q.2 in
     record { two = omega arith; enough = omega arith; below = below_at k s b }
 
--- a block's lines behind the start line
+-- a block's lines after the start line
 abbrev pub tail_lines : List SavedEvent → ℕ → List SavedSurvey → List Line
 tail_lines es said ss = map EventLine es ++ (EndLine said ∷ map SurveyLine ss)
 
--- behind the start line of a block
+-- after the start line of a block
 pub opens : (b : Before) (index n k : ℕ) (s : List ℕ) → after_line (after_line b (RingLine index n k)) (StartLine s) ≡ in_block b.version (b.line + 2) (b.rings + 1) n k s []
 opens b index n k s = let e : b.line + 1 + 1 ≡ b.line + 2 = omega arith in ap (λ (x : ℕ). in_block b.version x (b.rings + 1) n k s []) e
 
@@ -142,7 +142,7 @@ module _ (b : Before) (r : Block) (line place : ℕ) (p : b.line ≡ line) (q : 
       let none = finds_none (first_fault (in_block b.version (line + 2) (place + 1) (length r.start) r.k r.start []) (map EventLine r.events)) u h in
       block_parts b r line place p q e f g n ∙ rw (none, w) refl
 
--- what a block's lines leave behind
+-- the state after a block's lines
 pub survey_lines_leave : (b : Before) (ss : List SavedSurvey) → ((after_lines b (map SurveyLine ss)).line ≡ b.line + length ss) × ((after_lines b (map SurveyLine ss)).rings ≡ b.rings)
 survey_lines_leave b [] = (omega arith, refl)
 survey_lines_leave b (s ∷ ss) = let h = survey_lines_leave (after_line b (SurveyLine s)) ss in let x = h.0 in let y = h.1 in (omega arith, y)

@@ -1,4 +1,4 @@
--- What the tests of the table say, and what passes them.
+-- The meaning of the table's tests: each holds exactly of the values that pass it.
 use Rattle.std.proofs.Common.{◌≡◌, ℕ, ◌<◌, ◌≤◌, Bool, true, false, refl, arith, eqb}
 use Rattle.std.specs.Prelude.{nat_le, nat_lt, ◌&&◌, ◌||◌}
 use Rattle.std.proofs.lemmas.Bool.Decides.{nat_tests}

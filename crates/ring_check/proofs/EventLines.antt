@@ -35,7 +35,7 @@ events_after version line rings n k start h (e ∷ es) =
     ∙ ap (λ (x : ℕ). in_block version x rings n k start ((h ++ event_of e ∷ []) ++ map event_of es)) p
     ∙ ap (λ (x : List Event). in_block version (line + length (e ∷ es)) rings n k start x) q
 
--- the first i events have no fault, and the replay stands behind them; the block that is open there begins at `first`
+-- the first i events have no fault, and the replay is after them; the block that is open there begins at `first`
 pub record AreGood (line k : ℕ) (start : List ℕ) (es : List SavedEvent) (first i : ℕ) (r : Replay) : Type 0 where
   pub within : first ≤ i
   pub run : map event_of (drop first (take i es)) ≡ run_of (map event_of (take i es))
@@ -44,7 +44,7 @@ pub record AreGood (line k : ℕ) (start : List ℕ) (es : List SavedEvent) (fir
   pub none : (version rings : ℕ) → first_fault (in_block version line rings (length start) k start []) (map EventLine (take i es)) ≡ None
   pub long : length r.values.items ≡ length start
 
--- where the open block begins behind one event more, of whose group so many are left
+-- where the open block begins after one event more, whose group has this many left
 abbrev pub BeginsAt : ℕ → ℕ → ℕ → ℕ → Type 0
 BeginsAt first i left next = ((left ≡ 0) × (next ≡ i + 1)) ⊎ ((1 ≤ left) × (next ≡ first))
 
@@ -85,7 +85,7 @@ module _ (es : List SavedEvent) (first i : ℕ) (d : SavedEvent) (lt : i < lengt
       )
 
 module _ (line k : ℕ) (start : List ℕ) (es : List SavedEvent) (first i : ℕ) (d : SavedEvent) (lt : i < length es) (r : Replay) (good : AreGood line k start es first i r) where
-  -- behind the first i events
+  -- after the first i events
   at : ℕ → ℕ → Before
   at version rings = in_block version (line + i) rings (length start) k start (map event_of (take i es))
 
@@ -96,7 +96,7 @@ module _ (line k : ℕ) (start : List ℕ) (es : List SavedEvent) (first i : ℕ
       events_after version line rings (length start) k start [] (take i es)
       ∙ ap (λ (x : ℕ). in_block version (line + x) rings (length start) k start (map event_of (take i es))) long
 
-  -- what is wrong with the event where the replay stands
+  -- the fault of the event at the place of the replay
   wrong : Option Kind
   wrong = event_fault (length r.values.items) (map event_of (take (i - first) (drop first es))) (state_of r) (event_of (get_or es i d))
 

@@ -1,4 +1,4 @@
--- Running counts of a ring's values: what the write of one value does to them.
+-- Running counts of a ring's values: how the write of one value changes them.
 use Rattle.std.proofs.Common.{◌≡◌, ℕ, zero, suc, ◌+◌, ◌-◌, ◌*◌, ◌%◌, ◌<◌, ◌≤◌, ◌≢◌, Bool, true, false, not, cond, List, length, get_or, set, refl, sym, ◌∙◌, ap, inl, inr, arith, eqb, get_or-set_same, get_or-set_other, [], ◌∷◌}
 use Rattle.std.specs.Prelude.{replicate}
 use Rattle.std.proofs.Math.ListN.{get_or-eq_default}
@@ -62,7 +62,7 @@ sum_bound f c (suc n) h =
     let m : c * suc n ≡ c * n + c = omega arith in
     omega arith
 
--- a write changes the privilege of its machine and of the one to its right alone
+-- a write changes the privilege of its machine and of the one to its right only
 pub others_written : (s : List ℕ) (i v k : ℕ) → i < length s → k < length s → k ≢ i → k ≢ right_neighbour s i → is_privileged (set s i v) k ≡ is_privileged s k
 others_written s i v zero l lk ni nn =
     let n : length (set s i v) ≡ length s = length-set s i v in
@@ -151,7 +151,7 @@ absent_none s v e = none_passes (λ i. eqb (get_or s (suc i) 0) v) (length s - 1
 pub absent_some : (s : List ℕ) (v : ℕ) → 1 ≤ holders s v → is_absent s v ≡ false
 absent_some s v e = some_passes (λ i. eqb (get_or s (suc i) 0) v) (length s - 1) e
 
--- the sums behind a write
+-- the sums after a write
 
 right_same : (s : List ℕ) (i v : ℕ) → right_neighbour (set s i v) i ≡ right_neighbour s i
 right_same s i v = ap (λ n. (i + 1) % n) (length-set s i v)
@@ -178,7 +178,7 @@ weight_new s i v b a p l eb ea ep =
 pub count_few : (s : List ℕ) → privileged_count s ≤ length s
 count_few s = count_le (is_privileged s) (length s)
 
--- the counts of holders behind a write
+-- the counts of holders after a write
 
 lowered : (h : List ℕ) (old w : ℕ) → w < length h → get_or (set h old (get_or h old 0 - 1)) w 0 ≡ get_or h w 0 - bit (eqb old w)
 lowered h old w l = elim (cases_eq w old) [
@@ -235,7 +235,7 @@ counted_more k s (suc i) h new one a e = (
       omega arith,
 )
 
--- behind the write of a value into a machine but machine 0
+-- after the write of a value into a machine but machine 0
 abbrev pub AreHeld : ℕ → List ℕ → List ℕ → Type 0
 AreHeld k s h = (v : ℕ) → v < k → get_or h v 0 ≡ holders s v
 
@@ -299,7 +299,7 @@ times_le a b (suc c) l = let h = times_le a b c l in let x : a * suc c ≡ a * c
 pub written_same : (r : Ring) (i v : ℕ) → get_or r.values i 0 ≡ v → r ≡ written r i v
 written_same r i v e = ap (ring_with r.k) (sym (ap (set r.values i) (sym e) ∙ set-get_or r.values i 0))
 
--- the first so many values of a ring are these
+-- the first n values of a ring are these
 abbrev pub Agrees : ℕ → ℕ → Ring → List ℕ → Type 0
 Agrees k i r s = (r.k ≡ k) × (length r.values ≡ length s) × ((j : ℕ) → j < i → get_or r.values j 0 ≡ get_or s j 0)
 
@@ -324,7 +324,7 @@ agrees_all k i r s l a =
     let ek = a.0 in
     rw (ek, same) refl
 
--- a call changes the value of its machine alone, to the one that it has afterwards
+-- a call changes only the value of its machine, to the one that it has afterwards
 written_back : (r : Ring) (i : ℕ) → written r i (get_or r.values i 0) ≡ r
 written_back r i = ap (ring_with r.k) (set-get_or r.values i 0)
 

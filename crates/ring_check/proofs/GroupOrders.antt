@@ -7,7 +7,7 @@ use Rattle.ring_model.specs.Groups.{down_from, Falls, IsInOrder}
 use Rattle.ring_check.specs.Members.{are_in_turn, least_of, is_in_order}
 use Rattle.ring_check.proofs.Booleans.{both, joined, and_right, same, below, at_most, eq_true, eq_false, lt_true, le_true}
 
--- what passes the test, and what it says
+-- the lists that pass the test, and its meaning
 
 -- the machines are x - 1 down to 0, and then these
 pub record InTurn (low high x : ℕ) (ms : List ℕ) : Type 0 where

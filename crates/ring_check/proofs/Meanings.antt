@@ -1,4 +1,4 @@
--- A text is legal exactly where its blocks tell of legal histories and of surveys of them.
+-- A text is legal exactly where its blocks describe legal histories and of surveys of them.
 use Rattle.std.proofs.Common.{◌≡◌, ℕ, ◌+◌, ◌<◌, ◌≤◌, List, [], ◌∷◌, ◌++◌, length, take, map, Bool, true, false, cond, Option, Some, None, refl, sym, ◌∙◌, ap, subst, arith, ◌&&◌, ◌||◌, eqb, inl, inr}
 use Rattle.std.specs.Prelude.{nat_le, nat_lt, ◌⊎◌}
 use Rattle.std.specs.List.{All, list_all, flat_map}
@@ -50,7 +50,7 @@ count_none : (c : Bool) → cond {A = Option Kind} c None (Some Count) ≡ None 
 count_none true e = refl
 count_none false e = absurd (cc)
 
--- an end line without a fault says how many events there are, and stands in no block
+-- an end line without a fault says how many events there are, and is in no block
 end_means : (said : ℕ) (h : List Event) → end_fault said h ≡ None → (said ≡ length h) × (left_after h ≡ 0)
 end_means said h e = go (eqb said (length h)) (eqb (left_after h) 0) refl refl e
   where

@@ -1,4 +1,4 @@
--- The open block behind a history, and which events may come behind it, as tests and as defined.
+-- The open block after a history, and which events may come after it, as tests and as defined.
 use Rattle.std.proofs.Common.{◌≡◌, ℕ, zero, suc, ◌+◌, ◌-◌, ◌<◌, ◌≤◌, List, [], ◌∷◌, ◌++◌, length, get_or, take, map, true, refl, sym, ◌∙◌, ap, subst, arith, eqb, length-append}
 use Rattle.std.specs.Prelude.{nat_lt, ◌&&◌, ◌||◌}
 use Rattle.std.proofs.lemmas.List.{length-map}
@@ -24,7 +24,7 @@ behind_push run (d ∷ h) e = behind_push (opened (left_of d.op) (run ++ d ∷ [
 pub run_push : (h : List Event) (e : Event) → run_of (h ++ e ∷ []) ≡ opened (left_of e.op) (run_of h ++ e ∷ [])
 run_push h e = behind_push [] h e
 
--- each event of a run is a member: there are some left behind it
+-- each event of a run is a member: there are some left after it
 abbrev pub IsOpen : List Event → Type 0
 IsOpen [] = Unit {0}
 IsOpen (e ∷ es) = (1 ≤ left_of e.op) × IsOpen es
@@ -54,7 +54,7 @@ open_named : (run : List Event) → IsOpen run → machines_of run ≡ members_o
 open_named [] o = refl
 open_named (e ∷ run) o = ap (λ (u : List ℕ). machine_of e.op ∷ u) (open_named run o.1) ∙ member_named e.op (members_of run) o.0
 
--- a run is empty just where none are left behind the last event
+-- a run is empty just where none are left after the last event
 behind_left : (run h : List Event) (e : Event) → run_behind run (h ++ e ∷ []) ≡ [] → left_of e.op ≡ 0
 behind_left run h e q = go (left_of e.op) refl (sym (behind_push run h e) ∙ q)
   where
@@ -93,7 +93,7 @@ goes_true (d ∷ []) seat order left g =
     joined (eqb d.seat seat) (is_member_of order (left + 1) d.op) (eq_true d.seat seat g.0) (member_true order (left + 1) g.1.0 d.op g.1.1)
 goes_true (c ∷ d ∷ es) seat order left g = goes_true (d ∷ es) seat order left g
 
--- a member that goes on does so behind the last of a run
+-- a member that continues a run does so after its last
 pub goes_last : (run : List Event) (d : Event) (seat order left : ℕ) → 0 < length run → goes_on run seat order left ≡ goes_on (get_or run (length run - 1) d ∷ []) seat order left
 goes_last [] d seat order left l = absurd (omega arith)
 goes_last (e ∷ []) d seat order left l = refl
@@ -166,7 +166,7 @@ goes_last_line es d seat order left l =
     ∙ ap (λ (x : ℕ). goes_on (get_or (map event_of es) (x - 1) (event_of d) ∷ []) seat order left) n
     ∙ ap (λ (x : Event). goes_on (x ∷ []) seat order left) (event_at es (length es - 1) d)
 
--- how many are left behind the last of the first so many events
+-- how many are left after the last of the first n events
 left_taken : (h : List Event) (p : ℕ) (d : Event) → p < length h → left_after (take (suc p) h) ≡ left_of (get_or h p d).op
 left_taken [] p d l = absurd (omega arith)
 left_taken (e ∷ []) zero d l = refl

@@ -1,4 +1,4 @@
--- A replay goes on, event by event.
+-- A replay proceeds, event by event.
 use Rattle.std.proofs.Common.{◌≡◌, ℕ, ◌+◌, ◌<◌, ◌≤◌, List, [], ◌∷◌, ◌++◌, length, take, drop, get_or, map, refl, sym, ◌∙◌, ap, subst, arith}
 use Rattle.std.proofs.lemmas.List.{take_more, drop_more, take-append-drop, take-map, map-append}
 use Rattle.ring_model.specs.declared.events.Event.{Event}
@@ -41,7 +41,7 @@ stands_first k start es r ring f =
       calm = omega arith;
     }
 
--- the event at a place of a legal history is a step from where the replay stands
+-- the event at a place of a legal history is a step from the place of the replay
 pub step_at : (k : ℕ) (start : List ℕ) (es : List SavedEvent) (i : ℕ) (d : SavedEvent) (r : Replay) → i < length es →
     IsLegal till (first_state (ring_with k start)) (map event_of es) → StandsAt (ring_with k start) es i r →
     Step till (state_of r) (event_of (get_or es i d)) (next till (state_of r) (event_of (get_or es i d)).op)
@@ -84,7 +84,7 @@ stands_on k start es i d r t lt at step f =
       calm = omega arith;
     }
 
--- a survey of the history is what the replay that stands there says
+-- a survey of the history is the survey of the replay that is there
 pub survey_is : (k : ℕ) (start : List ℕ) (es : List SavedEvent) (p : ℕ) (r : Replay) → StandsAt (ring_with k start) es p r →
     survey_at till (first_state (ring_with k start)) (map event_of es) p ≡ survey_where r p
 survey_is k start es p r at =
@@ -94,6 +94,6 @@ survey_is k start es p r at =
     let calm_is : calm (take p (map event_of es)) ≡ r.calm = ap (λ (u : List Event). calm u) front ∙ sym at.stands.calm in
     rw (state, calm_is) refl
 
--- a reading whose survey is right tells the measures of its ring
+-- a reading whose survey is right has the measures of its ring
 pub tells_right : (r : Reading) (position : ℕ) → r.survey ≡ survey_where r.replay position → Tells r.survey (state_of r.replay).ring
 tells_right r position e = record { privileged = ap (λ (s : Survey). s.privileged) e; first = ap (λ (s : Survey). s.first) e; rest = ap (λ (s : Survey). s.rest) e }

@@ -72,7 +72,7 @@ pub version_kept : (b : Before) (ls : List Line) → (after_lines b ls).version 
 version_kept b [] = refl
 version_kept b (l ∷ ls) = version_kept (after_line b l) ls ∙ version_next b l
 
--- what is found is the first bad line
+-- the line that is found is the first bad one
 abbrev pub FoundAt : Before → List Line → ℕ → Kind → Type 0
 FoundAt b ls line kind = (front : List Line) × (l : Line) × (back : List Line) × (ls ≡ front ++ l ∷ back) × (line ≡ length front + b.line + 1) × IsGood b front × (fault (after_lines b front) l ≡ Some kind)
 

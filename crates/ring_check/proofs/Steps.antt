@@ -49,7 +49,7 @@ event_right n run a e h = go (in_range n a.ring.k e) (is_replied a e) (may_come 
     go true false z p q t h = absurd (cc)
     go false y z p q t h = absurd (cc)
 
--- a line can tell of this call and this reply: a member's says that it was granted
+-- a line can describe this call and this reply: a member's says that it was granted
 abbrev pub IsTold : Op → Reply → Type 0
 IsTold (Member machine order left) NotPrivileged = ⊥
 IsTold o r = Unit {0}
@@ -127,7 +127,7 @@ set_ring r i v g l small =
       ];
     }
 
--- what a step keeps
+-- the invariant of a step
 pub record IsKept (a b : State ℕ) : Type 0 where
   pub ring : IsRing b.ring
   pub long : length b.ring.values ≡ length a.ring.values

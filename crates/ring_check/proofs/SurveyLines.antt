@@ -22,15 +22,15 @@ use Rattle.ring_check.proofs.Booleans.{joined, and_left, and_right, lt_true, lt_
 use Rattle.ring_check.proofs.Replaying.{survey_is}
 use Rattle.ring_check.proofs.Walk.{walk_bad, walk_good, walk_on}
 
--- among the surveys, behind the one of this seat and position
+-- among the surveys, after the one of this seat and position
 abbrev pub in_surveys : ℕ → ℕ → ℕ → ℕ → List ℕ → List Event → ℕ → ℕ → Before
 in_surveys version line rings k start h seat position = record { version = version; line = line; rings = rings; n = length start; k = k; start = start; events = h; seat = seat; position = position }
 
--- a survey that stands for none
+-- a survey that means none
 abbrev pub blank : SavedSurvey
 blank = record { seat = 0; position = 0; privileged = 0; first = 0; calm = 0; rest = 0 }
 
--- what is wrong with a survey line, and what is not
+-- the fault of a survey line, and that it has none
 pub seat_bad : (b : Before) (s : SavedSurvey) → seat_limit ≤ s.seat → fault b (SurveyLine s) ≡ Some Range
 seat_bad b s l = let e : nat_lt s.seat seat_limit ≡ false = lt_false s.seat seat_limit l in rw e refl
 
@@ -66,7 +66,7 @@ surveyed_by version line rings k start es seat position s t said r at e =
     ap (λ (x : ℕ). survey_at till (first_state (ring_with k start)) (map event_of es) x) (sym at) ∙ survey_is k start es t.survey.position t.replay r.stands ∙ sym r.right in
     rw i (ap (λ (x : Survey). same_survey s x && eqb (left_after (take s.position (map event_of es))) 0) here ∙ sym e)
 
--- the first i surveys have no fault, and a reading stands at the last of them
+-- the first i surveys have no fault, and a reading is at the last of them
 pub record AreRight (line k : ℕ) (start : List ℕ) (es : List SavedEvent) (ss : List SavedSurvey) (i seat position : ℕ) (r : Reading) : Type 0 where
   pub reading : IsReading (ring_with k start) es r
   pub same_k : r.replay.k ≡ k

@@ -1,4 +1,4 @@
--- What is kept of a ring's values while they change (this project's own).
+-- The sums that are kept of a ring's values while they change (this project's own).
 use Rattle.std.specs.Prelude.{◌≡◌, ℕ, suc, ◌-◌, ◌<◌, ◌≤◌, ◌==◌, ◌+◌, cond, List, length, slice_index}
 use Rattle.ring_model.specs.Limits.{machine_limit}
 use Rattle.ring_model.specs.Numbers.{bit, count_below}
@@ -17,11 +17,11 @@ holders s v = count_below (λ i. slice_index s (suc i) == v) (length s - 1)
 abbrev pub bit_of : List ℕ → ℕ → ℕ
 bit_of s i = bit (is_privileged s i)
 
--- what two machines add to a sum over the machines: one alone where they are the same
+-- the part of two machines in a sum over the machines: only one where they are the same
 abbrev pub both_of : (ℕ → ℕ) → ℕ → ℕ → ℕ
 both_of f i r = cond {A = ℕ} (r == i) (f i) (f i + f r)
 
--- what a gauge keeps is right, of any values of a machine or more and any K but 0
+-- a gauge is right, of any values of a machine or more and any K but 0
 pub record IsGauge (g : Gauge) : Type 0 where
   pub some : 1 ≤ length g.values.items
   pub few : length g.values.items ≤ machine_limit

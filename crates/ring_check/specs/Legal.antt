@@ -34,7 +34,7 @@ IsFirstBad version ls line kind =
     × IsGood (nothing version) front
     × (fault (after_lines (nothing version) front) l ≡ Some kind)
 
--- the ring's history that a block tells of
+-- the ring's history that a block describes
 abbrev pub history : Block → List Event
 history b = map event_of b.events
 

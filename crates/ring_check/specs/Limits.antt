@@ -10,7 +10,7 @@ first_version_machine_limit = 256
 abbrev pub first_version_value_limit : ℕ
 first_version_value_limit = 256
 
--- what a text of the first version may have, or else a text of a later one
+-- the limits of a text of the first version, or else a text of a later one
 abbrev pub by_version : ℕ → ℕ → ℕ → ℕ
 by_version version first later = cond (version == first_version) first later
 

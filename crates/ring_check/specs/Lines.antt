@@ -32,7 +32,7 @@ lines s = flat_map block_lines s.rings ++ DoneLine s.rings_said ∷ []
 abbrev pub LinesAreFew : Type 0
 LinesAreFew = (s : Content) → length (lines s) + 1 ≤ length (text s)
 
--- What was read of bytes in memory, of which there are fewer than 2 to the power 64, has fewer
+-- A value that was read from bytes in memory, fewer than 2 to the power 64, has fewer
 -- lines than that.
 abbrev pub LinesOfMemoryAreFew : Type 0
 LinesOfMemoryAreFew =

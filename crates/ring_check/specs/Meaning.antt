@@ -1,4 +1,4 @@
--- Legal texts in the subject's words: what a text tells of (this project's own).
+-- Legal texts in the subject's words: what a text describes (this project's own).
 use Rattle.std.specs.Prelude.{◌≡◌, ℕ, ◌+◌, ◌<◌, ◌≤◌, List, [], ◌∷◌, length, true, ◌⊎◌}
 use Rattle.std.specs.List.{All}
 use Rattle.ring_model.specs.Ring.{ring_with}
@@ -16,7 +16,7 @@ use Rattle.ring_check.specs.Members.{run_of, may_come}
 use Rattle.ring_check.specs.Table.{first_state}
 use Rattle.ring_check.specs.Legal.{IsLegalText, history}
 
--- the survey that a survey line tells of
+-- the survey that a survey line describes
 abbrev pub survey_of : SavedSurvey → Survey
 survey_of s = record {
   position = s.position;
@@ -26,14 +26,14 @@ survey_of s = record {
   rest = s.rest;
 }
 
--- none goes back behind the one before: each is of a later seat, or of the same and at no lower
+-- none is earlier than the one before: each is of a later seat, or of the same and at no lower
 -- position
 abbrev pub AreOnward : ℕ → ℕ → List SavedSurvey → Type 0
 AreOnward seat position [] = Unit {0}
 AreOnward seat position (s ∷ ss) =
     ((seat < s.seat) ⊎ ((seat ≡ s.seat) × (position ≤ s.position))) × AreOnward s.seat s.position ss
 
--- the surveys stand seat by seat, and each seat's in the order of the history
+-- the surveys are ordered seat by seat, and each seat's in the order of the history
 abbrev pub AreInOrder : List SavedSurvey → Type 0
 AreInOrder [] = Unit {0}
 AreInOrder (s ∷ ss) = AreOnward s.seat s.position ss
@@ -43,7 +43,7 @@ pub record IsRightSurvey (b : Block) (s : SavedSurvey) : Type 0 where
   pub seat : s.seat < seat_limit
   pub right : IsSurvey till (first_state (ring_with b.k b.start)) (history b) (survey_of s)
 
--- in a text of this version the block tells of a ring, of one history of it on one thread over the
+-- in a text of this version the block describes a ring, of one history of it on one thread over the
 -- till, legal and whole, and of surveys of that history
 pub record IsRightBlock (version place : ℕ) (b : Block) : Type 0 where
   pub index : b.index ≡ place
@@ -79,7 +79,7 @@ LegalMeans =
     (s : Content) → HasItsStarts s
     → (IsLegalText s → IsRightText s) × (IsRightText s → IsLegalText s)
 
--- the table's test of groups says what is defined: it lets an event come behind a history exactly
+-- the table's test of groups is the definition: it lets an event come after a history exactly
 -- if it may come there
 abbrev pub MembersMean : Type 0
 MembersMean =

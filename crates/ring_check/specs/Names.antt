@@ -1,4 +1,4 @@
--- What is told of a bad line (this project's own).
+-- The report on a bad line (this project's own).
 use Rattle.std.specs.Prelude.{ℕ, List, codes}
 use Rattle.ring_check.specs.declared.answers.Kind.{Kind}
 use Rattle.ring_check.specs.declared.answers.Kind.TheVariants.{Parameter, Range, Reply, Count, Survey, Group}

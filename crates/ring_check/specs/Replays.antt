@@ -1,4 +1,4 @@
--- Where a replay stands.
+-- The place of a replay.
 use Rattle.std.specs.Prelude.{◌≡◌, true, ℕ, ◌≤◌, List, length, map, take}
 use Rattle.ring_model.specs.declared.events.Event.{Event}
 use Rattle.ring_model.specs.declared.events.Survey.{Survey}
@@ -17,7 +17,7 @@ use Rattle.ring_check.specs.Table.{event_of, first_state}
 abbrev pub state_of : Replay → State ℕ
 state_of r = record { ring = ring_with r.k r.values.items; content = r.amount; grants = r.grants }
 
--- what a survey answers where a replay stands
+-- the answer of a survey at the place of a replay
 abbrev pub survey_where : Replay → ℕ → Survey
 survey_where r position = record {
   position = position;
@@ -27,14 +27,14 @@ survey_where r position = record {
   rest = rest (ring_with r.k r.values.items);
 }
 
--- a replay stands where the ring stands after these events
+-- a replay has the state of the ring after these events
 pub record Stands (start : Ring) (h : List Event) (r : Replay) : Type 0 where
   pub state : after till (first_state start) h ≡ state_of r
   pub same_k : r.k ≡ start.k
   pub calm : r.calm ≡ calm h
   pub ring : IsRing (ring_with r.k r.values.items)
 
--- a replay stands behind the first so many events of a block, with no more grants than events
+-- a replay is after the first n events of a block, with no more grants than events
 pub record StandsAt (start : Ring) (events : List SavedEvent) (place : ℕ) (r : Replay) : Type 0
   where
     pub stands : Stands start (map event_of (take place events)) r
@@ -46,17 +46,17 @@ pub record Measures (g : Gauge) (r : Replay) : Type 0 where
   pub gauge : IsGauge g
   pub same : ring_of g ≡ (state_of r).ring
 
--- a survey tells the measures of a ring
+-- a survey has the measures of a ring
 pub record Tells (s : Survey) (r : Ring) : Type 0 where
   pub privileged : s.privileged ≡ privileged_count r.values
   pub first : s.first ≡ first_privileged r.values
   pub rest : s.rest ≡ rest r
 
--- the survey of a reading tells the measures of its ring still, if it says that they are unchanged
+-- the survey of a reading still has the measures of its ring, if it says that they are unchanged
 abbrev pub TellsStill : Reading → Type 0
 TellsStill r = r.unchanged ≡ true → Tells r.survey (state_of r.replay).ring
 
--- a reading has the survey of the ring where its replay stands, and a gauge of it
+-- a reading has the survey of the ring at the place of its replay, and a gauge of it
 pub record IsReading (start : Ring) (events : List SavedEvent) (r : Reading) : Type 0 where
   pub stands : StandsAt start events r.survey.position r.replay
   pub within : r.survey.position ≤ length events

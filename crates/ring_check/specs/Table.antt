@@ -1,4 +1,4 @@
--- What the checker refuses: the fault of a line, where the lines before it are known (this
+-- The refusals of the checker: the fault of a line, where the lines before it are known (this
 -- project's own).
 use Rattle.std.specs.Prelude.{ℕ, ◌+◌, cond, ◌==◌, nat_lt, nat_le, ◌&&◌, ◌||◌, List, [], ◌∷◌, ◌++◌, length, take, Option, Some, None, Bool, true, false}
 use Rattle.std.specs.List.{list_all}
@@ -23,7 +23,7 @@ use Rattle.ring_check.specs.Limits.{machine_limit_of, value_limit_of}
 use Rattle.ring_check.specs.Members.{run_of, may_come}
 use Rattle.ring_check.specs.Lines.{Line, RingLine, StartLine, EventLine, EndLine, SurveyLine, DoneLine}
 
--- the ring's event that an event line tells of
+-- the ring's event that an event line describes
 abbrev pub event_of : SavedEvent → Event
 event_of (saved.Granted seat machine order number result) = record {
   seat = seat;
@@ -50,7 +50,7 @@ event_of (saved.Corrupted seat machine value old) = record {
 abbrev pub first_state : Ring → State ℕ
 first_state ring = opening ring 0
 
--- What the lines before a line say.
+-- The facts that the lines before a line give.
 pub record Before : Type 0 where
   -- the version of the text
   pub version : ℕ
@@ -67,7 +67,7 @@ pub record Before : Type 0 where
   pub seat : ℕ
   pub position : ℕ
 
--- behind the first line of a text, which says this version
+-- after the first line of a text, which says this version
 abbrev pub nothing : ℕ → Before
 nothing version = record {
   version = version;
@@ -137,7 +137,7 @@ same_reply _ _ = false
 abbrev pub is_replied : State ℕ → Event → Bool
 is_replied a e = same_reply e.reply (reply till a e.op)
 
--- what is wrong with an event of a ring of n machines in this state, behind the members of an open
+-- the fault of an event of a ring of n machines in this state, after the members of an open
 -- block
 abbrev pub event_fault : ℕ → List Event → State ℕ → Event → Option Kind
 event_fault n run a e =
@@ -145,21 +145,21 @@ event_fault n run a e =
     (cond (is_replied a e) (cond (may_come n run e) None (Some Group)) (Some ReplyKind))
     (Some Range)
 
--- what is wrong with an end line that says so many, behind these events
+-- the fault of an end line with this number, after these events
 abbrev pub end_fault : ℕ → List Event → Option Kind
 end_fault said h = cond (said == length h) (cond (left_after h == 0) None (Some Group)) (Some Count)
 
--- a survey does not go back behind the one before, which had this seat and position
+-- a survey is not earlier than the one before, which had this seat and position
 abbrev pub is_onward : ℕ → ℕ → SavedSurvey → Bool
 is_onward seat position s = nat_lt seat s.seat || ((seat == s.seat) && nat_le position s.position)
 
--- whether a survey line says what a survey of the ring says
+-- whether a survey line agrees with a survey of the ring
 abbrev pub same_survey : SavedSurvey → Survey → Bool
 same_survey s r =
     (s.privileged == r.privileged)
     && ((s.first == r.first) && ((s.calm == r.calm) && (s.rest == r.rest)))
 
--- the survey is the ring's after its first POSITION events, so many there are, and that place is
+-- the survey is the ring's after its first POSITION events, there are that many, and that place is
 -- inside no block
 abbrev pub is_surveyed : Before → SavedSurvey → Bool
 is_surveyed b s =
@@ -167,7 +167,7 @@ is_surveyed b s =
     && (same_survey s (survey_at till (first_state (ring_with b.k b.start)) b.events s.position)
     && (left_after (take s.position b.events) == 0))
 
--- the table: what is wrong with a line; where two things are, the kind with the lower number
+-- the table: the fault of a line; where it has two, the kind with the lower number
 abbrev pub fault : Before → Line → Option Kind
 fault b (RingLine index n k) =
     cond (are_parameters b.version n k) (cond (index == b.rings) None (Some Count)) (Some Parameter)

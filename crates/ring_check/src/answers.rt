@@ -1,4 +1,4 @@
-//! What the checker answers.
+//! The answers of the checker.
 
 ghost use Rattle.std.specs.Prelude.{Some};
 ghost use Rattle.ring_check.specs.Names.{kind_name};
@@ -6,10 +6,10 @@ ghost use Rattle.ring_check.specs.Names.{kind_name};
 use std::fmt;
 use thiserror::Error;
 
-/// What is wrong with a line. Where two things are, the one that stands first here is answered.
+/// The fault of a line. If a line has two, the one that comes first here is answered.
 #[derive(Clone, Copy, Debug, PartialEq, Eq)]
 pub enum Kind {
-    /// There is no ring with these numbers of machines and values.
+    /// No ring exists with these numbers of machines and values.
     Parameter,
     /// A seat, a machine or a value is too large.
     Range,
@@ -17,7 +17,7 @@ pub enum Kind {
     Reply,
     /// A count of the text, or the place of a ring in it, is wrong.
     Count,
-    /// The survey is not the ring's at its place, has no place or one inside a block, or goes back behind the one
+    /// The survey is not the ring's at its place, has no place or one inside a block, or is earlier than the one
     /// before it.
     Survey,
     /// The members of a group are too many, do not follow one another, or do not move in the order of a block.
@@ -53,7 +53,7 @@ pub struct Summary {
 /// Why a text is not legal, or could not be checked.
 #[derive(Clone, Copy, Debug, PartialEq, Eq, Error)]
 pub enum CheckError {
-    /// The first bad line, counted from 1, and what is wrong with it.
+    /// The first bad line, counted from 1, and its fault.
     #[error("line {line}: {kind}")]
     Bad { line: u64, kind: Kind },
     #[error("out of memory")]

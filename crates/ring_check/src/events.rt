@@ -33,7 +33,7 @@ pub(crate) fn check_events(
     let Ok(mut replay) = Replay::begin(alloc, k, start) else {
         return Err(CheckError::OutOfMemory);
     };
-    // where the open block begins, or else the next event stands
+    // where the open block begins, or else the place of the next event
     let mut first: usize = 0;
     for (i, event) in events.iter().enumerate() {
         if let Some(kind) = replay.fault_of(&events[first..i], event) {

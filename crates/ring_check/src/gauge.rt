@@ -1,4 +1,4 @@
-//! What is told of a ring's values, kept while they change one by one.
+//! The measures of a ring's values, kept while they change one by one.
 
 ghost use Rattle.std.specs.Prelude.{◌≡◌, ℕ, ◌+◌, ◌-◌, ◌*◌, ◌<◌, ◌≤◌, ◌^◌, length, IfOk, IfSome, vec_len, slice_index, slice_set};
 ghost use Rattle.ring_model.specs.Limits.{machine_limit, value_limit};
@@ -11,7 +11,7 @@ use crate::measures::{
 use std::alloc::{AllocError, Global};
 
 /// A ring's values, and how many machines are privileged, the weight, and how many machines hold each value. A write
-/// changes one value, so it looks at two machines, and the rest of a ring is told without a look at each.
+/// changes one value, so it looks at two machines, and the rest of a ring is known without a look at each.
 #[derive(Drop)]
 pub struct Gauge {
     pub(crate) k: u32,
@@ -22,7 +22,7 @@ pub struct Gauge {
     pub(crate) holders: Vec<u32>,
 }
 
-/// What two neighbours add to the sums.
+/// The part of two neighbours in the sums.
 #[derive(Clone, Copy)]
 struct Share {
     privileged: u64,
@@ -42,7 +42,7 @@ fn right_of(values: &[u32], machine: usize) -> usize
     }
 }
 
-/// What a machine adds to the sums.
+/// The part of a machine in the sums.
 fn share_of_one(values: &[u32], machine: usize) -> Share
     requires within { machine < length values.now }
     requires short { length values.now ≤ machine_limit }
@@ -69,7 +69,7 @@ fn share_of_one(values: &[u32], machine: usize) -> Share
     }
 }
 
-/// What a machine and the one to its right add to the sums: all that changes with the value of that machine.
+/// The part of a machine and of the one to its right in the sums: all that changes with the value of that machine.
 fn share_of(values: &[u32], machine: usize) -> Share
     requires within { machine < length values.now }
     requires short { length values.now ≤ machine_limit }
@@ -138,7 +138,7 @@ impl Gauge {
     ///
     /// # Errors
     ///
-    /// Where there is no room for the values, and for a count of each of the K values.
+    /// If there is no room for the values, and for a count of each of the K values.
     pub fn new(alloc: Global, k: u32, values: &[u32]) -> Result<Gauge, AllocError>
         requires positive { 0 < k }
         requires some { 1 ≤ length values.now }
@@ -231,7 +231,7 @@ impl Gauge {
         self.privileged as u32
     }
 
-    /// The only machine that is privileged, if one is: the weight tells which.
+    /// The only machine that is privileged, if one is: the weight says which.
     fn only_privileged(&self) -> Option<usize>
         requires gauge { IsGauge self.now }
         requires ring { IsRing (ring_of self.now) }

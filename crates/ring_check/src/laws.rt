@@ -1,19 +1,19 @@
-//! Laws of the definitions that `check_saved` is told by: functions with an empty body, whose contract is the law.
+//! Laws of the definitions that state what `check_saved` promises: functions with an empty body, whose contract is the law.
 
 ghost use Rattle.ring_check.specs.Legal.{AtMostOneIsRight, UpgradeIsLegal};
 ghost use Rattle.ring_check.specs.Lines.{LinesAreFew, LinesOfMemoryAreFew};
 ghost use Rattle.ring_check.specs.Meaning.{LegalMeans, MembersMean};
 
-/// A text is legal by the table of what is refused exactly where its blocks tell of legal histories of one-thread rings,
+/// A text is legal by the table of the refusals exactly where its blocks describe legal histories of one-thread rings,
 /// and of surveys of them.
-pub fn legal_law()
+pub fn legal_as_defined()
     ensures { LegalMeans }
 {}
 
-/// The table tests whether an event may come behind a history: it lets an event come exactly if `MayCome` of `ring_model`
-/// says that it may. So who reads that need not read the test.
+/// The table tests whether an event may come after a history: it lets an event come exactly if `MayCome` of `ring_model`
+/// says that it may. So a reader of that definition need not read the test.
 #[tactic(auto, using(crate::proofs::OpenRuns::members_mean))]
-pub fn members_law()
+pub fn members_as_defined()
     ensures { MembersMean }
 {}
 
@@ -24,13 +24,13 @@ pub fn answers_are_apart()
 {}
 
 /// Where a text is legal its upgrade is legal too, with the same sums: the latest version allows whatever an earlier one does.
-pub fn upgrade_law()
+pub fn upgrade_is_legal()
     ensures { UpgradeIsLegal }
 {}
 
-/// A text has no more lines than bytes. So what was read of bytes in memory has fewer than 2 to the power 64 lines, as
+/// A text has no more lines than bytes. So a value that was read from bytes in memory has fewer than 2 to the power 64 lines, as
 /// [`check_saved`](crate::check_saved) asks.
-pub fn lines_law()
+pub fn lines_are_few()
     ensures few { LinesAreFew }
     ensures read { LinesOfMemoryAreFew }
 {}

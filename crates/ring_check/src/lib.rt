@@ -21,7 +21,9 @@ pub use answers::{CheckError, Kind, Summary};
 pub use check::check_saved;
 pub use gauge::Gauge;
 pub use group_lines::left_after;
-pub use laws::{answers_are_apart, legal_law, lines_law, members_law, upgrade_law};
+pub use laws::{
+    answers_are_apart, legal_as_defined, lines_are_few, members_as_defined, upgrade_is_legal,
+};
 pub use limits::{
     FIRST_VERSION_MACHINE_LIMIT, FIRST_VERSION_VALUE_LIMIT, first_version_limits_as_defined,
 };

@@ -1,4 +1,4 @@
-//! What is told of a ring's values, by plain loops over them.
+//! The measures of a ring's values, by plain loops over them.
 
 ghost use Rattle.std.specs.Prelude.{◌≡◌, ◌<◌, ◌≤◌, length};
 ghost use Rattle.ring_model.specs.Limits.{value_limit};

@@ -101,7 +101,7 @@ impl Replay {
         }
     }
 
-    /// What is wrong with an event at this point; `run` has the members of the block that is open here.
+    /// Returns the fault of an event at this point; `run` has the members of the block that is open here.
     pub(crate) fn fault_of(&self, run: &[SavedEvent], event: &SavedEvent) -> Option<Kind>
         requires room { self.now.grants + 1 < 2 ^ 64 }
         ensures { result
@@ -150,7 +150,7 @@ impl Replay {
         }
     }
 
-    /// What a survey of the ring says at this point, of which a gauge has the measures.
+    /// Returns the survey of the ring at this point, by the measures of a gauge.
     pub(crate) fn survey(&self, gauge: &Gauge, position: u64) -> Survey
         requires ring { IsRing (state_of self.now).ring }
         requires measured { Measures gauge.now self.now }

@@ -29,7 +29,7 @@ fn all_below(values: &[u32], limit: u32) -> bool
     values.iter().all(|value| *value < limit)
 }
 
-/// What is wrong with the line that ends the events of a block.
+/// Returns the fault of the line that ends the events of a block.
 fn end_fault(ring: &SavedRing) -> Option<Kind>
     ensures { result ≡ end_fault ring.now.events_said (map event_of ring.now.events.items) }
 {
@@ -42,7 +42,7 @@ fn end_fault(ring: &SavedRing) -> Option<Kind>
     }
 }
 
-/// Finds the first line of a block with a fault, in a text of this version; `place` blocks and `line` lines stand
+/// Finds the first line of a block with a fault, in a text of this version; `place` blocks and `line` lines are
 /// before it.
 fn check_ring(
     alloc: Global,

@@ -24,7 +24,7 @@ use ring_model::limits::SEAT_LIMIT;
 use ring_saved::{SavedEvent, SavedSurvey};
 use std::alloc::{AllocError, Global};
 
-/// The survey of a ring at some place of its history, the replay that stands there, and a gauge of its ring.
+/// The survey of a ring at some place of its history, the replay that is there, and a gauge of its ring.
 #[derive(Drop)]
 pub(crate) struct Reading {
     pub(crate) replay: Replay,
@@ -91,7 +91,7 @@ impl Reading {
         }
     }
 
-    /// What a survey of the ring says at this point. That of the same values is not counted again.
+    /// Returns the survey of the ring at this point. That of the same values is not counted again.
     fn survey_at(&self, position: u64) -> Survey
         requires ring { IsRing (state_of self.now.replay).ring }
         requires measured { Measures self.now.gauge self.now.replay }
@@ -109,7 +109,7 @@ impl Reading {
         }
     }
 
-    /// Goes from behind the first `from` events of a block on to behind its first `to` events; the survey stays.
+    /// Goes from the place after the first `from` events of a block to the one after its first `to` events; the survey stays.
     fn follow(&mut self, start: &[u32], events: &[SavedEvent], from: usize, to: usize)
         requires ring { IsRing (ring_with self.old.replay.k start.now) }
         requires stands { StandsAt (ring_with self.old.replay.k start.now) events.now from
@@ -165,7 +165,7 @@ impl Reading {
     }
 }
 
-/// Whether a survey does not go back behind the one before, which had this seat and position.
+/// Whether a survey is not earlier than the one before, which had this seat and position.
 fn is_onward(seat: u32, position: u64, survey: &SavedSurvey) -> bool
     ensures { result ≡ is_onward seat position survey.now }
 {

@@ -1,4 +1,4 @@
-//! The words of what is done with journals.
+//! The words of the commands on journals.
 
 use crate::words::needed_text;
 use clap::{Arg, ArgAction, ArgMatches, Command, Error};
@@ -81,7 +81,7 @@ pub(crate) fn recover_words<'a>(words: &ArgMatches<'a>) -> Option<Request<'a>> {
     }))
 }
 
-/// The saved rings that `serve` goes on with.
+/// The saved rings from which `serve` resumes.
 fn served_word<'a>(alloc: Global) -> Arg<'a> {
     needed_text(
         alloc,

@@ -1,4 +1,4 @@
-//! The command line of the program, as `clap` reads it: from words to what is asked for.
+//! The command line of the program, as `clap` reads it: from words to a request.
 #![tactic(auto)]
 
 mod journals;

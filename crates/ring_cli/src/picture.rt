@@ -23,7 +23,7 @@ Example:
 
 Exit status: 0 where PICTURE was written, 1 where FILE is not legal or a file fails, 2 where the words cannot be read.";
 
-/// A number behind a word with two dashes, which may be left out.
+/// A number after a word with two dashes, which may be left out.
 fn number_word<'a>(alloc: Global, name: &'a str, value: &'a str, help: &'a str) -> Arg<'a> {
     Arg::new(alloc, name)
         .long(name)
@@ -47,7 +47,7 @@ fn with_files<'a>(alloc: Global, command: Command<'a>) -> Result<Command<'a>, Er
     Ok(command.arg(file)?.arg(picture)?)
 }
 
-/// `picture` with what of the history is drawn.
+/// `picture` with the part of the history that is drawn.
 fn with_places<'a>(alloc: Global, command: Command<'a>) -> Result<Command<'a>, Error> {
     let ring = number_word(alloc, "ring", "R", "The ring that is drawn [default: 0]");
     let from = number_word(

@@ -156,7 +156,7 @@ fn settings_word<'a>(alloc: Global) -> Arg<'a> {
     )
 }
 
-/// `run` with what it hands out.
+/// `run` with its outputs.
 fn with_outputs<'a>(alloc: Global, command: Command<'a>) -> Result<Command<'a>, Error> {
     Ok(command.arg(history_word(alloc))?.arg(quiet_word(alloc))?)
 }
@@ -209,15 +209,15 @@ fn upgrade_command<'a>(alloc: Global) -> Result<Command<'a>, Error> {
     with_texts(alloc, command)
 }
 
-/// The program with what it says of itself.
-fn described<'a>(program: Command<'a>) -> Command<'a> {
+/// The program with its description, its version and its help.
+fn with_descriptions<'a>(program: Command<'a>) -> Command<'a> {
     program.about(ABOUT).version(VERSION).after_help(STATUSES)
 }
 
 /// The program, with no command yet.
 fn program_line<'a>(alloc: Global) -> Result<Command<'a>, Error> {
     let program = Command::new(alloc, "ring_tool").bin_name("ring_tool")?;
-    Ok(described(program.no_binary_name(true).subcommand_required(true)))
+    Ok(with_descriptions(program.no_binary_name(true).subcommand_required(true)))
 }
 
 /// The program with a command more, where that could be made.
@@ -306,11 +306,11 @@ fn request_of<'a>(matches: &ArgMatches<'a>) -> Option<Request<'a>> {
     }
 }
 
-/// The command that the words ask for. The program's name is not among them.
+/// Returns the command that the words ask for. The program's name is not among them.
 ///
 /// # Errors
 ///
-/// What `clap` answers: a text with the mistake, or with the help that was asked for, or a word
+/// The answer of `clap`: a text with the mistake, or with the help that was asked for, or a word
 /// that there was no memory.
 pub fn read_words<'a>(alloc: Global, words: &'a [String]) -> Result<Request<'a>, Error> {
     let mut command = command_line(alloc)?;

@@ -1,4 +1,4 @@
--- What is known of a ring that is drawn of a legal saved text.
+-- Facts on a ring that is drawn of a legal saved text.
 use Rattle.std.proofs.Common.{◌≡◌, ℕ, zero, suc, ◌+◌, ◌<◌, ◌≤◌, List, [], ◌∷◌, Option, Some, ap, subst, arith}
 use Rattle.std.specs.Prelude.{slice_get}
 use Rattle.std.specs.Option.{unwrap_or}
@@ -19,7 +19,7 @@ pub legal_text : (bytes : List ℕ) (c : Content) (sums : Summary) (legal : IsLe
 legal_text bytes c sums legal is =
     subst (λ (x : Content). IsLegalTextOf bytes x × (sums ≡ summary_of x)) is (record { fits = legal.fits; spelled = legal.spelled; right = legal.right }, legal.sums_right)
 
--- the first block is one of a legal text, and so is each behind it
+-- the first block is one of a legal text, and so is each after it
 block_at : (version place i : ℕ) (bs : List Block) (b : Block) → AreRightBlocks version place bs → slice_get bs i ≡ Some b → (at : ℕ) × IsRightBlock version at b
 block_at version place i [] b h e = let bad : ⊥ = cc in absurd bad
 block_at version place zero (x ∷ bs) b h e =

@@ -13,7 +13,7 @@ use Rattle.ring_farm.specs.Log.{Log}
 use Rattle.ring_farm.specs.Plans.{part, planned, action_of, actions_of, ring_of}
 use Rattle.ring_farm.specs.Headline.{HasLogs, IsFarmOf}
 use Rattle.ring_farm.specs.declared.outcomes.Outcome.{Outcome}
-use Rattle.ring_farm.specs.declared.outcomes.RingOutcome.{RingOutcome}
+use Rattle.ring_farm.specs.RingOutcome.{RingOutcome}
 use Rattle.ring_text.specs.Report.{entries_of, entries_in}
 
 -- a client's log of a ring has no more entries than its plan has actions

@@ -1,4 +1,4 @@
--- The first fault of what `step` was given, from the tests that find it.
+-- The first fault in the words of `step`, from the tests that find it.
 use Rattle.std.proofs.Common.{◌≡◌, ◌≢◌, ℕ, zero, suc, ◌+◌, ◌<◌, ◌≤◌, Bool, true, false, cond, List, [], ◌∷◌, length, get_or, Option, None, Some, refl, sym, ap, ◌∙◌, arith}
 use Rattle.std.specs.Prelude.{nat_le, ◌==◌}
 use Rattle.std.specs.List.{position, position_from}
@@ -90,6 +90,6 @@ neither : (a b : Option ToolError) → option_or a b ≡ None → b ≡ None
 neither None b e = e
 neither (Some x) b e = cc
 
--- where `step` was given nothing wrong, each choice is a machine
+-- where the words of `step` have no fault, each choice is a machine
 pub choices_allowed : (n k : ℕ) (states choices : List ℕ) (j : ℕ) → fault_of n k states choices ≡ None → j < length choices → get_or choices j 0 < n
 choices_allowed n k states choices j none h = choices_below n choices j (neither (start_fault n k states) (choice_fault n choices) none) h

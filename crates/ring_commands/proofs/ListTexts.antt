@@ -15,7 +15,7 @@ use Rattle.ring_commands.specs.Faults.{IsPieceRefusal, IsListRefusal}
 use Rattle.ring_commands.specs.declared.faults.ToolError.{ToolError}
 use Rattle.ring_commands.specs.ListWords.{IsListText, IsNoList}
 
--- numbers with a comma behind each
+-- numbers with a comma after each
 pub fronts : List ℕ → List ℕ
 fronts [] = []
 fronts (x ∷ xs) = (decimal x ++ 44 ∷ []) ++ fronts xs
@@ -50,7 +50,7 @@ cut_at_comma s h =
     let comma : get_or s (position_or_len p s) 0 ≡ 44 = equal (get_or s (position_or_len p s) 0) 44 (passes_at_first p s 0 h) in
     split_at_first p s 0 h ∙ ap (λ (b : ℕ). before_first p s ++ (b ∷ after_first p s)) comma
 
--- a number more, and the comma behind it
+-- a number more, and the comma after it
 pub one_more : (text rest piece more xs ys : List ℕ) (n : ℕ) → text ≡ fronts xs ++ rest → piece ≡ before_first (λ b. b == 44) rest → more ≡ after_first (λ b. b == 44) rest →
     position_or_len (λ b. b == 44) rest < length rest → decimal n ≡ piece → ys ≡ xs ++ n ∷ [] → text ≡ fronts ys ++ more
 one_more text rest piece more xs ys n whole front back inside spelled grown =
@@ -74,7 +74,7 @@ unfolding IsPlain
 plain [] h = tt
 plain (b ∷ bs) h = (All-head (λ (x : ℕ). (x == 44) ≡ false) b bs h, plain bs (All-tail (λ (x : ℕ). (x == 44) ≡ false) b bs h))
 
--- what stands before the first comma
+-- the text before the first comma
 front_plain : (s : List ℕ) → IsPlain (before_first (λ b. b == 44) s)
 front_plain s =
     let p = λ (b : ℕ). b == 44 in
@@ -114,7 +114,7 @@ first_cut (x ∷ a) u (y ∷ b) v p q e =
     let same : x ≡ y = cc in
     (rw (same, rest.0) refl, rest.1)
 
--- a list with a comma more behind it
+-- a list with a comma more after it
 closed : (m : ℕ) (ms : List ℕ) → list_text (m ∷ ms) ++ 44 ∷ [] ≡ fronts (m ∷ ms)
 unfolding fronts
 closed m [] = sym (append-nil (decimal m ++ 44 ∷ []))
@@ -129,7 +129,7 @@ something (x ∷ a) b e = absurd cc
 Below : List ℕ → Type 0
 Below ns = All (λ (n : ℕ). n < 2 ^ 32) ns
 
--- what stands behind the first numbers is a text of further ones
+-- the text after the first numbers is one of further numbers
 cut_off : (xs ms r : List ℕ) → Below xs → Below ms → fronts xs ++ r ≡ fronts ms → (ks : List ℕ) × Below ks × (r ≡ fronts ks)
 unfolding fronts Below
 cut_off [] ms r p q e = (ms, q, e)
@@ -198,7 +198,7 @@ all_more xs ys n below low grown =
     only zero d h = low
     only (suc i) d h = absurd (omega arith)
 
--- a list of which a last number is read
+-- a list whose last number is read
 pub listed : (text rest xs ys : List ℕ) (n : ℕ) → text ≡ fronts xs ++ rest → All (λ (x : ℕ). x < 2 ^ 32) xs → n < 2 ^ 32 → decimal n ≡ rest → ys ≡ xs ++ n ∷ [] → IsListText text ys
 listed text rest xs ys n whole below low spelled grown = record {
   some = rw (grown, length-append) (omega arith);
@@ -206,7 +206,7 @@ listed text rest xs ys n whole below low spelled grown = record {
   spelled = last_one text rest xs ys n whole spelled grown;
 }
 
--- what is refused of a piece is refused of its list
+-- a refusal of a piece is one of its list
 pub told : (piece text : List ℕ) (e : ToolError) → (((n : ℕ) → n < 2 ^ 32 → decimal n ≢ piece) → IsNoList text) → IsPieceRefusal piece e → IsListRefusal text e
 told piece text e none (inl h) = inl (h.0, none h.1)
 told piece text e none (inr h) = inr h

@@ -1,11 +1,11 @@
--- What is recovered has fewer lines than the journal has bytes.
+-- A recovered history has fewer lines than the journal has bytes.
 use Rattle.std.proofs.Common.{◌≡◌, ℕ, ◌+◌, ◌≤◌, List, ◌++◌, length, refl, ap, length-append, arith}
 use Rattle.std.specs.List.{flat_map}
 use Rattle.ring_saved.specs.Content.{Content}
 use Rattle.ring_saved.specs.Spelling.{text}
 use Rattle.ring_check.specs.Lines.{lines}
 use Rattle.ring_check.proofs.SavedLines.{lines_some}
-use Rattle.ring_journal.specs.Spelling.{first_line, head_text, recorded_line, journal_text}
+use Rattle.ring_journal.specs.Spelling.{first_line, head_text, journal_line, journal_text}
 use Rattle.ring_journal.specs.Told.{told}
 use Rattle.ring_journal.specs.Recovery.{IsRecovered}
 use Rattle.ring_journal.proofs.Countings.{told_lines}
@@ -19,9 +19,9 @@ recovered_lines bytes c r =
     let same : length (lines c) ≡ length (lines (told began calls)) = ap (λ (s : Content). length (lines s)) r.told in
     let some = lines_some began in
     let head = length-append first_line (text began) in
-    let behind = length-append (head_text began) (flat_map recorded_line calls) in
+    let behind = length-append (head_text began) (flat_map journal_line calls) in
     let whole : length bytes ≡ length (journal_text r.journal ++ r.tail) = ap length r.lines.spelled in
     let all = length-append (journal_text r.journal) r.tail in
-    let within = calls_within calls (flat_map recorded_line calls ++ r.tail) r.tail refl in
-    let more = length-append (flat_map recorded_line calls) r.tail in
+    let within = calls_within calls (flat_map journal_line calls ++ r.tail) r.tail refl in
+    let more = length-append (flat_map journal_line calls) r.tail in
     omega arith

@@ -1,11 +1,13 @@
--- What serves lines is never refused for a list.
-use Rattle.std.proofs.Common.{ℕ, List, Option, None, Some, inl, inr}
+-- A request that serves lines is never refused for a list.
+use Rattle.std.proofs.Common.{◌⊎◌, ℕ, List, Option, None, Some, inl, inr}
 use Rattle.disks.specs.Held.{Held}
 use Rattle.ring_saved.specs.declared.saved.Saved.{Saved}
 use Rattle.ring_saved.specs.declared.saved.SavedRing.{SavedRing}
 use Rattle.ring_requests.specs.declared.requests.ServeWords.{ServeWords}
 use Rattle.ring_commands.specs.Named.{IsFileRefusal}
-use Rattle.ring_commands.specs.Served.{journal_of, IsHistoryRefusal, IsJournalRefusal, IsUnfinished, IsRefusedFrom, IsServeRefusal}
+use Rattle.ring_commands.specs.Served.{journal_of, IsHistoryRefusal, IsJournalRefusal, IsUnfinished, IsRefusedFrom, IsServedFrom, IsUntold, IsServeRefusal}
+use Rattle.ring_serve.specs.Standings.{Standing}
+use Rattle.ring_commands.specs.Worlds.{World}
 use Rattle.ring_commands.specs.declared.faults.ToolError.TheVariants as tool
 
 of_file : (files : Option Held) (name : List ℕ) → IsFileRefusal files name tool.BadList → ⊥
@@ -17,7 +19,8 @@ of_history files name (inl h) = of_file files name h
 of_history files name (inr h) = h.2
 
 of_journal : (files : Option Held) (name : List ℕ) → IsJournalRefusal files name tool.BadList → ⊥
-of_journal files name (inl h) = h
+of_journal files name (inl (inl h)) = h
+of_journal files name (inl (inr h)) = h
 of_journal files name (inr (inl h)) = of_file files name h
 of_journal files name (inr (inr h)) = h.2
 
@@ -30,6 +33,12 @@ of_value files None saved was is old new h = of_rings None saved.rings.items was
 of_value files (Some name) saved was is old new (inl h) = of_journal files name h.1
 of_value files (Some name) saved was is old new (inr h) = of_rings (Some name) h.0.rings.items was is old new h.2
 
-pub no_list : (words : ServeWords) (files : Option Held) (was is old new : Option (List ℕ)) → IsServeRefusal words files was is old new tool.BadList → ⊥
-no_list words files was is old new (inl h) = of_history files words.history.now h.1
-no_list words files was is old new (inr h) = of_value files (journal_of words) h.0 was is old new h.2
+of_end : (words : ServeWords) (saved : Saved) (before after : Option Held) (was is old new early late : Option (List ℕ)) →
+    IsRefusedFrom before (journal_of words) saved was is old new tool.BadList
+    ⊎ ((end : List Standing) × IsServedFrom words saved end before after was is old new × IsUntold end early late tool.BadList) → ⊥
+of_end words saved before after was is old new early late (inl h) = of_value before (journal_of words) saved was is old new h
+of_end words saved before after was is old new early late (inr h) = h.2
+
+pub no_list : (words : ServeWords) (was is : World) → IsServeRefusal words was is tool.BadList → ⊥
+no_list words was is (inl h) = of_history was.files words.history.now h.1
+no_list words was is (inr h) = of_end words h.0 was.files is.files was.input is.input was.out is.out was.err is.err h.2

@@ -59,7 +59,7 @@ pub not_granted_line : (machine : ℕ) (r : Reply) → (r ≡ NotPrivileged) ⊎
 not_granted_line machine r (inl e) = rw e refl
 not_granted_line machine r (inr e) = rw e.1 refl
 
--- what is left to print after one choice more
+-- the rest to print after one choice more
 pub lines-step : (a b : State Idle) (e : Event) (choices : List ℕ) (i : ℕ) → i < length choices → Step idle a e b → e.op ≡ Pass (get_or choices i 0) 0 →
     lines_from a (drop i choices) ≡ reply_line (get_or choices i 0) e.reply ++ lines_from b (drop (i + 1) choices)
 lines-step a b e choices i h step op =

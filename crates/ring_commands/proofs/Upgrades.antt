@@ -1,4 +1,4 @@
--- What fits in a version of the saved text fits in the latest one, and can be saved in it.
+-- A value that fits in a version of the saved text fits in the latest one, and can be saved in it.
 use Rattle.std.proofs.Common.{◌≡◌, ℕ, List, [], ◌∷◌, rules, arith}
 use Rattle.std.specs.List.{AllByRecursion}
 use Rattle.ring_saved.specs.declared.saved.SavedEvent.{SavedEvent}

@@ -1,4 +1,4 @@
--- What `check` prints of a legal text (this project's own line): its sums.
+-- The output of `check` for a legal text (this project's own line): its sums.
 use Rattle.std.specs.Prelude.{ℕ, List, ◌++◌, codes, decimal}
 use Rattle.ring_check.specs.declared.answers.Summary.{Summary}
 

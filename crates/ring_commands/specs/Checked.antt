@@ -1,4 +1,4 @@
--- What `check` answers to the bytes of a file.
+-- The answer of `check` to the bytes of a file.
 use Rattle.std.specs.Prelude.{◌≡◌, ℕ, List, Option, ◌⊎◌}
 use Rattle.std.specs.Io.KnownBytes.{Appends}
 use Rattle.text_lines.specs.Texts.{IsCutShort, IsFirstBadLine}
@@ -11,14 +11,14 @@ use Rattle.ring_check.specs.Lines.{lines}
 use Rattle.ring_check.specs.Legal.{IsFirstBad, summary_of}
 use Rattle.ring_check.specs.Meaning.{IsRightText}
 use Rattle.ring_commands.specs.CheckText.{legal_line}
-use Rattle.disks.specs.Held.{Held}
 use Rattle.ring_commands.specs.Named.{IsNamed, IsNamedRefusal}
+use Rattle.ring_commands.specs.Worlds.{World}
 use Rattle.ring_commands.specs.Written.{AppendsFront}
 use Rattle.ring_requests.specs.declared.requests.CheckWords.{CheckWords}
 use Rattle.ring_commands.specs.declared.faults.ToolError.{ToolError}
 use Rattle.ring_commands.specs.declared.faults.ToolError.TheVariants as tool
 
--- The bytes are the saved text of a content: each of its blocks tells of one legal history of a
+-- The bytes are the saved text of a content: each of its blocks describes one legal history of a
 -- one-thread ring over the till, and of surveys of it, and the counts are right. These are its
 -- sums.
 pub record IsLegalSavedText (bytes : List ℕ) (sums : Summary) : Type 0 where
@@ -35,7 +35,7 @@ pub record IsBadSavedText (bytes : List ℕ) (line : ℕ) (kind : Kind) : Type 0
   pub spelled : bytes ≡ text content
   pub bad : IsFirstBad content.version (lines content) line kind
 
--- what is refused of bytes that are no legal saved text
+-- the refusal of bytes that are not a legal saved text
 abbrev pub IsSavedTextRefusal : List ℕ → ToolError → Type 0
 IsSavedTextRefusal bytes (tool.Syntax line) = IsFirstBadLine IsText bytes line
 IsSavedTextRefusal bytes tool.Truncated = IsCutShort IsText bytes
@@ -43,30 +43,27 @@ IsSavedTextRefusal bytes (tool.Bad line kind) = IsBadSavedText bytes line kind
 IsSavedTextRefusal bytes tool.OutOfMemory = Unit {0}
 IsSavedTextRefusal bytes _ = ⊥
 
--- or the writer failed, which held the first bytes and then those of a beginning of a legal text's
+-- or the writer failed, which held the first bytes and then those of a prefix of a legal text's
 -- line
 abbrev pub IsCheckRefusal : List ℕ → Option (List ℕ) → Option (List ℕ) → ToolError → Type 0
 IsCheckRefusal bytes old new tool.Write =
     (sums : Summary) × IsLegalSavedText bytes sums × AppendsFront old new (legal_line sums)
 IsCheckRefusal bytes old new e = IsSavedTextRefusal bytes e
 
--- What the word names gave the bytes of a legal saved text, and the line of its sums is written;
--- standard input had the first bytes left before, and the second after.
-abbrev pub IsCheckAnswer : CheckWords → Option Held → Option (List ℕ) → Option (List ℕ)
-    → Option (List ℕ) → Option (List ℕ) → Type 0
-IsCheckAnswer words files was is old new =
+-- What the word names gave the bytes of a legal saved text, and the line of its sums is written.
+abbrev pub IsCheckAnswer : CheckWords → World → World → Type 0
+IsCheckAnswer words was is =
     (bytes : List ℕ)
     × (sums : Summary)
-    × IsNamed words.file.now files was is bytes
+    × IsNamed words.file.now was.files was.input is.input bytes
     × IsLegalSavedText bytes sums
-    × Appends old new (legal_line sums)
+    × Appends was.out is.out (legal_line sums)
 
 -- Which refusals `check` may meet: those of reading what its word names, and those of the bytes
 -- that it gave.
-abbrev pub IsCheckRunRefusal : CheckWords → Option Held → Option (List ℕ) → Option (List ℕ)
-    → Option (List ℕ) → Option (List ℕ) → ToolError → Type 0
-IsCheckRunRefusal words files was is old new e =
-    IsNamedRefusal words.file.now files was is e
+abbrev pub IsCheckRunRefusal : CheckWords → World → World → ToolError → Type 0
+IsCheckRunRefusal words was is e =
+    IsNamedRefusal words.file.now was.files was.input is.input e
     ⊎ ((bytes : List ℕ)
-    × IsNamed words.file.now files was is bytes
-    × IsCheckRefusal bytes old new e)
+    × IsNamed words.file.now was.files was.input is.input bytes
+    × IsCheckRefusal bytes was.out is.out e)

@@ -1,4 +1,4 @@
--- What the program refuses.
+-- The refusals of the program.
 use Rattle.std.specs.Prelude.{◌≡◌, ◌≢◌, ℕ, ◌<◌, ◌^◌, decimal, Bool, true, false, cond, ◌==◌, nat_lt, nat_le, List, length, Option, None, Some, Result, Ok, Err, ◌⊎◌}
 use Rattle.std.specs.List.{position}
 use Rattle.std.specs.Option.{option_map, option_or}
@@ -11,6 +11,8 @@ use Rattle.ring_farm.specs.declared.faults.FarmError.{FarmError}
 use Rattle.text_lines.specs.declared.answer.ReadError.{ReadError}
 use Rattle.ring_check.specs.declared.answers.CheckError.{CheckError}
 use Rattle.ring_journal.specs.declared.errors.RecoverError.{RecoverError}
+use Rattle.disks.specs.declared.replacing.ReplaceFault.{ReplaceFault}
+use Rattle.disks.specs.declared.replacing.ReplaceFault.TheVariants as replace
 use Rattle.ring_commands.specs.ListWords.{IsNoList}
 use Rattle.ring_commands.specs.Reading.{most_bytes, IsWithin, IsOver}
 use Rattle.ring_commands.specs.declared.faults.ToolError.{ToolError}
@@ -34,8 +36,7 @@ is_bad_list e = false
 abbrev pub status_of : ToolError → ℕ
 status_of e = cond (is_bad_list e) 2 1
 
--- the exit status of a command, by what it answered and whether what it printed could leave a
--- buffer
+-- the exit status of a command, by its answer and by whether its output could leave a buffer
 abbrev pub end_status : {F : Type 0} → Result (Unit {0}) ToolError → Result (Unit {0}) F → ℕ
 end_status (Err e) flushed = status_of e
 end_status (Ok u) (Ok v) = 0
@@ -88,6 +89,13 @@ fault_of_recovery (recover.Syntax line) = tool.Syntax line
 fault_of_recovery (recover.Bad line kind) = tool.Bad line kind
 fault_of_recovery recover.OutOfMemory = tool.OutOfMemory
 
+-- the fault of a file of this name that was to be replaced: it is blamed by its name, unless memory
+-- was short
+abbrev pub IsSaveFault : List ℕ → ReplaceFault → ToolError → Type 0
+IsSaveFault file replace.OutOfMemory e = e ≡ tool.OutOfMemory
+IsSaveFault file _ (tool.Save named) = named.now ≡ file
+IsSaveFault file _ _ = ⊥
+
 -- the first that is wrong with the numbers of machines and of values
 abbrev pub size_fault : ℕ → ℕ → Option ToolError
 size_fault n k =
@@ -104,25 +112,25 @@ values_fault n k states =
     (option_map (λ i. tool.Value i) (position (λ v. nat_le k v) states))
     (Some tool.Length)
 
--- the first choice that is no machine
+-- the first choice that is not a machine
 abbrev pub choice_fault : ℕ → List ℕ → Option ToolError
 choice_fault n choices = option_map (λ i. tool.Choice i) (position (λ c. nat_le n c) choices)
 
--- what is wrong with the ring that is to begin
+-- the fault of the ring that is to begin
 abbrev pub start_fault : ℕ → ℕ → List ℕ → Option ToolError
 start_fault n k states = option_or (size_fault n k) (values_fault n k states)
 
--- the first that is wrong with what `step` was given, in the order in which it is tested
+-- the first fault in the words of `step`, in the order in which it is tested
 abbrev pub fault_of : ℕ → ℕ → List ℕ → List ℕ → Option ToolError
 fault_of n k states choices = option_or (start_fault n k states) (choice_fault n choices)
 
--- a refusal of what has this first fault: that fault, or, where there is none, want of memory
+-- a refusal of a ring with this first fault: that fault, or, where there is none, out of memory
 abbrev pub IsRefusalOver : Option ToolError → ToolError → Type 0
 IsRefusalOver fault tool.OutOfMemory = fault ≡ None
 IsRefusalOver fault e = fault ≡ Some e
 
 -- Which refusals a ring that is to begin may meet: the first fault, or, where the size and the
--- start values have none, want of memory.
+-- start values have none, out of memory.
 abbrev pub IsOpeningRefusal : ℕ → ℕ → List ℕ → List ℕ → ToolError → Type 0
 IsOpeningRefusal n k states choices tool.OutOfMemory = start_fault n k states ≡ None
 IsOpeningRefusal n k states choices e = fault_of n k states choices ≡ Some e
@@ -136,20 +144,20 @@ IsStepRefusal n k states choices tool.HistoryFull =
     (fault_of n k states choices ≡ None) × (event_limit < length choices)
 IsStepRefusal n k states choices e = fault_of n k states choices ≡ Some e
 
--- which refusals the reading of a piece of a list may meet: it is the text of no number below 2 ^
--- 32, or there is no memory
+-- which refusals the reading of a piece of a list may meet: it is not the text of a number below 2
+-- ^ 32, or there is no memory
 abbrev pub IsPieceRefusal : List ℕ → ToolError → Type 0
 IsPieceRefusal piece e =
     ((e ≡ tool.BadList) × ((n : ℕ) → n < 2 ^ 32 → decimal n ≢ piece)) ⊎ (e ≡ tool.OutOfMemory)
 
--- which refusals the reading of a list may meet: it is the text of no such numbers, or there is no
+-- which refusals the reading of a list may meet: it is not the text of such numbers, or there is no
 -- memory
 abbrev pub IsListRefusal : List ℕ → ToolError → Type 0
 IsListRefusal word e = ((e ≡ tool.BadList) × IsNoList word) ⊎ (e ≡ tool.OutOfMemory)
 
 -- Which refusals the reading of a file may meet, by what its reader had left before and has now: a
 -- read of the file of this name failed, and no more than are read were given until then; it has
--- more bytes than are read; or want of memory.
+-- more bytes than are read; or out of memory.
 abbrev pub IsReadRefusal : List ℕ → Option (List ℕ) → Option (List ℕ) → ToolError → Type 0
 IsReadRefusal file old new (tool.Read named) = (named.now ≡ file) × IsWithin most_bytes old new
 IsReadRefusal file old new (tool.TooLarge named) = (named.now ≡ file) × IsOver most_bytes old new

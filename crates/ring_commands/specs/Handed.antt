@@ -4,14 +4,15 @@ use Rattle.std.specs.Prelude.{◌≡◌, ℕ, List, true, false, Option, Some, �
 use Rattle.std.specs.Io.KnownBytes.{Appends}
 use Rattle.disks.specs.Held.{Held, Replaces}
 use Rattle.ring_commands.specs.Named.{IsStored}
-use Rattle.ring_commands.specs.Reading.{is_dash}
+use Rattle.ring_commands.specs.Reading.{names_stream}
+use Rattle.ring_commands.specs.Worlds.{World}
 use Rattle.ring_commands.specs.Written.{AppendsFront}
 use Rattle.ring_commands.specs.declared.faults.ToolError.{ToolError}
 use Rattle.ring_commands.specs.declared.faults.ToolError.TheVariants as tool
 
--- What may keep a text from its file, and what is printed then from standard output: the file, if
--- one is named, want of memory, and a writer that got a beginning of what is printed, when the file
--- was in its place.
+-- The causes that may keep a text from its file, and the printed text from standard output: the
+-- file, if one is named, out of memory, and a writer that got a prefix of the printed text, when
+-- the file was in its place.
 abbrev pub IsHandOutRefusal : Option (List ℕ) → List ℕ → List ℕ → Option Held → Option Held
     → Option (List ℕ) → Option (List ℕ) → ToolError → Type 0
 IsHandOutRefusal file text line before after old new (tool.Save named) = Some named.now ≡ file
@@ -20,8 +21,8 @@ IsHandOutRefusal file text line before after old new tool.Write =
     AppendsFront old new line × IsStored file before after text
 IsHandOutRefusal file text line before after old new _ = ⊥
 
--- What may keep a text from standard output, and the line from standard error then: want of memory,
--- and a writer that got a beginning of what goes there.
+-- The causes that may keep a text from standard output, and the line from standard error: out of
+-- memory, and a writer that got a prefix of the text for it.
 abbrev pub IsPrintRefusal : List ℕ → List ℕ → Option (List ℕ) → Option (List ℕ) → Option (List ℕ)
     → Option (List ℕ) → ToolError → Type 0
 IsPrintRefusal text line old new early late tool.OutOfMemory = Unit {0}
@@ -29,15 +30,18 @@ IsPrintRefusal text line old new early late tool.Write =
     AppendsFront old new text ⊎ (Appends old new text × AppendsFront early late line)
 IsPrintRefusal text line old new early late _ = ⊥
 
--- Both went where the word says; standard error held the first bytes before, and the second after.
-pub record IsHanded (word text line : List ℕ) (before after : Option Held)
-    (old new early late : Option (List ℕ)) : Type 0 where
-  pub to_file : is_dash word ≡ false → Replaces before after word (Some text) × Appends old new line
-  pub to_output : is_dash word ≡ true
-      → (after ≡ before) × Appends old new text × Appends early late line
+-- Both went where the word says.
+pub record IsHanded (word text line : List ℕ) (was is : World) : Type 0 where
+  pub to_file : names_stream word ≡ false
+      → Replaces was.files is.files word (Some text) × Appends was.out is.out line
+  pub to_output : names_stream word ≡ true
+      → (is.files ≡ was.files)
+      × Appends was.out is.out text
+      × Appends was.err is.err line
 
--- What may keep them from there.
-pub record IsHandRefusal (word text line : List ℕ) (before after : Option Held)
-    (old new early late : Option (List ℕ)) (e : ToolError) : Type 0 where
-  pub to_file : is_dash word ≡ false → IsHandOutRefusal (Some word) text line before after old new e
-  pub to_output : is_dash word ≡ true → IsPrintRefusal text line old new early late e
+-- The causes that may keep them from there.
+pub record IsHandRefusal (word text line : List ℕ) (was is : World) (e : ToolError) : Type 0 where
+  pub to_file : names_stream word ≡ false
+      → IsHandOutRefusal (Some word) text line was.files is.files was.out is.out e
+  pub to_output : names_stream word ≡ true
+      → IsPrintRefusal text line was.out is.out was.err is.err e

@@ -1,22 +1,22 @@
--- What a command read and what it made, by the names of files.
+-- The files that a command read and made, by their names.
 use Rattle.std.specs.Prelude.{◌≡◌, ℕ, List, true, false, Option, None, Some, ◌⊎◌, ⊤}
 use Rattle.disks.specs.Held.{Held, IsOneFile, bytes_of, Opens, Replaces}
 use Rattle.ring_commands.specs.Faults.{IsReadRefusal}
-use Rattle.ring_commands.specs.Reading.{most_bytes, is_dash, IsAllOf}
+use Rattle.ring_commands.specs.Reading.{most_bytes, names_stream, IsAllOf}
 use Rattle.ring_commands.specs.declared.faults.ToolError.{ToolError}
 use Rattle.ring_commands.specs.declared.faults.ToolError.TheVariants as tool
 
--- the file of this name held just these bytes, if it is known what files hold
+-- the file of this name held just these bytes, if the content of files is known
 abbrev pub IsHeld : Option Held → List ℕ → List ℕ → Type 0
 IsHeld None name bytes = ⊤
 IsHeld (Some held) name bytes = bytes_of held name ≡ Some bytes
 
--- What a word names gave just these bytes: the dash all that standard input had left, and each
--- other word the file of its name, which held them.
+-- The source that a word names gave just these bytes: the dash all that standard input had left,
+-- each other word the file of its name, which held them.
 pub record IsNamed (word : List ℕ) (files : Option Held) (was is : Option (List ℕ)) (bytes : List ℕ)
     : Type 0 where
-  pub of_input : is_dash word ≡ true → IsAllOf most_bytes was is bytes
-  pub of_file : is_dash word ≡ false → IsHeld files word bytes
+  pub of_input : names_stream word ≡ true → IsAllOf most_bytes was is bytes
+  pub of_file : names_stream word ≡ false → IsHeld files word bytes
 
 -- the file of this name cannot be opened
 abbrev pub IsUnopened : List ℕ → ToolError → Type 0
@@ -33,19 +33,19 @@ IsFileRefusal files name e =
     × Opens files name from
     × IsReadRefusal name from left e)
 
--- Which refusals the reading of what a word names may meet.
+-- Which refusals the reading of the source that a word names may meet.
 pub record IsNamedRefusal (word : List ℕ) (files : Option Held) (was is : Option (List ℕ))
     (e : ToolError) : Type 0 where
-  pub of_input : is_dash word ≡ true → IsReadRefusal word was is e
-  pub of_file : is_dash word ≡ false → IsFileRefusal files word e
+  pub of_input : names_stream word ≡ true → IsReadRefusal word was is e
+  pub of_file : names_stream word ≡ false → IsFileRefusal files word e
 
 -- A file that is to be made is not the one that is read, if it is known where names lead.
 abbrev pub IsApart : Option Held → List ℕ → Option (List ℕ) → Type 0
 IsApart files read None = ⊤
 IsApart None read (Some made) = ⊤
-IsApart (Some held) read (Some made) = is_dash read ≡ false → IsOneFile held read made → ⊥
+IsApart (Some held) read (Some made) = names_stream read ≡ false → IsOneFile held read made → ⊥
 
--- It is that one, or this cannot be told, since its name cannot be looked at.
+-- It is that one, or this cannot be decided, since its name cannot be looked at.
 abbrev pub IsApartRefusal : Option (List ℕ) → ToolError → Type 0
 IsApartRefusal made (tool.SameFile named) = Some named.now ≡ made
 IsApartRefusal made (tool.Save named) = Some named.now ≡ made

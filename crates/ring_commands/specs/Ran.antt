@@ -1,4 +1,4 @@
--- What `run` answers: what a farm hands out, and which refusals there are.
+-- The answers of `run`: the outcome of a farm, and the refusals.
 use Rattle.std.specs.Prelude.{◌≡◌, ℕ, Bool, true, false, cond, List, Option, None, Some, Ok, Err, ◌⊎◌}
 use Rattle.std.specs.Option.{option_map}
 use Rattle.ring_settings.specs.Contents.{SettingsData}
@@ -13,7 +13,8 @@ use Rattle.disks.specs.Held.{Held}
 use Rattle.ring_commands.specs.Faults.{fault_of_settings}
 use Rattle.ring_commands.specs.Handed.{IsHandOutRefusal}
 use Rattle.ring_commands.specs.Named.{IsNamed, IsNamedRefusal, IsApart, IsApartRefusal}
-use Rattle.ring_commands.specs.Reading.{is_dash}
+use Rattle.ring_commands.specs.Reading.{names_stream}
+use Rattle.ring_commands.specs.Worlds.{World}
 use Rattle.ring_requests.specs.declared.requests.RunWords.{RunWords}
 use Rattle.ring_commands.specs.declared.faults.ToolError.{ToolError}
 use Rattle.ring_commands.specs.declared.faults.ToolError.TheVariants as tool
@@ -27,8 +28,8 @@ IsFarmOn bytes o =
 abbrev pub AreSettings : List ℕ → Type 0
 AreSettings bytes = (settings : SettingsData) × (settings_of bytes ≡ Ok settings)
 
--- a refusal of the farm of settings, want of memory, or the first thing that is wrong with bytes
--- that are no settings
+-- a refusal of the farm of settings, out of memory, or the first fault of bytes
+-- that are not settings
 abbrev pub IsFarmRefusal : List ℕ → ToolError → Type 0
 IsFarmRefusal bytes tool.Spawn = AreSettings bytes
 IsFarmRefusal bytes tool.GateShut = AreSettings bytes
@@ -39,18 +40,18 @@ IsFarmRefusal bytes tool.OutOfMemory = Unit {0}
 IsFarmRefusal bytes e =
     (fault : SettingsError) × (settings_of bytes ≡ Err fault) × (e ≡ fault_of_settings fault)
 
--- what is told of an outcome: its report, or the last line of it alone
+-- the report of an outcome, or only the last line of it
 abbrev pub told : Bool → Outcome → List ℕ
 told false o = report o
 told true o = farm_line o
 
--- whether the word that was given for the history, if any, stands for standard output
+-- whether the word that was given for the history, if any, means standard output
 abbrev pub is_printed : Option (List ℕ) → Bool
 is_printed None = false
-is_printed (Some word) = is_dash word
+is_printed (Some word) = names_stream word
 
--- What `run` prints of an outcome: its saved text where the history goes to standard output, and
--- else what is told of it.
+-- The output of `run` for an outcome: its saved text where the history goes to standard output, and
+-- else the report of it.
 abbrev pub printed : RunWords → Outcome → List ℕ
 printed words o =
     cond (is_printed (option_map (λ word. word.now) words.history)) (text (saved_of o))
@@ -65,14 +66,14 @@ IsSaveRefusal file _ = ⊥
 -- the file that a word names, if any: the dash names none
 abbrev pub file_of : Option (List ℕ) → Option (List ℕ)
 file_of None = None
-file_of (Some word) = cond (is_dash word) None (Some word)
+file_of (Some word) = cond (names_stream word) None (Some word)
 
 -- the file for the history, if one is named
 abbrev pub history_file : RunWords → Option (List ℕ)
 history_file words = file_of (option_map (λ word. word.now) words.history)
 
--- What the word for the settings names gave those of a farm with this outcome, and it is not the
--- file for the history.
+-- The source that the word for the settings names gave those of a farm with this outcome, and it is
+-- not the file for the history.
 abbrev pub IsFarmNamed : RunWords → Option Held → Option (List ℕ) → Option (List ℕ) → Outcome
     → Type 0
 IsFarmNamed words files was is o =
@@ -98,12 +99,11 @@ IsOutcomeRefusal words o before after old new e =
     IsHandOutRefusal (history_file words) (text (saved_of o)) (printed words o) before after old new
     e
 
--- Which refusals `run` may meet: those of the farm of what its word names, and those of the outcome
--- of such a farm.
-abbrev pub IsRunRefusal : RunWords → Option Held → Option Held → Option (List ℕ) → Option (List ℕ)
-    → Option (List ℕ) → Option (List ℕ) → ToolError → Type 0
-IsRunRefusal words before after was is old new e =
-    IsFarmNamedRefusal words before was is e
+-- Which refusals `run` may meet: those of the farm whose settings its word names, and those of the
+-- outcome of such a farm.
+abbrev pub IsRunRefusal : RunWords → World → World → ToolError → Type 0
+IsRunRefusal words was is e =
+    IsFarmNamedRefusal words was.files was.input is.input e
     ⊎ ((outcome : Outcome)
-    × IsFarmNamed words before was is outcome
-    × IsOutcomeRefusal words outcome before after old new e)
+    × IsFarmNamed words was.files was.input is.input outcome
+    × IsOutcomeRefusal words outcome was.files is.files was.out is.out e)

@@ -1,16 +1,16 @@
--- What `recover` answers.
+-- The answer of `recover`.
 use Rattle.std.specs.Prelude.{◌≡◌, ℕ, List, Option, Some, Err, ◌⊎◌}
 use Rattle.ring_saved.specs.Content.{Content}
 use Rattle.ring_saved.specs.Spelling.{text}
 use Rattle.ring_check.specs.Legal.{summary_of}
 use Rattle.ring_journal.specs.declared.errors.RecoverError.{RecoverError}
 use Rattle.ring_journal.specs.Recovery.{IsRecovered, IsRightRecovery}
-use Rattle.disks.specs.Held.{Held}
 use Rattle.ring_commands.specs.CheckText.{legal_line}
 use Rattle.ring_commands.specs.Faults.{fault_of_recovery}
 use Rattle.ring_commands.specs.Handed.{IsHanded, IsHandRefusal}
 use Rattle.ring_commands.specs.Named.{IsNamed, IsNamedRefusal, IsApart, IsApartRefusal}
 use Rattle.ring_commands.specs.Ran.{file_of}
+use Rattle.ring_commands.specs.Worlds.{World}
 use Rattle.ring_requests.specs.declared.requests.RecoverWords.{RecoverWords}
 use Rattle.ring_commands.specs.declared.faults.ToolError.{ToolError}
 
@@ -18,19 +18,17 @@ use Rattle.ring_commands.specs.declared.faults.ToolError.{ToolError}
 abbrev pub made_file : RecoverWords → Option (List ℕ)
 made_file words = file_of (Some words.new.now)
 
--- What the word FILE names gave the bytes of a journal, and it is not the file that is made. The
--- text of what is recovered of it, which is legal, and the line of its sums went where the word NEW
--- says.
-abbrev pub IsRecoverAnswer : RecoverWords → Option Held → Option Held → Option (List ℕ)
-    → Option (List ℕ) → Option (List ℕ) → Option (List ℕ) → Option (List ℕ) → Option (List ℕ)
-    → Type 0
-IsRecoverAnswer words before after was is old new early late =
+-- The source that the word FILE names gave the bytes of a journal, and it is not the file that is
+-- made. The text of the history that is recovered of it, which is legal, and the line of its sums
+-- went where the word NEW says.
+abbrev pub IsRecoverAnswer : RecoverWords → World → World → Type 0
+IsRecoverAnswer words was is =
     (bytes : List ℕ)
     × (c : Content)
-    × IsNamed words.file.now before was is bytes
-    × IsApart before words.file.now (made_file words)
+    × IsNamed words.file.now was.files was.input is.input bytes
+    × IsApart was.files words.file.now (made_file words)
     × IsRecovered bytes c
-    × IsHanded words.new.now (text c) (legal_line (summary_of c)) before after old new early late
+    × IsHanded words.new.now (text c) (legal_line (summary_of c)) was is
 
 -- nothing is recovered of these bytes, for the right reason
 abbrev pub IsRecoveryRefusal : List ℕ → ToolError → Type 0
@@ -39,16 +37,13 @@ IsRecoveryRefusal bytes e =
 
 -- Which refusals `recover` may meet: those of reading what its word names, that both names are of
 -- one file, that nothing is recovered of the bytes, and those of handing out what is.
-abbrev pub IsRecoverRefusal : RecoverWords → Option Held → Option Held → Option (List ℕ)
-    → Option (List ℕ) → Option (List ℕ) → Option (List ℕ) → Option (List ℕ) → Option (List ℕ)
-    → ToolError → Type 0
-IsRecoverRefusal words before after was is old new early late e =
-    IsNamedRefusal words.file.now before was is e
+abbrev pub IsRecoverRefusal : RecoverWords → World → World → ToolError → Type 0
+IsRecoverRefusal words was is e =
+    IsNamedRefusal words.file.now was.files was.input is.input e
     ⊎ ((bytes : List ℕ)
-    × IsNamed words.file.now before was is bytes
+    × IsNamed words.file.now was.files was.input is.input bytes
     × (IsApartRefusal (made_file words) e
     ⊎ (IsRecoveryRefusal bytes e
     ⊎ ((c : Content)
     × IsRecovered bytes c
-    × IsHandRefusal words.new.now (text c) (legal_line (summary_of c)) before after old new
-    early late e))))
+    × IsHandRefusal words.new.now (text c) (legal_line (summary_of c)) was is e))))

@@ -1,5 +1,5 @@
--- What is saved of a farm.
-use Rattle.std.specs.Prelude.{ℕ, List, Option, IsSome, Result}
+-- The saved text of a farm.
+use Rattle.std.specs.Prelude.{IsSome, Result}
 use Rattle.std.specs.Io.KnownBytes.{Appends}
 use Rattle.text_lines.specs.declared.answer.ReadError.{ReadError}
 use Rattle.ring_settings.specs.Contents.{SettingsData}
@@ -11,14 +11,13 @@ use Rattle.ring_text.specs.SavedOf.{saved_of}
 use Rattle.ring_saved.specs.Spelling.{text}
 use Rattle.ring_check.specs.Legal.{IsLegalText, summary_of}
 use Rattle.ring_commands.specs.Checked.{IsLegalSavedText}
-use Rattle.disks.specs.Held.{Held}
 use Rattle.ring_commands.specs.Named.{IsStored}
 use Rattle.ring_commands.specs.Ran.{printed, history_file, IsFarmNamed}
+use Rattle.ring_commands.specs.Worlds.{World}
 use Rattle.ring_requests.specs.declared.requests.RunWords.{RunWords}
 
 -- The saved text of an outcome is legal, in the subject's words with the outcome's sums, and by the
--- table of what is refused; and the one right answer of its reader, memory aside, is what was
--- saved.
+-- table of the refusals; and the one right answer of its reader, memory aside, is the saved value.
 pub record IsSavedLegal (o : Outcome) : Type 0 where
   pub legal : IsLegalSavedText (text (saved_of o)) (summary_of (saved_of o))
   pub table : IsLegalText (saved_of o)
@@ -29,14 +28,13 @@ pub record IsSavedLegal (o : Outcome) : Type 0 where
 abbrev pub IsLegalOfFarm : Outcome → Type 0
 IsLegalOfFarm o = (settings : SettingsData) → IsFarmOf settings o → IsSavedLegal o
 
--- An outcome of the farm of what the word names is printed as the words say; where its history is
--- asked for, what was saved of it is legal, and the file for it, if one is named, holds just that,
--- and every other file is as it was.
-abbrev pub IsRunAnswer : RunWords → Option Held → Option Held → Option (List ℕ) → Option (List ℕ)
-    → Option (List ℕ) → Option (List ℕ) → Type 0
-IsRunAnswer words before after was is old new =
+-- An outcome of the farm whose settings the word names is printed as the words say; where its
+-- history is asked for, its saved text is legal, and the file for it, if one is named, holds just
+-- that, and every other file is as it was.
+abbrev pub IsRunAnswer : RunWords → World → World → Type 0
+IsRunAnswer words was is =
     (outcome : Outcome)
-    × IsFarmNamed words before was is outcome
-    × IsStored (history_file words) before after (text (saved_of outcome))
-    × Appends old new (printed words outcome)
+    × IsFarmNamed words was.files was.input is.input outcome
+    × IsStored (history_file words) was.files is.files (text (saved_of outcome))
+    × Appends was.out is.out (printed words outcome)
     × (IsSome words.history → IsSavedLegal outcome)

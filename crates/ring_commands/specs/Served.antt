@@ -1,4 +1,4 @@
--- What `serve` answers.
+-- The answer of `serve`.
 use Rattle.std.specs.Prelude.{◌≡◌, ℕ, ◌⊎◌, List, [], length, codes, Bool, true, false, Option, None, Some, Err}
 use Rattle.std.specs.Option.{option_map, is_some}
 use Rattle.std.specs.Io.KnownBytes.{Appends}
@@ -18,6 +18,9 @@ use Rattle.ring_serve.specs.Totals.{totals_of}
 use Rattle.ring_serve.specs.Serving.{ServesAll, ServesSome}
 use Rattle.ring_commands.specs.Checked.{IsLegalSavedText, IsSavedTextRefusal}
 use Rattle.ring_commands.specs.Named.{IsHeld, IsFileRefusal}
+use Rattle.ring_commands.specs.Ran.{IsSaveRefusal}
+use Rattle.ring_commands.specs.Worlds.{World}
+use Rattle.ring_commands.specs.Written.{AppendsFront}
 use Rattle.ring_requests.specs.declared.requests.ServeWords.{ServeWords}
 use Rattle.ring_commands.specs.declared.faults.ToolError.{ToolError}
 use Rattle.ring_commands.specs.declared.faults.ToolError.TheVariants as tool
@@ -34,7 +37,7 @@ pub record IsHistory (files : Option Held) (name : List ℕ) (saved : Saved) : T
   pub legal : IsLegalSavedText bytes sums
   pub value : legal.content ≡ content saved
 
--- the value is what is recovered of the journal that the file of this name held
+-- the value is the one recovered of the journal that the file of this name held
 pub record IsOfJournal (files : Option Held) (name : List ℕ) (saved : Saved) : Type 0 where
   pub bytes : List ℕ
   pub held : IsHeld files name bytes
@@ -51,7 +54,7 @@ abbrev pub BeginsAt : Option Held → Option (List ℕ) → Saved → Saved → 
 BeginsAt files None saved from = from ≡ saved
 BeginsAt files (Some name) saved from = IsNoted files name saved from
 
--- the lines were served without a journal, from where the rings began to where they stand in the
+-- the lines were served without a journal, from where the rings began to where they are in the
 -- end
 abbrev pub IsServedPlain : List Standing → List Standing → Option Held → Option Held
     → Option (List ℕ) → Option (List ℕ) → Option (List ℕ) → Option (List ℕ) → Type 0
@@ -61,9 +64,9 @@ IsServedPlain start end before after was is old new =
     × ServesAll false start end before after was is (record { journal = j; out = old })
     (record { journal = k; out = new })
 
--- The lines were served with a journal in the file of this name. It was put there with what is
--- saved of the rings as they began; each call was noted behind that before it was answered; and all
--- of that the file holds in the end.
+-- The lines were served with a journal in the file of this name. It was put there with the
+-- saved text of the rings as they began; each call was noted after that before it was answered; and
+-- all of that the file holds in the end.
 pub record IsServedNoted (name : List ℕ) (start end : List Standing) (before after : Option Held)
     (was is old new : Option (List ℕ)) : Type 0 where
   pub begun : Option Held
@@ -93,7 +96,7 @@ IsServed None start end before after was is old new =
 IsServed (Some name) start end before after was is old new =
     IsServedNoted name start end before after was is old new
 
--- the rings began where the value says, or at the end of a journal that told something, and all
+-- the rings began where the value says, or at the end of a journal that recorded something, and all
 -- lines of standard input were served
 pub record IsServedFrom (words : ServeWords) (saved : Saved) (end : List Standing)
     (before after : Option Held) (was is old new : Option (List ℕ)) : Type 0 where
@@ -104,14 +107,13 @@ pub record IsServedFrom (words : ServeWords) (saved : Saved) (end : List Standin
   pub served : IsServed (journal_of words) start end before after was is old new
 
 -- The history was read, the rings began there or where their journal ended, all lines of standard
--- input were served, and what adds up over the rings is told on standard error.
-pub record IsServeAnswer (words : ServeWords) (before after : Option Held)
-    (was is old new early late : Option (List ℕ)) : Type 0 where
+-- input were served, and the sums over the rings are reported on standard error.
+pub record IsServeAnswer (words : ServeWords) (was is : World) : Type 0 where
   pub saved : Saved
-  pub history : IsHistory before words.history.now saved
+  pub history : IsHistory was.files words.history.now saved
   pub end : List Standing
-  pub served : IsServedFrom words saved end before after was is old new
-  pub told : Appends early late (total_line (length end) (totals_of end))
+  pub served : IsServedFrom words saved end was.files is.files was.input is.input was.out is.out
+  pub told : Appends was.err is.err (total_line (length end) (totals_of end))
 
 -- ---- refusals
 
@@ -126,11 +128,15 @@ IsHistoryRefusal files name e =
     IsFileRefusal files name e
     ⊎ ((bytes : List ℕ) × IsHeld files name bytes × IsSavedTextRefusal bytes e)
 
--- the journal's file cannot be kept: another process has it, or it cannot be opened, or begun anew
+-- the journal's file cannot be opened: another process has it, or it cannot be had
+abbrev pub IsUnopenedJournal : List ℕ → ToolError → Type 0
+IsUnopenedJournal name (tool.InUse named) = named.now ≡ name
+IsUnopenedJournal name (tool.Save named) = named.now ≡ name
+IsUnopenedJournal name _ = ⊥
+
+-- it cannot be kept: it cannot be opened, or not be begun anew
 abbrev pub IsUnkept : List ℕ → ToolError → Type 0
-IsUnkept name (tool.InUse named) = named.now ≡ name
-IsUnkept name (tool.Save named) = named.now ≡ name
-IsUnkept name _ = ⊥
+IsUnkept name e = IsUnopenedJournal name e ⊎ IsSaveRefusal name e
 
 -- nothing is recovered of the journal in the file of this name, which held these bytes, for the
 -- right reason
@@ -139,30 +145,31 @@ IsUnrecovered name bytes (tool.Journal named error) =
     (named.now ≡ name) × IsRightRecovery bytes (Err error)
 IsUnrecovered name bytes _ = ⊥
 
--- the journal is refused: its file cannot be kept or read, or nothing is recovered of what it holds
+-- the journal is refused: its file cannot be kept or read, or nothing is recovered of its bytes
 abbrev pub IsJournalRefusal : Option Held → List ℕ → ToolError → Type 0
 IsJournalRefusal files name e =
     IsUnkept name e
     ⊎ (IsFileRefusal files name e
     ⊎ ((bytes : List ℕ) × IsHeld files name bytes × IsUnrecovered name bytes e))
 
--- these rings do not go on: one has more events than a ring can go on with, or there is no memory
+-- these rings do not resume: one has more events than a ring can resume, or there is no memory
 abbrev pub IsStartRefusal : List SavedRing → ToolError → Type 0
 IsStartRefusal rings (tool.Full ring) = IsStartFault rings (start.Full ring)
 IsStartRefusal rings tool.OutOfMemory = IsStartFault rings start.OutOfMemory
 IsStartRefusal rings _ = ⊥
 
--- what ends it while lines are served, or when all have been: standard input, the journal if one is
--- kept, a standard output or memory fails
+-- the causes that end it while lines are served, or when all have been: standard input, the journal
+-- kept, standard output or memory fails
 abbrev pub IsServingFault : Option (List ℕ) → ToolError → Type 0
 IsServingFault journal (tool.Read named) = named.now ≡ codes "-"
+IsServingFault journal (tool.TooLarge named) = named.now ≡ codes "-"
 IsServingFault journal (tool.Save named) = Some named.now ≡ journal
 IsServingFault journal tool.Write = Unit {0}
 IsServingFault journal tool.OutOfMemory = Unit {0}
 IsServingFault journal _ = ⊥
 
 -- Some of the lines were answered, or all of them, from where the rings began; and the journal, if
--- one is kept, holds what was noted of each that was told.
+-- one is kept, holds the notes of each that was delivered.
 pub record IsServedPart (keeps : Bool) (start : List Standing) (was is old new : Option (List ℕ)) :
     Type 0 where
   pub end : List Standing
@@ -175,7 +182,7 @@ pub record IsServedPart (keeps : Bool) (start : List Standing) (was is old new :
       ⊎ ServesAll keeps start end files now was is (record { journal = first; out = old })
       (record { journal = last; out = new })
 
--- these rings do not go on, and no line is read; or they did, and were broken off
+-- these rings do not resume, and no line is read; or they did, and were broken off
 abbrev pub IsUnfinished : Option (List ℕ) → List SavedRing → Option (List ℕ) → Option (List ℕ)
     → Option (List ℕ) → Option (List ℕ) → ToolError → Type 0
 IsUnfinished journal rings was is old new e =
@@ -197,12 +204,23 @@ IsRefusedFrom files (Some name) saved was is old new e =
     × IsNoted files name saved from
     × IsUnfinished (Some name) from.rings.items was is old new e)
 
--- Which refusals `serve` may meet: those of the history, before a line is read, and those that come
--- with it.
-abbrev pub IsServeRefusal : ServeWords → Option Held → Option (List ℕ) → Option (List ℕ)
-    → Option (List ℕ) → Option (List ℕ) → ToolError → Type 0
-IsServeRefusal words files was is old new e =
-    (IsUnserved was is old new × IsHistoryRefusal files words.history.now e)
+-- All lines were served, and what adds up over the rings is not told: it is too large, and nothing
+-- is told; or standard error failed, and got a prefix of the line.
+abbrev pub IsUntold : List Standing → Option (List ℕ) → Option (List ℕ) → ToolError → Type 0
+IsUntold end early late tool.TotalsTooLarge = late ≡ early
+IsUntold end early late tool.Write =
+    AppendsFront early late (total_line (length end) (totals_of end))
+IsUntold end early late _ = ⊥
+
+-- Which refusals `serve` may meet: those of the history, before a line is read, those that come
+-- with it, and those that come when all lines have been served.
+abbrev pub IsServeRefusal : ServeWords → World → World → ToolError → Type 0
+IsServeRefusal words was is e =
+    (IsUnserved was.input is.input was.out is.out
+    × IsHistoryRefusal was.files words.history.now e)
     ⊎ ((saved : Saved)
-    × IsHistory files words.history.now saved
-    × IsRefusedFrom files (journal_of words) saved was is old new e)
+    × IsHistory was.files words.history.now saved
+    × (IsRefusedFrom was.files (journal_of words) saved was.input is.input was.out is.out e
+    ⊎ ((end : List Standing)
+    × IsServedFrom words saved end was.files is.files was.input is.input was.out is.out
+    × IsUntold end was.err is.err e)))

@@ -1,4 +1,4 @@
--- What `step` prints (this project's own lines, over the one-thread ring): the reply to each
+-- The output of `step` (this project's own lines, over the one-thread ring): the reply to each
 -- choice, then the last state.
 use Rattle.std.specs.Prelude.{ℕ, List, [], ◌∷◌, ◌++◌, codes, decimal}
 use Rattle.text_lines.specs.Spelling.{list_text}
@@ -10,7 +10,7 @@ use Rattle.ring_model.specs.declared.events.Reply.TheVariants.{Granted, NotPrivi
 use Rattle.ring_book.specs.IdleWorks.{idle}
 use Rattle.ring_book.specs.declared.resources.Idle.{Idle}
 
--- the line of a granted pass: who asked, and the number of the grant
+-- the line of a granted pass: the machine that asked, and the number of the grant
 abbrev pub granted_line : ℕ → ℕ → List ℕ
 granted_line machine number =
     decimal machine ++ (codes " granted " ++ (decimal number ++ codes "\n"))
@@ -19,7 +19,7 @@ granted_line machine number =
 abbrev pub refused_line : ℕ → List ℕ
 refused_line machine = decimal machine ++ codes " not privileged\n"
 
--- the line of one pass: who asked, and what was answered
+-- the line of one pass: the machine that asked, and the answer
 abbrev pub reply_line : ℕ → Reply → List ℕ
 reply_line machine (Granted number result) = granted_line machine number
 reply_line machine NotPrivileged = refused_line machine

@@ -1,4 +1,4 @@
--- What `step` answers to its words.
+-- The answers of `step` to its words.
 use Rattle.std.specs.Prelude.{◌≡◌, ℕ, List, [], Option, None, Some, ◌⊎◌}
 use Rattle.std.specs.Io.KnownBytes.{Appends}
 use Rattle.std.specs.Option.{option_map}
@@ -35,7 +35,7 @@ IsStepAnswer words old new =
     × Appends old new (step_text (ring_with words.k states) choices)
 
 -- A list that cannot be read, and nothing is written; or a refusal of the lists that the words
--- spell, and a beginning of their lines.
+-- spell, and a prefix of their lines.
 abbrev pub IsStepWordsRefusal : StepWords → Option (List ℕ) → Option (List ℕ) → ToolError → Type 0
 IsStepWordsRefusal words old new e =
     ((IsListRefusal words.states.now e

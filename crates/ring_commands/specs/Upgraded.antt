@@ -1,4 +1,4 @@
--- What `upgrade` answers.
+-- The answer of `upgrade`.
 use Rattle.std.specs.Prelude.{◌≡◌, ℕ, List, Option, ◌⊎◌}
 use Rattle.ring_saved.specs.Content.{Content, upgraded}
 use Rattle.ring_saved.specs.Spelling.{Fits, text}
@@ -6,9 +6,9 @@ use Rattle.ring_check.specs.declared.answers.Summary.{Summary}
 use Rattle.ring_check.specs.Legal.{IsLegalText, summary_of}
 use Rattle.ring_commands.specs.CheckText.{legal_line}
 use Rattle.ring_commands.specs.Checked.{IsLegalSavedText, IsSavedTextRefusal}
-use Rattle.disks.specs.Held.{Held}
 use Rattle.ring_commands.specs.Handed.{IsHanded, IsHandRefusal}
 use Rattle.ring_commands.specs.Named.{IsNamed, IsNamedRefusal}
+use Rattle.ring_commands.specs.Worlds.{World}
 use Rattle.ring_requests.specs.declared.requests.UpgradeWords.{UpgradeWords}
 use Rattle.ring_commands.specs.declared.faults.ToolError.{ToolError}
 
@@ -21,31 +21,26 @@ pub record IsUpgradeOf (bytes : List ℕ) (new : Content) (sums : Summary) : Typ
   pub still : IsLegalText new
   pub sums_still : sums ≡ summary_of new
 
--- What the word FILE names gave bytes that have an upgrade; its text and the line of its sums went
--- where the word NEW says.
-abbrev pub IsUpgradeAnswer : UpgradeWords → Option Held → Option Held → Option (List ℕ)
-    → Option (List ℕ) → Option (List ℕ) → Option (List ℕ) → Option (List ℕ) → Option (List ℕ)
-    → Type 0
-IsUpgradeAnswer words before after was is old new early late =
+-- The source that the word FILE names gave bytes that have an upgrade; its text and the line of its
+-- sums went where the word NEW says.
+abbrev pub IsUpgradeAnswer : UpgradeWords → World → World → Type 0
+IsUpgradeAnswer words was is =
     (bytes : List ℕ)
     × (c : Content)
     × (sums : Summary)
-    × IsNamed words.file.now before was is bytes
+    × IsNamed words.file.now was.files was.input is.input bytes
     × IsUpgradeOf bytes c sums
-    × IsHanded words.new.now (text c) (legal_line sums) before after old new early late
+    × IsHanded words.new.now (text c) (legal_line sums) was is
 
 -- Which refusals `upgrade` may meet: those of reading what its word names, those of `check` of the
 -- bytes that it gave, and those of handing out their upgrade.
-abbrev pub IsUpgradeRefusal : UpgradeWords → Option Held → Option Held → Option (List ℕ)
-    → Option (List ℕ) → Option (List ℕ) → Option (List ℕ) → Option (List ℕ) → Option (List ℕ)
-    → ToolError → Type 0
-IsUpgradeRefusal words before after was is old new early late e =
-    IsNamedRefusal words.file.now before was is e
+abbrev pub IsUpgradeRefusal : UpgradeWords → World → World → ToolError → Type 0
+IsUpgradeRefusal words was is e =
+    IsNamedRefusal words.file.now was.files was.input is.input e
     ⊎ ((bytes : List ℕ)
-    × IsNamed words.file.now before was is bytes
+    × IsNamed words.file.now was.files was.input is.input bytes
     × (IsSavedTextRefusal bytes e
     ⊎ ((c : Content)
     × (sums : Summary)
     × IsUpgradeOf bytes c sums
-    × IsHandRefusal words.new.now (text c) (legal_line sums) before after old new early late
-    e)))
+    × IsHandRefusal words.new.now (text c) (legal_line sums) was is e)))

@@ -1,6 +1,6 @@
 //! `check`: whether a saved text is that of legal histories.
 
-ghost use Rattle.std.specs.Prelude.{false, ◌≡◌, ◌≢◌, OnOk, IfOk, IfErr};
+ghost use Rattle.std.specs.Prelude.{false, ◌≡◌, ◌≢◌, None, OnOk, IfOk, IfErr};
 ghost use Rattle.std.specs.Io.KnownBytes.{Appends};
 ghost use Rattle.text_lines.specs.Writing.{Writes};
 ghost use Rattle.ring_check.specs.declared.answers.Summary.{Summary};
@@ -8,7 +8,8 @@ ghost use Rattle.ring_check.specs.Legal.{IsLegalText};
 ghost use Rattle.ring_saved.specs.Content.{content};
 ghost use Rattle.ring_commands.specs.CheckText.{legal_line};
 ghost use Rattle.ring_commands.specs.Checked.{IsLegalSavedText, IsSavedTextRefusal, IsCheckAnswer, IsCheckRefusal, IsCheckRunRefusal};
-ghost use Rattle.ring_commands.specs.Reading.{is_dash};
+ghost use Rattle.ring_commands.specs.Reading.{names_stream};
+ghost use Rattle.ring_commands.specs.Worlds.{world};
 
 use crate::faults::ToolError;
 use crate::reading::read_named;
@@ -55,11 +56,11 @@ pub fn write_sums<W: Write>(out: &mut W, sums: &Summary) -> Result<(), WriteFaul
     )
 }
 
-/// The value of the saved text that the bytes are, and its sums, where it is legal.
+/// Returns the value of the saved text that the bytes are, and its sums, where it is legal.
 ///
 /// # Errors
 ///
-/// `Syntax` or `Truncated` where the bytes are no saved text, `Bad` where they are one that is not
+/// `Syntax` or `Truncated` where the bytes are not a saved text, `Bad` where they are one that is not
 /// legal, and `OutOfMemory`.
 pub fn legal_saved(alloc: Global, bytes: &[u8]) -> Result<(Saved, Summary), ToolError<'static>>
     ensures ok { IfOk result (λ x. (legal : IsLegalSavedText bytes.now x.1)
@@ -76,9 +77,9 @@ pub fn legal_saved(alloc: Global, bytes: &[u8]) -> Result<(Saved, Summary), Tool
 ///
 /// # Errors
 ///
-/// The first line that cannot stand in a saved text, or that the bytes end too early; the first bad
-/// line of a saved text, and what is wrong with it; `OutOfMemory`. Nothing is written then. `Write`
-/// where the writer fails: what was written until then is a beginning of the line.
+/// The first line that cannot be in a saved text, or that the bytes end too early; the first bad
+/// line of a saved text, and its fault; `OutOfMemory`. Nothing is written then. `Write`
+/// where the writer fails: the bytes written until then are a prefix of the line.
 pub fn check_bytes<W: Write>(
     alloc: Global,
     bytes: &[u8],
@@ -99,7 +100,8 @@ pub fn check_bytes<W: Write>(
 ///
 /// # Errors
 ///
-/// Those of reading what the word names, and those of [`check_bytes`]. Where a file is named, standard input stays as it was.
+/// Those of reading the source that the word names, and those of [`check_bytes`]. Where a file is named, standard input stays as
+/// it was.
 pub fn run<'a, D: Disk, I: Read, W: Write>(
     alloc: Global,
     disk: &D,
@@ -107,13 +109,15 @@ pub fn run<'a, D: Disk, I: Read, W: Write>(
     input: &mut I,
     out: &mut W,
 ) -> Result<(), ToolError<'a>>
-    ensures ok { OnOk result (IsCheckAnswer words.now (D.holds disk.now) (I.remaining input.old)
-        (I.remaining input.new) (W.contents out.old) (W.contents out.new)) }
+    ensures ok { OnOk result (IsCheckAnswer words.now
+        (world (D.holds disk.now) (I.remaining input.old) (W.contents out.old) None)
+        (world (D.holds disk.now) (I.remaining input.new) (W.contents out.new) None)) }
     ensures err { IfErr result (λ e.
-        IsCheckRunRefusal words.now (D.holds disk.now) (I.remaining input.old)
-        (I.remaining input.new) (W.contents out.old) (W.contents out.new) e) }
+        IsCheckRunRefusal words.now
+        (world (D.holds disk.now) (I.remaining input.old) (W.contents out.old) None)
+        (world (D.holds disk.now) (I.remaining input.new) (W.contents out.new) None) e) }
     ensures nothing { IfErr result (λ e. e ≢ ToolError.Write → out.new ≡ out.old) }
-    ensures unread { is_dash words.now.file.now ≡ false → input.new ≡ input.old }
+    ensures unread { names_stream words.now.file.now ≡ false → input.new ≡ input.old }
 {
     let bytes = read_named(alloc, disk, words.file, input)?;
     match check_bytes(alloc, bytes.as_slice(), out) {

@@ -14,8 +14,8 @@ pub fn tell<E: Write>(fault: &ToolError<'_>, err: &mut E) -> u8
     fault.status()
 }
 
-/// Ends a command, by what it answered and whether what was printed could leave a buffer, which is tried
-/// after a refusal too: answers the status. A fault is told on `err`, which else stays as it was.
+/// Ends a command, by its answer and by whether the printed text could leave a buffer, which is tried
+/// after a refusal too: answers the status. A fault is reported on `err`, which else stays as it was.
 pub fn finish<E: Write>(done: Result<(), ToolError<'_>>, flushed: io::Result<()>, err: &mut E) -> u8
     ensures status { result ≡ end_status done.entry flushed }
     ensures silent { OnOk done.entry (OnOk flushed (err.new ≡ err.old)) }

@@ -1,4 +1,4 @@
-//! What the program refuses, and the line that it prints then.
+//! The refusals of the program, and the line that it prints for each.
 
 use ring_book::BookError;
 use ring_check::{CheckError, Kind};
@@ -11,7 +11,7 @@ use std::error::Error;
 use std::fmt;
 use text_lines::WriteFault;
 
-/// Why the program does not do what it was asked for. Its `Display` is the line on standard error.
+/// Why the program refuses a command. Its `Display` is the line on standard error.
 ///
 /// A fault of a file has the file's name as it was given.
 #[derive(Clone, Copy)]
@@ -31,22 +31,22 @@ pub enum ToolError<'a> {
     Json,
     Shape(Field),
     Limit(Field),
-    /// A ring of the settings, by its place, and what is wrong with it.
+    /// A ring of the settings, by its place, and its fault.
     Ring(usize, RingCause),
-    /// A seat of the settings, and the place in its script of the first entry that is no action.
+    /// A seat of the settings, and the place in its script of the first entry that is not an action.
     Script(usize, usize),
     Spawn,
     GateShut,
-    /// There is no place for a seat to look at its ring from.
+    /// No place is left for a seat to look at its ring from.
     NoSeat,
     HistoryFull,
     /// A seat's log does not fit its ring's history.
     Mismatch,
-    /// The first line, from 1, that cannot stand in a saved text.
+    /// The first line, from 1, that cannot be in a saved text.
     Syntax(u64),
     /// A saved text ends too early.
     Truncated,
-    /// The first bad line of a saved text, from 1, and what is wrong with it.
+    /// The first bad line of a saved text, from 1, and its fault.
     Bad(u64, Kind),
     /// A file cannot be opened or read.
     Read(&'a str),
@@ -67,10 +67,12 @@ pub enum ToolError<'a> {
     ManyDrawn,
     /// A journal's file is kept by another process.
     InUse(&'a str),
-    /// The ring at this place has more events than a ring can go on with.
+    /// The ring at this place has more events than a ring can resume.
     Full(u64),
     /// Nothing is recovered of the journal in this file.
     Journal(&'a str, RecoverError),
+    /// The sums over the rings that were served do not fit into 64 bits, or the number of rings does not fit into 32.
+    TotalsTooLarge,
 }
 
 impl ToolError<'_> {
@@ -109,11 +111,12 @@ impl ToolError<'_> {
             ToolError::Write => Some("cannot write"),
             ToolError::OutOfMemory => Some("out of memory"),
             ToolError::ManyDrawn => Some("a picture has at most 20000 events"),
+            ToolError::TotalsTooLarge => Some("the totals are too large"),
             _ => None,
         }
     }
 
-    /// Writes the line of a refusal of words or settings, which has values, or of what else has some.
+    /// Writes the line of a refusal of words or settings, which has values, or of another with values.
     fn put_asked<W: fmt::Write>(&self, f: &mut fmt::Formatter<W>) -> fmt::Result {
         match self {
             ToolError::Value(place) => write!(f, "start value {place} is not below k"),
@@ -146,7 +149,31 @@ impl ToolError<'_> {
             ToolError::Journal(name, error) => write!(f, "{name}: {error}"),
             ToolError::Full(place) => write!(f, "ring {place}: the history is full"),
             ToolError::NoPlace(place) => write!(f, "the ring has fewer than {place} events"),
-            _ => Ok(()),
+            // the lines of these are written before
+            ToolError::BadList
+            | ToolError::TooFew
+            | ToolError::TooMany
+            | ToolError::FewValues
+            | ToolError::ManyValues
+            | ToolError::Length
+            | ToolError::Value(_)
+            | ToolError::Choice(_)
+            | ToolError::Json
+            | ToolError::Shape(_)
+            | ToolError::Limit(_)
+            | ToolError::Ring(_, _)
+            | ToolError::Script(_, _)
+            | ToolError::Spawn
+            | ToolError::GateShut
+            | ToolError::NoSeat
+            | ToolError::HistoryFull
+            | ToolError::Mismatch
+            | ToolError::Syntax(_)
+            | ToolError::Truncated
+            | ToolError::Write
+            | ToolError::OutOfMemory
+            | ToolError::ManyDrawn
+            | ToolError::TotalsTooLarge => Ok(()),
         }
     }
 }
@@ -160,7 +187,7 @@ impl fmt::Display for ToolError<'_> {
     }
 }
 
-/// The same line: a derived form would be proved for 30 variants and shown by tests alone.
+/// The same line: a derived form would be proved for 30 variants and shown only by tests.
 impl fmt::Debug for ToolError<'_> {
     fn fmt<W: fmt::Write>(&self, f: &mut fmt::Formatter<W>) -> fmt::Result {
         fmt::Display::fmt(self, f)

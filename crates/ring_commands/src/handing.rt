@@ -1,58 +1,62 @@
 //! Where a saved text goes, and the line of its sums: to a file and standard output, or to the two outputs.
 
-ghost use Rattle.std.specs.Prelude.{◌≡◌, ◌≢◌, false, Some, OnOk, OnErr, IfOk, IfErr};
+ghost use Rattle.std.specs.Prelude.{◌≡◌, ◌≢◌, false, None, Some, OnOk, OnErr, IfErr};
 ghost use Rattle.std.specs.Io.KnownBytes.{Appends};
 ghost use Rattle.disks.specs.Held.{Replaces};
 ghost use Rattle.ring_saved.specs.Content.{content};
 ghost use Rattle.ring_saved.specs.Spelling.{text};
 ghost use Rattle.ring_journal.specs.Beginnings.{CanBeSaved};
 ghost use Rattle.ring_commands.specs.CheckText.{legal_line};
+ghost use Rattle.ring_commands.specs.Faults.{IsSaveFault};
 ghost use Rattle.ring_commands.specs.Handed.{IsHandOutRefusal, IsPrintRefusal, IsHanded, IsHandRefusal};
 ghost use Rattle.ring_commands.specs.Ran.{IsSaveRefusal};
-ghost use Rattle.ring_commands.specs.Reading.{is_dash};
+ghost use Rattle.ring_commands.specs.Reading.{names_stream};
+ghost use Rattle.ring_commands.specs.Worlds.{world};
 
 use crate::check::write_sums;
 use crate::faults::ToolError;
 use crate::reading::names_stream;
-use disks::Disk;
+use disks::{Contents, ContentsFault, Disk, ReplaceFault, replace};
 use ring_check::Summary;
 use ring_saved::{Saved, write_saved};
 use std::alloc::Global;
-use std::io::{BufWriter, Write};
+use std::io::Write;
 
-/// Writes the saved text of a value to the file of this name, by its writer, through a buffer of which all leaves, and
-/// hands the writer back.
-///
-/// # Errors
-///
-/// `Save` with the name where it cannot be written, and `OutOfMemory`.
-fn save_value<'a, F: Write + Drop>(
-    alloc: Global,
-    saved: &Saved,
-    file: &'a str,
-    out: F,
-) -> Result<F, ToolError<'a>>
-    requires { CanBeSaved (content saved.now) }
-    ensures written { IfOk result
-        (λ after. Appends (F.contents out) (F.contents after) (text (content saved.now))) }
-    ensures err { IfErr result (λ e. IsSaveRefusal file.now e) }
-{
-    let Ok(mut buffer) = BufWriter::new(alloc, out) else {
-        return Err(ToolError::OutOfMemory);
-    };
-    let Ok(()) = write_saved(saved, &mut buffer) else {
-        return Err(ToolError::Save(file));
-    };
-    let Ok(mut after) = buffer.into_inner() else {
-        return Err(ToolError::Save(file));
-    };
-    let Ok(()) = after.flush() else {
-        return Err(ToolError::Save(file));
-    };
-    Ok(after)
+/// The saved text of a value, which a file is to hold.
+#[derive(Drop)]
+struct SavedText<'a> {
+    saved: &'a Saved,
 }
 
-/// Puts a file with the saved text of a value in the place of the one of this name.
+impl Contents for SavedText<'_> {
+    ghost use Rattle.ring_saved.specs.Content.{content};
+    ghost use Rattle.ring_saved.specs.Spelling.{text};
+    ghost use Rattle.ring_journal.specs.Beginnings.{CanBeSaved};
+
+    ghost ready = { λ s. CanBeSaved (content s.saved.now) };
+
+    ghost bytes = { λ s. text (content s.saved.now) };
+
+    fn write_to<W: Write>(&self, out: &mut W) -> Result<(), ContentsFault> {
+        match write_saved(self.saved, out) {
+            Ok(()) => Ok(()),
+            Err(_) => Err(ContentsFault::Write),
+        }
+    }
+}
+
+/// The fault of a file that was to be replaced.
+pub(crate) fn save_fault(fault: ReplaceFault, file: &str) -> ToolError<'_>
+    ensures blamed { IsSaveFault file.now fault result }
+    ensures refusal { IsSaveRefusal file.now result }
+{
+    match fault {
+        ReplaceFault::OutOfMemory => ToolError::OutOfMemory,
+        ReplaceFault::Make | ReplaceFault::Write | ReplaceFault::Finish => ToolError::Save(file),
+    }
+}
+
+/// Replaces the file of this name by one with the saved text of a value.
 ///
 /// # Errors
 ///
@@ -69,17 +73,13 @@ fn put_value<'a, D: Disk>(
     ensures err { IfErr result (λ e. IsSaveRefusal file.now e) }
     ensures kept { OnErr result (D.holds disk.new ≡ D.holds disk.old) }
 {
-    let Ok(made) = disk.make(file) else {
-        return Err(ToolError::Save(file));
-    };
-    let after = save_value(alloc, saved, file, made)?;
-    let Ok(()) = disk.finish(after, file) else {
-        return Err(ToolError::Save(file));
-    };
-    Ok(())
+    match replace(alloc, disk, file, &SavedText { saved }) {
+        Ok(()) => Ok(()),
+        Err(fault) => Err(save_fault(fault, file)),
+    }
 }
 
-/// Puts a file with the saved text of a value in the place of the one of this name, and then writes the line of its sums.
+/// Replaces the file of this name by one with the saved text of a value, and then writes the line of its sums.
 ///
 /// # Errors
 ///
@@ -107,11 +107,11 @@ fn put_and_tell<'a, D: Disk, W: Write>(
     Ok(())
 }
 
-/// Writes the saved text of a value to `out`, has it leave, and then writes the line of its sums to `err`.
+/// Writes the saved text of a value to `out`, flushes it, and then writes the line of its sums to `err`.
 ///
 /// # Errors
 ///
-/// `Write` where a writer fails: what was written until then is a beginning.
+/// `Write` where a writer fails: the bytes written until then are a prefix.
 fn print_and_tell<W: Write, E: Write>(
     value: &(Saved, Summary),
     out: &mut W,
@@ -149,14 +149,16 @@ pub(crate) fn hand_over<'a, D: Disk, W: Write, E: Write>(
 ) -> Result<(), ToolError<'a>>
     requires { CanBeSaved (content value.now.0) }
     ensures ok { OnOk result (IsHanded word.now (text (content value.now.0))
-        (legal_line value.now.1) (D.holds disk.old) (D.holds disk.new) (W.contents out.old)
-        (W.contents out.new) (E.contents err.old) (E.contents err.new)) }
+        (legal_line value.now.1)
+        (world (D.holds disk.old) None (W.contents out.old) (E.contents err.old))
+        (world (D.holds disk.new) None (W.contents out.new) (E.contents err.new))) }
     ensures err { IfErr result (λ e. IsHandRefusal word.now (text (content value.now.0))
-        (legal_line value.now.1) (D.holds disk.old) (D.holds disk.new) (W.contents out.old)
-        (W.contents out.new) (E.contents err.old) (E.contents err.new) e) }
+        (legal_line value.now.1)
+        (world (D.holds disk.old) None (W.contents out.old) (E.contents err.old))
+        (world (D.holds disk.new) None (W.contents out.new) (E.contents err.new)) e) }
     ensures kept { IfErr result (λ e. e ≢ ToolError.Write → D.holds disk.new ≡ D.holds disk.old) }
     ensures nothing { IfErr result (λ e. e ≢ ToolError.Write → out.new ≡ out.old) }
-    ensures silent { is_dash word.now ≡ false → err.new ≡ err.old }
+    ensures silent { names_stream word.now ≡ false → err.new ≡ err.old }
 {
     if names_stream(word) {
         print_and_tell(value, out, err)

@@ -1,7 +1,7 @@
-//! What the program's commands do once its words are read: the commands, their lists and files, what is refused, and how a run ends.
+//! The program's commands, once its words are read: the commands, their lists and files, the refusals, and how a run ends.
 //!
-//! They stand over any disk, reader and writer, and say what the files held and hold, by their names. The command line itself is
-//! the matter of `ring_cli`: nothing here knows of it, so that these parts are proved, and tried on wrong bodies, without it.
+//! They take any disk, reader and writer, and say the content of files before and after, by their names. The command line itself
+//! is the matter of `ring_cli`: nothing here knows of it, so that these parts are proved, and tried on wrong bodies, without it.
 #![tactic(auto)]
 
 pub mod check;

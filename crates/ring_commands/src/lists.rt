@@ -46,7 +46,7 @@ fn add_number(numbers: &mut Vec<u32>, piece: &str) -> Result<(), ToolError<'stat
 ///
 /// # Errors
 ///
-/// `BadList` where the text is no such list, and `OutOfMemory`.
+/// `BadList` where the text is not such a list, and `OutOfMemory`.
 pub fn read_list(alloc: Global, text: &str) -> Result<Vec<u32>, ToolError<'static>>
     ensures ok { IfOk result (λ numbers. IsListText text.now numbers.items) }
     ensures err { IfErr result (λ e. IsListRefusal text.now e) }

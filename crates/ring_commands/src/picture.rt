@@ -1,6 +1,6 @@
 //! `picture`: whether a saved text is that of legal histories, and one of its rings as an SVG.
 
-ghost use Rattle.std.specs.Prelude.{◌≡◌, ◌≢◌, ◌⊎◌, ℕ, ◌<◌, ◌≤◌, List, length, slice_get, false, Some, OnOk, OnErr, IfOk, IfErr, IsErrOf};
+ghost use Rattle.std.specs.Prelude.{◌≡◌, ◌≢◌, ◌⊎◌, ℕ, ◌<◌, ◌≤◌, List, length, slice_get, false, None, Some, OnOk, OnErr, IfOk, IfErr, IsErrOf};
 ghost use Rattle.std.specs.Io.KnownBytes.{Appends};
 ghost use Rattle.ring_saved.specs.Content.{content, block_of};
 ghost use Rattle.ring_commands.specs.CheckText.{legal_line};
@@ -9,24 +9,26 @@ ghost use Rattle.disks.specs.Held.{Replaces};
 ghost use Rattle.ring_commands.specs.Handed.{IsHandOutRefusal, IsPrintRefusal, IsHanded};
 ghost use Rattle.ring_commands.specs.Named.{IsApart, IsApartRefusal};
 ghost use Rattle.ring_commands.specs.Ran.{IsSaveRefusal};
-ghost use Rattle.ring_commands.specs.Reading.{is_dash};
+ghost use Rattle.ring_commands.specs.Reading.{names_stream};
 ghost use Rattle.ring_commands.specs.Written.{AppendsFront};
+ghost use Rattle.ring_commands.specs.Worlds.{world};
 
 use crate::check::{legal_saved, write_sums};
 use crate::faults::ToolError;
+use crate::handing::save_fault;
 use crate::reading::{keep_apart, names_stream, read_named};
-use disks::Disk;
+use disks::{Contents, ContentsFault, Disk, replace};
 use ring_check::Summary;
 use ring_picture::{PictureFault, write_picture};
 use ring_requests::PictureWords;
 use ring_saved::{Saved, SavedRing};
 use std::alloc::Global;
-use std::io::{BufWriter, Read, Write};
+use std::io::{Read, Write};
 
 /// The most events of a picture.
 pub const MOST_DRAWN: u32 = 20_000;
 
-/// What is drawn of a legal text.
+/// The drawing of a legal text.
 #[derive(Drop)]
 pub struct Drawing {
     pub ring: SavedRing,
@@ -65,7 +67,7 @@ fn count_of(ring: &SavedRing, from: u32, most: u32) -> Result<u32, ToolError<'st
     Ok((events - from as usize).min(most as usize) as u32)
 }
 
-/// What is drawn of the saved text that the bytes are, where it is legal.
+/// Returns the drawing of the saved text that the bytes are, where it is legal.
 fn drawing_of(
     alloc: Global,
     words: &PictureWords<'_>,
@@ -109,54 +111,32 @@ fn write_drawing<W: Write>(
     )
 }
 
-/// Writes the picture of a drawing for its file.
-fn put_picture<'a, W: Write>(
+/// The picture of a drawing, which a file is to hold.
+#[derive(Drop)]
+struct PictureText<'a, 'w> {
     alloc: Global,
-    out: &mut W,
-    drawing: &Drawing,
-    words: &PictureWords<'a>,
-) -> Result<(), ToolError<'a>>
-    requires drawn { (bytes : List ℕ) × IsDrawing words.now bytes drawing.now }
-    ensures written { OnOk result
-        (Appends (W.contents out.old) (W.contents out.new) (picture_of words.now drawing.now)) }
-    ensures err { IfErr result (λ e. IsSaveRefusal words.now.picture.now e) }
-{
-    match write_drawing(alloc, out, drawing, words) {
-        Ok(()) => Ok(()),
-        Err(PictureFault::Write) => Err(ToolError::Save(words.picture)),
-        Err(PictureFault::OutOfMemory) => Err(ToolError::OutOfMemory),
+    drawing: &'a Drawing,
+    words: &'a PictureWords<'w>,
+}
+
+impl Contents for PictureText<'_, '_> {
+    ghost use Rattle.std.specs.Prelude.{ℕ, List};
+    ghost use Rattle.ring_commands.specs.Pictured.{picture_of, IsDrawing};
+
+    ghost ready = { λ s. (bytes : List ℕ) × IsDrawing s.words.now bytes s.drawing.now };
+
+    ghost bytes = { λ s. picture_of s.words.now s.drawing.now };
+
+    fn write_to<W: Write>(&self, out: &mut W) -> Result<(), ContentsFault> {
+        match write_drawing(self.alloc, out, self.drawing, self.words) {
+            Ok(()) => Ok(()),
+            Err(PictureFault::Write) => Err(ContentsFault::Write),
+            Err(PictureFault::OutOfMemory) => Err(ContentsFault::OutOfMemory),
+        }
     }
 }
 
-/// Writes the picture of a drawing through a buffer, of which all leaves, and hands the writer back.
-fn save_picture<'a, H: Write + Drop>(
-    alloc: Global,
-    drawing: &Drawing,
-    words: &PictureWords<'a>,
-    made: H,
-) -> Result<H, ToolError<'a>>
-    requires drawn { (bytes : List ℕ) × IsDrawing words.now bytes drawing.now }
-    ensures written { IfOk result
-        (λ after. Appends (H.contents made) (H.contents after) (picture_of words.now drawing.now)) }
-    ensures err { IfErr result (λ e. IsSaveRefusal words.now.picture.now e) }
-{
-    let Ok(mut buffer) = BufWriter::new(alloc, made) else {
-        return Err(ToolError::OutOfMemory);
-    };
-    match put_picture(alloc, &mut buffer, drawing, words) {
-        Ok(()) => {}
-        Err(fault) => return Err(fault),
-    }
-    let Ok(mut after) = buffer.into_inner() else {
-        return Err(ToolError::Save(words.picture));
-    };
-    let Ok(()) = after.flush() else {
-        return Err(ToolError::Save(words.picture));
-    };
-    Ok(after)
-}
-
-/// Puts a file with the picture of a drawing in the place of the one that the words name, which is not the file that was read.
+/// Replaces the file that the words name, which is not the one that was read, by one with the picture of a drawing.
 ///
 /// # Errors
 ///
@@ -178,22 +158,23 @@ fn put_drawing<'a, D: Disk>(
     ensures kept { OnErr result (D.holds disk.new ≡ D.holds disk.old) }
 {
     keep_apart(disk, words.file, words.picture)?;
-    let Ok(made) = disk.make(words.picture) else {
-        return Err(ToolError::Save(words.picture));
+    let text = PictureText {
+        alloc,
+        drawing,
+        words,
     };
-    let after = save_picture(alloc, drawing, words, made)?;
-    let Ok(()) = disk.finish(after, words.picture) else {
-        return Err(ToolError::Save(words.picture));
-    };
-    Ok(())
+    match replace(alloc, disk, words.picture, &text) {
+        Ok(()) => Ok(()),
+        Err(fault) => Err(save_fault(fault, words.picture)),
+    }
 }
 
-/// Puts a file with the picture of a drawing in its place, and then writes the line of the sums to `out`.
+/// Puts a file with the picture of a drawing into its place, and then writes the line of the sums to `out`.
 ///
 /// # Errors
 ///
 /// Those of the file: every file is as it was then, and nothing is written to `out`. `Write` where that writer fails, when the file
-/// is in its place: what was written to it until then is a beginning of the line.
+/// is in its place: the bytes written to it until then are a prefix of the line.
 fn draw_and_tell<'a, D: Disk, W: Write>(
     alloc: Global,
     disk: &mut D,
@@ -220,11 +201,11 @@ fn draw_and_tell<'a, D: Disk, W: Write>(
     Ok(())
 }
 
-/// Writes the picture of a drawing to `out`, has it leave, and then writes the line of the sums to `err`.
+/// Writes the picture of a drawing to `out`, flushes it, and then writes the line of the sums to `err`.
 ///
 /// # Errors
 ///
-/// `OutOfMemory`: nothing is written then. `Write` where a writer fails: what was written until then is a beginning.
+/// `OutOfMemory`: nothing is written then. `Write` where a writer fails: the bytes written until then are a prefix.
 fn print_and_tell<W: Write, E: Write>(
     alloc: Global,
     drawing: &Drawing,
@@ -271,14 +252,16 @@ pub fn hand_over<'a, D: Disk, W: Write, E: Write>(
     requires drawn { (bytes : List ℕ) × IsDrawing words.now bytes drawing.now }
     ensures apart { OnOk result (IsPictureApart words.now (D.holds disk.old)) }
     ensures ok { OnOk result (IsHanded words.now.picture.now (picture_of words.now drawing.now)
-        (legal_line drawing.now.sums) (D.holds disk.old) (D.holds disk.new) (W.contents out.old)
-        (W.contents out.new) (E.contents err.old) (E.contents err.new)) }
+        (legal_line drawing.now.sums)
+        (world (D.holds disk.old) None (W.contents out.old) (E.contents err.old))
+        (world (D.holds disk.new) None (W.contents out.new) (E.contents err.new))) }
     ensures err { IfErr result (λ e.
-        IsPutRefusal words.now drawing.now (D.holds disk.old) (D.holds disk.new)
-        (W.contents out.old) (W.contents out.new) (E.contents err.old) (E.contents err.new) e) }
+        IsPutRefusal words.now drawing.now
+        (world (D.holds disk.old) None (W.contents out.old) (E.contents err.old))
+        (world (D.holds disk.new) None (W.contents out.new) (E.contents err.new)) e) }
     ensures kept { IfErr result (λ e. e ≢ ToolError.Write → D.holds disk.new ≡ D.holds disk.old) }
     ensures nothing { IfErr result (λ e. e ≢ ToolError.Write → out.new ≡ out.old) }
-    ensures silent { is_dash words.now.picture.now ≡ false → err.new ≡ err.old }
+    ensures silent { names_stream words.now.picture.now ≡ false → err.new ≡ err.old }
 {
     if names_stream(words.picture) {
         print_and_tell(alloc, drawing, words, out, err)
@@ -287,14 +270,14 @@ pub fn hand_over<'a, D: Disk, W: Write, E: Write>(
     }
 }
 
-/// `picture`, from its words: reads and checks the one file, or standard input; puts the picture in the place of the other, and
+/// `picture`, from its words: reads and checks the one file, or standard input; replaces the other by the picture, and
 /// writes the line of the sums to `out`; where the other is `-`, the picture goes to `out` and the line to `err`.
 ///
 /// # Errors
 ///
-/// `ManyDrawn` where more events are asked for than a picture has; those of reading what the word names; `Syntax` or
-/// `Truncated` where its bytes are no saved text, `Bad` where they are one that is not legal; `NoRing` where that has no such
-/// ring, and `NoPlace` where the ring has fewer events than stand before the first to be drawn. No file is made then. And those
+/// `ManyDrawn` where more events are asked for than a picture has; those of reading the source that the word names; `Syntax` or
+/// `Truncated` where its bytes are not a saved text, `Bad` where they are one that is not legal; `NoRing` where that has no such
+/// ring, and `NoPlace` where the ring has fewer events than are before the first to be drawn. No file is made then. And those
 /// of [`hand_over`].
 pub fn run<'a, D: Disk, I: Read, W: Write, E: Write>(
     alloc: Global,
@@ -304,16 +287,18 @@ pub fn run<'a, D: Disk, I: Read, W: Write, E: Write>(
     out: &mut W,
     err: &mut E,
 ) -> Result<(), ToolError<'a>>
-    ensures ok { OnOk result (IsPictureAnswer words.now (D.holds disk.old) (D.holds disk.new)
-        (I.remaining input.old) (I.remaining input.new) (W.contents out.old) (W.contents out.new)
-        (E.contents err.old) (E.contents err.new)) }
-    ensures err { IfErr result (λ e. IsPictureRefusal words.now (D.holds disk.old)
-        (D.holds disk.new) (I.remaining input.old) (I.remaining input.new) (W.contents out.old)
-        (W.contents out.new) (E.contents err.old) (E.contents err.new) e) }
+    ensures ok { OnOk result (IsPictureAnswer words.now
+        (world (D.holds disk.old) (I.remaining input.old) (W.contents out.old) (E.contents err.old))
+        (world (D.holds disk.new) (I.remaining input.new) (W.contents out.new)
+        (E.contents err.new))) }
+    ensures err { IfErr result (λ e. IsPictureRefusal words.now
+        (world (D.holds disk.old) (I.remaining input.old) (W.contents out.old) (E.contents err.old))
+        (world (D.holds disk.new) (I.remaining input.new) (W.contents out.new)
+        (E.contents err.new)) e) }
     ensures kept { IfErr result (λ e. e ≢ ToolError.Write → D.holds disk.new ≡ D.holds disk.old) }
     ensures nothing { IfErr result (λ e. e ≢ ToolError.Write → out.new ≡ out.old) }
-    ensures silent { is_dash words.now.picture.now ≡ false → err.new ≡ err.old }
-    ensures unread { is_dash words.now.file.now ≡ false → input.new ≡ input.old }
+    ensures silent { names_stream words.now.picture.now ≡ false → err.new ≡ err.old }
+    ensures unread { names_stream words.now.file.now ≡ false → input.new ≡ input.old }
 {
     if words.events > MOST_DRAWN {
         return Err(ToolError::ManyDrawn);

@@ -4,7 +4,7 @@ ghost use Rattle.std.specs.Prelude.{◌≡◌, ◌≤◌, Some, false, vec_len, 
 ghost use Rattle.std.specs.Io.KnownBytes.{Consumes, IsAtEnd};
 ghost use Rattle.ring_commands.specs.Faults.{IsReadRefusal};
 ghost use Rattle.ring_commands.specs.Named.{IsHeld, IsNamed, IsFileRefusal, IsNamedRefusal, IsApart, IsApartRefusal};
-ghost use Rattle.ring_commands.specs.Reading.{most_bytes, is_dash, IsAllOf, IsWithin, IsOver};
+ghost use Rattle.ring_commands.specs.Reading.{most_bytes, names_stream, IsAllOf, IsWithin, IsOver};
 
 use crate::faults::ToolError;
 use disks::Disk;
@@ -90,9 +90,9 @@ pub fn read_whole<'a, R: Read>(
     }
 }
 
-/// Whether a word stands for a standard stream, and not for a file of its own name: `-`.
+/// Whether a word means a standard stream, and not a file of its own name: `-`.
 pub fn names_stream(word: &str) -> bool
-    ensures { result ≡ is_dash word.now }
+    ensures { result ≡ names_stream word.now }
 {
     word == "-"
 }
@@ -119,7 +119,8 @@ pub fn read_file<'a, D: Disk>(
     }
 }
 
-/// All bytes of what a word names: of standard input for `-`, else of the file of its name; standard input stays as it was then.
+/// All bytes of the source that a word names: of standard input for `-`, else of the file of its name; standard input stays as it
+/// was then.
 ///
 /// # Errors
 ///
@@ -134,7 +135,7 @@ pub fn read_named<'a, D: Disk, I: Read>(
         (I.remaining input.new) bytes.items) }
     ensures err { IfErr result (λ e. IsNamedRefusal word.now (D.holds disk.now)
         (I.remaining input.old) (I.remaining input.new) e) }
-    ensures unread { is_dash word.now ≡ false → input.new ≡ input.old }
+    ensures unread { names_stream word.now ≡ false → input.new ≡ input.old }
 {
     if names_stream(word) {
         read_whole(alloc, word, input)
@@ -143,7 +144,7 @@ pub fn read_named<'a, D: Disk, I: Read>(
     }
 }
 
-/// Sees to it that a file that is to be made is not the one that was read. Standard input is none.
+/// Checks that a file that is to be made is not the one that was read. Standard input is not a file.
 ///
 /// # Errors
 ///

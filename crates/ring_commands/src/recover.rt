@@ -1,4 +1,4 @@
-//! `recover`: the history that a journal tells, which was cut off anywhere.
+//! `recover`: the history of a journal that was cut off anywhere.
 
 ghost use Rattle.std.specs.Prelude.{◌≡◌, ◌≢◌, false, Some, OnOk, IfOk, IfErr};
 ghost use Rattle.ring_check.specs.Legal.{summary_of};
@@ -7,41 +7,42 @@ ghost use Rattle.ring_journal.specs.Beginnings.{CanBeSaved};
 ghost use Rattle.ring_journal.specs.Recovery.{IsRecovered};
 ghost use Rattle.ring_commands.specs.Named.{IsApart, IsApartRefusal};
 ghost use Rattle.ring_commands.specs.Ran.{file_of};
-ghost use Rattle.ring_commands.specs.Reading.{is_dash};
+ghost use Rattle.ring_commands.specs.Reading.{names_stream};
 ghost use Rattle.ring_commands.specs.Recovered.{IsRecoveryRefusal, IsRecoverAnswer, IsRecoverRefusal};
+ghost use Rattle.ring_commands.specs.Worlds.{world};
 
 use crate::faults::ToolError;
 use crate::handing::hand_over;
 use crate::reading::{keep_apart, names_stream, read_named};
 use disks::Disk;
 use ring_check::{Summary, check_saved};
-use ring_journal::{recovered, saving_law};
+use ring_journal::{recover_journal, recovered_can_be_saved};
 use ring_requests::RecoverWords;
 use ring_saved::Saved;
 use std::alloc::Global;
 use std::io::{Read, Write};
 
-/// The history that the bytes of a journal tell, and its sums.
+/// Returns the history of the bytes of a journal, and its sums.
 ///
 /// # Errors
 ///
-/// What `recovered` says of bytes of which nothing is recovered, and `OutOfMemory`.
+/// The refusal of `recover_journal` for bytes of which nothing is recovered, and `OutOfMemory`.
 fn recovered_with_sums(alloc: Global, bytes: &[u8]) -> Result<(Saved, Summary), ToolError<'static>>
     ensures ok { IfOk result (λ x. IsRecovered bytes.now (content x.0)) }
     ensures sums { IfOk result (λ x. x.1 ≡ summary_of (content x.0)) }
     ensures saved { IfOk result (λ x. CanBeSaved (content x.0)) }
     ensures err { IfErr result (λ e. IsRecoveryRefusal bytes.now e) }
 {
-    saving_law();
-    let saved = recovered(alloc, bytes)?;
+    recovered_can_be_saved();
+    let saved = recover_journal(alloc, bytes)?;
     match check_saved(alloc, &saved) {
         Ok(sums) => Ok((saved, sums)),
-        // what is recovered is legal, so this is want of memory
+        // the recovered history is legal, so this is out of memory
         Err(_) => Err(ToolError::OutOfMemory),
     }
 }
 
-/// Sees to it that the file that is to be made, if the word names one, is not the one that was read.
+/// Checks that the file that is to be made, if the word names one, is not the one that was read.
 ///
 /// # Errors
 ///
@@ -61,15 +62,16 @@ pub(crate) fn keep_word_apart<'a, D: Disk>(
     }
 }
 
-/// `recover`, from its words: reads the journal, which stays as it is, puts the text of the history that it tells in the place of
-/// the other file, and writes the line of its sums to `out`; where the other is `-`, the text goes to `out` and the line to `err`.
+/// `recover`, from its words: reads the journal, which stays as it is, replaces the other file by the text of the
+/// recovered history, and writes the line of its sums to `out`; where the other is `-`, the text goes to `out` and the line to
+/// `err`.
 ///
 /// # Errors
 ///
-/// Those of reading what the word names; `SameFile` if both names are of one file; `Truncated`, `Syntax` or `Bad` if nothing is
-/// recovered: no file is made then. `Save` with the other name where that cannot be made, written or put in its place, and
-/// `OutOfMemory`. Every file is as it was then, and nothing is written. `Write` where a writer fails, when the new file is in
-/// its place: what was written until then is a beginning.
+/// Those of reading the source that the word names; `SameFile` if both names are of one file; `Truncated`, `Syntax` or `Bad` if
+/// nothing is recovered: no file is made then. `Save` with the other name where that cannot be made, written or put in its place,
+/// and `OutOfMemory`. Every file is as it was then, and nothing is written. `Write` where a writer fails, when the new file is in
+/// its place: the bytes written until then are a prefix.
 pub fn run<'a, D: Disk, I: Read, W: Write, E: Write>(
     alloc: Global,
     disk: &mut D,
@@ -78,16 +80,18 @@ pub fn run<'a, D: Disk, I: Read, W: Write, E: Write>(
     out: &mut W,
     err: &mut E,
 ) -> Result<(), ToolError<'a>>
-    ensures ok { OnOk result (IsRecoverAnswer words.now (D.holds disk.old) (D.holds disk.new)
-        (I.remaining input.old) (I.remaining input.new) (W.contents out.old) (W.contents out.new)
-        (E.contents err.old) (E.contents err.new)) }
-    ensures err { IfErr result (λ e. IsRecoverRefusal words.now (D.holds disk.old)
-        (D.holds disk.new) (I.remaining input.old) (I.remaining input.new) (W.contents out.old)
-        (W.contents out.new) (E.contents err.old) (E.contents err.new) e) }
+    ensures ok { OnOk result (IsRecoverAnswer words.now
+        (world (D.holds disk.old) (I.remaining input.old) (W.contents out.old) (E.contents err.old))
+        (world (D.holds disk.new) (I.remaining input.new) (W.contents out.new)
+        (E.contents err.new))) }
+    ensures err { IfErr result (λ e. IsRecoverRefusal words.now
+        (world (D.holds disk.old) (I.remaining input.old) (W.contents out.old) (E.contents err.old))
+        (world (D.holds disk.new) (I.remaining input.new) (W.contents out.new)
+        (E.contents err.new)) e) }
     ensures kept { IfErr result (λ e. e ≢ ToolError.Write → D.holds disk.new ≡ D.holds disk.old) }
     ensures nothing { IfErr result (λ e. e ≢ ToolError.Write → out.new ≡ out.old) }
-    ensures silent { is_dash words.now.new.now ≡ false → err.new ≡ err.old }
-    ensures unread { is_dash words.now.file.now ≡ false → input.new ≡ input.old }
+    ensures silent { names_stream words.now.new.now ≡ false → err.new ≡ err.old }
+    ensures unread { names_stream words.now.file.now ≡ false → input.new ≡ input.old }
 {
     let bytes = read_named(alloc, disk, words.file, input)?;
     keep_word_apart(disk, words.file, words.new)?;

@@ -1,7 +1,8 @@
-//! Does what the program was asked for.
+//! Does the command that the program was asked for.
 
 ghost use Rattle.std.specs.Prelude.{◌≡◌, ◌≢◌, OnOk, IfErr};
 ghost use Rattle.ring_commands.specs.Answered.{IsAnswer, IsRefusal, IsOfLines, IsOfFile, IsSilent};
+ghost use Rattle.ring_commands.specs.Worlds.{world};
 
 use crate::faults::ToolError;
 use crate::{check, picture, recover, run, serve, step, upgrade};
@@ -11,9 +12,8 @@ use std::io::{Read, Write};
 use std::sync::Wait;
 use std::thread::Threads;
 
-/// Does what was asked for, over the files of a disk. A word `-` for what is read names `input`; where there is none it stays as
-/// it was. A word `-` for a text that is made names `out`; what would be printed there goes to `err`, which stays as it was where
-/// there is none.
+/// Does the command, over the files of a disk. A word `-` for a source names `input`, which else stays as it was. A word `-`
+/// for a text that is made names `out`; the output that would be printed there goes to `err`, which else stays as it was.
 ///
 /// # Errors
 ///
@@ -26,12 +26,14 @@ pub fn answer<'a, R: AllocGlobal + Threads + Wait + Sync, D: Disk, I: Read, O: W
     out: &mut O,
     err: &mut E,
 ) -> Result<(), ToolError<'a>>
-    ensures ok { OnOk result (IsAnswer request.now (D.holds disk.old) (D.holds disk.new)
-        (I.remaining input.old) (I.remaining input.new) (O.contents out.old) (O.contents out.new)
-        (E.contents err.old) (E.contents err.new)) }
-    ensures err { IfErr result (λ e. IsRefusal request.now (D.holds disk.old) (D.holds disk.new)
-        (I.remaining input.old) (I.remaining input.new) (O.contents out.old) (O.contents out.new)
-        (E.contents err.old) (E.contents err.new) e) }
+    ensures ok { OnOk result (IsAnswer request.now
+        (world (D.holds disk.old) (I.remaining input.old) (O.contents out.old) (E.contents err.old))
+        (world (D.holds disk.new) (I.remaining input.new) (O.contents out.new)
+        (E.contents err.new))) }
+    ensures err { IfErr result (λ e. IsRefusal request.now
+        (world (D.holds disk.old) (I.remaining input.old) (O.contents out.old) (E.contents err.old))
+        (world (D.holds disk.new) (I.remaining input.new) (O.contents out.new)
+        (E.contents err.new)) e) }
     ensures kept { (IsOfLines request.now → ⊥)
         → IfErr result (λ e. e ≢ ToolError.Write → D.holds disk.new ≡ D.holds disk.old) }
     ensures silent { IsSilent request.now → err.new ≡ err.old }

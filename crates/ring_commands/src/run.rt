@@ -1,6 +1,6 @@
 //! `run`: the rings of a settings file, driven by clients on threads.
 
-ghost use Rattle.std.specs.Prelude.{false, ◌≡◌, ◌≢◌, ◌<◌, ◌≤◌, ◌^◌, length, Some, IsSome, OnOk, OnErr, IfOk, IfErr};
+ghost use Rattle.std.specs.Prelude.{false, ◌≡◌, ◌≢◌, ◌<◌, ◌≤◌, ◌^◌, length, None, Some, IsSome, OnOk, OnErr, IfOk, IfErr};
 ghost use Rattle.std.specs.Io.KnownBytes.{Appends};
 ghost use Rattle.ring_settings.specs.Limits.{ring_limit};
 ghost use Rattle.ring_farm.specs.declared.outcomes.Outcome.{Outcome};
@@ -12,37 +12,31 @@ ghost use Rattle.disks.specs.Held.{Replaces};
 ghost use Rattle.ring_commands.specs.Handed.{IsHandOutRefusal};
 ghost use Rattle.ring_commands.specs.Named.{IsApart, IsApartRefusal, IsStored};
 ghost use Rattle.ring_commands.specs.Ran.{told, printed, history_file, IsFarmOn, IsFarmRefusal, IsFarmNamed, IsFarmNamedRefusal, IsSaveRefusal, IsOutcomeRefusal, IsRunRefusal};
-ghost use Rattle.ring_commands.specs.Reading.{is_dash};
+ghost use Rattle.ring_commands.specs.Reading.{names_stream};
 ghost use Rattle.ring_commands.specs.Saved.{IsLegalOfFarm, IsRunAnswer};
+ghost use Rattle.ring_commands.specs.Worlds.{world};
 
 use crate::faults::ToolError;
+use crate::handing::save_fault;
 use crate::reading::{keep_apart, names_stream, read_named};
-use disks::Disk;
+use disks::{Contents, ContentsFault, Disk, replace};
 use ring_farm::{Open, Outcome, run_farm};
 use ring_requests::RunWords;
 use ring_saved::texts_read_back;
 use ring_settings::read_settings;
 use ring_text::{write_outcome, write_report, write_total};
 use std::alloc::Global;
-use std::io::{BufWriter, Read, Write};
+use std::io::{Read, Write};
 use std::sync::Wait;
 use std::thread::Threads;
 use text_lines::WriteFault;
 
-/// Why a saved text does not stand behind what a writer held.
-#[derive(Clone, Copy)]
-enum SaveFault {
-    /// The writer failed, or took no byte.
-    Failed,
-    OutOfMemory,
-}
-
-/// What the farm hands out of which the bytes are the settings.
+/// Returns the outcome of the farm whose settings the bytes are.
 ///
 /// # Errors
 ///
-/// What is wrong with the settings, or the refusal of the farm.
-pub fn farmed<R: Threads + Wait + Sync>(
+/// The fault of the settings, or the refusal of the farm.
+pub fn run_settings<R: Threads + Wait + Sync>(
     rt: &R,
     alloc: Global,
     bytes: Vec<u8>,
@@ -56,7 +50,7 @@ pub fn farmed<R: Threads + Wait + Sync>(
     Ok(outcome)
 }
 
-/// Sees to it that the file for the history, if one is named, is not the one that the settings were read from.
+/// Checks that the file for the history, if one is named, is not the one that the settings were read from.
 ///
 /// # Errors
 ///
@@ -72,11 +66,11 @@ fn keep_history_apart<'a, D: Disk>(disk: &D, words: &RunWords<'a>) -> Result<(),
     }
 }
 
-/// What the farm hands out of which the settings are what the word for them names.
+/// Returns the outcome of the farm whose settings are in the source that their word names.
 ///
 /// # Errors
 ///
-/// Those of reading what the word names, of a history that would go over the settings, and of [`farmed`].
+/// Those of reading what the word names, of a history that would go over the settings, and of [`run_settings`].
 fn farm_of_words<'a, R: Threads + Wait + Sync, D: Disk, I: Read>(
     rt: &R,
     alloc: Global,
@@ -88,14 +82,14 @@ fn farm_of_words<'a, R: Threads + Wait + Sync, D: Disk, I: Read>(
         (I.remaining input.old) (I.remaining input.new) outcome) }
     ensures err { IfErr result (λ e. IsFarmNamedRefusal words.now (D.holds disk.now)
         (I.remaining input.old) (I.remaining input.new) e) }
-    ensures unread { is_dash words.now.settings.now ≡ false → input.new ≡ input.old }
+    ensures unread { names_stream words.now.settings.now ≡ false → input.new ≡ input.old }
 {
     let bytes = read_named(alloc, disk, words.settings, input)?;
     match keep_history_apart(disk, words) {
         Ok(()) => {}
         Err(fault) => return Err(fault),
     }
-    match farmed(rt, alloc, bytes) {
+    match run_settings(rt, alloc, bytes) {
         Ok(outcome) => Ok(outcome),
         Err(fault) => Err(fault),
     }
@@ -116,55 +110,35 @@ fn save<W: Write>(outcome: &Outcome, out: &mut W) -> Result<(), WriteFault>
     }
 }
 
-/// Writes the saved text of an outcome through a buffer, of which all leaves, and hands the writer back.
-fn save_to<W: Write + Drop>(alloc: Global, outcome: &Outcome, out: W) -> Result<W, SaveFault>
-    requires some { 1 ≤ length outcome.now.rings.items }
-    requires most { length outcome.now.rings.items ≤ ring_limit }
-    ensures written { IfOk result
-        (λ after. Appends (W.contents out) (W.contents after) (text (saved_of outcome.now))) }
-    ensures legal { OnOk result (IsLegalOfFarm outcome.now) }
-{
-    let Ok(mut buffer) = BufWriter::new(alloc, out) else {
-        return Err(SaveFault::OutOfMemory);
-    };
-    let Ok(()) = save(outcome, &mut buffer) else {
-        return Err(SaveFault::Failed);
-    };
-    let Ok(mut after) = buffer.into_inner() else {
-        return Err(SaveFault::Failed);
-    };
-    let Ok(()) = after.flush() else {
-        return Err(SaveFault::Failed);
-    };
-    Ok(after)
+/// The saved text of an outcome, which a file is to hold.
+#[derive(Drop)]
+struct OutcomeText<'a> {
+    outcome: &'a Outcome,
 }
 
-/// Writes the saved text of an outcome to the file of this name, by its writer, and hands that back.
-///
-/// # Errors
-///
-/// `Save` with the name where it cannot be written, and `OutOfMemory`.
-fn save_file<'a, H: Write + Drop>(
-    alloc: Global,
-    outcome: &Outcome,
-    file: &'a str,
-    history: H,
-) -> Result<H, ToolError<'a>>
-    requires some { 1 ≤ length outcome.now.rings.items }
-    requires most { length outcome.now.rings.items ≤ ring_limit }
-    ensures written { IfOk result
-        (λ after. Appends (H.contents history) (H.contents after) (text (saved_of outcome.now))) }
-    ensures legal { OnOk result (IsLegalOfFarm outcome.now) }
-    ensures err { IfErr result (λ e. IsSaveRefusal file.now e) }
-{
-    match save_to(alloc, outcome, history) {
-        Ok(after) => Ok(after),
-        Err(SaveFault::Failed) => Err(ToolError::Save(file)),
-        Err(SaveFault::OutOfMemory) => Err(ToolError::OutOfMemory),
+impl Contents for OutcomeText<'_> {
+    ghost use Rattle.std.specs.Prelude.{◌≤◌, length};
+    ghost use Rattle.ring_settings.specs.Limits.{ring_limit};
+    ghost use Rattle.ring_text.specs.SavedOf.{saved_of};
+    ghost use Rattle.ring_saved.specs.Spelling.{text};
+    ghost use Rattle.ring_commands.specs.Saved.{IsLegalOfFarm};
+
+    ghost ready = { λ s. (1 ≤ length s.outcome.now.rings.items)
+        × (length s.outcome.now.rings.items ≤ ring_limit) };
+
+    ghost bytes = { λ s. text (saved_of s.outcome.now) };
+
+    ghost known = { λ s. IsLegalOfFarm s.outcome.now };
+
+    fn write_to<W: Write>(&self, out: &mut W) -> Result<(), ContentsFault> {
+        match save(self.outcome, out) {
+            Ok(()) => Ok(()),
+            Err(_) => Err(ContentsFault::Write),
+        }
     }
 }
 
-/// Puts a file with the saved text of an outcome in the place of the one of this name.
+/// Replaces the file of this name by one with the saved text of an outcome.
 ///
 /// # Errors
 ///
@@ -183,17 +157,13 @@ fn put_outcome<'a, D: Disk>(
     ensures err { IfErr result (λ e. IsSaveRefusal file.now e) }
     ensures kept { OnErr result (D.holds disk.new ≡ D.holds disk.old) }
 {
-    let Ok(made) = disk.make(file) else {
-        return Err(ToolError::Save(file));
-    };
-    let after = save_file(alloc, outcome, file, made)?;
-    let Ok(()) = disk.finish(after, file) else {
-        return Err(ToolError::Save(file));
-    };
-    Ok(())
+    match replace(alloc, disk, file, &OutcomeText { outcome }) {
+        Ok(()) => Ok(()),
+        Err(fault) => Err(save_fault(fault, file)),
+    }
 }
 
-/// Writes the report on an outcome, or, where it is to be quiet, its last line alone.
+/// Writes the report on an outcome, or, where it is to be quiet, only its last line.
 fn tell_outcome<W: Write>(outcome: &Outcome, quiet: bool, out: &mut W) -> Result<(), WriteFault>
     requires most { length outcome.now.rings.items ≤ ring_limit }
     requires few { entries_in outcome.now < 2 ^ 64 }
@@ -206,14 +176,14 @@ fn tell_outcome<W: Write>(outcome: &Outcome, quiet: bool, out: &mut W) -> Result
     }
 }
 
-/// Puts a file with the saved text of an outcome in the place of the one of this name, and then writes the report on the same
-/// outcome to `out`, or, where it is to be quiet, its last line alone.
+/// Replaces the file of this name by one with the saved text of an outcome, and then writes the report on the same
+/// outcome to `out`, or, where it is to be quiet, only its last line.
 ///
 /// # Errors
 ///
 /// `Save` with the name where the file cannot be made, written or put in its place, and `OutOfMemory`: every file is as it was
-/// then, and nothing is written to `out`. `Write` where that writer fails, when the file is in its place: what was written to it
-/// until then is a beginning of what is told.
+/// then, and nothing is written to `out`. `Write` where that writer fails, when the file is in its place: the bytes written to it
+/// until then are a prefix of the report.
 pub fn save_and_report<'a, D: Disk, W: Write>(
     alloc: Global,
     disk: &mut D,
@@ -241,8 +211,8 @@ pub fn save_and_report<'a, D: Disk, W: Write>(
     Ok(())
 }
 
-/// Hands out an outcome, as the words of `run` say. Where a file for its saved text is named, it puts that in its place, and then
-/// tells of the outcome on `out`; where standard output is named for it, it writes the saved text alone to `out`.
+/// Hands out an outcome, as the words of `run` say. Where a file for its saved text is named, it puts that into its place, and
+/// then reports the outcome on `out`; where standard output is named for it, it writes only the saved text to `out`.
 ///
 /// # Errors
 ///
@@ -281,15 +251,15 @@ fn hand_out<'a, D: Disk, W: Write>(
     }
 }
 
-/// `run`, from its words: reads the settings from their file or from `input`, runs their farm, puts the saved text in the place of
-/// the file for it, if one is named, and then writes the report to `out`, or its last line alone, or the saved text in its place.
+/// `run`, from its words: reads the settings from their file or from `input`, runs their farm, replaces the file for the saved
+/// text by that, if one is named, and then writes the report to `out`, or only its last line, or the saved text instead.
 ///
 /// # Errors
 ///
-/// Those of reading the settings; `SameFile` where the file for the saved text is the one that they were read from; what is wrong
-/// with them; the refusal of the farm; `Save` for the other file, and `OutOfMemory`. Every file is as it was then, and nothing is
-/// written to `out`. `Write` where that writer fails, when the file is in its place: what was written to it until then is a
-/// beginning of what is printed. Where a file is named for the settings, `input` stays as it was.
+/// Those of reading the settings; `SameFile` where the file for the saved text is the one that they were read from; the fault
+/// of these; the refusal of the farm; `Save` for the other file, and `OutOfMemory`. Every file is as it was then, and nothing is
+/// written to `out`. `Write` where that writer fails, when the file is in its place: the bytes written to it until then are a
+/// prefix of the output. Where a file is named for the settings, `input` stays as it was.
 pub fn run<'a, R: AllocGlobal + Threads + Wait + Sync, D: Disk, I: Read, W: Write>(
     rt: &R,
     disk: &mut D,
@@ -297,14 +267,16 @@ pub fn run<'a, R: AllocGlobal + Threads + Wait + Sync, D: Disk, I: Read, W: Writ
     input: &mut I,
     out: &mut W,
 ) -> Result<(), ToolError<'a>>
-    ensures ok { OnOk result (IsRunAnswer words.now (D.holds disk.old) (D.holds disk.new)
-        (I.remaining input.old) (I.remaining input.new) (W.contents out.old) (W.contents out.new)) }
+    ensures ok { OnOk result (IsRunAnswer words.now
+        (world (D.holds disk.old) (I.remaining input.old) (W.contents out.old) None)
+        (world (D.holds disk.new) (I.remaining input.new) (W.contents out.new) None)) }
     ensures err { IfErr result (λ e.
-        IsRunRefusal words.now (D.holds disk.old) (D.holds disk.new) (I.remaining input.old)
-        (I.remaining input.new) (W.contents out.old) (W.contents out.new) e) }
+        IsRunRefusal words.now
+        (world (D.holds disk.old) (I.remaining input.old) (W.contents out.old) None)
+        (world (D.holds disk.new) (I.remaining input.new) (W.contents out.new) None) e) }
     ensures kept { IfErr result (λ e. e ≢ ToolError.Write → D.holds disk.new ≡ D.holds disk.old) }
     ensures nothing { IfErr result (λ e. e ≢ ToolError.Write → out.new ≡ out.old) }
-    ensures unread { is_dash words.now.settings.now ≡ false → input.new ≡ input.old }
+    ensures unread { names_stream words.now.settings.now ≡ false → input.new ≡ input.old }
 {
     let outcome = farm_of_words(rt, rt.alloc(), disk, words, input)?;
     match hand_out(rt.alloc(), disk, &outcome, words, out) {

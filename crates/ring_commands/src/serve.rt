@@ -1,4 +1,4 @@
-//! `serve`: rings that go on from a saved text, driven by the lines of standard input.
+//! `serve`: rings that resume from a saved text, driven by the lines of standard input.
 
 ghost use Rattle.std.specs.Prelude.{◌≡◌, ℕ, List, None, Some, Option, true, false, OnOk, IfOk, IfErr, IfSome, length, ◌⊎◌, ◌≤◌, ◌<◌, ◌^◌};
 ghost use Rattle.std.specs.Option.{option_map};
@@ -12,22 +12,25 @@ ghost use Rattle.ring_serve.specs.Saved.{content_of};
 ghost use Rattle.ring_serve.specs.Starting.{AreResumed};
 ghost use Rattle.ring_serve.specs.Totals.{totals_of};
 ghost use Rattle.ring_text.specs.Report.{total_line};
-ghost use Rattle.ring_commands.specs.Served.{IsHistory, IsNoted, IsServedPlain, IsServedOn, IsServedNoted, IsServedFrom, IsServeAnswer, journal_of, IsUnserved, IsHistoryRefusal, IsUnkept, IsJournalRefusal, IsStartRefusal, IsServingFault, IsServedPart, IsUnfinished, IsRefusedFrom, IsServeRefusal};
+ghost use Rattle.ring_commands.specs.Ran.{IsSaveRefusal};
+ghost use Rattle.ring_commands.specs.Served.{IsHistory, IsNoted, IsServedPlain, IsServedOn, IsServedNoted, IsServedFrom, IsServeAnswer, journal_of, IsUnserved, IsHistoryRefusal, IsUnopenedJournal, IsUnkept, IsJournalRefusal, IsStartRefusal, IsServingFault, IsServedPart, IsUnfinished, IsRefusedFrom, IsUntold, IsServeRefusal};
+ghost use Rattle.ring_commands.specs.Worlds.{world};
 
 use crate::check::legal_saved;
 use crate::faults::ToolError;
+use crate::handing::save_fault;
 use crate::reading::read_file;
-use disks::Disk;
-use ring_journal::{put_first_line, recovered};
+use disks::{Contents, ContentsFault, Disk, replace};
+use ring_journal::{put_first_line, recover_journal};
 use ring_requests::ServeWords;
 use ring_saved::Saved;
-use ring_serve::{ServeFault, Served, StartError, put_rings, serve};
+use ring_serve::{Journal, ServeFault, Served, StartError, put_rings, serve};
 use ring_text::put_total_line;
 use std::alloc::Global;
-use std::io::{BufWriter, ErrorKind, Read, Write, sink};
+use std::io::{ErrorKind, Read, Sink, Write};
 use text_lines::WriteFault;
 
-/// The rings of a saved text, as they stood in the end.
+/// Returns the rings of a saved text, as they were in the end.
 ///
 /// # Errors
 ///
@@ -43,12 +46,13 @@ fn started(alloc: Global, saved: &Saved) -> Result<Served, ToolError<'static>>
     }
 }
 
-/// What is told of a fault while lines were served.
+/// Returns the refusal for a fault while lines were served.
 fn told<'a>(fault: ServeFault, journal: Option<&'a str>) -> ToolError<'a>
     ensures { IsServingFault (option_map (λ name. name.now) journal.entry) result }
 {
     match (fault, journal) {
         (ServeFault::Read, _) => ToolError::Read("-"),
+        (ServeFault::TooLong, _) => ToolError::TooLarge("-"),
         (ServeFault::OutOfMemory, _) => ToolError::OutOfMemory,
         (ServeFault::Journal, Some(name)) => ToolError::Save(name),
         // without a journal none fails
@@ -71,7 +75,7 @@ fn history<'a, D: Disk>(alloc: Global, disk: &D, name: &'a str) -> Result<Saved,
     }
 }
 
-/// What is recovered of the journal of this name, if that tells something; else the value that is given.
+/// Returns the value that is recovered of the journal of this name, if that records something; else the given one.
 fn noted<'a, D: Disk>(
     alloc: Global,
     disk: &D,
@@ -88,7 +92,7 @@ fn noted<'a, D: Disk>(
     if bytes.is_empty() {
         return Ok(saved);
     }
-    match recovered(alloc, bytes.as_slice()) {
+    match recover_journal(alloc, bytes.as_slice()) {
         Ok(now) => Ok(now),
         Err(error) => Err(ToolError::Journal(name, error)),
     }
@@ -98,7 +102,7 @@ fn noted<'a, D: Disk>(
 fn opened<'a, D: Disk>(disk: &mut D, name: &'a str, synced: bool) -> Result<D::Grown, ToolError<'a>>
     ensures ok { IfOk result (λ grown. Grows (D.holds disk.old) name.now (D.Grown.contents grown)) }
     ensures kept { D.holds disk.new ≡ D.holds disk.old }
-    ensures err { IfErr result (λ e. IsUnkept name.now e) }
+    ensures err { IfErr result (λ e. IsUnopenedJournal name.now e) }
 {
     match disk.grow(name, synced) {
         Ok(grown) => Ok(grown),
@@ -109,7 +113,7 @@ fn opened<'a, D: Disk>(disk: &mut D, name: &'a str, synced: bool) -> Result<D::G
     }
 }
 
-/// Writes the beginning of a journal of these rings.
+/// Writes the start of a journal of these rings.
 fn put_head<W: Write>(out: &mut W, served: &Served) -> Result<(), WriteFault>
     requires some { 1 ≤ length served.now }
     requires most { length served.now < 2 ^ 32 }
@@ -122,31 +126,30 @@ fn put_head<W: Write>(out: &mut W, served: &Served) -> Result<(), WriteFault>
     }
 }
 
-/// Writes it through a buffer, of which all leaves, and hands the writer back.
-fn begun<W: Write + Drop>(alloc: Global, served: &Served, out: W) -> Option<W>
-    ensures { IfSome result
-        (λ after. Appends (W.contents out) (W.contents after) (head_text (content_of served.now))) }
-{
-    let count = served.count();
-    if count == 0 || count > u32::MAX as usize {
-        return None;
-    }
-    let Ok(mut buffer) = BufWriter::new(alloc, out) else {
-        return None;
-    };
-    let Ok(()) = put_head(&mut buffer, served) else {
-        return None;
-    };
-    let Ok(mut after) = buffer.into_inner() else {
-        return None;
-    };
-    let Ok(()) = after.flush() else {
-        return None;
-    };
-    Some(after)
+/// The beginning of a journal of these rings, which its file is to hold.
+#[derive(Drop)]
+struct Beginning<'a> {
+    served: &'a Served,
 }
 
-/// Puts a file with the beginning of a journal of these rings in the place of the one of this name.
+impl Contents for Beginning<'_> {
+    ghost use Rattle.std.specs.Prelude.{◌≤◌, ◌<◌, ◌^◌, length};
+    ghost use Rattle.ring_journal.specs.Spelling.{head_text};
+    ghost use Rattle.ring_serve.specs.Saved.{content_of};
+
+    ghost ready = { λ s. (1 ≤ length s.served.now) × (length s.served.now < 2 ^ 32) };
+
+    ghost bytes = { λ s. head_text (content_of s.served.now) };
+
+    fn write_to<W: Write>(&self, out: &mut W) -> Result<(), ContentsFault> {
+        match put_head(out, self.served) {
+            Ok(()) => Ok(()),
+            Err(_) => Err(ContentsFault::Write),
+        }
+    }
+}
+
+/// Replaces the file of this name by one with the start of a journal of these rings.
 fn put_beginning<'a, D: Disk>(
     alloc: Global,
     disk: &mut D,
@@ -155,31 +158,30 @@ fn put_beginning<'a, D: Disk>(
 ) -> Result<(), ToolError<'a>>
     ensures ok { OnOk result (Replaces (D.holds disk.old) (D.holds disk.new) name.now
         (Some (head_text (content_of served.now)))) }
-    ensures err { IfErr result (λ e. IsUnkept name.now e) }
+    ensures err { IfErr result (λ e. IsSaveRefusal name.now e) }
 {
-    let Ok(made) = disk.make(name) else {
+    let count = served.count();
+    if count == 0 || count > u32::MAX as usize {
         return Err(ToolError::Save(name));
-    };
-    let Some(after) = begun(alloc, served, made) else {
-        return Err(ToolError::Save(name));
-    };
-    let Ok(()) = disk.finish(after, name) else {
-        return Err(ToolError::Save(name));
-    };
-    Ok(())
+    }
+    match replace(alloc, disk, name, &Beginning { served }) {
+        Ok(()) => Ok(()),
+        Err(fault) => Err(save_fault(fault, name)),
+    }
 }
 
-/// Writes the line of what adds up over the rings.
+/// Writes the line of the sums over the rings.
 fn tell_totals<W: Write>(served: &Served, err: &mut W) -> Result<(), ToolError<'static>>
     ensures ok { OnOk result (Appends (W.contents err.old) (W.contents err.new)
         (total_line (length served.now) (totals_of served.now))) }
-    ensures err { IfErr result (λ e. e ≡ ToolError.Write) }
+    ensures err { IfErr result
+        (λ e. IsUntold served.now (W.contents err.old) (W.contents err.new) e) }
 {
     let Ok(count) = u32::try_from(served.count()) else {
-        return Err(ToolError::Write);
+        return Err(ToolError::TotalsTooLarge);
     };
     let Some(totals) = served.totals() else {
-        return Err(ToolError::Write);
+        return Err(ToolError::TotalsTooLarge);
     };
     put_total_line(err, count, totals)?;
     Ok(())
@@ -200,7 +202,8 @@ fn serve_plain<D: Disk, I: Read, W: Write>(
         × IsServedPart false served.old (I.remaining input.old) (I.remaining input.new)
         (W.contents out.old) (W.contents out.new)) }
 {
-    match serve(alloc, served, disk, None, input, &mut sink(), out) {
+    let mut journal: Option<Journal<'_, Sink>> = None;
+    match serve(alloc, served, disk, &mut journal, input, out) {
         Ok(()) => Ok(()),
         Err(fault) => Err(told(fault, None)),
     }
@@ -212,7 +215,7 @@ fn serve_noted<'a, D: Disk, I: Read, W: Write>(
     disk: &mut D,
     served: &mut Served,
     name: &'a str,
-    mut journal: D::Grown,
+    journal: D::Grown,
     input: &mut I,
     out: &mut W,
 ) -> Result<(), ToolError<'a>>
@@ -223,11 +226,18 @@ fn serve_noted<'a, D: Disk, I: Read, W: Write>(
         × IsServedPart true served.old (I.remaining input.old) (I.remaining input.new)
         (W.contents out.old) (W.contents out.new)) }
 {
-    match serve(alloc, served, disk, Some(name), input, &mut journal, out) {
+    let mut kept = Some(Journal {
+        name,
+        writer: journal,
+    });
+    match serve(alloc, served, disk, &mut kept, input, out) {
         Ok(()) => {}
         Err(fault) => return Err(told(fault, Some(name))),
     }
-    match disk.settle(journal, name) {
+    let Some(Journal { writer, .. }) = kept else {
+        return Err(ToolError::Save(name));
+    };
+    match disk.close_synced(writer, name) {
         Ok(()) => Ok(()),
         Err(_) => Err(ToolError::Save(name)),
     }
@@ -374,15 +384,15 @@ fn run_on<'a, D: Disk, I: Read, W: Write>(
     }
 }
 
-/// `serve`, from its words: the rings of the history, or of the journal if that tells something, answer the lines of `input` on
-/// `out`; when all have been, what adds up over the rings is told on `err`.
+/// `serve`, from its words: the rings of the history, or of the journal if that records something, answer the lines of `input` on
+/// `out`; when all have been, the sums over the rings are reported on `err`.
 ///
 /// # Errors
 ///
-/// Those of reading the history, and what is wrong with it; `InUse` if the journal is kept by another process, `Save` if it
+/// Those of reading the history, and its faults; `InUse` if the journal is kept by another process, `Save` if it
 /// cannot be opened, begun or written, `Journal` if nothing is recovered of it; `Full`, `OutOfMemory`: no line was read then,
 /// unless memory or the journal's file failed while lines were served. `Read` if standard input fails, `Write` if standard output
-/// does.
+/// does. `Write` if standard error fails, and `TotalsTooLarge`, when all lines have been served.
 pub fn run<'a, D: Disk, I: Read, W: Write, E: Write>(
     alloc: Global,
     disk: &mut D,
@@ -391,12 +401,15 @@ pub fn run<'a, D: Disk, I: Read, W: Write, E: Write>(
     out: &mut W,
     err: &mut E,
 ) -> Result<(), ToolError<'a>>
-    ensures ok { OnOk result (IsServeAnswer words.now (D.holds disk.old) (D.holds disk.new)
-        (I.remaining input.old) (I.remaining input.new) (W.contents out.old) (W.contents out.new)
-        (E.contents err.old) (E.contents err.new)) }
+    ensures ok { OnOk result (IsServeAnswer words.now
+        (world (D.holds disk.old) (I.remaining input.old) (W.contents out.old) (E.contents err.old))
+        (world (D.holds disk.new) (I.remaining input.new) (W.contents out.new)
+        (E.contents err.new))) }
     ensures err { IfErr result (λ e.
-        IsServeRefusal words.now (D.holds disk.old) (I.remaining input.old) (I.remaining input.new)
-        (W.contents out.old) (W.contents out.new) e) }
+        IsServeRefusal words.now
+        (world (D.holds disk.old) (I.remaining input.old) (W.contents out.old) (E.contents err.old))
+        (world (D.holds disk.new) (I.remaining input.new) (W.contents out.new)
+        (E.contents err.new)) e) }
 {
     let saved = match history(alloc, disk, words.history) {
         Ok(saved) => saved,

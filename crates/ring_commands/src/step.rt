@@ -91,7 +91,7 @@ fn write_end<W: Write>(out: &mut W, state: &RingState) -> Result<(), WriteFault>
 }
 
 /// The ring's size, where it is allowed.
-fn sized(n: u32, k: u32) -> Result<Params, ToolError<'static>>
+fn params_of(n: u32, k: u32) -> Result<Params, ToolError<'static>>
     ensures ok { IfOk result (λ p. (p ≡ record { n = n; k = k }) × (size_fault n k ≡ None)) }
     ensures err { IfErr result (λ e. size_fault n k ≡ Some e) }
 {
@@ -99,16 +99,16 @@ fn sized(n: u32, k: u32) -> Result<Params, ToolError<'static>>
 }
 
 /// The ring, where its size and its start values are allowed.
-fn started(alloc: Global, n: u32, k: u32, states: &[u32]) -> Result<RingState, ToolError<'static>>
+fn state_of(alloc: Global, n: u32, k: u32, states: &[u32]) -> Result<RingState, ToolError<'static>>
     ensures ok { IfOk result (λ r. (r ≡ ring_with k states.now)
         × (length states.now ≡ n) × (start_fault n k states.now ≡ None)) }
     ensures err { IfErr result (λ e. IsRefusalOver (start_fault n k states.now) e) }
 {
-    let params = sized(n, k)?;
+    let params = params_of(n, k)?;
     Ok(RingState::from_values(alloc, &params, states)?)
 }
 
-/// The index of the first choice that is no machine of a ring of `n`.
+/// The index of the first choice that is not a machine of a ring of `n`.
 fn first_beyond(n: u32, choices: &[u32]) -> Option<usize>
     ensures { result ≡ position (λ choice. nat_le n choice) choices.now }
 {
@@ -116,7 +116,7 @@ fn first_beyond(n: u32, choices: &[u32]) -> Option<usize>
 }
 
 /// The ring with no events yet, where all that `step` was given is allowed.
-fn opened(
+fn book_of(
     alloc: Global,
     n: u32,
     k: u32,
@@ -127,7 +127,7 @@ fn opened(
         × (length states.now ≡ n) × (fault_of n k states.now choices.now ≡ None)) }
     ensures err { IfErr result (λ e. IsOpeningRefusal n k states.now choices.now e) }
 {
-    let state = started(alloc, n, k, states)?;
+    let state = state_of(alloc, n, k, states)?;
     if let Some(index) = first_beyond(n, choices) {
         return Err(ToolError::Choice(index));
     }
@@ -144,9 +144,9 @@ fn opened(
 ///
 /// The first that applies: a size that is not allowed (2 machines or more, n values or more, and neither
 /// past its limit), start values of another number than n, the first start value that is not below `k`,
-/// the first choice that is not below `n`. Nothing is written then. Want of memory comes where memory is asked for;
+/// the first choice that is not below `n`. Nothing is written then. `OutOfMemory` comes where memory is asked for;
 /// `HistoryFull` comes where there are more than `EVENT_LIMIT` choices, and `Write` where the writer
-/// fails: what was written until then is a beginning of the lines.
+/// fails: the bytes written until then are a prefix of the lines.
 pub fn step_lines<W: Write>(
     alloc: Global,
     n: u32,
@@ -155,19 +155,19 @@ pub fn step_lines<W: Write>(
     choices: &[u32],
     out: &mut W,
 ) -> Result<(), ToolError<'static>>
-    // What is written: all of the text, or a beginning of it, or nothing where there is a fault.
+    // The output: all of the text, or a prefix of it, or nothing where there is a fault.
     ensures written { OnOk result (Appends (W.contents out.old) (W.contents out.new)
         (step_text (ring_with k states.now) choices.now)) }
     ensures front { OnErr result (AppendsFront (W.contents out.old) (W.contents out.new)
         (step_text (ring_with k states.now) choices.now)) }
     ensures nothing { IsSome (fault_of n k states.now choices.now) → out.new ≡ out.old }
 
-    // What is answered.
+    // The answer.
     ensures ok { OnOk result
         ((fault_of n k states.now choices.now ≡ None) × (length choices.now ≤ event_limit)) }
     ensures err { IfErr result (λ e. IsStepRefusal n k states.now choices.now e) }
 {
-    let mut book = opened(alloc, n, k, states, choices)?;
+    let mut book = book_of(alloc, n, k, states, choices)?;
     for choice in choices {
         let receipt = book.pass(0, *choice, 0)?;
         write_reply(out, *choice, receipt.event.reply)?;

@@ -6,45 +6,46 @@ ghost use Rattle.ring_saved.specs.Content.{Content, content};
 ghost use Rattle.ring_journal.specs.Beginnings.{CanBeSaved};
 ghost use Rattle.ring_commands.specs.Checked.{IsSavedTextRefusal};
 ghost use Rattle.ring_commands.specs.Named.{IsNamed};
-ghost use Rattle.ring_commands.specs.Reading.{is_dash};
+ghost use Rattle.ring_commands.specs.Reading.{names_stream};
 ghost use Rattle.ring_commands.specs.Upgraded.{IsUpgradeOf, IsUpgradeAnswer, IsUpgradeRefusal};
+ghost use Rattle.ring_commands.specs.Worlds.{world};
 
 use crate::check::legal_saved;
 use crate::faults::ToolError;
 use crate::handing::hand_over;
 use crate::reading::read_named;
 use disks::Disk;
-use ring_check::{Summary, upgrade_law};
+use ring_check::{Summary, upgrade_is_legal};
 use ring_requests::UpgradeWords;
 use ring_saved::{Saved, upgrade};
 use std::alloc::Global;
 use std::io::{Read, Write};
 
-/// The value of the saved text that the bytes are, in the latest version, and its sums.
+/// Returns the value of the saved text that the bytes are, in the latest version, and its sums.
 ///
 /// # Errors
 ///
-/// What `check` says of a text that is not legal, and `OutOfMemory`.
+/// The refusals of `check` for a text that is not legal, and `OutOfMemory`.
 fn upgraded(alloc: Global, bytes: &[u8]) -> Result<(Saved, Summary), ToolError<'static>>
     ensures ok { IfOk result (λ x. IsUpgradeOf bytes.now (content x.0) x.1) }
     ensures saved { IfOk result (λ x. CanBeSaved (content x.0)) }
     ensures err { IfErr result (λ e. IsSavedTextRefusal bytes.now e) }
 {
-    upgrade_law(); // says: the upgrade of a legal text is legal, with the same sums
+    upgrade_is_legal(); // says: the upgrade of a legal text is legal, with the same sums
     let (saved, sums) = legal_saved(alloc, bytes)?;
     Ok((upgrade(saved), sums))
 }
 
-/// `upgrade`, from its words: reads and checks the one file, or standard input; puts the upgrade of its value in the place of the
-/// other, which may be the same, and writes the line of `check` to `out`; where the other is `-`, the upgrade's text goes to `out`
-/// and the line to `err`.
+/// `upgrade`, from its words: reads and checks the one file, or standard input; replaces the other file, which
+/// may be the same, by the upgrade of its value, and writes the line of `check` to `out`; where the other is `-`, the upgrade's
+/// text goes to `out` and the line to `err`.
 ///
 /// # Errors
 ///
-/// Those of reading what the word names, and what `check` says of a text that is not legal: no file is made then. `Save` with
-/// the other name where that cannot be made, written or put in its place, and `OutOfMemory`. Every file is as it was then, and
-/// nothing is written. `Write` where a writer fails, when the new file is in its place: what was written until then is a
-/// beginning.
+/// Those of reading the source that the word names, and those of `check` for a text that is not legal: no file is made then.
+/// `Save` with the other name where that cannot be made, written or put in its place, and `OutOfMemory`. Every file is as it was
+/// then, and nothing is written. `Write` where a writer fails, when the new file is in its place: the bytes written until then
+/// are a prefix.
 pub fn run<'a, D: Disk, I: Read, W: Write, E: Write>(
     alloc: Global,
     disk: &mut D,
@@ -53,16 +54,18 @@ pub fn run<'a, D: Disk, I: Read, W: Write, E: Write>(
     out: &mut W,
     err: &mut E,
 ) -> Result<(), ToolError<'a>>
-    ensures ok { OnOk result (IsUpgradeAnswer words.now (D.holds disk.old) (D.holds disk.new)
-        (I.remaining input.old) (I.remaining input.new) (W.contents out.old) (W.contents out.new)
-        (E.contents err.old) (E.contents err.new)) }
-    ensures err { IfErr result (λ e. IsUpgradeRefusal words.now (D.holds disk.old)
-        (D.holds disk.new) (I.remaining input.old) (I.remaining input.new) (W.contents out.old)
-        (W.contents out.new) (E.contents err.old) (E.contents err.new) e) }
+    ensures ok { OnOk result (IsUpgradeAnswer words.now
+        (world (D.holds disk.old) (I.remaining input.old) (W.contents out.old) (E.contents err.old))
+        (world (D.holds disk.new) (I.remaining input.new) (W.contents out.new)
+        (E.contents err.new))) }
+    ensures err { IfErr result (λ e. IsUpgradeRefusal words.now
+        (world (D.holds disk.old) (I.remaining input.old) (W.contents out.old) (E.contents err.old))
+        (world (D.holds disk.new) (I.remaining input.new) (W.contents out.new)
+        (E.contents err.new)) e) }
     ensures kept { IfErr result (λ e. e ≢ ToolError.Write → D.holds disk.new ≡ D.holds disk.old) }
     ensures nothing { IfErr result (λ e. e ≢ ToolError.Write → out.new ≡ out.old) }
-    ensures silent { is_dash words.now.new.now ≡ false → err.new ≡ err.old }
-    ensures unread { is_dash words.now.file.now ≡ false → input.new ≡ input.old }
+    ensures silent { names_stream words.now.new.now ≡ false → err.new ≡ err.old }
+    ensures unread { names_stream words.now.file.now ≡ false → input.new ≡ input.old }
     ensures unmade { (disk.new ≡ disk.old)
         ⊎ ((bytes : List ℕ)
         × (c : Content)

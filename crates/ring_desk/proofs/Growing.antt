@@ -13,9 +13,9 @@ use Rattle.ring_model.specs.declared.events.Event.{Event}
 use Rattle.ring_model.specs.declared.events.Survey.{Survey}
 use Rattle.ring_model.specs.declared.events.Entry.{Entry}
 use Rattle.ring_model.specs.declared.events.Entry.TheVariants as entry
-use Rattle.ring_shared.specs.Groups.{receipts_from}
+use Rattle.ring_logs.specs.Seats.{receipts_from}
 
--- what stood in a history stands in a longer one
+-- an event of a history is in a longer one
 get_more : (h es : List Event) (p : ℕ) (e : Event) → slice_get h p ≡ Some e → slice_get (h ++ es) p ≡ Some e
 get_more [] es p e at = cc
 get_more (x ∷ h) es zero e at = at
@@ -51,7 +51,7 @@ followed_more w a h es front [] t = tt
 followed_more w a h es front (entry.Receipt r ∷ log) t = (t.0, get_more h es r.position r.event t.1, followed_more w a h es (r.position + 1) log t.2)
 followed_more w a h es front (entry.Survey s ∷ log) t = (t.0, survey_more w a h es s t.1, followed_more w a h es s.position log t.2)
 
--- and with more entries, which may stand behind any place of the history
+-- and with more entries, which may be after any place of the history
 followed_push : {C : Type 0} (w : Works C) (a : State C) (h es : List Event) (front : ℕ) (log tail : List Entry) → front ≤ length h → IsFollowed w a h front log →
     ((f : ℕ) → f ≤ length h → IsFollowed w a (h ++ es) f tail) → IsFollowed w a (h ++ es) front (log ++ tail)
 followed_push w a h es front [] tail l t k = k front l
@@ -96,7 +96,7 @@ calls_none seat other [] ne o = refl
 calls_none seat other (e ∷ es) ne o =
     cond-false (e.seat == other) (e ∷ calls_of other es) (calls_of other es) (ne_eqb _ _ (λ q. ne (sym q ∙ o.0))) ∙ calls_none seat other es ne o.1
 
--- the client whose events they are was told of them
+-- the client whose events they are has their receipts
 pub own_fits : {C : Type 0} (w : Works C) (a : State C) (h es : List Event) (seat : ℕ) (log : List Entry) → AreOf seat es → Fits w a h seat log →
     Fits w a (h ++ es) seat (log ++ receipts_from (length h) es)
 own_fits w a h es seat log o f = record {
@@ -107,7 +107,7 @@ own_fits w a h es seat log o f = record {
   entries = followed_push w a h es 0 log (receipts_from (length h) es) (omega arith) f.entries (λ p l. receipts_follow w a h es p l);
 }
 
--- every other client was told of nothing
+-- every other client has nothing new
 pub other_fits : {C : Type 0} (w : Works C) (a : State C) (h es : List Event) (seat other : ℕ) (log : List Entry) → (other ≡ seat → ⊥) → AreOf seat es → Fits w a h other log →
     Fits w a (h ++ es) other log
 other_fits w a h es seat other log ne o f = record {
@@ -116,7 +116,7 @@ other_fits w a h es seat other log ne o f = record {
   entries = followed_more w a h es 0 log f.entries;
 }
 
--- a client that was told the survey of the end
+-- a client that was given the survey of the end
 pub survey_fits : {C : Type 0} (w : Works C) (a : State C) (h : List Event) (seat : ℕ) (log : List Entry) (s : Survey) → s ≡ survey_at w a h (length h) → left_after (take (length h) h) ≡ 0 →
     Fits w a h seat log → Fits w a h seat (log ++ entry.Survey s ∷ [])
 survey_fits w a h seat log s is none f =

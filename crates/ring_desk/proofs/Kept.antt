@@ -1,4 +1,4 @@
--- What a call leaves of a ring with its clients.
+-- A ring with its clients after a call.
 use Rattle.std.proofs.Common.{◌≡◌, ℕ, ◌+◌, ◌-◌, ◌<◌, ◌≤◌, List, [], ◌∷◌, ◌++◌, length, length-append, get_or, take, drop, subst, ap, sym, ◌∙◌, refl, arith, inl, inr, get_or-set_same, get_or-set_other}
 use Rattle.std.proofs.lemmas.Bool.{cases_eq, cases_lt}
 use Rattle.std.proofs.lemmas.List.{length-map, length-set, get_or-map, get_or_append_left, get_or-append_right, take_all}
@@ -19,10 +19,10 @@ use Rattle.ring_model.proofs.Wholes.{whole_left}
 use Rattle.ring_book.specs.BookView.{BookView, IsBook, IsFresh, IsRecorded}
 use Rattle.ring_book.specs.GroupView.{IsGroupRecorded}
 use Rattle.ring_book.specs.declared.books.groups.GroupReceipt.{GroupReceipt}
-use Rattle.ring_logs.specs.Told.{Told}
-use Rattle.ring_shared.specs.Groups.{receipts_from}
-use Rattle.ring_shared.specs.Holding.{AreOfSeats}
-use Rattle.ring_shared.proofs.GroupLogs.{group_events}
+use Rattle.ring_logs.specs.LogView.{LogView}
+use Rattle.ring_logs.specs.Seats.{receipts_from}
+use Rattle.ring_logs.specs.Seats.{AreOfSeats}
+use Rattle.ring_logs.proofs.Groups.{group_events}
 use Rattle.ring_desk.specs.Clients.{ClientView, told_of, told_all, with_survey_at, StandInOrder, AllStandInOrder, AreNew}
 use Rattle.ring_desk.specs.Rings.{IsClient, IsOneThreadRing, IsKeptBy, grown, told_more, AreFresh}
 use Rattle.ring_desk.proofs.Growing.{AreOf, own_fits, other_fits, survey_fits}
@@ -33,12 +33,12 @@ of_seats_all n seat [] l o = λ k d m. absurd (omega arith)
 of_seats_all n seat (e ∷ es) l o = All-cons (λ (x : Event). x.seat < n) e es (subst (λ (k : ℕ). k < n) (sym o.0) l) (of_seats_all n seat es l o.1)
 
 -- one client at its place, before and after
-each_client : {C : Type 0} (w : Works C) (first : C) (b b' : BookView C) (cs : List Told) (seat : ℕ) (es : List Event) (log : List Entry) →
+each_client : {C : Type 0} (w : Works C) (first : C) (b b' : BookView C) (cs : List LogView) (seat : ℕ) (es : List Event) (log : List Entry) →
     seat < length cs → AreOf seat es → b'.start ≡ b.start → b'.history ≡ b.history ++ es → log ≡ receipts_from (length b.history) es →
-    ((i : ℕ) (c : Told) → i < length cs → IsClient w first b i (get_or cs i c)) →
-    (i : ℕ) (c : Told) → i < length (told_more cs seat log) → IsClient w first b' i (get_or (told_more cs seat log) i c)
+    ((i : ℕ) (c : LogView) → i < length cs → IsClient w first b i (get_or cs i c)) →
+    (i : ℕ) (c : LogView) → i < length (told_more cs seat log) → IsClient w first b' i (get_or (told_more cs seat log) i c)
 each_client w first b b' cs seat es log within o start grew is each i c l =
-    let nobody : Told = record { number = seat; log = [] } in
+    let nobody : LogView = record { number = seat; log = [] } in
     let size : length (told_more cs seat log) ≡ length cs = length-set cs seat (grown (get_or cs seat nobody) log) in
     let l' : i < length cs = omega (arith, size) in
     elim (cases_eq i seat) [
@@ -51,7 +51,7 @@ each_client w first b b' cs seat es log within o start grew is each i c l =
           (subst (λ (h : List Event). Fits w (opening b.start first) h seat ((get_or cs seat nobody).log ++ log)) (sym grew)
           (subst (λ (t : List Entry). Fits w (opening b.start first) (b.history ++ es) seat ((get_or cs seat nobody).log ++ t)) (sym is)
           (own_fits w (opening b.start first) b.history es seat (get_or cs seat nobody).log o was.fits))) in
-          subst (λ (x : Told). IsClient w first b' i x) (sym there)
+          subst (λ (x : LogView). IsClient w first b' i x) (sym there)
           (subst (λ (k : ℕ). IsClient w first b' k (grown (get_or cs seat nobody) log)) (sym same) (record { number = was.number; fits = fits }))
       | inr ne ↦
           let was : IsClient w first b i (get_or cs i c) = each i c l' in
@@ -60,15 +60,15 @@ each_client w first b b' cs seat es log within o start grew is each i c l =
           subst (λ (r : Ring). Fits w (opening r first) b'.history i (get_or cs i c).log) (sym start)
           (subst (λ (h : List Event). Fits w (opening b.start first) h i (get_or cs i c).log) (sym grew)
           (other_fits w (opening b.start first) b.history es seat i (get_or cs i c).log ne o was.fits)) in
-          subst (λ (x : Told). IsClient w first b' i x) (sym there) (record { number = was.number; fits = fits })
+          subst (λ (x : LogView). IsClient w first b' i x) (sym there) (record { number = was.number; fits = fits })
     ]
 
--- a ring whose history grew by events of one seat, which was told of them
-grew_ring : {C : Type 0} (w : Works C) (first : C) (b b' : BookView C) (cs : List Told) (seat : ℕ) (es : List Event) (log : List Entry) →
+-- a ring whose history grew by events of one seat, which has their receipts
+grew_ring : {C : Type 0} (w : Works C) (first : C) (b b' : BookView C) (cs : List LogView) (seat : ℕ) (es : List Event) (log : List Entry) →
     IsOneThreadRing w first (record { book = b; clients = cs }) → IsBook w first b' → seat < length cs → AreOf seat es → b'.start ≡ b.start → b'.history ≡ b.history ++ es → log ≡ receipts_from (length b.history) es →
     IsOneThreadRing w first (record { book = b'; clients = told_more cs seat log })
 grew_ring w first b b' cs seat es log d book within o start grew is =
-    let nobody : Told = record { number = seat; log = [] } in
+    let nobody : LogView = record { number = seat; log = [] } in
     let size : length (told_more cs seat log) ≡ length cs = length-set cs seat (grown (get_or cs seat nobody) log) in
     record {
       book = book;
@@ -80,7 +80,7 @@ grew_ring w first b b' cs seat es log d book within o start grew is =
     }
 
 -- after a call
-pub called_ring : {C : Type 0} (w : Works C) (first : C) (b b' : BookView C) (cs : List Told) (seat : ℕ) (op : Op) (r : Receipt) →
+pub called_ring : {C : Type 0} (w : Works C) (first : C) (b b' : BookView C) (cs : List LogView) (seat : ℕ) (op : Op) (r : Receipt) →
     IsOneThreadRing w first (record { book = b; clients = cs }) → IsBook w first b' → seat < length cs → IsRecorded w b b' seat op r →
     IsOneThreadRing w first (record { book = b'; clients = told_more cs seat (entry.Receipt r ∷ []) })
 called_ring w first b b' cs seat op r d book within rec =
@@ -93,7 +93,7 @@ members_are seat order (k ∷ ms) [] m = absurd m
 members_are seat order (k ∷ ms) (e ∷ es) m = (m.0, members_are seat order ms es m.2)
 
 -- after a group
-pub grouped_ring : {C : Type 0} (w : Works C) (first : C) (b b' : BookView C) (cs : List Told) (seat order : ℕ) (machines : List ℕ) (r : GroupReceipt) →
+pub grouped_ring : {C : Type 0} (w : Works C) (first : C) (b b' : BookView C) (cs : List LogView) (seat order : ℕ) (machines : List ℕ) (r : GroupReceipt) →
     IsOneThreadRing w first (record { book = b; clients = cs }) → IsBook w first b' → seat < length cs → IsGroupRecorded w b b' seat order machines r →
     IsOneThreadRing w first (record { book = b'; clients = told_more cs seat (receipts_from r.first (drop r.first b'.history)) })
 grouped_ring w first b b' cs seat order machines r d book within g =
@@ -103,11 +103,11 @@ grouped_ring w first b b' cs seat order machines r d book within g =
     (ap (λ (es : List Event). receipts_from r.first es) cut ∙ ap (λ (n : ℕ). receipts_from n g.moved.events) g.first)
 
 -- after a survey
-pub surveyed_ring : {C : Type 0} (w : Works C) (first : C) (b : BookView C) (cs : List Told) (seat : ℕ) (s : Survey) →
+pub surveyed_ring : {C : Type 0} (w : Works C) (first : C) (b : BookView C) (cs : List LogView) (seat : ℕ) (s : Survey) →
     IsOneThreadRing w first (record { book = b; clients = cs }) → seat < length cs → s ≡ survey_at w (opening b.start first) b.history (length b.history) →
     IsOneThreadRing w first (record { book = b; clients = told_more cs seat (entry.Survey s ∷ []) })
 surveyed_ring w first b cs seat s d within is =
-    let nobody : Told = record { number = seat; log = [] } in
+    let nobody : LogView = record { number = seat; log = [] } in
     let log : List Entry = entry.Survey s ∷ [] in
     let size : length (told_more cs seat log) ≡ length cs = length-set cs seat (grown (get_or cs seat nobody) log) in
     let whole : take (length b.history) b.history ≡ b.history = take_all (length b.history) b.history (omega arith) in
@@ -121,16 +121,16 @@ surveyed_ring w first b cs seat s d within is =
             let was : IsClient w first b seat (get_or cs seat nobody) = d.each seat nobody within in
             let there : get_or (told_more cs seat log) i c ≡ grown (get_or cs seat nobody) log =
             ap (λ (k : ℕ). get_or (told_more cs seat log) k c) same ∙ get_or-set_same cs seat (grown (get_or cs seat nobody) log) c within in
-            subst (λ (x : Told). IsClient w first b i x) (sym there)
+            subst (λ (x : LogView). IsClient w first b i x) (sym there)
             (subst (λ (k : ℕ). IsClient w first b k (grown (get_or cs seat nobody) log)) (sym same)
             (record { number = was.number; fits = survey_fits w (opening b.start first) b.history seat (get_or cs seat nobody).log s is none was.fits }))
         | inr ne ↦
             let there : get_or (told_more cs seat log) i c ≡ get_or cs i c = get_or-set_other cs seat i (grown (get_or cs seat nobody) log) c ne in
-            subst (λ (x : Told). IsClient w first b i x) (sym there) (d.each i c (omega (arith, size)))
+            subst (λ (x : LogView). IsClient w first b i x) (sym there) (d.each i c (omega (arith, size)))
       ];
     }
 
--- a client more that was told nothing
+-- a client more with an empty log
 pub new_more : (n : ℕ) (cs : List ClientView) → AreNew n cs → AreNew (n + 1) (cs ++ record { number = n; surveys = [] } ∷ [])
 new_more n cs f =
     let count = f.0 in
@@ -146,7 +146,7 @@ new_more n cs f =
       ],
     )
 
--- clients that were told nothing have empty logs while there is no history
+-- clients with no surveys have empty logs while there is no history
 pub new_fresh : (n : ℕ) (h : List Event) (cs : List ClientView) → h ≡ [] → AreNew n cs → AreFresh n (told_all h cs)
 new_fresh n h cs none f = (
   length-map cs (told_of h) ∙ f.0,
@@ -163,7 +163,7 @@ new_in_order n end cs f = λ k d l.
     subst (λ (c : ClientView). StandInOrder 0 end c.surveys) (sym (f.1 k d (omega (arith, l, count)))) (omega arith)
 
 -- a ring that is opened
-pub fresh_ring : {C : Type 0} (w : Works C) (first : C) (start : Ring) (b : BookView C) (cs : List Told) (seats : ℕ) → seats ≤ seat_limit → IsBook w first b → IsFresh start first b → AreFresh seats cs →
+pub fresh_ring : {C : Type 0} (w : Works C) (first : C) (start : Ring) (b : BookView C) (cs : List LogView) (seats : ℕ) → seats ≤ seat_limit → IsBook w first b → IsFresh start first b → AreFresh seats cs →
     IsOneThreadRing w first (record { book = b; clients = cs })
 fresh_ring w first start b cs seats most book fresh f =
     let count = f.0 in
@@ -174,7 +174,7 @@ fresh_ring w first start b cs seats most book fresh f =
       of_seats = subst (λ (h : List Event). AreOfSeats (length cs) h) (sym none) (λ k d l. absurd (omega arith));
       each = λ i c l.
           let is : get_or cs i c ≡ record { number = i; log = [] } = f.1 i c (omega arith) in
-          subst (λ (x : Told). IsClient w first b i x) (sym is)
+          subst (λ (x : LogView). IsClient w first b i x) (sym is)
           (record { number = refl; fits = subst (λ (h : List Event). Fits w (opening b.start first) h i []) (sym none) (record { calls = refl; entries = tt }) });
     }
 
@@ -182,9 +182,9 @@ fresh_ring w first start b cs seats most book fresh f =
 
 pub numbered : {C : Type 0} (w : Works C) (first : C) (b : BookView C) (cs : List ClientView) → IsKeptBy w first b cs → AreNumbered cs
 numbered w first b cs k i c l =
-    let nobody : Told = record { number = i; log = [] } in
+    let nobody : LogView = record { number = i; log = [] } in
     let there : get_or (told_all b.history cs) i nobody ≡ told_of b.history (get_or cs i c) = get_or-map (told_of b.history) cs i c nobody l in
-    sym (ap (λ (t : Told). t.number) there) ∙ (k.ring.each i nobody (subst (λ (n : ℕ). i < n) (sym (length-map cs (told_of b.history))) l)).number
+    sym (ap (λ (t : LogView). t.number) there) ∙ (k.ring.each i nobody (subst (λ (n : ℕ). i < n) (sym (length-map cs (told_of b.history))) l)).number
 
 module _ {C : Type 0} (w : Works C) (first : C) (b b' : BookView C) (cs : List ClientView) (seat : ℕ) (es : List Event) (log : List Entry)
     (k : IsKeptBy w first b cs) (book : IsBook w first b') (within : seat < length cs) (of : AreOf seat es)
@@ -199,7 +199,7 @@ module _ {C : Type 0} (w : Works C) (first : C) (b b' : BookView C) (cs : List C
       let long : length b'.history ≡ length b.history + length es = ap length grew ∙ length-append b.history es in
       let inside : seat < length (told_all b.history cs) = subst (λ (n : ℕ). seat < n) (sym (length-map cs (told_of b.history))) within in
       record {
-        ring = subst (λ (ts : List Told). IsOneThreadRing w first (record { book = b'; clients = ts })) (sym grew_told)
+        ring = subst (λ (ts : List LogView). IsOneThreadRing w first (record { book = b'; clients = ts })) (sym grew_told)
             (grew_ring w first b b' (told_all b.history cs) seat es log k.ring book inside of start grew is);
         in_order = all_longer (length b.history) (length b'.history) cs (omega (arith, long)) k.in_order;
       }
@@ -247,7 +247,7 @@ module _ {C : Type 0} (w : Works C) (first : C) (b : BookView C) (cs : List Clie
   surveyed_kept =
       let inside : seat < length (told_all b.history cs) = subst (λ (n : ℕ). seat < n) (sym (length-map cs (told_of b.history))) within in
       record {
-        ring = subst (λ (ts : List Told). IsOneThreadRing w first (record { book = b; clients = ts })) (sym surveyed_told)
+        ring = subst (λ (ts : List LogView). IsOneThreadRing w first (record { book = b; clients = ts })) (sym surveyed_told)
             (surveyed_ring w first b (told_all b.history cs) seat s k.ring inside is);
         in_order = order_surveyed b.history cs seat s within at_end k.in_order;
       }

@@ -1,96 +1,94 @@
--- A legal saved ring with enough seats is opened, and its surveys are told again.
-use Rattle.std.proofs.Common.{◌≡◌, ℕ, zero, suc, ◌<◌, ◌≤◌, Bool, true, false, List, [], ◌∷◌, ◌++◌, length, get_or, take, filter, map, sym, ◌∙◌, ap, subst, refl, inl, inr, arith}
-use Rattle.std.specs.Prelude.{All, Result, Ok, Err, IfOk, IfErr, OnOk}
-use Rattle.std.specs.List.Sorted.{IsPermutation}
-use Rattle.std.proofs.lemmas.Bool.{cases_lt}
-use Rattle.std.proofs.lemmas.List.Sorted.{All-permutation}
-use Rattle.ring_model.specs.Ring.{Ring, ring_with}
+-- A ring of a book that resumes a history, and of clients with right surveys of it.
+use Rattle.std.proofs.Common.{◌≡◌, ℕ, zero, suc, ◌<◌, ◌≤◌, List, [], ◌∷◌, ◌++◌, All, map, length, get_or, sym, ◌∙◌, subst, arith}
+use Rattle.std.proofs.lemmas.List.{length-map, get_or-map}
+use Rattle.std.proofs.lemmas.List.Elements.{All-nil, All-cons, All-head, All-tail, All-map}
+use Rattle.ring_model.specs.Ring.{ring_with}
+use Rattle.ring_model.specs.Limits.{seat_limit}
 use Rattle.ring_model.specs.Resources.{till}
 use Rattle.ring_model.specs.History.{opening}
-use Rattle.ring_model.specs.Groups.{IsHistory}
-use Rattle.ring_model.specs.Logs.{IsSurvey}
-use Rattle.ring_model.specs.declared.events.Event.{Event}
-use Rattle.ring_logs.specs.Told.{Told}
-use Rattle.ring_book.specs.BookView.{IsFresh}
-use Rattle.ring_shared.specs.Holding.{AreOfSeats}
-use Rattle.ring_saved.specs.declared.saved.SavedEvent.{SavedEvent}
+use Rattle.ring_model.specs.Logs.{IsSurvey, Fits}
+use Rattle.ring_model.specs.declared.events.Survey.{Survey}
+use Rattle.ring_logs.specs.LogView.{LogView}
+use Rattle.ring_book.specs.BookView.{BookView, IsBook}
+use Rattle.ring_logs.specs.Seats.{AreOfSeats}
 use Rattle.ring_saved.specs.declared.saved.SavedSurvey.{SavedSurvey}
-use Rattle.ring_check.specs.Table.{event_of}
 use Rattle.ring_saved.specs.Content.{Block}
 use Rattle.ring_check.specs.Legal.{history}
 use Rattle.ring_check.specs.Meaning.{survey_of}
-use Rattle.ring_text.specs.SavedOf.{entry_surveys}
-use Rattle.ring_desk.specs.declared.resuming.ResumeError.{ResumeError}
-use Rattle.ring_desk.specs.Rings.{RingView, IsOneThreadRing, AreFresh}
-use Rattle.ring_desk.specs.Texts.{surveys_told}
-use Rattle.ring_desk.specs.Resuming.{CanGoOnWith, IsOpenedFor, Tells, IsWantOfMemory}
-use Rattle.ring_desk.specs.Replaying.{is_by, stands_at, Climbs, told_by, IsDue, Awaits, Keeps, Surveyed}
-use Rattle.ring_desk.proofs.Retold.{all_told}
+use Rattle.ring_blocks.specs.SavedOf.{saved_survey}
+use Rattle.ring_desk.specs.Clients.{ClientView, log_from, told_of, told_all, StandInOrder}
+use Rattle.ring_desk.specs.Rings.{IsClient, IsKeptBy}
+use Rattle.ring_desk.specs.Texts.{client_surveys, surveys_kept}
+use Rattle.ring_desk.specs.Resuming.{CanGoOnWith, AreSeated}
+use Rattle.ring_desk.proofs.Fitting.{log_fits}
 
--- a ring that was opened awaits the history and the surveys of the block
-pub opened_awaits : (d : RingView ℕ) (b : Block) (seats : ℕ) (sorted : List SavedSurvey) → CanGoOnWith seats b → IsOneThreadRing till 0 d → IsFresh (ring_with b.k b.start) 0 d.book → AreFresh seats d.clients →
-    Climbs 0 sorted → IsPermutation b.surveys sorted → Awaits d (history b) sorted
-opened_awaits d b seats sorted c ring fresh clients climbs same =
-    let start : d.book.start ≡ ring_with b.k b.start = fresh.0 in
-    let none : d.book.history ≡ [] = fresh.2 in
+-- a fact of all surveys is a fact of each client's
+
+all_front : (P : SavedSurvey → Type 0) (xs ys : List SavedSurvey) → All P (xs ++ ys) → All P xs
+all_front P [] ys a = All-nil P
+all_front P (x ∷ xs) ys a = All-cons P x xs (All-head P x (xs ++ ys) a) (all_front P xs ys (All-tail P x (xs ++ ys) a))
+
+all_back : (P : SavedSurvey → Type 0) (xs ys : List SavedSurvey) → All P (xs ++ ys) → All P ys
+all_back P [] ys a = a
+all_back P (x ∷ xs) ys a = all_back P xs ys (All-tail P x (xs ++ ys) a)
+
+all_of : (P : SavedSurvey → Type 0) (cs : List ClientView) (i : ℕ) (d : ClientView) → All P (surveys_kept cs) → i < length cs → All P (client_surveys (get_or cs i d))
+all_of P [] i d a l = absurd (omega (arith, l))
+all_of P (c ∷ cs) zero d a l = all_front P (client_surveys c) (surveys_kept cs) a
+all_of P (c ∷ cs) (suc i) d a l = all_of P cs i d (all_back P (client_surveys c) (surveys_kept cs) a) (omega (arith, l))
+
+-- of the surveys as they are
+all_lines : (P : Survey → Type 0) (ss : List SavedSurvey) → All P (map survey_of ss) → All (λ (s : SavedSurvey). P (survey_of s)) ss
+all_lines P [] a = All-nil (λ (s : SavedSurvey). P (survey_of s))
+all_lines P (s ∷ ss) a =
+    All-cons (λ (x : SavedSurvey). P (survey_of x)) s ss (All-head P (survey_of s) (map survey_of ss) a) (all_lines P ss (All-tail P (survey_of s) (map survey_of ss) a))
+
+all_told_of : (P : Survey → Type 0) (number : ℕ) (ss : List Survey) → All (λ (s : SavedSurvey). P (survey_of s)) (map (saved_survey number) ss) → All P ss
+all_told_of P number [] a = All-nil P
+all_told_of P number (s ∷ ss) a =
+    let Q : SavedSurvey → Type 0 = λ (x : SavedSurvey). P (survey_of x) in
+    All-cons P s ss (All-head Q (saved_survey number s) (map (saved_survey number) ss) a)
+    (all_told_of P number ss (All-tail Q (saved_survey number s) (map (saved_survey number) ss) a))
+
+-- surveys in order, none of them past the end of the history
+order_within : (place end longer : ℕ) (ss : List Survey) → StandInOrder place end ss → place ≤ longer → All (λ (s : Survey). s.position ≤ longer) ss → StandInOrder place longer ss
+order_within place end longer [] o l a = l
+order_within place end longer (s ∷ ss) o l a =
+    (o.0, order_within s.position end longer ss o.1 (All-head (λ (x : Survey). x.position ≤ longer) s ss a) (All-tail (λ (x : Survey). x.position ≤ longer) s ss a))
+
+pub told_kept : (b : BookView ℕ) (cs : List ClientView) (seats : ℕ) (ss : List SavedSurvey) → seats ≤ seat_limit → IsBook till 0 b → AreOfSeats seats b.history → AreSeated seats cs → surveys_kept cs ≡ ss →
+    All (IsSurvey till (opening b.start 0) b.history) (map survey_of ss) → IsKeptBy till 0 b cs
+told_kept b cs seats ss most book callers seated kept right =
+    let P : Survey → Type 0 = IsSurvey till (opening b.start 0) b.history in
+    let all : All (λ (s : SavedSurvey). P (survey_of s)) (surveys_kept cs) =
+    subst (λ (u : List SavedSurvey). All (λ (s : SavedSurvey). P (survey_of s)) u) (sym kept) (all_lines P ss right) in
+    let each : (i : ℕ) (d : ClientView) → i < length cs → All P (get_or cs i d).surveys =
+    λ i d l. all_told_of P (get_or cs i d).number (get_or cs i d).surveys (all_of (λ (s : SavedSurvey). P (survey_of s)) cs i d all l) in
+    let order : (i : ℕ) (d : ClientView) → i < length cs → StandInOrder 0 (length b.history) (get_or cs i d).surveys =
+    λ i d l.
+    let o = seated.in_order i d l in
+    order_within 0 o.0 (length b.history) (get_or cs i d).surveys o.1 (omega arith) (λ j s k. (each i d l j s k).0) in
+    let many = seated.many in
+    let size = length-map cs (told_of b.history) in
     record {
-      ring = ring;
-      history = subst (λ (r : Ring). IsHistory till (opening r 0) (history b)) (sym start) c.right.legal_and_whole;
-      seats = subst (λ (n : ℕ). AreOfSeats n (history b)) (sym clients.0) c.callers;
-      few = c.few;
-      stands = ap (λ (xs : List Event). take (length xs) (history b)) none ∙ sym none;
-      climbs = subst (λ (xs : List Event). Climbs (length xs) sorted) (sym none) climbs;
-      due = All-permutation (λ (s : SavedSurvey). IsDue d (history b) s) b.surveys sorted same (λ i s l. (
-        subst (λ (n : ℕ). (get_or b.surveys i s).seat < n) (sym clients.0) (c.surveyors i s l),
-        subst (λ (r : Ring). IsSurvey till (opening r 0) (history b) (survey_of (get_or b.surveys i s))) (sym start) (c.right.surveys i s l).right,
-      ));
+      ring = record {
+        book = book;
+        few = omega (arith, many, size, most);
+        of_seats = subst (λ (n : ℕ). AreOfSeats n b.history) (sym (size ∙ many)) callers;
+        each = λ i t l.
+            let nobody : ClientView = record { number = i; surveys = [] } in
+            let c : ClientView = get_or cs i nobody in
+            let within : i < length cs = omega (arith, size, l) in
+            let is : get_or (told_all b.history cs) i t ≡ told_of b.history c = get_or-map (told_of b.history) cs i nobody t within in
+            let number : c.number ≡ i = seated.numbers i nobody within in
+            let fits : Fits till (opening b.start 0) b.history c.number (log_from c.number 0 b.history c.surveys) =
+            log_fits till (opening b.start 0) b.history c.number c.surveys (order i nobody within) (each i nobody within) in
+            subst (λ (x : LogView). IsClient till 0 b i x) (sym is)
+            (record { number = number; fits = subst (λ (n : ℕ). Fits till (opening b.start 0) b.history n (log_from c.number 0 b.history c.surveys)) number fits });
+      };
+      in_order = order;
     }
 
-past_end : (cs : List Told) (i : ℕ) (d : Told) → length cs ≤ i → get_or cs i d ≡ d
-past_end [] i d l = refl
-past_end (c ∷ cs) zero d l = absurd (omega (arith, l))
-past_end (c ∷ cs) (suc i) d l = past_end cs i d (omega (arith, l))
-
-told_none : (seats : ℕ) (cs : List Told) (seat : ℕ) → AreFresh seats cs → told_by cs seat ≡ []
-told_none seats cs seat f =
-    let nobody : Told = record { number = seat; log = [] } in
-    elim (cases_lt seat seats) [
-      | inl l ↦ ap (λ (t : Told). entry_surveys seat t.log) (f.1 seat nobody l)
-      | inr g ↦ let n = f.0 in ap (λ (t : Told). entry_surveys seat t.log) (past_end cs seat nobody (omega (arith, n, g)))
-    ]
-
--- and then it tells the surveys of the block
-pub opened_tells : (first d : RingView ℕ) (b : Block) (seats : ℕ) (sorted : List SavedSurvey) → CanGoOnWith seats b → AreFresh seats first.clients → length d.clients ≡ length first.clients → IsOneThreadRing till 0 d →
-    Climbs 0 sorted → ((place : ℕ) → filter (stands_at place) sorted ≡ filter (stands_at place) b.surveys) → Surveyed first d sorted → surveys_told d.clients ≡ b.surveys
-opened_tells first d b seats sorted c clients many ring climbs places told =
-    all_told d b.surveys sorted ring c.right.order (subst (λ (n : ℕ). All (λ (s : SavedSurvey). s.seat < n) b.surveys) (sym (many ∙ clients.0)) c.surveyors) climbs places
-    (λ seat. told seat ∙ ap (λ (xs : List SavedSurvey). xs ++ filter (is_by seat) sorted) (told_none seats first.clients seat clients))
-
--- made once more, such a ring tells what the block does
-pub retold : (first d : RingView ℕ) (b : Block) (seats : ℕ) (surveys sorted given : List SavedSurvey) (events : List SavedEvent) (answer : Result (Unit {0}) ResumeError) → surveys ≡ b.surveys → given ≡ sorted → events ≡ b.events →
-    CanGoOnWith seats b → IsOpenedFor seats b first → Climbs 0 sorted → ((place : ℕ) → filter (stands_at place) sorted ≡ filter (stands_at place) surveys) → IsPermutation surveys sorted → OnOk answer (Keeps first d) →
-    (Awaits first (map event_of events) given → IfOk answer (λ _. (d.book.history ≡ map event_of events) × Surveyed first d given × IsOneThreadRing till 0 d) × IfErr answer (λ x. IsWantOfMemory x)) →
-    IfOk answer (λ _. Tells d b) × IfErr answer (λ x. IsWantOfMemory x)
-retold first d b seats surveys sorted given events (Ok u) v g e c o climbs places same kept made =
-    let ready : Awaits first (map event_of events) given =
-    subst (λ (xs : List SavedEvent). Awaits first (map event_of xs) given) (sym e)
-    (subst (λ (xs : List SavedSurvey). Awaits first (history b) xs) (sym g)
-    (opened_awaits first b seats sorted c o.ring o.fresh o.clients climbs (subst (λ (xs : List SavedSurvey). IsPermutation xs sorted) v same))) in
-    let done = (made ready).0 in
-    let told : Surveyed first d sorted = subst (λ (xs : List SavedSurvey). Surveyed first d xs) g done.1 in (
-      (
-        done.0 ∙ ap (λ (es : List SavedEvent). map event_of es) e,
-        opened_tells first d b seats sorted c o.clients kept.as_many done.2 climbs (subst (λ (xs : List SavedSurvey). (place : ℕ) → filter (stands_at place) sorted ≡ filter (stands_at place) xs) v places) told,
-      ),
-      tt,
-    )
-retold first d b seats surveys sorted given events (Err x) v g e c o climbs places same kept made =
-    let ready : Awaits first (map event_of events) given =
-    subst (λ (xs : List SavedEvent). Awaits first (map event_of xs) given) (sym e)
-    (subst (λ (xs : List SavedSurvey). Awaits first (history b) xs) (sym g)
-    (opened_awaits first b seats sorted c o.ring o.fresh o.clients climbs (subst (λ (xs : List SavedSurvey). IsPermutation xs sorted) v same))) in
-    (tt, (made ready).1)
-
-pub not_both : (b : Bool) → b ≡ true → b ≡ false → ⊥
-not_both true e f = absurd (cc)
-not_both false e f = absurd (cc)
+-- a block that can be resumed has right surveys
+pub right_surveys : (seats : ℕ) (b : Block) → CanGoOnWith seats b → All (IsSurvey till (opening (ring_with b.k b.start) 0) (history b)) (map survey_of b.surveys)
+right_surveys seats b c = All-map (IsSurvey till (opening (ring_with b.k b.start) 0) (history b)) survey_of b.surveys (λ i s l. (c.right.surveys i s l).right)

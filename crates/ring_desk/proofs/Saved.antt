@@ -1,29 +1,25 @@
 -- How a ring is spelled in a saved text, and that this text is legal.
-use Rattle.std.proofs.Common.{◌≡◌, ℕ, ◌+◌, ◌^◌, ◌<◌, ◌≤◌, List, [], ◌∷◌, ◌++◌, length, get_or, map, refl, sym, ◌∙◌, subst, arith}
+use Rattle.std.proofs.Common.{◌≡◌, ℕ, ◌+◌, List, [], ◌∷◌, length, get_or, map, refl, sym, ◌∙◌, subst, arith}
 use Rattle.std.specs.List.{All, flat_map, AllByRecursion}
 use Rattle.std.proofs.lemmas.List.{append-nil}
-use Rattle.std.proofs.lemmas.List.Concat.{flat_map-append}
 use Rattle.std.proofs.lemmas.List.Elements.{All-cons}
 use Rattle.std.proofs.lemmas.Option.{slice_get_within, get_or_from_slice_get}
-use Rattle.ring_model.specs.Limits.{value_limit}
 use Rattle.ring_model.specs.Resources.{till}
 use Rattle.ring_model.specs.History.{opening}
 use Rattle.ring_model.specs.declared.events.Survey.{Survey}
-use Rattle.ring_logs.specs.Told.{Told}
+use Rattle.ring_logs.specs.LogView.{LogView}
 use Rattle.ring_saved.specs.declared.saved.SavedSurvey.{SavedSurvey}
 use Rattle.ring_saved.specs.Content.{Block}
 use Rattle.ring_saved.specs.Versions.{latest_version}
-use Rattle.ring_saved.specs.Spelling.{survey_line, block_text, EventFits, SurveyFits, BlockFits, Fits}
+use Rattle.ring_saved.specs.Spelling.{survey_line, block_text, SurveyFits, BlockFits, Fits}
 use Rattle.ring_saved.proofs.Passing.{Spelled}
 use Rattle.ring_check.specs.Legal.{IsLegalText}
 use Rattle.ring_check.specs.Meaning.{IsRightBlock}
 use Rattle.ring_check.proofs.Meanings.{legal_means}
-use Rattle.ring_text.specs.SavedOf.{saved_event, saved_survey}
-use Rattle.ring_text.proofs.SavedParts.{small_below}
-use Rattle.ring_text.proofs.WrittenTexts.{ArePlaced, parts_right}
-use Rattle.ring_desk.specs.Clients.{ClientView}
+use Rattle.ring_blocks.specs.SavedOf.{saved_survey}
+use Rattle.ring_blocks.proofs.WrittenBlocks.{ArePlaced, parts_right}
 use Rattle.ring_desk.specs.Rings.{RingView, IsOneThreadRing, IsClient}
-use Rattle.ring_desk.specs.Texts.{surveys_told, client_surveys, surveys_kept, saved_block, saved_alone}
+use Rattle.ring_desk.specs.Texts.{saved_block, saved_alone}
 
 -- ---- surveys
 
@@ -42,50 +38,7 @@ SurveyFit seat i s = SurveyFits (saved_survey seat s)
 pub surveys_spelled : (seat : ℕ) → Spelled (survey_text seat) (surveys_text seat) (SurveyFit seat) (SurveysFit seat)
 surveys_spelled seat = record { none = λ i. refl; next = λ i s ss. refl; fits_none = λ i. tt; fits_next = λ i s ss f h. (f, h) }
 
--- ---- clients
-
-abbrev pub clients_text : ℕ → List ClientView → List ℕ
-clients_text i cs = flat_map survey_line (surveys_kept cs)
-
-abbrev pub ClientsFit : ℕ → List ClientView → Type 0
-ClientsFit i cs = AllByRecursion SurveyFits (surveys_kept cs)
-
-abbrev pub client_text : ℕ → ClientView → List ℕ
-client_text i c = flat_map survey_line (client_surveys c)
-
-abbrev pub ClientFit : ℕ → ClientView → Type 0
-ClientFit i c = AllByRecursion SurveyFits (client_surveys c)
-
-all_append : (xs ys : List SavedSurvey) → AllByRecursion SurveyFits xs → AllByRecursion SurveyFits ys → AllByRecursion SurveyFits (xs ++ ys)
-all_append [] ys p q = q
-all_append (x ∷ xs) ys p q = (p.0, all_append xs ys p.1 q)
-
-pub clients_spelled : Spelled client_text clients_text ClientFit ClientsFit
-clients_spelled = record {
-  none = λ i. refl;
-  next = λ i c cs. flat_map-append survey_line (client_surveys c) (surveys_kept cs);
-  fits_none = λ i. tt;
-  fits_next = λ i c cs f h. all_append (client_surveys c) (surveys_kept cs) f h;
-}
-
 -- ---- rings
-
--- a block fits: its start and the number of its events are small
-pub block_fits : (place : ℕ) (d : RingView ℕ) → place < 2 ^ 32 → IsOneThreadRing till 0 d → AllByRecursion (EventFits latest_version) (map saved_event d.book.history) → AllByRecursion SurveyFits (surveys_told d.clients) → BlockFits latest_version (saved_block place d)
-block_fits place d small k events surveys =
-    let state = k.book.start_ring in
-    let two : 2 ≤ length d.book.start.values = state.ring.two in
-    let enough : length d.book.start.values ≤ d.book.start.k = state.ring.enough in
-    let most : d.book.start.k ≤ value_limit = state.most in
-    let few = k.book.bounded in
-    record {
-      head = record { index = small; some = omega (arith, two); n = omega (arith, enough, most); k = omega (arith, most) };
-      start = refl;
-      values = small_below d.book.start.k d.book.start.values state.ring.below (omega (arith, most));
-      events = events;
-      events_said = omega (arith, few);
-      surveys = surveys;
-    }
 
 -- the one block of a text
 pub alone_text : (d : RingView ℕ) → flat_map block_text (saved_block 0 d ∷ []) ≡ block_text (saved_block 0 d)
@@ -95,17 +48,17 @@ pub alone_fits : (d : RingView ℕ) → BlockFits latest_version (saved_block 0 
 alone_fits d block = record { version = (omega arith, omega arith); some = omega arith; rings = (block, tt); rings_said = omega arith }
 
 -- each client's log is placed
-placed : (d : RingView ℕ) → IsOneThreadRing till 0 d → ArePlaced Told (λ c. c.number) (λ c. c.log) (opening d.book.start 0) d.book.history 0 d.clients
+placed : (d : RingView ℕ) → IsOneThreadRing till 0 d → ArePlaced LogView (λ c. c.number) (λ c. c.log) (opening d.book.start 0) d.book.history 0 d.clients
 placed d k i c at =
     let client : IsClient till 0 d.book i (get_or d.clients i c) = k.each i c (slice_get_within d.clients i c at) in
-    let here : IsClient till 0 d.book i c = subst (λ (x : Told). IsClient till 0 d.book i x) (get_or_from_slice_get d.clients i c c at) client in
+    let here : IsClient till 0 d.book i c = subst (λ (x : LogView). IsClient till 0 d.book i x) (get_or_from_slice_get d.clients i c c at) client in
     let same : 0 + i ≡ i = omega arith in
     (here.number ∙ sym same, here.fits.entries)
 
 pub ring_right : (place : ℕ) (d : RingView ℕ) → IsOneThreadRing till 0 d → IsRightBlock latest_version place (saved_block place d)
 ring_right place d k =
     let start = k.book.start_ring in
-    parts_right Told (λ c. c.number) (λ c. c.log) place d.book.start d.book.history d.clients start.ring start.most_machines start.most (k.book.legal, k.book.whole) k.few k.of_seats (placed d k)
+    parts_right LogView (λ c. c.number) (λ c. c.log) place d.book.start d.book.history d.clients start.ring start.most_machines start.most (k.book.legal, k.book.whole) k.few k.of_seats (placed d k)
 
 pub alone_legal : (d : RingView ℕ) → IsOneThreadRing till 0 d → IsLegalText (saved_alone d)
 alone_legal d k =

@@ -1,4 +1,4 @@
--- What clients were told, where the history grows and where one is told a survey.
+-- The logs of clients, where the history grows and where one is given a survey.
 use Rattle.std.proofs.Common.{◌≡◌, ℕ, ◌+◌, ◌-◌, ◌<◌, ◌≤◌, ◌==◌, Bool, true, false, cond, List, [], ◌∷◌, ◌++◌, length, map, take, drop, get_or, set, append_assoc, refl, sym, ◌∙◌, ap, subst, inl, inr, arith, get_or-set_same, get_or-set_other}
 use Rattle.std.specs.List.{slice_range}
 use Rattle.std.proofs.lemmas.Bool.{cases_eq, cond-true, cond-false, eq-eqb, ne_eqb}
@@ -9,10 +9,10 @@ use Rattle.ring_model.specs.declared.events.Receipt.{Receipt}
 use Rattle.ring_model.specs.declared.events.Survey.{Survey}
 use Rattle.ring_model.specs.declared.events.Entry.{Entry}
 use Rattle.ring_model.specs.declared.events.Entry.TheVariants as entry
-use Rattle.ring_logs.specs.Told.{Told}
+use Rattle.ring_logs.specs.LogView.{LogView}
 use Rattle.ring_saved.specs.declared.saved.SavedSurvey.{SavedSurvey}
-use Rattle.ring_shared.specs.Groups.{receipts_from}
-use Rattle.ring_text.specs.SavedOf.{saved_survey, entry_surveys}
+use Rattle.ring_logs.specs.Seats.{receipts_from}
+use Rattle.ring_blocks.specs.SavedOf.{saved_survey, entry_surveys}
 use Rattle.ring_desk.specs.Rings.{grown, told_more}
 use Rattle.ring_desk.specs.Texts.{surveys_told, surveys_kept}
 use Rattle.ring_desk.specs.Clients.{ClientView, receipts_by, log_from, told_of, told_all, with_survey_at, StandInOrder, AllStandInOrder}
@@ -55,17 +55,17 @@ pub within_end : (place end : ℕ) (ss : List Survey) → StandInOrder place end
 within_end place end [] o = o
 within_end place end (s ∷ ss) o = let one = o.0 in let rest = within_end s.position end ss o.1 in omega (arith, one, rest)
 
--- the next of these surveys stands before the end
+-- the next of these surveys is before the end
 pub next_within : (place end i : ℕ) (ss : List Survey) (d : Survey) → i < length ss → StandInOrder place end (drop i ss) → (get_or ss i d).position ≤ end
 next_within place end i ss d l o =
     let now : StandInOrder place end (get_or ss i d ∷ drop (i + 1) ss) = subst (λ (xs : List Survey). StandInOrder place end xs) (drop_more ss i d l) o in
     within_end (get_or ss i d).position end (drop (i + 1) ss) now.1
 
-in_order_longer : (place end longer : ℕ) (ss : List Survey) → end ≤ longer → StandInOrder place end ss → StandInOrder place longer ss
+pub in_order_longer : (place end longer : ℕ) (ss : List Survey) → end ≤ longer → StandInOrder place end ss → StandInOrder place longer ss
 in_order_longer place end longer [] l o = omega (arith, l, o)
 in_order_longer place end longer (s ∷ ss) l o = (o.0, in_order_longer s.position end longer ss l o.1)
 
-in_order_push : (place end : ℕ) (ss : List Survey) (s : Survey) → s.position ≡ end → StandInOrder place end ss → StandInOrder place end (ss ++ s ∷ [])
+pub in_order_push : (place end : ℕ) (ss : List Survey) (s : Survey) → s.position ≡ end → StandInOrder place end ss → StandInOrder place end (ss ++ s ∷ [])
 in_order_push place end [] s e o = (omega (arith, e, o), omega (arith, e))
 in_order_push place end (x ∷ ss) s e o = (o.0, in_order_push x.position end ss s e o.1)
 
@@ -93,7 +93,7 @@ log_longer seat place h es (s ∷ ss) o =
     λ i. receipts_by seat place (part i) ++ entry.Survey s ∷ rest i in
     both ∙ sym (append_assoc (receipts_by seat place (slice_range h place s.position)) (entry.Survey s ∷ log_from seat s.position h ss) (receipts_by seat (length h) es))
 
--- with a survey of the end besides
+-- also with a survey of the end
 log_surveyed : (seat place : ℕ) (h : List Event) (ss : List Survey) (s : Survey) → s.position ≡ length h → StandInOrder place (length h) ss →
     log_from seat place h (ss ++ s ∷ []) ≡ log_from seat place h ss ++ entry.Survey s ∷ []
 log_surveyed seat place h [] s e o =
@@ -106,17 +106,17 @@ log_surveyed seat place h (x ∷ ss) s e o =
 
 -- ---- clients
 
--- clients of which each has its place as its number
+-- clients, each with its place as its number
 abbrev pub AreNumbered : List ClientView → Type 0
 AreNumbered cs = (i : ℕ) (c : ClientView) → i < length cs → (get_or cs i c).number ≡ i
 
--- the client whose events the history grew by was told of them, and no other anything
+-- the client whose events the history grew by has their receipts, and no other anything new
 pub told_grown : (h es : List Event) (cs : List ClientView) (seat : ℕ) → AreNumbered cs → seat < length cs → AreOf seat es → AllStandInOrder (length h) cs →
     told_all (h ++ es) cs ≡ told_more (told_all h cs) seat (receipts_from (length h) es)
 told_grown h es cs seat numbered within of order =
-    let nobody : Told = record { number = seat; log = [] } in
+    let nobody : LogView = record { number = seat; log = [] } in
     let more : List Entry = receipts_from (length h) es in
-    let is : Told = grown (get_or (told_all h cs) seat nobody) more in
+    let is : LogView = grown (get_or (told_all h cs) seat nobody) more in
     let as_many : length (told_more (told_all h cs) seat more) ≡ length cs = length-set (told_all h cs) seat is ∙ length-map cs (told_of h) in
     let as_many_before : length (told_all (h ++ es) cs) ≡ length cs = length-map cs (told_of (h ++ es)) in
     same_lists (told_all (h ++ es) cs) (told_more (told_all h cs) seat more) (as_many_before ∙ sym as_many) (λ i d l.
@@ -134,7 +134,7 @@ told_grown h es cs seat numbered within of order =
           ap (λ (k : ℕ). get_or (told_more (told_all h cs) seat more) k d) same ∙ get_or-set_same (told_all h cs) seat is d (subst (λ (n : ℕ). seat < n) (sym (length-map cs (told_of h))) within) in
           let log : log_from c.number 0 (h ++ es) c.surveys ≡ log_from c.number 0 h c.surveys ++ more = longer ∙ ap (λ (es : List Entry). log_from c.number 0 h c.surveys ++ es) own in
           let grew : told_of (h ++ es) c ≡ grown (told_of h c) more = λ j. record { number = c.number; log = log j } in
-          now ∙ (grew ∙ (ap (λ (t : Told). grown t more) (sym was) ∙ sym there))
+          now ∙ (grew ∙ (ap (λ (t : LogView). grown t more) (sym was) ∙ sym there))
       | inr ne ↦
           let other : (c.number ≡ seat → ⊥) = λ q. ne (sym (numbered i none lt) ∙ q) in
           let nothing : receipts_by c.number (length h) es ≡ [] = receipts_none seat c.number (length h) es other of in
@@ -157,7 +157,7 @@ module _ (h : List Event) (cs : List ClientView) (seat : ℕ) (s : Survey) (with
   abbrev client : ClientView
   client = get_or cs seat nobody
 
-  -- the client of this number was told a survey of the end, and no other anything
+  -- the client of this number was given a survey of the end, and no other anything
   pub told_surveyed : told_all h (with_survey_at cs seat s) ≡ told_more (told_all h cs) seat (entry.Survey s ∷ [])
   told_surveyed =
       let log : log_from client.number 0 h (client.surveys ++ s ∷ []) ≡ log_from client.number 0 h client.surveys ++ entry.Survey s ∷ [] =
@@ -165,7 +165,7 @@ module _ (h : List Event) (cs : List ClientView) (seat : ℕ) (s : Survey) (with
       let was : get_or (told_all h cs) seat (record { number = seat; log = [] }) ≡ told_of h client = get_or-map (told_of h) cs seat nobody (record { number = seat; log = [] }) within in
       let told : told_of h (with_survey client s) ≡ grown (told_of h client) (entry.Survey s ∷ []) = λ j. record { number = client.number; log = log j } in
       map-set (told_of h) cs seat (with_survey client s)
-      ∙ ap (λ (t : Told). set (told_all h cs) seat t) (told ∙ ap (λ (t : Told). grown t (entry.Survey s ∷ [])) (sym was))
+      ∙ ap (λ (t : LogView). set (told_all h cs) seat t) (told ∙ ap (λ (t : LogView). grown t (entry.Survey s ∷ [])) (sym was))
 
   pub order_surveyed : AllStandInOrder (length h) (with_survey_at cs seat s)
   order_surveyed = All-set (λ (c : ClientView). StandInOrder 0 (length h) c.surveys) cs seat (with_survey client s)

@@ -1,5 +1,5 @@
 pub mod Clients
 pub mod Rings
+pub mod Refusals
 pub mod Texts
 pub mod Resuming
-pub mod Replaying

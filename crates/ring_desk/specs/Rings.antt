@@ -1,6 +1,6 @@
--- What contracts see of a ring that is called by numbers, on one thread (this project's own).
-use Rattle.std.specs.Prelude.{◌≡◌, ◌≢◌, ℕ, ◌+◌, ◌<◌, ◌≤◌, ◌⊎◌, List, [], ◌∷◌, ◌++◌, length, slice_set, slice_index_or}
-use Rattle.ring_model.specs.Limits.{event_limit, machine_limit, seat_limit, value_limit}
+-- A ring on one thread that is called by numbers, as contracts see it (this project's own).
+use Rattle.std.specs.Prelude.{◌≡◌, ℕ, ◌<◌, ◌≤◌, ◌⊎◌, List, [], ◌∷◌, ◌++◌, length, slice_set, slice_index_or}
+use Rattle.ring_model.specs.Limits.{machine_limit, seat_limit, value_limit}
 use Rattle.ring_state.specs.Sizes.{Size, IsSize}
 use Rattle.ring_state.specs.StateFault.{IsFaultOf}
 use Rattle.ring_state.specs.declared.sizes.ParamsError.{ParamsError}
@@ -8,59 +8,56 @@ use Rattle.ring_state.specs.declared.sizes.ParamsError.TheVariants as params
 use Rattle.ring_state.specs.declared.states.StateError.{StateError}
 use Rattle.ring_state.specs.declared.states.StateError.TheVariants as state
 use Rattle.ring_model.specs.History.{Works, opening}
-use Rattle.ring_model.specs.Groups.{Rises}
-use Rattle.ring_model.specs.GroupLaws.{CanMove}
 use Rattle.ring_model.specs.Logs.{Fits}
 use Rattle.ring_model.specs.declared.events.Entry.{Entry}
-use Rattle.ring_logs.specs.Told.{Told}
+use Rattle.ring_logs.specs.LogView.{LogView}
 use Rattle.ring_book.specs.BookView.{BookView, IsBook}
-use Rattle.ring_book.specs.GroupView.{IsLeastWithout}
 use Rattle.ring_book.specs.declared.events.BookError.{BookError}
 use Rattle.ring_book.specs.declared.events.BookError.TheVariants as book
 use Rattle.ring_book.specs.declared.books.groups.GroupError.{GroupError}
 use Rattle.ring_book.specs.declared.books.groups.GroupError.TheVariants as group
-use Rattle.ring_shared.specs.Holding.{AreOfSeats}
-use Rattle.ring_shared.specs.declared.seats.Log.{Log}
+use Rattle.ring_logs.specs.Seats.{AreOfSeats}
+use Rattle.ring_logs.specs.declared.logs.Log.{Log}
 use Rattle.ring_desk.specs.Clients.{ClientView, told_all, AllStandInOrder}
 use Rattle.ring_desk.specs.declared.errors.CallError.{CallError}
 use Rattle.ring_desk.specs.declared.errors.CallError.TheVariants as call
 use Rattle.ring_desk.specs.declared.errors.OpenError.{OpenError}
 use Rattle.ring_desk.specs.declared.errors.OpenError.TheVariants as opens
 
--- the book, and what each client was told
+-- the book, and the log of each client
 pub record RingView (C : Type 0) : Type 0 where
   pub book : BookView C
-  pub clients : List Told
+  pub clients : List LogView
 
 -- the client has its place as its number, and its log fits the history
-pub record IsClient {C : Type 0} (w : Works C) (first : C) (b : BookView C) (place : ℕ) (c : Told) :
+pub record IsClient {C : Type 0} (w : Works C) (first : C) (b : BookView C) (place : ℕ) (c : LogView) :
     Type 0 where
   pub number : c.number ≡ place
   pub fits : Fits w (opening b.start first) b.history place c.log
 
--- What is true of such a ring at every moment: its history is a legal and whole one of the
+-- The invariant of such a ring at every moment: its history is a legal and whole one of the
 -- one-thread ring over the resource, each event's seat is a client's, and each client's log fits
 -- it.
 pub record IsOneThreadRing {C : Type 0} (w : Works C) (first : C) (d : RingView C) : Type 0 where
   pub book : IsBook w first d.book
   pub few : length d.clients ≤ seat_limit
   pub of_seats : AreOfSeats (length d.clients) d.book.history
-  pub each : (i : ℕ) (c : Told) → i < length d.clients
+  pub each : (i : ℕ) (c : LogView) → i < length d.clients
       → IsClient w first d.book i (slice_index_or d.clients i c)
 
--- such a ring with what these clients were told of its history, each of whose surveys stand in
+-- such a ring with these clients' logs of its history, where the surveys of each are in
 -- their order
 pub record IsKeptBy {C : Type 0} (w : Works C) (first : C) (b : BookView C) (cs : List ClientView) :
     Type 0 where
   pub ring : IsOneThreadRing w first (record { book = b; clients = told_all b.history cs })
   pub in_order : AllStandInOrder (length b.history) cs
 
--- a client that was told this besides
-abbrev pub grown : Told → List Entry → Told
+-- a client that was also given this
+abbrev pub grown : LogView → List Entry → LogView
 grown c es = record { number = c.number; log = c.log ++ es }
 
--- the client of this number was told this besides, and no other anything
-abbrev pub told_more : List Told → ℕ → List Entry → List Told
+-- the client of this number was also given this, and no other anything
+abbrev pub told_more : List LogView → ℕ → List Entry → List LogView
 told_more cs seat es =
     slice_set cs seat (grown (slice_index_or cs seat (record { number = seat; log = [] })) es)
 
@@ -75,52 +72,14 @@ group_refusal_of (group.NotPrivileged m) = call.NotPrivileged m
 group_refusal_of group.HistoryFull = call.HistoryFull
 group_refusal_of group.OutOfMemory = call.OutOfMemory
 
--- why a pass is refused
-abbrev pub IsPassFault : {C : Type 0} → RingView C → ℕ → ℕ → CallError → Type 0
-IsPassFault d seat machine call.NoSeat = length d.clients ≤ seat
-IsPassFault d seat machine call.NoMachine = length d.book.now.ring.values ≤ machine
-IsPassFault d seat machine call.HistoryFull = length d.book.history ≡ event_limit
-IsPassFault d seat machine call.OutOfMemory = Unit {0}
-IsPassFault d seat machine _ = ⊥
-
--- why a fault is refused
-abbrev pub IsCorruptFault : {C : Type 0} → RingView C → ℕ → ℕ → ℕ → CallError → Type 0
-IsCorruptFault d seat machine value call.NoValue = d.book.now.ring.k ≤ value
-IsCorruptFault d seat machine value e = IsPassFault d seat machine e
-
--- why a survey is refused
-abbrev pub IsSurveyFault : {C : Type 0} → RingView C → ℕ → CallError → Type 0
-IsSurveyFault d seat call.NoSeat = length d.clients ≤ seat
-IsSurveyFault d seat call.OutOfMemory = Unit {0}
-IsSurveyFault d seat _ = ⊥
-
--- the machines of a group: at least one, rising, and each below n
-abbrev pub IsRisingGroup : ℕ → List ℕ → Type 0
-IsRisingGroup n machines = Rises 0 n machines × (1 ≤ length machines)
-
--- why a group pass is refused
-abbrev pub IsGroupRefusal : {C : Type 0} → RingView C → ℕ → List ℕ → CallError → Type 0
-IsGroupRefusal d seat machines call.NoSeat = length d.clients ≤ seat
-IsGroupRefusal d seat machines call.NotRising =
-    IsRisingGroup (length d.book.now.ring.values) machines → ⊥
-IsGroupRefusal d seat machines call.WholeRing = length machines ≡ length d.book.now.ring.values
-IsGroupRefusal d seat machines (call.NotPrivileged m) =
-    (length machines ≢ length d.book.now.ring.values)
-    × IsLeastWithout d.book.now.ring.values machines m
-IsGroupRefusal d seat machines call.HistoryFull =
-    CanMove d.book.now.ring.values machines
-    × (event_limit < length d.book.history + length machines)
-IsGroupRefusal d seat machines call.OutOfMemory = Unit {0}
-IsGroupRefusal d seat machines _ = ⊥
-
--- so many clients, each with its place as its number, that were told nothing
-abbrev pub AreFresh : ℕ → List Told → Type 0
+-- n clients, each with its place as its number, that have empty logs
+abbrev pub AreFresh : ℕ → List LogView → Type 0
 AreFresh count cs =
     (length cs ≡ count)
-    × ((i : ℕ) (c : Told) → i < count → slice_index_or cs i c ≡ record { number = i; log = [] })
+    × ((i : ℕ) (c : LogView) → i < count → slice_index_or cs i c ≡ record { number = i; log = [] })
 
 -- the logs are those of the clients, in their order
-abbrev pub AreLogsOf : List Told → List Log → Type 0
+abbrev pub AreLogsOf : List LogView → List Log → Type 0
 AreLogsOf [] ls = ls ≡ []
 AreLogsOf (c ∷ cs) [] = ⊥
 AreLogsOf (c ∷ cs) (l ∷ ls) = ((l.seat ≡ c.number) × (l.entries.items ≡ c.log)) × AreLogsOf cs ls
@@ -144,7 +103,7 @@ IsSizeFault size params.ManyValues =
     (2 ≤ size.n) × (size.n ≤ machine_limit) × (value_limit < size.k)
 
 -- Each refusal to open a ring says which fault is the first: the seats, the size, the number of
--- start values, the least of them that is not below K; want of memory only where there is none of
+-- start values, the least of them that is not below K; out of memory only where there is none of
 -- these.
 abbrev pub IsOpenFault : Size → List ℕ → ℕ → OpenError → Type 0
 IsOpenFault size start seats opens.Seats = (seats ≡ 0) ⊎ (seat_limit < seats)

@@ -1,19 +1,19 @@
 -- The saved text of a ring that is called by numbers (this project's own).
-use Rattle.std.specs.Prelude.{◌≡◌, ℕ, List, [], ◌∷◌, length, map}
+use Rattle.std.specs.Prelude.{◌≡◌, ℕ, List, [], ◌∷◌, map}
 use Rattle.std.specs.List.{flat_map}
-use Rattle.ring_logs.specs.Told.{Told}
+use Rattle.ring_logs.specs.LogView.{LogView}
 use Rattle.ring_saved.specs.declared.saved.SavedSurvey.{SavedSurvey}
 use Rattle.ring_saved.specs.Content.{Block, Content}
 use Rattle.ring_saved.specs.Spelling.{text}
 use Rattle.ring_saved.specs.Versions.{latest_version}
 use Rattle.ring_check.specs.Legal.{IsLegalText}
-use Rattle.ring_text.specs.SavedOf.{saved_event, saved_survey, entry_surveys}
+use Rattle.ring_blocks.specs.SavedOf.{saved_survey, entry_surveys, block_by}
 use Rattle.ring_desk.specs.Clients.{ClientView}
 use Rattle.ring_desk.specs.Rings.{RingView}
 
--- the surveys that the saved text of a ring tells: those of its clients' logs, client by client
-abbrev pub surveys_told : List Told → List SavedSurvey
-surveys_told cs = flat_map (λ (c : Told). entry_surveys c.number c.log) cs
+-- the surveys in the saved text of a ring: those of its clients' logs, client by client
+abbrev pub surveys_told : List LogView → List SavedSurvey
+surveys_told cs = flat_map (λ (c : LogView). entry_surveys c.number c.log) cs
 
 -- the same, by the surveys that each client keeps
 abbrev pub client_surveys : ClientView → List SavedSurvey
@@ -25,17 +25,9 @@ surveys_kept cs = flat_map client_surveys cs
 -- the block of a ring at its place: its start, its history, and the surveys of its clients' logs,
 -- client by client
 abbrev pub saved_block : ℕ → RingView ℕ → Block
-saved_block place d = record {
-  index = place;
-  n = length d.book.start.values;
-  k = d.book.start.k;
-  start = d.book.start.values;
-  events = map saved_event d.book.history;
-  events_said = length d.book.history;
-  surveys = surveys_told d.clients;
-}
+saved_block place d = block_by place d.book.start d.book.history (surveys_told d.clients)
 
--- what is saved of a ring by itself, in the latest version
+-- the saved text of a ring by itself, in the latest version
 abbrev pub saved_alone : RingView ℕ → Content
 saved_alone d = record { version = latest_version; rings = saved_block 0 d ∷ []; rings_said = 1 }
 

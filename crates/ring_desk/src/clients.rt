@@ -1,4 +1,4 @@
-//! The clients of a ring: their numbers, and what each was told.
+//! The clients of a ring: their numbers, and the surveys of each.
 ghost use Rattle.std.specs.Prelude.{◌≡◌, ◌<◌, ◌≤◌, ◌^◌, ◌+◌, ◌++◌, ◌∷◌, [], length, IfOk, OnOk, OnErr};
 ghost use Rattle.std.specs.List.{slice_range};
 ghost use Rattle.ring_model.specs.Limits.{seat_limit};
@@ -8,8 +8,8 @@ use ring_model::{Entry, Event, Receipt, Survey};
 use std::alloc::{AllocError, Global};
 use std::marker::Model;
 
-/// One client's number, and the surveys that it was told, in order. Contracts see the two. The receipts of its calls are not
-/// kept: its events stand in the history.
+/// One client's number, and the surveys that it was given, in order. Contracts see the two. The receipts of its calls are not
+/// kept: its events are in the history.
 #[derive(Drop)]
 pub struct Client {
     number: u32,
@@ -29,7 +29,7 @@ impl Model for Client {
 }
 
 impl Client {
-    /// A client that was told nothing.
+    /// A client with no surveys.
     pub(crate) fn new(alloc: Global, number: u32) -> Client
         requires { number < seat_limit }
         ensures { result ≡ record { number = number; surveys = [] } }
@@ -48,14 +48,14 @@ impl Client {
         self.number
     }
 
-    /// The surveys that the client was told, in order.
+    /// The surveys that the client was given, in order.
     pub fn surveys(&self) -> &[Survey]
         ensures { result.now ≡ self.now.surveys }
     {
         self.surveys.as_slice()
     }
 
-    /// Tells the client a survey.
+    /// Gives the client a survey.
     pub(crate) fn tell(&mut self, survey: Survey) -> Result<(), AllocError>
         ensures told { OnOk result (self.new
             ≡ record { number = self.old.number; surveys = self.old.surveys ++ survey ∷ [] }) }
@@ -66,7 +66,7 @@ impl Client {
         Ok(())
     }
 
-    /// What the client was told, in order, where this is the history.
+    /// Returns the client's log, in order, where this is the history.
     pub(crate) fn log(&self, alloc: Global, history: &[Event]) -> Result<Vec<Entry>, AllocError>
         requires { StandInOrder 0 (length history.now) self.now.surveys }
         ensures { IfOk result
@@ -76,7 +76,7 @@ impl Client {
     }
 }
 
-/// Logs the receipts of a seat's own events among those that stand one behind the other in a history, from `first` on.
+/// Logs the receipts of a seat's own events among those that follow one another in a history, from `first` on.
 fn log_events(
     log: &mut Vec<Entry>,
     seat: u32,
@@ -115,7 +115,7 @@ fn log_part(
     log_events(log, seat, &history[from..to], from as u64)
 }
 
-/// What a seat was told: the receipts of its events, with these surveys at their places among them.
+/// Returns the log of a seat: the receipts of its events, with these surveys at their places among them.
 fn log_of(
     alloc: Global,
     history: &[Event],

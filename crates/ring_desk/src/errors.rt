@@ -7,13 +7,13 @@ use std::alloc::{AllocError, AllocFailed};
 /// Why a ring is not opened.
 #[derive(Clone, Copy, Drop, PartialEq, Eq)]
 pub enum OpenError {
-    /// The size is none that a ring may have.
+    /// No ring may have this size.
     Size(ParamsError),
     /// The start has another number of values than machines.
     Length,
     /// The index of the first start value that is not below K.
     Value(usize),
-    /// There are no seats, or more than `SEAT_LIMIT`.
+    /// No seats are asked for, or more than `SEAT_LIMIT`.
     Seats,
     OutOfMemory,
 }

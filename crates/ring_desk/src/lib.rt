@@ -1,6 +1,6 @@
-//! A ring on one thread with its clients' logs, called by numbers: for callers whom no type keeps right, as a program
-//! in another language or a line of text. Each number is looked at, and what is saved of the ring is legal at every
-//! moment.
+//! A ring on one thread with its clients' logs, called by numbers: for callers that no type keeps right, such as a
+//! program in another language or a line of text. Each number is checked, and the saved text of the ring is legal at
+//! every moment.
 #![tactic(auto)]
 
 mod clients;

@@ -1,58 +1,43 @@
-//! A ring that goes on where a saved ring ended.
-ghost use Rattle.std.specs.Prelude.{◌≡◌, ℕ, ◌↔◌, map, length, IsTrue, IfOk, IfErr, OnOk};
+//! A ring that resumes where a saved ring ended.
+ghost use Rattle.std.specs.Prelude.{◌≡◌, ◌↔◌, ◌≤◌, map, length, All, IsTrue, IfOk, IfErr};
 ghost use Rattle.ring_model.specs.Ring.{ring_with};
 ghost use Rattle.ring_model.specs.Resources.{till};
+ghost use Rattle.ring_model.specs.History.{opening};
+ghost use Rattle.ring_model.specs.Groups.{IsHistory};
+ghost use Rattle.ring_model.specs.Limits.{event_limit, seat_limit};
+ghost use Rattle.ring_model.specs.Logs.{IsSurvey};
+ghost use Rattle.ring_book.specs.BookView.{IsBook};
+ghost use Rattle.ring_logs.specs.Seats.{AreOfSeats};
 ghost use Rattle.ring_saved.specs.Content.{block_of};
 ghost use Rattle.ring_check.specs.Table.{event_of};
+ghost use Rattle.ring_check.specs.Meaning.{survey_of};
 ghost use Rattle.ring_desk.specs.Rings.{IsOneThreadRing};
 ghost use Rattle.ring_desk.specs.Texts.{surveys_told};
-ghost use Rattle.ring_desk.specs.Replaying.{Keeps};
-ghost use Rattle.ring_desk.specs.Resuming.{CanGoOnWith, IsOpenedFor, Tells, IsWantOfMemory};
+ghost use Rattle.ring_desk.specs.Resuming.{CanGoOnWith, IsWantOfMemory};
 
-mod lines;
-mod replays;
+mod events;
 mod surveys;
 
 use crate::errors::{CallError, OpenError};
-use crate::rings::OneThreadRing;
-use lines::are_events;
-use ring_book::Till;
-use ring_saved::SavedRing;
+use crate::rings::{OneThreadRing, start_of};
+use events::{are_seated, events_of};
+use ring_book::{Book, HistoryError, Till};
+use ring_logs::surveys_fit;
+use ring_saved::{SavedEvent, SavedRing, SavedSurvey};
+use ring_state::RingState;
 use std::alloc::{AllocError, Global};
-use surveys::{are_surveys, by_place, replay_all, surveys_of};
+use surveys::{clients_of, surveys_of};
 
-/// Why a saved ring is not gone on with.
+/// Why a saved ring is not resumed.
 #[derive(Clone, Copy, Drop, PartialEq, Eq)]
 pub enum ResumeError {
-    /// There is no such ring, or no such seats.
+    /// A ring or seats like that do not exist.
     Open(OpenError),
-    /// A call of the history is refused.
+    /// A call of the history is refused: a seat that there is not, or too many events.
     Call(CallError),
     /// The history or the surveys are not the one-thread ring's.
     Differs,
     OutOfMemory,
-}
-
-impl From<OpenError> for ResumeError {
-    ghost use Rattle.std.specs.Prelude.{◌≡◌};
-    ghost use Rattle.ring_desk.specs.declared.resuming.ResumeError.TheVariants as resume;
-
-    ghost from_gives = { λ b e. e ≡ resume.Open b };
-
-    fn from(error: OpenError) -> ResumeError {
-        ResumeError::Open(error)
-    }
-}
-
-impl From<CallError> for ResumeError {
-    ghost use Rattle.std.specs.Prelude.{◌≡◌};
-    ghost use Rattle.ring_desk.specs.declared.resuming.ResumeError.TheVariants as resume;
-
-    ghost from_gives = { λ b e. e ≡ resume.Call b };
-
-    fn from(error: CallError) -> ResumeError {
-        ResumeError::Call(error)
-    }
 }
 
 impl From<AllocError> for ResumeError {
@@ -66,63 +51,65 @@ impl From<AllocError> for ResumeError {
     }
 }
 
-/// Makes the calls and the surveys of a saved ring, in a ring that was opened for it.
-fn retell(
-    alloc: Global,
-    ring: &mut OneThreadRing<Till>,
-    saved: &SavedRing,
-) -> Result<(), ResumeError>
-    ensures kept { OnOk result (Keeps ring.old ring.new) }
-    ensures goes { (seats : ℕ) → CanGoOnWith seats (block_of saved.now)
-        → IsOpenedFor seats (block_of saved.now) ring.old
-        → IfOk result (λ _. Tells ring.new (block_of saved.now))
-        × IfErr result (λ e. IsWantOfMemory e) }
+/// Why a history is not resumed.
+fn history_refused(error: HistoryError) -> ResumeError
+    ensures { error ≡ HistoryError.OutOfMemory → IsWantOfMemory result }
 {
-    let Ok(surveys) = by_place(alloc, &saved.surveys) else {
+    match error {
+        HistoryError::WrongEvent(_) | HistoryError::BrokenGroup => ResumeError::Differs,
+        HistoryError::HistoryFull => ResumeError::Call(CallError::HistoryFull),
+        HistoryError::OutOfMemory => ResumeError::OutOfMemory,
+    }
+}
+
+/// Returns the book of the event lines, which are calls of this many seats.
+fn book_of(
+    alloc: Global,
+    start: RingState,
+    events: &[SavedEvent],
+    seats: u32,
+) -> Result<Book<Till>, ResumeError>
+    ensures book { IfOk result (λ b. IsBook till 0 b) }
+    ensures start { IfOk result (λ b. b.start ≡ start) }
+    ensures history { IfOk result (λ b. b.history ≡ map event_of events.now) }
+    ensures seats { IfOk result (λ b. AreOfSeats seats b.history) }
+    ensures legal { IsHistory till (opening start 0) (map event_of events.now)
+        → AreOfSeats seats (map event_of events.now) → seats ≤ seat_limit
+        → length (map event_of events.now) ≤ event_limit → IfErr result (λ e. IsWantOfMemory e) }
+{
+    let Ok(history) = events_of(alloc, events) else {
         return Err(ResumeError::OutOfMemory);
     };
-    replay_all(alloc, ring, &saved.events, surveys.as_slice())
+    if !are_seated(&history, seats) {
+        return Err(ResumeError::Call(CallError::NoSeat));
+    }
+    match Book::from_history(alloc, start, Till::new(), &history) {
+        Ok(book) => Ok(book),
+        Err(error) => Err(history_refused(error)),
+    }
 }
 
-/// Whether the ring has the history and the surveys of a saved one.
-fn tells(alloc: Global, ring: &OneThreadRing<Till>, saved: &SavedRing) -> Result<bool, AllocError>
-    ensures is { IfOk result (λ does. IsTrue does ↔ Tells ring.now (block_of saved.now)) }
-    ensures ring { IsOneThreadRing till 0 ring.now }
-{
-    let told = surveys_of(alloc, ring.clients())?;
-    Ok(are_events(ring.history(), &saved.events) && are_surveys(told.as_slice(), &saved.surveys))
-}
-
-/// Has a ring that was opened for a saved one make its calls and surveys, and sees that they are the same.
-fn follow(
+/// Whether the survey lines tell surveys of the book's history.
+fn surveys_hold(
     alloc: Global,
-    ring: &mut OneThreadRing<Till>,
-    saved: &SavedRing,
-) -> Result<(), ResumeError>
-    ensures kept { OnOk result (Keeps ring.old ring.new) }
-    ensures ring { OnOk result (IsOneThreadRing till 0 ring.new) }
-    ensures tells { OnOk result (Tells ring.new (block_of saved.now)) }
-    ensures legal { (seats : ℕ) → CanGoOnWith seats (block_of saved.now)
-        → IsOpenedFor seats (block_of saved.now) ring.old → IfErr result (λ e. IsWantOfMemory e) }
+    book: &Book<Till>,
+    surveys: &[SavedSurvey],
+) -> Result<bool, AllocError>
+    ensures { IfOk result (λ hold. IsTrue hold
+        ↔ All (IsSurvey till (opening book.now.start 0) book.now.history)
+        (map survey_of surveys.now)) }
 {
-    match retell(alloc, ring, saved) {
-        Ok(()) => {}
-        Err(error) => return Err(error),
-    }
-    match tells(alloc, ring, saved) {
-        Ok(true) => Ok(()),
-        Ok(false) => Err(ResumeError::Differs),
-        Err(_) => Err(ResumeError::OutOfMemory),
-    }
+    let told = surveys_of(alloc, surveys)?;
+    surveys_fit(alloc, book, &told)
 }
 
-/// A ring whose history and surveys are those of the saved ring: it goes on where that ended. Each client was told what it
-/// was told there.
+/// A ring whose history and surveys are those of the saved ring: it resumes where that ended. Each client has the log that it
+/// had there.
 ///
 /// # Errors
 ///
-/// Each where the text is not legal, or memory is wanting, or there are fewer seats than the text names. A legal ring with
-/// enough seats is refused for want of memory alone.
+/// Each where the text is not legal, or memory runs out, or there are fewer seats than the text names. A legal ring with
+/// enough seats is refused only because memory runs out.
 pub fn from_saved(
     alloc: Global,
     saved: &SavedRing,
@@ -135,19 +122,21 @@ pub fn from_saved(
     ensures surveys { IfOk result (λ d. surveys_told d.clients ≡ saved.now.surveys.items) }
     ensures legal { CanGoOnWith seats (block_of saved.now) → IfErr result (λ e. IsWantOfMemory e) }
 {
-    let mut ring = match OneThreadRing::open(
-        alloc,
-        saved.n,
-        saved.k,
-        &saved.start,
-        seats,
-        Till::new(),
-    ) {
-        Ok(ring) => ring,
+    let start = match start_of(alloc, saved.n, saved.k, &saved.start, seats) {
+        Ok(start) => start,
         Err(error) => return Err(ResumeError::Open(error)),
     };
-    match follow(alloc, &mut ring, saved) {
-        Ok(()) => Ok(ring),
-        Err(error) => Err(error),
+    let book = match book_of(alloc, start, &saved.events, seats) {
+        Ok(book) => book,
+        Err(error) => return Err(error),
+    };
+    let clients = match clients_of(alloc, &saved.surveys, seats) {
+        Ok(clients) => clients,
+        Err(error) => return Err(error),
+    };
+    match surveys_hold(alloc, &book, &saved.surveys) {
+        Ok(true) => Ok(OneThreadRing::with_clients(book, clients)),
+        Ok(false) => Err(ResumeError::Differs),
+        Err(_) => Err(ResumeError::OutOfMemory),
     }
 }

@@ -10,10 +10,11 @@ ghost use Rattle.ring_state.specs.Sizes.{IsSize};
 ghost use Rattle.ring_book.specs.BookView.{IsFresh, IsRecorded};
 ghost use Rattle.ring_model.specs.Groups.{Rises};
 ghost use Rattle.ring_book.specs.GroupView.{IsGroupRecorded, IsLeastWithout};
-ghost use Rattle.ring_shared.specs.Groups.{receipts_from};
+ghost use Rattle.ring_logs.specs.Seats.{receipts_from};
 ghost use Rattle.ring_desk.specs.Clients.{told_all, with_survey_at, AreNew};
 ghost use Rattle.ring_desk.specs.Texts.{surveys_told, surveys_kept};
-ghost use Rattle.ring_desk.specs.Rings.{IsOneThreadRing, IsPassFault, IsCorruptFault, IsGroupRefusal, IsSurveyFault, IsRisingGroup, IsOpenFault, IsSeatCount, AreFresh, told_more};
+ghost use Rattle.ring_desk.specs.Rings.{IsOneThreadRing, IsKeptBy, IsOpenFault, IsSeatCount, AreFresh, told_more};
+ghost use Rattle.ring_desk.specs.Refusals.{IsDecided, bounds_of, seat_refusal, pass_refusal, corrupt_refusal, group_refusal};
 
 mod closing;
 
@@ -28,7 +29,7 @@ use std::marker::Model;
 
 /// A ring over a resource with its clients, on one thread, which is called by numbers.
 ///
-/// Contracts see the book and what each client was told. At every moment the history is a legal and whole one of the
+/// Contracts see the book and the log of each client. At every moment the history is a legal and whole one of the
 /// one-thread ring, each of its events is a client's, and each client's log fits it.
 #[derive(Drop)]
 pub struct OneThreadRing<R: Resource + Drop> {
@@ -48,7 +49,28 @@ impl<R: Resource + Drop> Model for OneThreadRing<R> {
     ghost invariant = { λ d. IsKeptBy R.works R.first d.book d.clients.items };
 }
 
-/// This many clients that were told nothing.
+/// Returns the state that a ring of `n` machines, `k` values and `seats` seats starts from.
+pub(crate) fn start_of(
+    alloc: Global,
+    n: u32,
+    k: u32,
+    start: &[u32],
+    seats: u32,
+) -> Result<RingState, OpenError>
+    ensures ok { IfOk result (λ s. s ≡ record { k = k; values = start.now }) }
+    ensures sizes { IfOk result
+        (λ _. IsSeatCount seats × IsSize (record { n = n; k = k }) × (length start.now ≡ n)) }
+    ensures err { IfErr result (λ e. IsOpenFault (record { n = n; k = k }) start.now seats e) }
+{
+    if seats == 0 || seats as usize > SEAT_LIMIT {
+        return Err(OpenError::Seats);
+    }
+    let params = Params::new(n, k)?;
+    let state = RingState::from_values(alloc, &params, start)?;
+    Ok(state)
+}
+
+/// This many clients with empty logs.
 fn fresh_clients(alloc: Global, count: u32) -> Result<Vec<Client>, AllocError>
     requires { count ≤ seat_limit }
     ensures { IfOk result (λ v. AreNew count v.items) }
@@ -60,7 +82,7 @@ fn fresh_clients(alloc: Global, count: u32) -> Result<Vec<Client>, AllocError>
     Ok(clients)
 }
 
-/// The client of this number is told a survey.
+/// Gives the client of this number a survey.
 fn tell_at(clients: &mut Vec<Client>, seat: u32, survey: Survey) -> Result<(), AllocError>
     requires seat { seat < length clients.old.items }
     ensures told { OnOk result (clients.new.items ≡ with_survey_at clients.old.items seat survey) }
@@ -84,7 +106,7 @@ fn rise(machines: &[u32], n: u32) -> bool
 }
 
 impl<R: Resource + Drop> OneThreadRing<R> {
-    /// A ring of `n` machines and `k` values that starts so, over a resource with its first content, and so many seats,
+    /// A ring of `n` machines and `k` values that starts so, over a resource with its first content, and this many seats,
     /// whose numbers begin at 0.
     ///
     /// # Errors
@@ -108,16 +130,23 @@ impl<R: Resource + Drop> OneThreadRing<R> {
             (λ _. IsSeatCount seats × IsSize (record { n = n; k = k }) × (length start.now ≡ n)) }
         ensures err { IfErr result (λ e. IsOpenFault (record { n = n; k = k }) start.now seats e) }
     {
-        if seats == 0 || seats as usize > SEAT_LIMIT {
-            return Err(OpenError::Seats);
-        }
-        let params = Params::new(n, k)?;
-        let state = RingState::from_values(alloc, &params, start)?;
+        let state = start_of(alloc, n, k, start, seats)?;
         let clients = fresh_clients(alloc, seats)?;
         match Book::new(alloc, state, resource) {
             Ok(book) => Ok(OneThreadRing { book, clients }),
             Err(_) => Err(OpenError::OutOfMemory),
         }
+    }
+
+    /// Makes a ring of this book and of clients whose logs fit its history.
+    pub(crate) fn with_clients(book: Book<R>, clients: Vec<Client>) -> OneThreadRing<R>
+        requires { IsKeptBy R.works R.first book clients.items }
+        ensures is { result
+            ≡ record { book = book; clients = told_all book.history clients.items } }
+        ensures surveys { surveys_told result.clients ≡ surveys_kept clients.items }
+        ensures ring { IsOneThreadRing R.works R.first result }
+    {
+        OneThreadRing { book, clients }
     }
 
     /// The number of machines.
@@ -156,7 +185,7 @@ impl<R: Resource + Drop> OneThreadRing<R> {
         self.book.history().len() as u64
     }
 
-    /// The clients, in the order of their seats, with the surveys that they were told. All that one was told is answered by
+    /// The clients, in the order of their seats, with the surveys that they were given. The whole log of one is answered by
     /// [`log`](OneThreadRing::log).
     pub fn clients(&self) -> &[Client]
         ensures are { told_all self.now.book.history result.now ≡ self.now.clients }
@@ -166,7 +195,7 @@ impl<R: Resource + Drop> OneThreadRing<R> {
         self.clients.as_slice()
     }
 
-    /// What the client of a seat was told, in order: the receipts of its calls, and the surveys.
+    /// Returns the log of the client of a seat, in order: the receipts of its calls, and the surveys.
     ///
     /// # Errors
     ///
@@ -174,8 +203,7 @@ impl<R: Resource + Drop> OneThreadRing<R> {
     pub fn log(&self, alloc: Global, seat: u32) -> Result<Vec<Entry>, CallError>
         ensures ok { IfOk result (λ log. log.items
             ≡ (slice_index_or self.now.clients seat (record { number = seat; log = [] })).log) }
-        ensures seat { IsErrOf result CallError.NoSeat ↔ length self.now.clients ≤ seat }
-        ensures refused { IfErr result (λ e. IsSurveyFault self.now seat e) }
+        ensures refused { IsDecided (seat_refusal (bounds_of self.now) seat) result }
     {
         if seat as usize >= self.clients.len() {
             return Err(CallError::NoSeat);
@@ -198,14 +226,7 @@ impl<R: Resource + Drop> OneThreadRing<R> {
         ensures settlement { Settlement R.works (opening self.new.book.start R.first)
             self.new.book.history }
         ensures err { OnErr result (self.new ≡ self.old) }
-        ensures seat { IsErrOf result CallError.NoSeat ↔ length self.old.clients ≤ seat }
-        ensures machine { IsErrOf result CallError.NoMachine
-            ↔ (seat < length self.old.clients) × (length self.old.book.now.ring.values ≤ machine) }
-        ensures full { IsErrOf result CallError.HistoryFull
-            ↔ (seat < length self.old.clients)
-            × (machine < length self.old.book.now.ring.values)
-            × (length self.old.book.history ≡ event_limit) }
-        ensures refused { IfErr result (λ e. IsPassFault self.old seat machine e) }
+        ensures refused { IsDecided (pass_refusal (bounds_of self.old) seat machine) result }
     {
         if seat as usize >= self.clients.len() {
             return Err(CallError::NoSeat);
@@ -228,19 +249,8 @@ impl<R: Resource + Drop> OneThreadRing<R> {
         ensures told { IfOk result
             (λ r. self.new.clients ≡ told_more self.old.clients seat (Entry.Receipt r ∷ [])) }
         ensures ring { IsOneThreadRing R.works R.first self.new }
-        ensures seat { IsErrOf result CallError.NoSeat ↔ length self.old.clients ≤ seat }
-        ensures machine { IsErrOf result CallError.NoMachine
-            ↔ (seat < length self.old.clients) × (length self.old.book.now.ring.values ≤ machine) }
-        ensures value { IsErrOf result CallError.NoValue
-            ↔ (seat < length self.old.clients)
-            × (machine < length self.old.book.now.ring.values)
-            × (self.old.book.now.ring.k ≤ value) }
-        ensures full { IsErrOf result CallError.HistoryFull
-            ↔ (seat < length self.old.clients)
-            × (machine < length self.old.book.now.ring.values)
-            × (value < self.old.book.now.ring.k)
-            × (length self.old.book.history ≡ event_limit) }
-        ensures refused { IfErr result (λ e. IsCorruptFault self.old seat machine value e) }
+        ensures refused { IsDecided
+            (corrupt_refusal (bounds_of self.old) seat machine value) result }
         ensures err { OnErr result (self.new ≡ self.old) }
     {
         if seat as usize >= self.clients.len() {
@@ -274,25 +284,8 @@ impl<R: Resource + Drop> OneThreadRing<R> {
             ≡ told_more self.old.clients seat
             (receipts_from r.first (drop r.first self.new.book.history))) }
         ensures ring { IsOneThreadRing R.works R.first self.new }
-        ensures seat { IsErrOf result CallError.NoSeat ↔ length self.old.clients ≤ seat }
-        ensures rising { IsErrOf result CallError.NotRising
-            ↔ (seat < length self.old.clients)
-            × (IsRisingGroup (length self.old.book.now.ring.values) machines.now → ⊥) }
-        ensures whole { IsErrOf result CallError.WholeRing
-            ↔ (seat < length self.old.clients)
-            × IsRisingGroup (length self.old.book.now.ring.values) machines.now
-            × (length machines.now ≡ length self.old.book.now.ring.values) }
-        ensures unprivileged { (m : ℕ)
-            → IsErrOf result (CallError.NotPrivileged m)
-            ↔ (seat < length self.old.clients)
-            × IsRisingGroup (length self.old.book.now.ring.values) machines.now
-            × (length machines.now ≢ length self.old.book.now.ring.values)
-            × IsLeastWithout self.old.book.now.ring.values machines.now m }
-        ensures full { IsErrOf result CallError.HistoryFull
-            ↔ (seat < length self.old.clients)
-            × CanMove self.old.book.now.ring.values machines.now
-            × (event_limit < length self.old.book.history + length machines.now) }
-        ensures refused { IfErr result (λ e. IsGroupRefusal self.old seat machines.now e) }
+        ensures refused { IsDecided
+            (group_refusal (bounds_of self.old) seat machines.now) result }
         ensures err { OnErr result (self.new ≡ self.old) }
     {
         if seat as usize >= self.clients.len() {
@@ -305,7 +298,8 @@ impl<R: Resource + Drop> OneThreadRing<R> {
         Ok(receipt)
     }
 
-    /// What is privileged now, how long the ring has been calm, and what is left until it is settled. Nothing is logged.
+    /// Returns the privileged machines now, how long the ring has been calm, and how far it is from being settled. Nothing is
+    /// logged.
     pub fn glance(&self) -> Survey
         ensures { result
             ≡ survey_at R.works (opening self.now.book.start R.first) self.now.book.history
@@ -327,8 +321,7 @@ impl<R: Resource + Drop> OneThreadRing<R> {
             (λ s. self.new.clients ≡ told_more self.old.clients seat (Entry.Survey s ∷ [])) }
         ensures book { self.new.book ≡ self.old.book }
         ensures ring { IsOneThreadRing R.works R.first self.new }
-        ensures seat { IsErrOf result CallError.NoSeat ↔ length self.old.clients ≤ seat }
-        ensures refused { IfErr result (λ e. IsSurveyFault self.old seat e) }
+        ensures refused { IsDecided (seat_refusal (bounds_of self.old) seat) result }
         ensures err { OnErr result (self.new ≡ self.old) }
     {
         if seat as usize >= self.clients.len() {

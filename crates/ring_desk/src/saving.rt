@@ -1,5 +1,5 @@
 //! The saved text of a ring over a till. Writing it takes no memory.
-ghost use Rattle.std.specs.Prelude.{◌≡◌, IfOk};
+ghost use Rattle.std.specs.Prelude.{◌≡◌, IfOk, map};
 ghost use Rattle.std.specs.List.{flat_map, AllByRecursion};
 ghost use Rattle.text_lines.specs.Writing.{Writes};
 ghost use Rattle.ring_model.specs.Resources.{till};
@@ -7,27 +7,28 @@ ghost use Rattle.ring_saved.specs.Versions.{latest_version};
 ghost use Rattle.ring_saved.specs.Spelling.{survey_line, block_text, text, SurveyFits, BlockFits, Fits};
 ghost use Rattle.ring_check.specs.Legal.{IsLegalText};
 ghost use Rattle.ring_desk.specs.Rings.{IsOneThreadRing};
-ghost use Rattle.ring_desk.specs.Texts.{client_surveys, surveys_kept, saved_block, saved_alone, IsTextOf};
+ghost use Rattle.ring_blocks.specs.SavedOf.{saved_survey};
+ghost use Rattle.ring_desk.specs.Texts.{saved_block, saved_alone, IsTextOf};
 
 use crate::clients::Client;
 use crate::rings::OneThreadRing;
+use ring_blocks::{SurveyLog, put_block, saved_survey};
 use ring_book::Till;
+use ring_model::Survey;
 use ring_saved::LATEST_VERSION;
 use ring_saved::put_lines::{put_done_line, put_first_line, put_survey_line};
-use ring_text::{WriteFault, put_history, put_size, put_start, saved_survey};
 use std::alloc::{AllocError, Global};
 use std::io::Write;
+use text_lines::WriteFault;
 
-/// Writes the surveys that a client was told.
-fn put_surveys<W: Write>(out: &mut W, client: &Client) -> Result<(), WriteFault>
+/// Writes a line for each of these surveys of a seat.
+fn put_told<W: Write>(out: &mut W, seat: u32, surveys: &[Survey]) -> Result<(), WriteFault>
     ensures written { Writes (W.contents out.old) (W.contents out.new) result
-        (flat_map survey_line (client_surveys client.now)) }
-    ensures fits { IfOk result (λ _. AllByRecursion SurveyFits (client_surveys client.now)) }
+        (flat_map survey_line (map (saved_survey seat) surveys.now)) }
+    ensures fits { IfOk result (λ _. AllByRecursion SurveyFits (map (saved_survey seat) surveys.now)) }
 {
-    let number = client.number();
-    let surveys = client.surveys();
     for survey in surveys {
-        match put_survey_line(out, saved_survey(number, *survey)) {
+        match put_survey_line(out, saved_survey(seat, *survey)) {
             Ok(()) => {}
             Err(fault) => return Err(fault),
         }
@@ -35,27 +36,22 @@ fn put_surveys<W: Write>(out: &mut W, client: &Client) -> Result<(), WriteFault>
     Ok(())
 }
 
-/// Writes the surveys that the clients were told, client by client.
-fn put_clients<W: Write>(out: &mut W, clients: &[Client]) -> Result<(), WriteFault>
-    ensures written { Writes (W.contents out.old) (W.contents out.new) result
-        (flat_map survey_line (surveys_kept clients.now)) }
-    ensures fits { IfOk result (λ _. AllByRecursion SurveyFits (surveys_kept clients.now)) }
-{
-    for client in clients {
-        match put_surveys(out, client) {
-            Ok(()) => {}
-            Err(fault) => return Err(fault),
-        }
+impl SurveyLog for Client {
+    ghost use Rattle.ring_desk.specs.Texts.{client_surveys};
+
+    ghost surveys = { client_surveys };
+
+    fn put_surveys<W: Write>(&self, out: &mut W) -> Result<(), WriteFault> {
+        put_told(out, self.number(), self.surveys())
     }
-    Ok(())
 }
 
 /// Writes the block of a ring at its place in a saved text: its place, its start, its history and the surveys that its clients
-/// were told.
+/// were given.
 ///
 /// # Errors
 ///
-/// `WriteFault` at the first error of the writer: it holds a beginning of the block then.
+/// `WriteFault` at the first error of the writer: it holds a prefix of the block then.
 pub fn put_ring<W: Write>(
     out: &mut W,
     place: u32,
@@ -65,12 +61,7 @@ pub fn put_ring<W: Write>(
         (block_text (saved_block place ring.now)) }
     ensures fits { IfOk result (λ _. BlockFits latest_version (saved_block place ring.now)) }
 {
-    let start = ring.start();
-    put_size(out, place, start)?;
-    put_start(out, start)?;
-    put_history(out, ring.history())?;
-    put_clients(out, ring.clients())?;
-    Ok(())
+    put_block(out, place, ring.start(), ring.history(), ring.clients())
 }
 
 impl OneThreadRing<Till> {
@@ -78,7 +69,7 @@ impl OneThreadRing<Till> {
     ///
     /// # Errors
     ///
-    /// `WriteFault` at the first error of the writer: it holds a beginning of the text then.
+    /// `WriteFault` at the first error of the writer: it holds a prefix of the text then.
     pub fn save<W: Write>(&self, out: &mut W) -> Result<(), WriteFault>
         ensures written { Writes (W.contents out.old) (W.contents out.new) result
             (text (saved_alone self.now)) }
@@ -96,7 +87,7 @@ impl OneThreadRing<Till> {
     ///
     /// # Errors
     ///
-    /// Want of memory alone.
+    /// Only if memory runs out.
     pub fn text(&self, alloc: Global) -> Result<Vec<u8>, AllocError>
         ensures { IfOk result (λ text. IsTextOf self.now text.items) }
     {

@@ -1,4 +1,4 @@
--- What a call answers about the ring that C holds: the clauses of a ring that is called by numbers,
+-- The answers of calls on the ring that C holds: the clauses of a ring that is called by numbers,
 -- over either resource (this project's own).
 use Rattle.std.specs.Prelude.{◌≡◌, ◌≢◌, ℕ, ◌+◌, ◌<◌, ◌≤◌, ◌↔◌, List, [], ◌∷◌, length, drop, Result, Ok, Err, IfOk, OnErr, IsErrOf}
 use Rattle.ring_model.specs.Resources.{till}
@@ -16,8 +16,9 @@ use Rattle.ring_book.specs.BookView.{IsRecorded}
 use Rattle.ring_book.specs.GroupView.{IsGroupRecorded, IsLeastWithout}
 use Rattle.ring_book.specs.IdleWorks.{idle}
 use Rattle.ring_book.specs.declared.books.groups.GroupReceipt.{GroupReceipt}
-use Rattle.ring_shared.specs.Groups.{receipts_from}
-use Rattle.ring_desk.specs.Rings.{RingView, IsOneThreadRing, IsRisingGroup, told_more}
+use Rattle.ring_logs.specs.Seats.{receipts_from}
+use Rattle.ring_desk.specs.Rings.{RingView, IsOneThreadRing, told_more}
+use Rattle.ring_desk.specs.Refusals.{IsDecided, bounds_of, seat_refusal, pass_refusal, corrupt_refusal, group_refusal}
 use Rattle.ring_desk.specs.Texts.{IsTextOf}
 use Rattle.ring_desk.specs.declared.errors.CallError.{CallError}
 use Rattle.ring_desk.specs.declared.errors.CallError.TheVariants as call
@@ -28,8 +29,8 @@ use Rattle.ring_desk_c.specs.declared.kept.Kept.TheVariants.{Till, Idle}
 use Rattle.ring_desk_c.specs.declared.kept.TextError.{TextError}
 use Rattle.ring_desk_c.specs.declared.kept.TextError.TheVariants as text
 
--- A pass by a seat: at Ok it was recorded, and the seat's log has its receipt besides; each refusal
--- comes exactly if it applies, and leaves the ring as it was.
+-- A pass by a seat: at Ok it was recorded, and the seat's log has its receipt too; a refusal is the
+-- first that applies, and leaves the ring as it was.
 pub record IsPassed {C : Type 0} (w : Works C) (first : C) (d e : RingView C)
     (seat machine order : ℕ) (answer : Result Receipt CallError) : Type 0 where
   pub ok : IfOk answer (λ r. IsRecorded w d.book e.book seat (op.Pass machine order) r)
@@ -37,13 +38,7 @@ pub record IsPassed {C : Type 0} (w : Works C) (first : C) (d e : RingView C)
   pub ring : IsOneThreadRing w first e
   pub settlement : Settlement w (opening e.book.start first) e.book.history
   pub same : OnErr answer (e ≡ d)
-  pub no_seat : IsErrOf answer call.NoSeat ↔ length d.clients ≤ seat
-  pub no_machine : IsErrOf answer call.NoMachine
-      ↔ (seat < length d.clients) × (length d.book.now.ring.values ≤ machine)
-  pub full : IsErrOf answer call.HistoryFull
-      ↔ (seat < length d.clients)
-      × (machine < length d.book.now.ring.values)
-      × (length d.book.history ≡ event_limit)
+  pub refused : IsDecided (pass_refusal (bounds_of d) seat machine) answer
 
 -- A fault by a seat, in the same way.
 pub record IsCorrupted {C : Type 0} (w : Works C) (first : C) (d e : RingView C)
@@ -52,21 +47,10 @@ pub record IsCorrupted {C : Type 0} (w : Works C) (first : C) (d e : RingView C)
   pub told : IfOk answer (λ r. e.clients ≡ told_more d.clients seat (entry.Receipt r ∷ []))
   pub ring : IsOneThreadRing w first e
   pub same : OnErr answer (e ≡ d)
-  pub no_seat : IsErrOf answer call.NoSeat ↔ length d.clients ≤ seat
-  pub no_machine : IsErrOf answer call.NoMachine
-      ↔ (seat < length d.clients) × (length d.book.now.ring.values ≤ machine)
-  pub no_value : IsErrOf answer call.NoValue
-      ↔ (seat < length d.clients)
-      × (machine < length d.book.now.ring.values)
-      × (d.book.now.ring.k ≤ value)
-  pub full : IsErrOf answer call.HistoryFull
-      ↔ (seat < length d.clients)
-      × (machine < length d.book.now.ring.values)
-      × (value < d.book.now.ring.k)
-      × (length d.book.history ≡ event_limit)
+  pub refused : IsDecided (corrupt_refusal (bounds_of d) seat machine value) answer
 
 -- A group pass by a seat: at Ok it was recorded as one block, and the seat's log has the receipt of
--- each member besides.
+-- each member too.
 pub record IsGrouped {C : Type 0} (w : Works C) (first : C) (d e : RingView C) (seat : ℕ)
     (machines : List ℕ) (order : ℕ) (answer : Result GroupReceipt CallError) : Type 0 where
   pub ok : IfOk answer (λ r. IsGroupRecorded w d.book e.book seat order machines r)
@@ -74,23 +58,7 @@ pub record IsGrouped {C : Type 0} (w : Works C) (first : C) (d e : RingView C) (
       e.clients ≡ told_more d.clients seat (receipts_from r.first (drop r.first e.book.history)))
   pub ring : IsOneThreadRing w first e
   pub same : OnErr answer (e ≡ d)
-  pub no_seat : IsErrOf answer call.NoSeat ↔ length d.clients ≤ seat
-  pub not_rising : IsErrOf answer call.NotRising
-      ↔ (seat < length d.clients) × (IsRisingGroup (length d.book.now.ring.values) machines → ⊥)
-  pub whole : IsErrOf answer call.WholeRing
-      ↔ (seat < length d.clients)
-      × IsRisingGroup (length d.book.now.ring.values) machines
-      × (length machines ≡ length d.book.now.ring.values)
-  pub unprivileged : (m : ℕ)
-      → IsErrOf answer (call.NotPrivileged m)
-      ↔ (seat < length d.clients)
-      × IsRisingGroup (length d.book.now.ring.values) machines
-      × (length machines ≢ length d.book.now.ring.values)
-      × IsLeastWithout d.book.now.ring.values machines m
-  pub full : IsErrOf answer call.HistoryFull
-      ↔ (seat < length d.clients)
-      × CanMove d.book.now.ring.values machines
-      × (event_limit < length d.book.history + length machines)
+  pub refused : IsDecided (group_refusal (bounds_of d) seat machines) answer
 
 -- the survey of the one-thread ring at the end of the history
 abbrev pub survey_of : {C : Type 0} → Works C → C → RingView C → Survey
@@ -105,7 +73,7 @@ pub record IsSurveyed {C : Type 0} (w : Works C) (first : C) (d e : RingView C) 
   pub book : e.book ≡ d.book
   pub ring : IsOneThreadRing w first e
   pub same : OnErr answer (e ≡ d)
-  pub no_seat : IsErrOf answer call.NoSeat ↔ length d.clients ≤ seat
+  pub refused : IsDecided (seat_refusal (bounds_of d) seat) answer
 
 -- The same for what C holds: the resource stays.
 abbrev pub IsPassAnswer : Kept → Kept → ℕ → ℕ → ℕ → Result Receipt CallError → Type 0

@@ -15,7 +15,7 @@ use Rattle.ring_desk.specs.declared.resuming.ResumeError.TheVariants as resume
 use Rattle.ring_desk_c.specs.declared.kept.TextError.{TextError}
 use Rattle.ring_desk_c.specs.declared.kept.TextError.TheVariants as text
 
--- want of memory, whoever asks for it
+-- out of memory, whoever asks for it
 abbrev pub no_memory : ℕ
 no_memory = 23
 
@@ -45,7 +45,7 @@ open_code opens.Length = 35
 open_code (opens.Value i) = 36
 open_code opens.OutOfMemory = no_memory
 
--- of bytes that are no saved text
+-- of bytes that are not a saved text
 abbrev pub read_code : ReadError → ℕ
 read_code (read.Syntax line) = 48
 read_code read.Truncated = 49
@@ -55,7 +55,7 @@ read_code read.OutOfMemory = no_memory
 abbrev pub no_ring : ℕ
 no_ring = 50
 
--- of a saved ring that is not gone on with
+-- of a saved ring that is not resumed
 abbrev pub resume_code : ResumeError → ℕ
 resume_code (resume.Open e) = open_code e
 resume_code (resume.Call e) = call_code e

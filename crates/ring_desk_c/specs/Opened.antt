@@ -21,8 +21,8 @@ use Rattle.ring_desk_c.specs.declared.kept.Kept.{Kept}
 use Rattle.ring_desk_c.specs.declared.kept.Kept.TheVariants.{Till, Idle}
 use Rattle.ring_desk_c.specs.Codes.{open_code, read_code, resume_code, no_memory, no_ring}
 
--- a ring with no events that starts so, over the resource's first content, with so many clients
--- that were told nothing
+-- a ring with no events that starts so, over the resource's first content, with n clients
+-- that have empty logs
 pub record IsOpened {C : Type 0} (w : Works C) (first : C) (n k : ℕ) (start : List ℕ) (seats : ℕ)
     (d : RingView C) : Type 0 where
   pub ring : IsOneThreadRing w first d
@@ -40,13 +40,13 @@ abbrev pub IsOpenedIdle : ℕ → ℕ → List ℕ → ℕ → Kept → Type 0
 IsOpenedIdle n k start seats (Idle d) = IsOpened idle (record {}) n k start seats d
 IsOpenedIdle n k start seats (Till d) = ⊥
 
--- the code of the first fault of the numbers, or of want of memory
+-- the code of the first fault of the numbers, or out of memory
 abbrev pub IsOpenRefused : Size → List ℕ → ℕ → ℕ → Type 0
 IsOpenRefused size start seats code =
     (code ≡ no_memory) ⊎ ((e : OpenError) × IsOpenFault size start seats e × (code ≡ open_code e))
 
--- The ring goes on with the one at this place of the saved text that the bytes are: it has so many
--- seats, it started so, its history is that one, and it tells the same surveys.
+-- The ring resumes the one at this place of the saved text that the bytes are: it has n
+-- seats, it started so, its history is that one, and it has the same surveys.
 pub record IsResumedFrom (bytes : List ℕ) (place seats : ℕ) (d : RingView ℕ) : Type 0 where
   pub saved : Saved
   pub read : IsRightRead bytes (Ok saved)
@@ -62,8 +62,8 @@ abbrev pub IsResumed : List ℕ → ℕ → ℕ → Kept → Type 0
 IsResumed bytes place seats (Till d) = IsResumedFrom bytes place seats d
 IsResumed bytes place seats (Idle d) = ⊥
 
--- The ring at this place of the saved text that the bytes are is not gone on with, and none with so
--- many seats could be: for want of memory alone a legal ring with enough seats is refused.
+-- The ring at this place of the saved text that the bytes are is not resumed, and none with this
+-- number of seats could be: a legal ring with enough seats is refused only if memory runs out.
 pub record IsNotResumed (bytes : List ℕ) (place seats : ℕ) (e : ResumeError) : Type 0 where
   pub saved : Saved
   pub read : IsRightRead bytes (Ok saved)
@@ -71,7 +71,7 @@ pub record IsNotResumed (bytes : List ℕ) (place seats : ℕ) (e : ResumeError)
   pub at : slice_get saved.rings.items place ≡ Some ring
   pub not : CanGoOnWith seats (block_of ring) → IsWantOfMemory e
 
--- the code of what is wrong with the bytes, with the place, or with the ring there, or of want of
+-- the code of the fault of the bytes, of the place, or of the ring there, or out of
 -- memory
 abbrev pub IsResumeRefused : List ℕ → ℕ → ℕ → ℕ → Type 0
 IsResumeRefused bytes place seats code =

@@ -1,4 +1,4 @@
--- What C is told of an answer: a code, and what is written to the struct that C lends (this
+-- The form of an answer for C: a code, and the values written to the struct that C lends (this
 -- project's own).
 use Rattle.std.specs.Prelude.{◌≡◌, ℕ, ◌<◌, ◌≤◌, List, ◌++◌, length, drop, Result, Ok, Err, IfOk}
 use Rattle.ring_model.specs.declared.events.Reply.{Reply}
@@ -71,7 +71,7 @@ pub record IsTextTold (bytes : List ℕ) (code : ℕ) (old new : List ℕ) (told
   pub whole : length bytes ≤ length old → (code ≡ 0) × (new ≡ bytes ++ drop (length bytes) old)
   pub small : length old < length bytes → (code ≡ too_small) × (new ≡ old)
 
--- of a text, or of none, of which nothing is written
+-- of a text, or of none, and then nothing is written
 abbrev pub IsSaveTold : Result (Vec ℕ Global) TextError → ℕ → List ℕ → List ℕ → ℕ → ℕ → Type 0
 IsSaveTold (Ok bytes) code old new size told = IsTextTold bytes.items code old new told
 IsSaveTold (Err e) code old new size told = (code ≡ text_code e) × (new ≡ old) × (told ≡ size)
@@ -97,7 +97,7 @@ sums_of s = record {
   rings = s.rings;
 }
 
--- the first line that cannot stand, or none
+-- the first line that is wrong, or none
 abbrev pub line_of : ReadError → ℕ
 line_of (read.Syntax line) = line
 line_of read.Truncated = 0
@@ -118,7 +118,7 @@ IsReadTold (Ok saved) code out =
     × IfOk answer (λ _. IsRightText (content saved))
     × IsCheckTold answer code out
 
--- The verdict on some bytes: what the reader of saved texts rightly answers to them, and of a value
+-- The verdict on some bytes: the right answer of the reader of saved texts, and for a value that of
 -- the separate checker.
 abbrev pub IsVerdict : List ℕ → ℕ → Sums → Type 0
 IsVerdict bytes code out =

@@ -1,4 +1,4 @@
-//! What C is told.
+//! The answers to C.
 
 ghost use Rattle.std.specs.Prelude.{◌≡◌};
 ghost use Rattle.ring_desk_c.specs.Told.{IsTold, IsReplyTold, IsGroupTold, IsSightTold, IsSaveTold, IsTextTold, IsCheckTold, line_of};
@@ -11,7 +11,7 @@ use ring_desk::CallError;
 use ring_model::{Receipt, Reply, Survey};
 use ring_saved::ReadError;
 
-/// What a call was answered: its place in the history, the grant's number, and the resource's answer or the value that a
+/// The answer to a call: its place in the history, the grant's number, and the resource's answer or the value that a
 /// fault wrote over.
 #[repr(C)]
 #[derive(Clone, Copy)]
@@ -21,7 +21,7 @@ pub struct Answer {
     pub result: u64,
 }
 
-/// What a group was answered: the place of its first member, how many it has, and the least machine that is not privileged
+/// The answer to a group: the place of its first member, how many it has, and the least machine that is not privileged
 /// where one kept it from moving.
 #[repr(C)]
 #[derive(Clone, Copy)]
@@ -31,7 +31,7 @@ pub struct Group {
     pub machine: u32,
 }
 
-/// What is to be seen of a ring.
+/// The survey of a ring.
 #[repr(C)]
 #[derive(Clone, Copy)]
 pub struct Sight {
@@ -152,7 +152,7 @@ fn text_told(text: &[u8], out: &mut [u8], size: &mut u64) -> u32
     0
 }
 
-/// The answer of what is saved.
+/// The answer of a save.
 pub(crate) fn save_told(answer: Result<Vec<u8>, TextError>, out: &mut [u8], size: &mut u64) -> u32
     ensures { IsSaveTold answer result out.old out.new size.old size.new }
 {
@@ -176,7 +176,7 @@ pub(crate) fn no_sums(line: u64) -> Sums
     }
 }
 
-/// The first line that cannot stand, or none.
+/// The first line that is wrong, or none.
 pub(crate) fn line_of(error: ReadError) -> u64
     ensures { result ≡ line_of error }
 {

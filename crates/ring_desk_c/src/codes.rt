@@ -9,7 +9,7 @@ use ring_desk::{CallError, OpenError, ResumeError};
 use ring_saved::ReadError;
 use ring_state::ParamsError;
 
-/// Want of memory, whoever asks for it.
+/// Out of memory, whoever asks for it.
 pub(crate) const NO_MEMORY: u32 = 23;
 
 /// A saved text has no ring at this place.
@@ -59,7 +59,7 @@ pub(crate) fn open_code(error: OpenError) -> u32
     }
 }
 
-/// Of bytes that are no saved text.
+/// Of bytes that are not a saved text.
 pub(crate) fn read_code(error: ReadError) -> u32
     ensures { result ≡ Codes.read_code error }
 {
@@ -70,7 +70,7 @@ pub(crate) fn read_code(error: ReadError) -> u32
     }
 }
 
-/// Of a saved ring that is not gone on with.
+/// Of a saved ring that is not resumed.
 pub(crate) fn resume_code(error: ResumeError) -> u32
     ensures { result ≡ Codes.resume_code error }
 {

@@ -1,4 +1,4 @@
-//! What C holds: a pointer whose type says nothing.
+//! The handle that C holds: a pointer whose type says nothing.
 ghost use Rattle.std.specs.Prelude.{◌≡◌, Bool, true};
 ghost use Rattle.std_alloc.specs.Box.Ownership.{box_owns};
 ghost use Rattle.ring_desk_c.specs.Held.{held};

@@ -1,4 +1,4 @@
-//! What C holds: a ring over one of the two resources.
+//! The ring that C holds, over one of the two resources.
 
 ghost use Rattle.ring_desk_c.specs.Answers.{IsPassAnswer, IsCorruptAnswer, IsGroupAnswer, IsSurveyAnswer, IsGlance, IsTextAnswer, history_of};
 ghost use Rattle.std.specs.Prelude.{◌≡◌, length};
@@ -15,10 +15,10 @@ pub enum Kept {
     Idle(OneThreadRing<Idle>),
 }
 
-/// Why there is no saved text.
+/// The reason why a saved text is missing.
 #[derive(Clone, Copy, Drop)]
 pub enum TextError {
-    /// The ring is over no till, and a saved text tells of tills.
+    /// The ring is not over a till, and a saved text is of tills.
     NoTill,
     OutOfMemory,
 }

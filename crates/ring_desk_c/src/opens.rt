@@ -25,7 +25,7 @@ fn boxed(handle: Handle, given: (Kept, Global)) -> (Handle, u32)
     }
 }
 
-/// Opens a ring over a till: 0, or why it was not, and the struct is as it was then. What it held before is forgotten.
+/// Opens a ring over a till: 0, or why it was not, and the struct is as it was then. Its old content is forgotten.
 #[unsafe(no_mangle)]
 pub extern "C" fn wozgirt_open(
     alloc: Global,
@@ -46,7 +46,7 @@ pub extern "C" fn wozgirt_open(
     }
 }
 
-/// The same over a resource that does no work, of which nothing is saved.
+/// The same over a resource that does no work, and nothing of it is saved.
 #[unsafe(no_mangle)]
 pub extern "C" fn wozgirt_open_idle(
     alloc: Global,
@@ -67,7 +67,7 @@ pub extern "C" fn wozgirt_open_idle(
     }
 }
 
-/// A ring that goes on where the one at this place of a saved text ended, or the code of why not.
+/// A ring that resumes the one at this place of a saved text, or the code of why not.
 fn resumed(alloc: Global, bytes: &[u8], place: u32, seats: u32) -> Result<OneThreadRing<Till>, u32>
     ensures ok { IfOk result (λ d. IsResumedFrom bytes.now place seats d) }
     ensures err { IfErr result (λ code. (code ≢ 0) × IsResumeRefused bytes.now place seats code) }
@@ -85,8 +85,8 @@ fn resumed(alloc: Global, bytes: &[u8], place: u32, seats: u32) -> Result<OneThr
     }
 }
 
-/// Opens a ring over a till that goes on where the one at this place of a saved text ended: 0, or why it was not, and the
-/// struct is as it was then. What it held before is forgotten.
+/// Opens a ring over a till that resumes the one at this place of a saved text: 0, or why it was not, and the
+/// struct is as it was then. Its old content is forgotten.
 #[unsafe(no_mangle)]
 pub extern "C" fn wozgirt_open_saved(
     alloc: Global,

@@ -1,4 +1,4 @@
-//! What is saved of a ring that C holds.
+//! The saved text of a ring that C holds.
 
 ghost use Rattle.std.specs.Prelude.{◌≡◌, ℕ, true, Result};
 ghost use Rattle.std_alloc.specs.declared.vec.Vec.{Vec};
@@ -26,7 +26,7 @@ fn saved(handle: Handle, alloc: Global) -> (Handle, Result<Vec<u8>, TextError>)
     (hold(Loose::of(kept)), answer)
 }
 
-/// Copies the saved text of the ring as it is now to the front of the caller's bytes, if it has room there, and tells its
+/// Copies the saved text of the ring as it is now to the front of the caller's bytes, if it has room there, and returns its
 /// size. The ring stays as it was.
 #[unsafe(no_mangle)]
 pub extern "C" fn wozgirt_save(

@@ -1,4 +1,4 @@
--- From what a run of one ring leaves to what is promised of it.
+-- From the result of a run of one ring to the promise on it.
 use Rattle.std.proofs.Common.{◌≡◌, ℕ, ◌<◌, ◌≤◌, Bool, true, cond, List, [], ◌∷◌, length, map, Some, slice_get, get_or, ap, sym, ◌∙◌, refl, subst, arith, ⊎_elim}
 use Rattle.std.specs.Prelude.{false, filter, unwrap_or, IfOk, Option, None, Result, Ok}
 use Rattle.std.proofs.lemmas.Option.{slice_get_within, get_or_from_slice_get, slice_get_cases}
@@ -15,10 +15,10 @@ use Rattle.ring_settings.specs.declared.actions.Plan.{Plan}
 use Rattle.std.proofs.lemmas.List.{length-map}
 use Rattle.ring_settings.specs.Contents.{SettingsData, RingData, ring_at, plan_of, IsSettings}
 use Rattle.ring_settings.specs.Views.{plan_actions}
-use Rattle.ring_shared.specs.declared.seats.Log.{Log}
-use Rattle.ring_shared.specs.Holding.{AreOfSeats}
+use Rattle.ring_logs.specs.declared.logs.Log.{Log}
+use Rattle.ring_logs.specs.Seats.{AreOfSeats}
 use Rattle.ring_farm.specs.declared.outcomes.Outcome.{Outcome}
-use Rattle.ring_farm.specs.declared.outcomes.RingOutcome.{RingOutcome}
+use Rattle.ring_logs.specs.declared.outcomes.RingOutcome.{RingOutcome}
 use Rattle.ring_farm.specs.declared.faults.FarmError.{FarmError}
 use Rattle.ring_farm.proofs.Refusals.{ok_place}
 use Rattle.ring_farm.specs.Plans.{actions_of, part, planned, planned_calls, calls_read, action_of_op, is_call}
@@ -32,7 +32,7 @@ RunOf plans ring d r = IsRun plans ring (ring_of_data d) r.book r.logs.items
 one_history : (plans : List Plan) (ring : ℕ) (d : RingData) (r : RingOutcome) → RunOf plans ring d r → IsOneHistory d r
 one_history plans ring d r run = (run.begins, subst (λ (s : Ring). IsLegal till (opening s 0) r.book.history) run.begins run.book.legal)
 
--- what reads as a call, or as none
+-- the events that read as a call, or as none
 abbrev is_read_call : Option Action → Bool
 is_read_call (Some a) = is_call a
 is_read_call None = true

@@ -1,4 +1,4 @@
--- What follows from the headline of a farm.
+-- The consequences of the headline of a farm.
 use Rattle.std.proofs.Common.{◌≡◌, ℕ, ◌<◌, Bool, true, false, cond, List, [], ◌∷◌, length, map, Some, slice_get, ap, sym, ◌∙◌, refl, subst, inl, eqb, eq-eqb, arith}
 use Rattle.std.specs.Prelude.{◌==◌, All, filter, Result}
 use Rattle.std.proofs.lemmas.Bool.Decides.{nat_tests}
@@ -18,8 +18,8 @@ use Rattle.ring_model.proofs.Progress.{history_progress}
 use Rattle.ring_model.proofs.Wholes.{whole_none, whole_before}
 use Rattle.ring_settings.specs.declared.actions.Action.{Action}
 use Rattle.ring_settings.specs.Contents.{SettingsData, RingData, plan_of, IsRingSetting, IsSettings}
-use Rattle.ring_shared.specs.Holding.{AreOfSeats}
-use Rattle.ring_farm.specs.declared.outcomes.RingOutcome.{RingOutcome}
+use Rattle.ring_logs.specs.Seats.{AreOfSeats}
+use Rattle.ring_logs.specs.declared.outcomes.RingOutcome.{RingOutcome}
 use Rattle.ring_farm.specs.declared.faults.FarmError.{FarmError}
 use Rattle.ring_farm.specs.Plans.{part, calls_read, action_of_op, is_call}
 use Rattle.ring_farm.specs.Runs.{ring_of_data}
@@ -27,7 +27,7 @@ use Rattle.ring_farm.specs.Headline.{EachDone, IsFarmRing, HoldsCalls}
 use Rattle.ring_farm.specs.Consequences.{HasNoMembers, IsWholeOne, IsRepaired, TakesTurns, HasReceipts, IsLawfulAt, RingsAreLawful, FarmsAreLawful}
 use Rattle.ring_farm.proofs.OneOutcome.{right_at}
 
--- events that read as actions are no members'
+-- events that read as actions are not members'
 abbrev AreRead : ℕ → List Event → Type 0
 AreRead ring h = (xs : List Action) × (calls_read ring h ≡ map (λ (a : Action). Some a) xs)
 

@@ -1,15 +1,11 @@
 use Rattle.std.proofs.lemmas.List.{map-append, length-map}
-use Rattle.std.proofs.Common.{map, ◌≡◌, ◌⊎◌, inl, inr, ⊎_elim, ℕ, zero, suc, ◌+◌, List, [], ◌∷◌, ◌++◌, length, Some, None, slice_get, ap, sym, ◌∙◌, refl, subst, arith}
-use Rattle.std.proofs.Common.{◌<◌}
-use Rattle.std.proofs.lemmas.Option.{slice_get_within}
-use Rattle.std.proofs.Common.{All, get_or, ◌≤◌}
-use Rattle.std.proofs.lemmas.Option.{slice_get_cases}
+use Rattle.std.proofs.Common.{map, ◌≡◌, ◌⊎◌, inl, inr, ⊎_elim, ℕ, zero, suc, ◌+◌, List, [], ◌∷◌, ◌++◌, length, Some, None, slice_get, ap, sym, ◌∙◌, refl, subst, arith, ◌<◌, All, get_or, ◌≤◌, eqb, false}
+use Rattle.std.proofs.lemmas.Option.{slice_get_within, slice_get_cases}
 use Rattle.std.specs.Prelude.{Result, Ok, Err, IfOk}
 use Rattle.std.specs.List.{IsDistinct, AllByRecursion}
-use Rattle.std.proofs.Common.{eqb, false}
 use Rattle.std.proofs.lemmas.Bool.{ne_eqb}
 use Rattle.ring_shared.specs.Client.{Client, IsFreshClient, IsUnchanged}
-use Rattle.ring_shared.specs.declared.seats.Log.{Log}
+use Rattle.ring_logs.specs.declared.logs.Log.{Log}
 use Rattle.ring_shared.specs.Closing.{HasLog}
 use Rattle.ring_shared.specs.Opening.{AreFresh}
 use Rattle.ring_model.specs.declared.events.Entry.{Entry}
@@ -20,7 +16,7 @@ use Rattle.ring_farm.specs.Plans.{actions_of, planned, action_of, Pairs}
 use Rattle.ring_farm.specs.Promises.{IsPromised, DidAsPromised, IsDone, AreUnchanged}
 use Rattle.ring_farm.specs.Runs.{IsLogged}
 
--- what is at a place of a list with one more
+-- the entry at a place of a list with one more
 at_snoc : {A : Type 0} (xs : List A) (y x : A) (i : ℕ) → slice_get (xs ++ y ∷ []) i ≡ Some x → (slice_get xs i ≡ Some x) ⊎ ((i ≡ length xs) × (y ≡ x))
 at_snoc [] y x zero e = inr (refl, cc)
 at_snoc [] y x (suc i) e = cc

@@ -12,7 +12,7 @@ refusal_here {A = A} {E = E} (x ∷ all) (r ∷ rs) e so at =
     let rest : take (length rs) all ≡ map {A = A} (λ x. Ok x) rs = cc in
     ap (λ (y : Result A E). first_refusal (y ∷ all)) same ∙ refusal_here all rs e rest at
 
--- what is at a place of the outcomes is at that place of the results
+-- the entry at a place of the outcomes is at that place of the results
 pub ok_place : {A E : Type 0} (rs : List (Result A E)) (xs : List A) (i : ℕ) (x : A) → rs ≡ map (λ y. Ok y) xs → slice_get xs i ≡ Some x → slice_get rs i ≡ Some (Ok x)
 ok_place {A = A} {E = E} rs xs i x is at =
     let m = slice_get-map {A = A} {B = Result A E} (λ y. Ok y) xs i in

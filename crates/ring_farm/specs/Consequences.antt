@@ -1,5 +1,5 @@
--- What follows from the headline of a farm, of each of its rings: the laws of settlement and of
--- progress, and what logs and history say of each other.
+-- The consequences of the headline of a farm, for each of its rings: the laws of settlement and of
+-- progress, and how logs and history agree.
 use Rattle.std.specs.Prelude.{◌≡◌, ℕ, ◌≤◌, All, length, take, Some, slice_get}
 use Rattle.ring_model.specs.Ring.{privileged_count, bound}
 use Rattle.ring_model.specs.Runs.{GoesRound}
@@ -13,9 +13,9 @@ use Rattle.ring_model.specs.Logs.{calls_of, receipts_of}
 use Rattle.ring_model.specs.Resources.{till}
 use Rattle.ring_model.specs.declared.events.Event.{Event}
 use Rattle.ring_settings.specs.Contents.{SettingsData, RingData, IsRingSetting}
-use Rattle.ring_shared.specs.declared.seats.Log.{Log}
+use Rattle.ring_logs.specs.declared.logs.Log.{Log}
 use Rattle.ring_farm.specs.declared.outcomes.Outcome.{Outcome}
-use Rattle.ring_farm.specs.declared.outcomes.RingOutcome.{RingOutcome}
+use Rattle.ring_logs.specs.declared.outcomes.RingOutcome.{RingOutcome}
 use Rattle.ring_farm.specs.Headline.{EachRing, IsFarmRing, IsFarmOf}
 use Rattle.ring_farm.specs.Runs.{ring_of_data}
 
@@ -53,7 +53,7 @@ IsSettling d r = Settlement till (opening (ring_of_data d) 0) r.book.history
 
 -- the laws of progress, between any two places: each complete round has a granted pass or a
 -- corruption, each n of them grant every machine a pass, and nobody is overtaken more often than it
--- stands away
+-- is away
 abbrev pub IsProgressing : RingData → RingOutcome → Type 0
 IsProgressing d r = Progress till (opening (ring_of_data d) 0) r.book.history
 
@@ -82,7 +82,7 @@ IsLawfulAt ring d r = IsLawfulRing d r
 abbrev pub IsLawfulFarm : SettingsData → Outcome → Type 0
 IsLawfulFarm settings o = EachRing IsLawfulAt settings o
 
--- the consequences follow from what is promised of a ring of allowed settings, and so of a farm
+-- the consequences follow from the promise on a ring of allowed settings, and so of a farm
 abbrev pub RingsAreLawful : Type 0
 RingsAreLawful =
     (settings : SettingsData) (ring : ℕ) (d : RingData) (r : RingOutcome) → IsRingSetting d

@@ -1,15 +1,15 @@
--- What a farm hands out: of each ring of its settings the same promises, by name. What follows from
--- them stands in `Consequences.antt`.
+-- The promises of a farm: of each ring of its settings the same promises, by name. The consequences
+-- are in `Consequences.antt`.
 use Rattle.std.specs.Prelude.{◌≡◌, ℕ, ◌<◌, All, length, List, Some, slice_get, Result, Ok}
 use Rattle.ring_model.specs.History.{IsLegal, opening}
 use Rattle.ring_model.specs.Logs.{Fits, calls_of}
 use Rattle.ring_model.specs.Resources.{till}
 use Rattle.ring_settings.specs.Contents.{SettingsData, RingData, IsSettings, plan_of}
-use Rattle.ring_shared.specs.Holding.{AreOfSeats}
-use Rattle.ring_shared.specs.declared.seats.Log.{Log}
+use Rattle.ring_logs.specs.Seats.{AreOfSeats}
+use Rattle.ring_logs.specs.declared.logs.Log.{Log}
 use Rattle.ring_farm.specs.declared.faults.FarmError.{FarmError}
 use Rattle.ring_farm.specs.declared.outcomes.Outcome.{Outcome}
-use Rattle.ring_farm.specs.declared.outcomes.RingOutcome.{RingOutcome}
+use Rattle.ring_logs.specs.declared.outcomes.RingOutcome.{RingOutcome}
 use Rattle.ring_farm.specs.Plans.{Pairs, HasDone, planned_calls, calls_read}
 use Rattle.ring_farm.specs.Runs.{ring_of_data}
 
@@ -31,15 +31,15 @@ HoldsCalls settings ring d r =
     × ((seat : ℕ) → seat < length settings.seats
     → calls_read ring (calls_of seat r.book.history) ≡ planned_calls ring (plan_of settings seat))
 
--- the seats' logs stand by number; read as actions, each is the part of its plan that concerns the
--- ring, in order
+-- the seats' logs are in the order of their numbers; read as actions, each is the part of its plan
+-- that concerns the ring, in order
 pub record HasLogs (settings : SettingsData) (ring : ℕ) (r : RingOutcome) : Type 0 where
   pub count : length r.logs.items ≡ length settings.seats
   pub each : (seat : ℕ) (l : Log) → slice_get r.logs.items seat ≡ Some l
       → HasDone ring seat (plan_of settings seat) l.seat l.entries.items
 
--- each receipt and each survey in the logs is the ring's at its position, and none stands before
--- what its client had seen
+-- each receipt and each survey in the logs is the ring's at its position, and none is before
+-- the front that its client had seen
 abbrev pub AreRight : RingData → RingOutcome → Type 0
 AreRight d r =
     All (λ (l : Log). Fits till (opening (ring_of_data d) 0) r.book.history l.seat l.entries.items)

@@ -4,6 +4,6 @@ pub mod Runs
 pub mod Headline
 pub mod Consequences
 pub mod Refusals
-pub use Rattle.ring_shared.specs.Holding
-pub use Rattle.ring_shared.specs.declared.seats.Log
+pub use Rattle.ring_logs.specs.declared.logs.Log
+pub use Rattle.ring_logs.specs.declared.outcomes.RingOutcome
 pub mod OneOutcome

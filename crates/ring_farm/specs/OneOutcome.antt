@@ -1,13 +1,13 @@
--- What a farm's logs follow from.
+-- The data that determine a farm's logs.
 use Rattle.std.specs.Prelude.{◌≡◌, ℕ, List, map, Some, slice_get}
 use Rattle.ring_model.specs.declared.events.Entry.{Entry}
 use Rattle.ring_model.specs.declared.events.Entry.TheVariants as entry
 use Rattle.ring_settings.specs.Contents.{SettingsData, RingData}
-use Rattle.ring_shared.specs.declared.seats.Log.{Log}
-use Rattle.ring_farm.specs.declared.outcomes.RingOutcome.{RingOutcome}
+use Rattle.ring_logs.specs.declared.logs.Log.{Log}
+use Rattle.ring_logs.specs.declared.outcomes.RingOutcome.{RingOutcome}
 use Rattle.ring_farm.specs.Headline.{IsFarmRing}
 
--- where an entry stands, and where the entries of a log stand, in order
+-- the place of an entry, and the places of the entries of a log, in order
 abbrev pub place_of : Entry → ℕ
 place_of (entry.Receipt r) = r.position
 place_of (entry.Survey s) = s.position
@@ -16,7 +16,7 @@ abbrev pub places : List Entry → List ℕ
 places log = map place_of log
 
 -- Two outcomes of one ring of the settings with one history: two logs of one seat whose entries
--- stand at the same places are the same.
+-- are at the same places are the same.
 abbrev pub LogsFollow : Type 0
 LogsFollow =
     (settings : SettingsData) (ring : ℕ) (d : RingData) (one other : RingOutcome)

@@ -84,7 +84,7 @@ calls_read ring h = map (λ (e : Event). action_of_op ring e.op) h
 abbrev pub planned_calls : ℕ → List Action → List (Option Action)
 planned_calls ring actions = map (λ (a : Action). Some a) (filter is_call (part ring actions))
 
--- what two lists have at one place is related
+-- the entries of two lists at one place are related
 abbrev pub Pairs : {A B : Type 0} → (ℕ → A → B → Type 0) → List A → List B → Type 0
 Pairs {A} {B} rel xs ys =
     (i : ℕ) (x : A) (y : B) → slice_get xs i ≡ Some x → slice_get ys i ≡ Some y → rel i x y

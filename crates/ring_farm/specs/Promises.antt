@@ -1,4 +1,4 @@
--- What the threads of a ring promise, and what they hand back.
+-- The promises of the threads of a ring, and the values that they hand back.
 use Rattle.std.specs.Prelude.{◌≡◌, ℕ, List, All, length}
 use Rattle.ring_model.specs.Ring.{Ring}
 use Rattle.ring_settings.specs.declared.actions.Plan.{Plan}

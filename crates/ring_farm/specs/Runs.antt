@@ -1,4 +1,4 @@
--- What a run of one ring leaves, in the subject's words.
+-- The result of a run of one ring, in the subject's words.
 use Rattle.std.specs.Prelude.{◌≡◌, ℕ, ◌<◌, ◌≤◌, List, [], ◌∷◌, All, length, slice_index_or, Option, Some, None, Result, Ok, Err, IfOk}
 use Rattle.ring_model.specs.Ring.{Ring}
 use Rattle.ring_model.specs.History.{opening}
@@ -8,12 +8,12 @@ use Rattle.ring_model.specs.Resources.{till}
 use Rattle.ring_book.specs.BookView.{BookView, IsBook}
 use Rattle.ring_settings.specs.Contents.{SettingsData, RingData, ring_at, sizes_of}
 use Rattle.ring_settings.specs.declared.actions.Plan.{Plan}
-use Rattle.ring_shared.specs.Holding.{AreOfSeats}
-use Rattle.ring_shared.specs.declared.seats.Log.{Log}
+use Rattle.ring_logs.specs.Seats.{AreOfSeats}
+use Rattle.ring_logs.specs.declared.logs.Log.{Log}
 use Rattle.ring_model.specs.Limits.{seat_limit}
 use Rattle.ring_farm.specs.Plans.{Pairs, HasDone, IsShort, IsPlanFor}
 use Rattle.ring_farm.specs.declared.faults.FarmError.{FarmError}
-use Rattle.ring_farm.specs.declared.outcomes.RingOutcome.{RingOutcome}
+use Rattle.ring_logs.specs.declared.outcomes.RingOutcome.{RingOutcome}
 
 -- a ring of the settings, as its machines start
 abbrev pub ring_of_data : RingData → Ring
@@ -23,7 +23,7 @@ ring_of_data d = record { k = d.size.k; values = d.start }
 abbrev pub IsLogged : ℕ → ℕ → Plan → Log → Type 0
 IsLogged ring i p l = HasDone ring i p.actions.items l.seat l.entries.items
 
--- What a run of one ring left: a book that begins with the given start and the amount 0, whose
+-- The result of a run of one ring: a book that begins with the given start and the amount 0, whose
 -- history is one legal history of the one-thread ring; each event is of one of the seats; one log
 -- for each plan, which fits the history and is that plan's part.
 pub record IsRun (plans : List Plan) (ring : ℕ) (start : Ring) (b : BookView ℕ) (logs : List Log) :
@@ -36,12 +36,12 @@ pub record IsRun (plans : List Plan) (ring : ℕ) (start : Ring) (b : BookView �
   pub count : length logs ≡ length plans
   pub logged : Pairs (IsLogged ring) plans logs
 
--- this ring's outcome is what a run of it left, from the start that the settings say
+-- this ring's outcome is that of a run of it, from the start that the settings say
 abbrev pub IsRunOf : SettingsData → List Plan → ℕ → RingOutcome → Type 0
 IsRunOf settings plans ring o =
     IsRun plans ring (ring_of_data (ring_at settings ring)) o.book o.logs.items
 
--- of each ring of the settings, its result is a refusal or what a run of it left
+-- of each ring of the settings, its result is a refusal or the outcome of a run of it
 abbrev pub AreRunsOf : SettingsData → List Plan → List (Result RingOutcome FarmError) → Type 0
 AreRunsOf settings plans results =
     (ring : ℕ) (d : Result RingOutcome FarmError) → ring < length settings.rings

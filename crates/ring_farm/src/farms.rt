@@ -13,10 +13,11 @@ ghost use Rattle.ring_farm.specs.Consequences.{IsLawfulAt, IsLawfulFarm};
 
 use crate::faults::{FarmError, want_of_memory};
 use crate::gates::Gate;
-use crate::outcomes::{Outcome, RingOutcome};
+use crate::outcomes::Outcome;
 use crate::rings::run_ring;
 use crate::rooms::{Rooms, rooms_for};
 use ring_book::{Book, Till};
+use ring_logs::RingOutcome;
 use ring_settings::{Plan, Settings, plans};
 use ring_state::RingState;
 use std::alloc::{AllocError, Global};
@@ -82,7 +83,7 @@ fn collect(
     Ok(Outcome { rings })
 }
 
-/// Runs each ring, several at once where threads can be had. The results stand in the order of the rings.
+/// Runs each ring, several at once where threads can be had. The results are in the order of the rings.
 fn run_each<G: Gate + Sync, W: Threads + Wait + Sync>(
     rt: &W,
     alloc: Global,
@@ -110,11 +111,11 @@ fn run_each<G: Gate + Sync, W: Threads + Wait + Sync>(
 }
 
 /// Runs the rings of the settings as `run_farm` does, and hands out each ring's own outcome or refusal, in the order of
-/// the settings. What is not refused keeps all that `run_farm` promises of a ring, whatever became of the others.
+/// the settings. A ring that is not refused has all that `run_farm` promises of a ring, whatever became of the others.
 ///
 /// # Errors
 ///
-/// Want of memory for the plans and the list of the results.
+/// If there is no memory for the plans and the list of the results.
 pub fn run_rings<G: Gate + Sync, W: Threads + Wait + Sync>(
     rt: &W,
     alloc: Global,
@@ -136,16 +137,16 @@ pub fn run_rings<G: Gate + Sync, W: Threads + Wait + Sync>(
 /// every reply and survey is that ring's at its point; and wherever 3n(n-1)/2 granted passes have followed
 /// the last corruption, exactly one machine is privileged, and grants go round the ring until the next one.
 /// The record `IsFarmOf` says it part by part: that there is one outcome for each ring of the settings (`count`), and
-/// of each (`IsFarmRing`): `one_history`, `calls` and `logs` by the plans, and `right` receipts and surveys. What follows from it stands
+/// of each (`IsFarmRing`): `one_history`, `calls` and `logs` by the plans, and `right` receipts and surveys. The consequences are
 /// in `IsLawfulFarm`, of each ring: `repaired`, `turns`, the laws of `settlement` and `progress` from every place, the `size` of
 /// the settings, a `whole` history with every call `alone`, and as many `receipts` as calls.
 ///
 /// # Errors
 ///
-/// Want of memory for the plans and the lists of the farm comes first, then the refusal of the least ring
+/// Out of memory for the plans and the lists of the farm comes first, then the refusal of the least ring
 /// that met one, the first of those that `run_rings` answers: in the order of time, that of opening (`NoSeat`,
 /// `OutOfMemory`), `Spawn`, the refusal of the least seat (`GateShut`, `HistoryFull`, `OutOfMemory`), and that of
-/// closing (`Mismatch`, `OutOfMemory`). A worker that meets a refusal stops, the others go on to their ends; all
+/// closing (`Mismatch`, `OutOfMemory`). A worker that meets a refusal stops, the others continue to their ends; all
 /// are joined. Nothing of a refused run is kept.
 pub fn run_farm<G: Gate + Sync, W: Threads + Wait + Sync>(
     rt: &W,

@@ -1,4 +1,4 @@
-//! What a farm refuses.
+//! The refusals of a farm.
 
 ghost use Rattle.std.specs.Prelude.{◌≡◌, None};
 ghost use Rattle.ring_farm.specs.Refusals.{first_of};
@@ -14,7 +14,7 @@ pub enum FarmError {
     /// The gate did not let a worker on.
     #[error("the gate was shut")]
     GateShut,
-    /// There is no place for a seat to look at its ring from.
+    /// No place is left for a seat to look at its ring from.
     #[error("no reader place")]
     NoSeat,
     /// A ring's history has as many events as it may have.
@@ -27,7 +27,7 @@ pub enum FarmError {
     OutOfMemory,
 }
 
-/// The refusal for want of memory.
+/// The refusal when memory runs out.
 pub(crate) fn want_of_memory() -> FarmError
     ensures { result ≡ FarmError.OutOfMemory }
 {

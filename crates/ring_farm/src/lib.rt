@@ -15,5 +15,5 @@ pub use farms::{run_farm, run_rings};
 pub use faults::FarmError;
 pub use gates::{Gate, Open};
 pub use laws::{farms_are_lawful, logs_follow};
-pub use outcomes::{Outcome, RingOutcome};
-pub use ring_shared::Log;
+pub use outcomes::Outcome;
+pub use ring_logs::{Log, RingOutcome};

@@ -1,14 +1,6 @@
-//! What a farm hands out.
+//! The outcome of a farm.
 
-use ring_book::{Book, Till};
-use ring_shared::Log;
-
-/// One ring's outcome: its book, and the log of each seat by number.
-#[derive(Drop)]
-pub struct RingOutcome {
-    pub book: Book<Till>,
-    pub logs: Vec<Log>,
-}
+use ring_logs::RingOutcome;
 
 /// The outcomes of all rings, in the order of the settings.
 #[derive(Drop)]

@@ -9,10 +9,10 @@ ghost use Rattle.ring_farm.specs.Runs.{IsRun};
 
 use crate::faults::{FarmError, want_of_memory};
 use crate::gates::Gate;
-use crate::outcomes::RingOutcome;
 use crate::rooms::Room;
 use crate::threads::run_threads;
 use ring_book::{Book, Resource, Till};
+use ring_logs::RingOutcome;
 use ring_settings::Plan;
 use ring_shared::{CloseReason, Closed, Draft, Name, OpenReason, Ring};
 use std::alloc::Global;
@@ -65,7 +65,7 @@ fn run_named<N: Name + Send + Sync, G: Gate + Sync, W: Threads + Wait + Sync>(
     }
 }
 
-/// What a farm is refused for where a ring was not opened.
+/// Returns the refusal of a farm where a ring was not opened.
 fn refusal_of(reason: OpenReason) -> FarmError
     ensures { result ≡ told_of reason }
 {
@@ -75,7 +75,7 @@ fn refusal_of(reason: OpenReason) -> FarmError
     }
 }
 
-/// What a farm is refused for where a ring was not closed well.
+/// Returns the refusal of a farm where a ring was not closed well.
 fn refusal_of_close(reason: CloseReason) -> FarmError
     ensures { result ≡ told_of_close reason }
 {
@@ -95,7 +95,7 @@ fn end<N: Name, W: Wait>(ring: Ring<N, Till>, rt: &W, alloc: Global) {
 ///
 /// # Errors
 ///
-/// In the order of time: `NoSeat` or want of memory for opening, `Spawn`, the refusal of the least seat that met one,
+/// In the order of time: `NoSeat` or out of memory for opening, `Spawn`, the refusal of the least seat that met one,
 /// and the refusal of closing.
 pub(crate) fn run_ring<G: Gate + Sync, W: Threads + Wait + Sync>(
     rt: &W,

@@ -23,7 +23,7 @@ pub(crate) struct Room {
 pub(crate) type Rooms = [Room; RING_LIMIT];
 
 impl Room {
-    /// One action more of a seat; a survey is no event.
+    /// One action more of a seat; a survey is not an event.
     fn add(&mut self, seat: usize, is_event: bool) {
         self.events = self.events.saturating_add(u32::from(is_event));
         if let Some(entries) = self.entries.get_mut(seat) {
@@ -35,7 +35,7 @@ impl Room {
     ///
     /// # Errors
     ///
-    /// Want of memory alone.
+    /// Only if memory runs out.
     pub(crate) fn reserve_events(&self, book: &mut Book<Till>) -> Result<(), FarmError>
         requires { book.old.history ≡ [] }
         ensures same { book.new ≡ record book.old { room = book.new.room } }
@@ -49,7 +49,7 @@ impl Room {
     ///
     /// # Errors
     ///
-    /// Want of memory for one of them.
+    /// If there is no memory for one of them.
     pub(crate) fn reserve_entries<N: Name>(
         &self,
         seats: &mut Vec<Seat<N>>,
@@ -77,7 +77,7 @@ fn event_count(plan: &Plan) -> u32 {
     events
 }
 
-/// The room that a ring alone needs, which all actions are for.
+/// The room that the only ring needs, which all actions are for.
 fn room_alone(plans: &[Plan]) -> Room {
     let mut room = Room {
         events: 0,
@@ -106,7 +106,7 @@ fn add_plan(rooms: &mut Rooms, seat: usize, plan: &Plan) {
     }
 }
 
-/// The room that each of so many rings needs for these plans, one for each seat. Nothing is promised of these counts: a call
+/// The room that each of these rings needs for these plans, one for each seat. Nothing is promised of these counts: a call
 /// with no room left asks for memory itself.
 pub(crate) fn rooms_for(plans: &[Plan], rings: usize) -> Rooms {
     let none = Room {

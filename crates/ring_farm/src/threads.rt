@@ -17,7 +17,7 @@ use std::sync::Wait;
 use std::thread;
 use std::thread::{Promise, PromisedHandle, Scope, Threads};
 
-/// What a thread promises: to hand back the seat of this number, with its plan's part for this ring.
+/// The promise of a thread: to hand back the seat of this number, with its plan's part for this ring.
 #[derive(Drop)]
 pub(crate) struct Does {
     ring: u32,
@@ -71,7 +71,7 @@ fn spawn_one<
 }
 
 /// Starts a thread for each seat, with the plan of its number. False where one could not be started; the
-/// others go on.
+/// others continue.
 fn spawn_all<
     's,
     E: 's,
@@ -184,7 +184,7 @@ fn run_in_scope<
 ///
 /// # Errors
 ///
-/// `Spawn` where a thread could not be started, else the refusal of the least seat that met one. Want of
+/// `Spawn` where a thread could not be started, else the refusal of the least seat that met one. Out of
 /// memory for the lists of threads and seats comes before any thread is started. All threads are joined.
 pub(crate) fn run_threads<
     N: Name + Send + Sync,

@@ -38,7 +38,7 @@ fn is_on(action: &Action, number: u32) -> bool
     ring == number
 }
 
-/// What a gate's answer leads to: a worker that may not go on is refused.
+/// The effect of a gate's answer: a worker that may not continue is refused.
 fn refused_by(on: bool) -> Option<FarmError>
     ensures let_on { IsTrue on → result ≡ None }
     ensures shut { IsFalse on → result ≡ Some FarmError.GateShut }

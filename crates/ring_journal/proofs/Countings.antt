@@ -1,4 +1,4 @@
--- How many lines the told history has: no more than what the journal began with and the calls.
+-- How many lines the recorded history has: no more than the journal's start and the calls.
 use Rattle.std.proofs.Common.{◌≡◌, ℕ, zero, suc, ◌+◌, ◌≤◌, Bool, true, false, cond, List, [], ◌∷◌, length, map, refl, length-append, arith}
 use Rattle.std.specs.List.{flat_map}
 use Rattle.ring_saved.specs.Content.{Block, Content}
@@ -8,7 +8,7 @@ use Rattle.ring_check.proofs.Blocks.{block_long}
 use Rattle.ring_check.proofs.BlockLines.{lines_long}
 use Rattle.ring_journal.specs.declared.calls.Call.{Call}
 use Rattle.ring_journal.specs.declared.calls.Call.TheVariants.{Event, Survey}
-use Rattle.ring_journal.specs.declared.calls.Recorded.{Recorded}
+use Rattle.ring_journal.specs.declared.calls.JournalLine.{JournalLine}
 use Rattle.ring_journal.specs.Told.{are_open, whole, with_call, with_call_at, with_calls, in_order, told}
 use Rattle.ring_journal.proofs.Seatings.{length-by_seats}
 
@@ -43,7 +43,7 @@ call_at (b ∷ bs) (suc ring) call =
     let after = one_block b (with_call_at bs ring call) in
     omega arith
 
-calls_few : (bs : List Block) (calls : List Recorded) → count (with_calls bs calls) ≤ count bs + length calls
+calls_few : (bs : List Block) (calls : List JournalLine) → count (with_calls bs calls) ≤ count bs + length calls
 calls_few bs [] = omega arith
 calls_few bs (r ∷ rs) =
     let one = call_at bs r.ring r.call in
@@ -66,15 +66,15 @@ all_ordered (b ∷ bs) =
     let after = one_block (in_order b) (map in_order bs) in
     omega arith
 
-either_few : (b : Bool) (r : Recorded) (rs : List Recorded) (n : ℕ) → length rs ≤ n → length (cond b [] (r ∷ rs)) ≤ n + 1
+either_few : (b : Bool) (r : JournalLine) (rs : List JournalLine) (n : ℕ) → length rs ≤ n → length (cond b [] (r ∷ rs)) ≤ n + 1
 either_few true r rs n le = omega arith
 either_few false r rs n le = omega arith
 
-whole_few : (calls : List Recorded) → length (whole calls) ≤ length calls
+whole_few : (calls : List JournalLine) → length (whole calls) ≤ length calls
 whole_few [] = omega arith
 whole_few (r ∷ rs) = let e = either_few (are_open (r ∷ rs)) r (whole rs) (length rs) (whole_few rs) in omega arith
 
-pub told_lines : (began : Content) (calls : List Recorded) → length (lines (told began calls)) ≤ length (lines began) + length calls
+pub told_lines : (began : Content) (calls : List JournalLine) → length (lines (told began calls)) ≤ length (lines began) + length calls
 told_lines began calls =
     let before = lines_long began in
     let after = lines_long (told began calls) in

@@ -1,4 +1,4 @@
--- A beginning of a right journal gives the journal's own history.
+-- A prefix of a right journal gives the journal's own history.
 use Rattle.std.proofs.Common.{◌≡◌, ℕ, zero, suc, ◌+◌, ◌<◌, ◌≤◌, Bool, true, false, cond, eqb, List, [], ◌∷◌, ◌++◌, length, take, drop, Result, Ok, Err, refl, sym, ap, ◌∙◌, subst, append_assoc, length-append, inl, inr, ◌⊎◌, arith}
 use Rattle.std.specs.List.{flat_map, AllByRecursion}
 use Rattle.std.proofs.lemmas.List.{take-append-le, take-append-drop}
@@ -22,10 +22,10 @@ use Rattle.ring_saved.specs.Lines.{event_or_end_at, survey_or_next_at}
 use Rattle.ring_saved.proofs.LineLaws.{item_reads, survey_or_next_reads}
 use Rattle.ring_journal.specs.declared.calls.Call.{Call}
 use Rattle.ring_journal.specs.declared.calls.Call.TheVariants.{Event, Survey}
-use Rattle.ring_journal.specs.declared.calls.Recorded.{Recorded}
+use Rattle.ring_journal.specs.declared.calls.JournalLine.{JournalLine}
 use Rattle.ring_journal.specs.declared.errors.RecoverError.{RecoverError}
 use Rattle.ring_journal.specs.declared.errors.RecoverError.TheVariants.{Truncated, Syntax, Bad, OutOfMemory}
-use Rattle.ring_journal.specs.Spelling.{Journal, head_text, journal_text, call_line, recorded_line, CallFits, RecordedFits}
+use Rattle.ring_journal.specs.Spelling.{Journal, head_text, journal_text, call_line, journal_line, CallFits, JournalLineFits}
 use Rattle.ring_journal.specs.Reading.{BeginsNone, head_at}
 use Rattle.ring_journal.specs.Told.{told}
 use Rattle.ring_journal.specs.Recovery.{has_line_end, IsJournalThen, IsRecovered, IsNoBeginning, IsNoCall, IsBadBeginning, IsBadCall, IsRightRecovery}
@@ -37,8 +37,8 @@ use Rattle.ring_journal.proofs.Orders.{not_both}
 
 -- ---- one line at the front of some bytes
 
-abbrev lines_of : List Recorded → List ℕ
-lines_of rs = flat_map recorded_line rs
+abbrev lines_of : List JournalLine → List ℕ
+lines_of rs = flat_map journal_line rs
 
 abbrev ok_of : {A : Type 0} → A → List ℕ → Result (A × List ℕ) Fault
 ok_of a x = Ok (a, x)
@@ -81,19 +81,19 @@ call_same version (Survey v) (Survey w) x y g h k =
     let p = first_is (this v) (this w) x y (sym (survey_or_next_reads.again (this v) x g) ∙ ap survey_or_next_at k ∙ survey_or_next_reads.again (this w) y h) in
     (ap Survey (this_is v w p.0), p.1)
 
-recorded_same : (a b : Recorded) → a.ring ≡ b.ring → a.call ≡ b.call → a ≡ b
+recorded_same : (a b : JournalLine) → a.ring ≡ b.ring → a.call ≡ b.call → a ≡ b
 recorded_same a b e f = ap (λ (n : ℕ). record { ring = n; call = a.call }) e ∙ ap (λ (c : Call). record { ring = b.ring; call = c }) f
 
-line_same : (version rings : ℕ) (a b : Recorded) (x y : List ℕ) → RecordedFits version rings a → RecordedFits version rings b → recorded_line a ++ x ≡ recorded_line b ++ y → (a ≡ b) × (x ≡ y)
+line_same : (version rings : ℕ) (a b : JournalLine) (x y : List ℕ) → JournalLineFits version rings a → JournalLineFits version rings b → journal_line a ++ x ≡ journal_line b ++ y → (a ≡ b) × (x ≡ y)
 line_same version rings a b x y f g e =
-    let p = first_is a.ring b.ring (call_line a.call ++ x) (call_line b.call ++ y) (sym (ring_read version rings (recorded_line a ++ x) a x f refl) ∙ ap (number_at 4294967296 32) e ∙ ring_read version rings (recorded_line b ++ y) b y g refl) in
+    let p = first_is a.ring b.ring (call_line a.call ++ x) (call_line b.call ++ y) (sym (ring_read version rings (journal_line a ++ x) a x f refl) ∙ ap (number_at 4294967296 32) e ∙ ring_read version rings (journal_line b ++ y) b y g refl) in
     let q = call_same version a.call b.call x y f.call g.call p.1 in
     (recorded_same a b p.0 q.0, q.1)
 
 -- ---- the lines of some calls
 
-lines_front : (version rings : ℕ) (xs ys : List Recorded) (t : List ℕ) → AllByRecursion (RecordedFits version rings) xs → AllByRecursion (RecordedFits version rings) ys → lines_of xs ++ t ≡ lines_of ys
-    → (back : List Recorded) × (ys ≡ xs ++ back) × (t ≡ lines_of back)
+lines_front : (version rings : ℕ) (xs ys : List JournalLine) (t : List ℕ) → AllByRecursion (JournalLineFits version rings) xs → AllByRecursion (JournalLineFits version rings) ys → lines_of xs ++ t ≡ lines_of ys
+    → (back : List JournalLine) × (ys ≡ xs ++ back) × (t ≡ lines_of back)
 lines_front version rings [] ys t f g e = (ys, refl, e)
 lines_front version rings (x ∷ xs) [] t f g e =
     let some = calls_some (x ∷ xs) in
@@ -101,17 +101,17 @@ lines_front version rings (x ∷ xs) [] t f g e =
     let long : length (lines_of (x ∷ xs) ++ t) ≡ 0 = ap length e in
     absurd (omega (arith, some, cut, long))
 lines_front version rings (x ∷ xs) (y ∷ ys) t f g e =
-    let p = line_same version rings x y (lines_of xs ++ t) (lines_of ys) f.0 g.0 (sym (append_assoc (recorded_line x) (lines_of xs) t) ∙ e) in
+    let p = line_same version rings x y (lines_of xs ++ t) (lines_of ys) f.0 g.0 (sym (append_assoc (journal_line x) (lines_of xs) t) ∙ e) in
     let q = lines_front version rings xs ys t f.1 g.1 p.1 in
-    (q.0, ap (λ (z : Recorded). z ∷ ys) (sym p.0) ∙ ap (λ (zs : List Recorded). x ∷ zs) q.1, q.2)
+    (q.0, ap (λ (z : JournalLine). z ∷ ys) (sym p.0) ∙ ap (λ (zs : List JournalLine). x ∷ zs) q.1, q.2)
 
--- no more calls stand at the front than are found there
-longest : (version rings : ℕ) (xs ys : List Recorded) (t u : List ℕ) → AllByRecursion (RecordedFits version rings) xs → AllByRecursion (RecordedFits version rings) ys → BeginsNone (RecordedFits version rings) recorded_line u → lines_of xs ++ t ≡ lines_of ys ++ u
+-- no more calls are at the front than are found there
+longest : (version rings : ℕ) (xs ys : List JournalLine) (t u : List ℕ) → AllByRecursion (JournalLineFits version rings) xs → AllByRecursion (JournalLineFits version rings) ys → BeginsNone (JournalLineFits version rings) journal_line u → lines_of xs ++ t ≡ lines_of ys ++ u
     → length xs ≤ length ys
 longest version rings [] ys t u f g none e = omega arith
-longest version rings (x ∷ xs) [] t u f g none e = absurd (none x (lines_of xs ++ t) f.0 (sym e ∙ append_assoc (recorded_line x) (lines_of xs) t))
+longest version rings (x ∷ xs) [] t u f g none e = absurd (none x (lines_of xs ++ t) f.0 (sym e ∙ append_assoc (journal_line x) (lines_of xs) t))
 longest version rings (x ∷ xs) (y ∷ ys) t u f g none e =
-    let p = line_same version rings x y (lines_of xs ++ t) (lines_of ys ++ u) f.0 g.0 (sym (append_assoc (recorded_line x) (lines_of xs) t) ∙ e ∙ append_assoc (recorded_line y) (lines_of ys) u) in
+    let p = line_same version rings x y (lines_of xs ++ t) (lines_of ys ++ u) f.0 g.0 (sym (append_assoc (journal_line x) (lines_of xs) t) ∙ e ∙ append_assoc (journal_line y) (lines_of ys) u) in
     let more = longest version rings xs ys t u f.1 g.1 none p.1 in
     omega (arith, more)
 
@@ -119,7 +119,7 @@ all_front : {A : Type 0} (P : A → Type 0) (xs ys : List A) → AllByRecursion 
 all_front P [] ys f = tt
 all_front P (x ∷ xs) ys f = (f.0, all_front P xs ys f.1)
 
--- ---- beginnings of some bytes
+-- ---- prefixes of some bytes
 
 same_heads : (a b : Content) (x y : List ℕ) → Fits a → Fits b → head_text a ++ x ≡ head_text b ++ y → (a ≡ b) × (x ≡ y)
 same_heads a b x y f g e = first_is a b x y (sym (head_reads.again a x f) ∙ ap head_at e ∙ head_reads.again b y g)
@@ -145,13 +145,13 @@ none_left : (xs ys : List ℕ) → xs ++ ys ≡ [] → xs ≡ []
 none_left [] ys e = refl
 none_left (x ∷ xs) ys e = let long : suc (length (xs ++ ys)) ≡ 0 = ap length e in absurd (omega (arith, long))
 
--- ---- a beginning of a right journal
+-- ---- a prefix of a right journal
 
-abbrev FitIn : Content → List Recorded → Type 0
-FitIn c rs = AllByRecursion (RecordedFits c.version (length c.rings)) rs
+abbrev FitIn : Content → List JournalLine → Type 0
+FitIn c rs = AllByRecursion (JournalLineFits c.version (length c.rings)) rs
 
 abbrev NoneIn : Content → List ℕ → Type 0
-NoneIn c bytes = BeginsNone (RecordedFits c.version (length c.rings)) recorded_line bytes
+NoneIn c bytes = BeginsNone (JournalLineFits c.version (length c.rings)) journal_line bytes
 
 regroup : (h l t m : List ℕ) → h ++ (l ++ (t ++ m)) ≡ ((h ++ l) ++ t) ++ m
 regroup h l t m = sym (append_assoc (h ++ l) t m ∙ append_assoc h l (t ++ m))
@@ -159,7 +159,7 @@ regroup h l t m = sym (append_assoc (h ++ l) t m ∙ append_assoc h l (t ++ m))
 module _ (j : Journal) (bytes more : List ℕ) (right : IsRightJournal j) (cut : bytes ++ more ≡ journal_text j) where
   record Matches (k : Journal) (tail : List ℕ) : Type 0 where
     pub same : k.began ≡ j.began
-    pub back : List Recorded
+    pub back : List JournalLine
     pub parts : j.calls ≡ k.calls ++ back
     pub left : tail ++ more ≡ lines_of back
     pub fit : FitIn j.began k.calls
@@ -173,12 +173,12 @@ module _ (j : Journal) (bytes more : List ℕ) (right : IsRightJournal j) (cut :
       let q = lines_front j.began.version (length j.began.rings) k.calls j.calls (tail ++ more) fit right.fits.calls p.1 in
       record { same = p.0; back = q.0; parts = q.1; left = q.2; fit = fit; none = subst (λ (c : Content). NoneIn c tail) p.0 lines.behind }
 
-  holds_all : (k : Journal) (tail : List ℕ) → IsJournalThen bytes k tail → (calls others : List Recorded) (rest : List ℕ) → j.calls ≡ calls ++ others → bytes ≡ journal_text (up_to j calls) ++ rest → length calls ≤ length k.calls
+  holds_all : (k : Journal) (tail : List ℕ) → IsJournalThen bytes k tail → (calls others : List JournalLine) (rest : List ℕ) → j.calls ≡ calls ++ others → bytes ≡ journal_text (up_to j calls) ++ rest → length calls ≤ length k.calls
   holds_all k tail lines calls others rest parts spelled =
       let m = matched k tail lines in
       let p = same_heads j.began k.began (lines_of calls ++ rest) (lines_of k.calls ++ tail) right.fits.began lines.fits.began
       (sym (append_assoc (head_text j.began) (lines_of calls) rest) ∙ sym spelled ∙ lines.spelled ∙ append_assoc (head_text k.began) (lines_of k.calls) tail) in
-      let fit : FitIn j.began calls = all_front (RecordedFits j.began.version (length j.began.rings)) calls others (subst (λ (rs : List Recorded). FitIn j.began rs) parts right.fits.calls) in
+      let fit : FitIn j.began calls = all_front (JournalLineFits j.began.version (length j.began.rings)) calls others (subst (λ (rs : List JournalLine). FitIn j.began rs) parts right.fits.calls) in
       longest j.began.version (length j.began.rings) calls k.calls rest tail fit m.fit m.none p.1
 
   own_history : (c : Content) → IsRecovered bytes c → IsOwnHistory j bytes c
@@ -213,14 +213,14 @@ module _ (j : Journal) (bytes more : List ℕ) (right : IsRightJournal j) (cut :
   no_beginning : (line : ℕ) → IsNoBeginning bytes line → ⊥
   no_beginning line n = no_beginning_by line n (cases_lt (length bytes) (length (head_text j.began)))
 
-  no_line_by : (tail : List ℕ) (r : Recorded) (rs : List Recorded) → RecordedFits j.began.version (length j.began.rings) r → NoneIn j.began tail → tail ++ more ≡ recorded_line r ++ lines_of rs → has_line_end tail ≡ true
-      → (length tail < length (recorded_line r)) ⊎ (length (recorded_line r) ≤ length tail) → ⊥
+  no_line_by : (tail : List ℕ) (r : JournalLine) (rs : List JournalLine) → JournalLineFits j.began.version (length j.began.rings) r → NoneIn j.began tail → tail ++ more ≡ journal_line r ++ lines_of rs → has_line_end tail ≡ true
+      → (length tail < length (journal_line r)) ⊎ (length (journal_line r) ≤ length tail) → ⊥
   no_line_by tail r rs f none e ended (inl lt) = false≢true (sym (cut_line j.began.version (length j.began.rings) r tail more (lines_of rs) f e lt) ∙ ended)
-  no_line_by tail r rs f none e ended (inr le) = none r (drop (length (recorded_line r)) tail) f (split tail more (recorded_line r) (lines_of rs) e le)
+  no_line_by tail r rs f none e ended (inr le) = none r (drop (length (journal_line r)) tail) f (split tail more (journal_line r) (lines_of rs) e le)
 
-  no_line : (tail : List ℕ) (back : List Recorded) → FitIn j.began back → NoneIn j.began tail → tail ++ more ≡ lines_of back → has_line_end tail ≡ true → ⊥
+  no_line : (tail : List ℕ) (back : List JournalLine) → FitIn j.began back → NoneIn j.began tail → tail ++ more ≡ lines_of back → has_line_end tail ≡ true → ⊥
   no_line tail [] f none e ended = false≢true (ap has_line_end (sym (none_left tail more e)) ∙ ended)
-  no_line tail (r ∷ rs) f none e ended = no_line_by tail r rs f.0 none e ended (cases_lt (length tail) (length (recorded_line r)))
+  no_line tail (r ∷ rs) f none e ended = no_line_by tail r rs f.0 none e ended (cases_lt (length tail) (length (journal_line r)))
 
   all_back : {A : Type 0} (P : A → Type 0) (xs ys : List A) → AllByRecursion P (xs ++ ys) → AllByRecursion P ys
   all_back P [] ys f = f
@@ -229,7 +229,7 @@ module _ (j : Journal) (bytes more : List ℕ) (right : IsRightJournal j) (cut :
   no_call : (line : ℕ) → IsNoCall bytes line → ⊥
   no_call line n =
       let m = matched n.journal n.tail n.lines in
-      let fit : FitIn j.began m.back = all_back (RecordedFits j.began.version (length j.began.rings)) n.journal.calls m.back (subst (λ (rs : List Recorded). FitIn j.began rs) m.parts right.fits.calls) in
+      let fit : FitIn j.began m.back = all_back (JournalLineFits j.began.version (length j.began.rings)) n.journal.calls m.back (subst (λ (rs : List JournalLine). FitIn j.began rs) m.parts right.fits.calls) in
       no_line n.tail m.back fit m.none m.left n.ended
 
   no_bad_beginning : (line : ℕ) (kind : Kind) → IsBadBeginning bytes line kind → ⊥
@@ -242,7 +242,7 @@ module _ (j : Journal) (bytes more : List ℕ) (right : IsRightJournal j) (cut :
       let m = matched b.journal b.tail b.lines in
       let n = b.call + 1 in
       let front = take n b.journal.calls in
-      let parts : j.calls ≡ front ++ (drop n b.journal.calls ++ m.back) = m.parts ∙ ap (λ (rs : List Recorded). rs ++ m.back) (sym (take-append-drop n b.journal.calls)) ∙ append_assoc front (drop n b.journal.calls) m.back in
+      let parts : j.calls ≡ front ++ (drop n b.journal.calls ++ m.back) = m.parts ∙ ap (λ (rs : List JournalLine). rs ++ m.back) (sym (take-append-drop n b.journal.calls)) ∙ append_assoc front (drop n b.journal.calls) m.back in
       not_both (told j.began front) b.wrong.said kind (right.legal front (drop n b.journal.calls ++ m.back) parts) (subst (λ (c : Content). IsRightCheck (told c front) (Err (check.Bad b.wrong.said kind))) m.same b.wrong.bad)
 
 pub beginnings_recovered : (j : Journal) (bytes more : List ℕ) (answer : Result Saved RecoverError) → IsRightJournal j → bytes ++ more ≡ journal_text j → IsRightRecovery bytes answer → IsAnswerOfBeginning j bytes answer
@@ -256,16 +256,16 @@ beginnings_recovered j bytes more (Err OutOfMemory) right cut a = tt
 
 -- ---- one history
 
-same_calls : (version rings : ℕ) (xs ys : List Recorded) (t u : List ℕ) → AllByRecursion (RecordedFits version rings) xs → AllByRecursion (RecordedFits version rings) ys → BeginsNone (RecordedFits version rings) recorded_line t → BeginsNone (RecordedFits version rings) recorded_line u
+same_calls : (version rings : ℕ) (xs ys : List JournalLine) (t u : List ℕ) → AllByRecursion (JournalLineFits version rings) xs → AllByRecursion (JournalLineFits version rings) ys → BeginsNone (JournalLineFits version rings) journal_line t → BeginsNone (JournalLineFits version rings) journal_line u
     → lines_of xs ++ t ≡ lines_of ys ++ u → xs ≡ ys
 same_calls version rings [] [] t u f g n m e = refl
-same_calls version rings [] (y ∷ ys) t u f g n m e = absurd (n y (lines_of ys ++ u) g.0 (e ∙ append_assoc (recorded_line y) (lines_of ys) u))
-same_calls version rings (x ∷ xs) [] t u f g n m e = absurd (m x (lines_of xs ++ t) f.0 (sym e ∙ append_assoc (recorded_line x) (lines_of xs) t))
+same_calls version rings [] (y ∷ ys) t u f g n m e = absurd (n y (lines_of ys ++ u) g.0 (e ∙ append_assoc (journal_line y) (lines_of ys) u))
+same_calls version rings (x ∷ xs) [] t u f g n m e = absurd (m x (lines_of xs ++ t) f.0 (sym e ∙ append_assoc (journal_line x) (lines_of xs) t))
 same_calls version rings (x ∷ xs) (y ∷ ys) t u f g n m e =
-    let p = line_same version rings x y (lines_of xs ++ t) (lines_of ys ++ u) f.0 g.0 (sym (append_assoc (recorded_line x) (lines_of xs) t) ∙ e ∙ append_assoc (recorded_line y) (lines_of ys) u) in
-    ap (λ (z : Recorded). z ∷ xs) p.0 ∙ ap (λ (zs : List Recorded). y ∷ zs) (same_calls version rings xs ys t u f.1 g.1 n m p.1)
+    let p = line_same version rings x y (lines_of xs ++ t) (lines_of ys ++ u) f.0 g.0 (sym (append_assoc (journal_line x) (lines_of xs) t) ∙ e ∙ append_assoc (journal_line y) (lines_of ys) u) in
+    ap (λ (z : JournalLine). z ∷ xs) p.0 ∙ ap (λ (zs : List JournalLine). y ∷ zs) (same_calls version rings xs ys t u f.1 g.1 n m p.1)
 
-same_told : (a b : Content) (xs ys : List Recorded) → a ≡ b → xs ≡ ys → told a xs ≡ told b ys
+same_told : (a b : Content) (xs ys : List JournalLine) → a ≡ b → xs ≡ ys → told a xs ≡ told b ys
 same_told a b xs ys e f = ap (λ (c : Content). told c xs) e ∙ ap (told b) f
 
 pub one_recovered : (bytes : List ℕ) (c d : Content) → IsRecovered bytes c → IsRecovered bytes d → c ≡ d

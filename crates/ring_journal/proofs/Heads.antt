@@ -1,4 +1,4 @@
--- What a journal begins with: it is read as it is spelled, and a refusal of it is right.
+-- The start of a journal: it is read as it is spelled, and a refusal of it is right.
 use Rattle.std.proofs.Common.{◌≡◌, ℕ, ◌+◌, ◌-◌, ◌<◌, ◌≤◌, ◌^◌, eqb, List, [], ◌∷◌, ◌++◌, length, take, vec_len, Result, Ok, Err, refl, sym, ap, ◌∙◌, subst, append_assoc, length-append, inl, arith}
 use Rattle.std.specs.Fmt.{decimal}
 use Rattle.std.specs.List.{All, AllByRecursion, flat_map}
@@ -24,8 +24,8 @@ use Rattle.ring_check.specs.Legal.{IsRightCheck, IsFirstBad}
 use Rattle.ring_check.specs.declared.answers.Kind.{Kind}
 use Rattle.ring_check.specs.declared.answers.CheckError.TheVariants as check
 use Rattle.ring_check.proofs.SavedLines.{lines_some}
-use Rattle.ring_journal.specs.declared.calls.Recorded.{Recorded}
-use Rattle.ring_journal.specs.Spelling.{RecordedFits, first_line, head_text, call_line, recorded_line}
+use Rattle.ring_journal.specs.declared.calls.JournalLine.{JournalLine}
+use Rattle.ring_journal.specs.Spelling.{JournalLineFits, first_line, head_text, call_line, journal_line}
 use Rattle.ring_journal.specs.Reading.{BeginsNone, head_at}
 use Rattle.ring_journal.specs.Recovery.{IsJournalThen, IsBadBeginning, IsRightRecovery, call_line_number}
 use Rattle.ring_journal.specs.Judging.{refused_as, AreCallsOf}
@@ -57,31 +57,31 @@ head_refused bytes (stops.Fault d) k = as_recovery bytes d (no_head bytes d k) (
 
 -- ---- the calls
 
-recorded_some : (r : Recorded) → 1 ≤ length (recorded_line r)
+recorded_some : (r : JournalLine) → 1 ≤ length (journal_line r)
 recorded_some r =
     let line = length-append (spaced r.ring) (call_line r.call) in
     let number = length-append (decimal r.ring) (32 ∷ []) in
     omega arith
 
-pub calls_some : (calls : List Recorded) → length calls ≤ length (flat_map recorded_line calls)
+pub calls_some : (calls : List JournalLine) → length calls ≤ length (flat_map journal_line calls)
 calls_some [] = omega arith
 calls_some (r ∷ rs) =
     let one = recorded_some r in
     let more = calls_some rs in
-    let line = length-append (recorded_line r) (flat_map recorded_line rs) in
+    let line = length-append (journal_line r) (flat_map journal_line rs) in
     omega arith
 
-pub calls_within : (calls : List Recorded) (rest tail : List ℕ) → rest ≡ flat_map recorded_line calls ++ tail → length calls + length tail ≤ length rest
+pub calls_within : (calls : List JournalLine) (rest tail : List ℕ) → rest ≡ flat_map journal_line calls ++ tail → length calls + length tail ≤ length rest
 calls_within calls rest tail e =
     let some = calls_some calls in
-    let long : length rest ≡ length (flat_map recorded_line calls ++ tail) = ap length e in
-    let cut = length-append (flat_map recorded_line calls) tail in
+    let long : length rest ≡ length (flat_map journal_line calls ++ tail) = ap length e in
+    let cut = length-append (flat_map journal_line calls) tail in
     omega arith
 
-pub rings_of : (version rings : ℕ) (calls : List Recorded) → AllByRecursion (RecordedFits version rings) calls → All (λ (r : Recorded). r.ring < rings) calls
-rings_of version rings calls fit = All-weaker (RecordedFits version rings) (λ (r : Recorded). r.ring < rings) (λ r f. f.ring) calls (All-from_recursion (RecordedFits version rings) calls fit)
+pub rings_of : (version rings : ℕ) (calls : List JournalLine) → AllByRecursion (JournalLineFits version rings) calls → All (λ (r : JournalLine). r.ring < rings) calls
+rings_of version rings calls fit = All-weaker (JournalLineFits version rings) (λ (r : JournalLine). r.ring < rings) (λ r f. f.ring) calls (All-from_recursion (JournalLineFits version rings) calls fit)
 
--- ---- what was read
+-- ---- the part that was read
 
 module _ (bytes : List ℕ) (c : Content) (rest : List ℕ) (read : head_at bytes ≡ Ok (c, rest)) where
   pub head_spelled : Fits c × (bytes ≡ head_text c ++ rest)
@@ -113,20 +113,20 @@ module _ (bytes : List ℕ) (c : Content) (rest : List ℕ) (read : head_at byte
       let cut = length-take (length (head_text c)) bytes in
       omega (arith, g, few, cut)
 
-  pub is_journal : (rings : ℕ) (calls : List Recorded) (tail : List ℕ) → rings ≡ length c.rings → AllByRecursion (RecordedFits c.version rings) calls → rest ≡ flat_map recorded_line calls ++ tail → BeginsNone (RecordedFits c.version rings) recorded_line tail
+  pub is_journal : (rings : ℕ) (calls : List JournalLine) (tail : List ℕ) → rings ≡ length c.rings → AllByRecursion (JournalLineFits c.version rings) calls → rest ≡ flat_map journal_line calls ++ tail → BeginsNone (JournalLineFits c.version rings) journal_line tail
       → IsJournalThen bytes (record { began = c; calls = calls }) tail
   is_journal rings calls tail same fit spelled none = record {
-    fits = record { began = head_spelled.0; calls = subst (λ (n : ℕ). AllByRecursion (RecordedFits c.version n) calls) same fit };
-    spelled = head_spelled.1 ∙ ap (λ (u : List ℕ). head_text c ++ u) spelled ∙ sym (append_assoc (head_text c) (flat_map recorded_line calls) tail);
-    behind = subst (λ (n : ℕ). BeginsNone (RecordedFits c.version n) recorded_line tail) same none;
+    fits = record { began = head_spelled.0; calls = subst (λ (n : ℕ). AllByRecursion (JournalLineFits c.version n) calls) same fit };
+    spelled = head_spelled.1 ∙ ap (λ (u : List ℕ). head_text c ++ u) spelled ∙ sym (append_assoc (head_text c) (flat_map journal_line calls) tail);
+    behind = subst (λ (n : ℕ). BeginsNone (JournalLineFits c.version n) journal_line tail) same none;
   }
 
-  pub are_calls : (rings : ℕ) (calls : List Recorded) (tail : List ℕ) → rings ≡ length c.rings → AllByRecursion (RecordedFits c.version rings) calls → rest ≡ flat_map recorded_line calls ++ tail → length bytes < 2 ^ 64 → AreCallsOf bytes calls
+  pub are_calls : (rings : ℕ) (calls : List JournalLine) (tail : List ℕ) → rings ≡ length c.rings → AllByRecursion (JournalLineFits c.version rings) calls → rest ≡ flat_map journal_line calls ++ tail → length bytes < 2 ^ 64 → AreCallsOf bytes calls
   are_calls rings calls tail same fit spelled short =
       let few = head_lines in
       let within = calls_within calls rest tail spelled in
       let all = rings_of c.version rings calls fit in
-      record { began = c; rest = rest; head = read; rings = subst (λ (n : ℕ). All (λ (r : Recorded). r.ring < n) calls) same all; room = omega (arith, few, within, short) }
+      record { began = c; rest = rest; head = read; rings = subst (λ (n : ℕ). All (λ (r : JournalLine). r.ring < n) calls) same all; room = omega (arith, few, within, short) }
 
 -- the head of the bytes is one
 head_or : Content → Result (Content × List ℕ) Fault → Content
@@ -147,7 +147,7 @@ bad_within version ls line kind bad =
     let cut = length-append bad.0 (bad.1 ∷ bad.2) in
     omega arith
 
--- what holds of the head of the bytes holds of it however it was read
+-- a fact on the head of the bytes holds of it however it was read
 pub for_head : (P : Content → Type 0) (bytes : List ℕ) (b c : Content) (rest more : List ℕ) → head_at bytes ≡ Ok (b, rest) → head_at bytes ≡ Ok (c, more) → P c → P b
 for_head P bytes b c rest more e f p = subst P (sym (same_head bytes b c rest more e f)) p
 

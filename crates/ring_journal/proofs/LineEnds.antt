@@ -13,8 +13,8 @@ use Rattle.ring_saved.specs.declared.saved.SavedSurvey.{SavedSurvey}
 use Rattle.ring_saved.specs.Spelling.{event_line, survey_line, EventFits, SurveyFits}
 use Rattle.ring_journal.specs.declared.calls.Call.{Call}
 use Rattle.ring_journal.specs.declared.calls.Call.TheVariants.{Event, Survey}
-use Rattle.ring_journal.specs.declared.calls.Recorded.{Recorded}
-use Rattle.ring_journal.specs.Spelling.{call_line, recorded_line, CallFits, RecordedFits}
+use Rattle.ring_journal.specs.declared.calls.JournalLine.{JournalLine}
+use Rattle.ring_journal.specs.Spelling.{call_line, journal_line, CallFits, JournalLineFits}
 use Rattle.ring_journal.specs.Recovery.{has_line_end}
 use Rattle.ring_journal.proofs.Orders.{other}
 
@@ -43,7 +43,7 @@ no_end_decimal n small = decimal_by_steps (λ m ds. NoEnd ds) (λ m lt. no_end_d
 no_end_spaced : (n : ℕ) → n < 2 ^ 64 → NoEnd (spaced n)
 no_end_spaced n small = no_end_append (decimal n) (32 ∷ []) (no_end_decimal n small) refl
 
--- an LF stands behind bytes that have none
+-- an LF is after bytes that have none
 pub record EndsOnce (line : List ℕ) : Type 0 where
   pub body : List ℕ
   pub whole : line ≡ body ++ 10 ∷ []
@@ -78,21 +78,21 @@ call_ends : (version : ℕ) (call : Call) → CallFits version call → EndsOnce
 call_ends version (Event e) f = event_ends version e f
 call_ends version (Survey v) f = survey_ends v f
 
-line_ends : (version rings : ℕ) (r : Recorded) → RecordedFits version rings r → EndsOnce (recorded_line r)
+line_ends : (version rings : ℕ) (r : JournalLine) → JournalLineFits version rings r → EndsOnce (journal_line r)
 line_ends version rings r f = number_then r.ring (call_line r.call) (wide r.ring f.small) (call_ends version r.call f.call)
 
--- a beginning of such a line that lacks a byte has no LF
-pub cut_line : (version rings : ℕ) (r : Recorded) (tail : List ℕ) (more others : List ℕ) → RecordedFits version rings r → tail ++ more ≡ recorded_line r ++ others → length tail < length (recorded_line r) → has_line_end tail ≡ false
+-- a prefix of such a line that lacks a byte has no LF
+pub cut_line : (version rings : ℕ) (r : JournalLine) (tail : List ℕ) (more others : List ℕ) → JournalLineFits version rings r → tail ++ more ≡ journal_line r ++ others → length tail < length (journal_line r) → has_line_end tail ≡ false
 cut_line version rings r tail more others f e short =
     let l = line_ends version rings r f in
-    let long : length (recorded_line r) ≡ length l.body + 1 = ap length l.whole ∙ length-append l.body (10 ∷ []) in
+    let long : length (journal_line r) ≡ length l.body + 1 = ap length l.whole ∙ length-append l.body (10 ∷ []) in
     let n = length tail in
     let within : length tail ≤ length l.body = omega (arith, short, long) in
-    let inside : length tail ≤ length (recorded_line r) = omega (arith, short) in
+    let inside : length tail ≤ length (journal_line r) = omega (arith, short) in
     let front : tail ≡ take (length tail) l.body =
     sym (take-append_seam tail more)
     ∙ ap (take (length tail)) e
-    ∙ take-append-le (length tail) (recorded_line r) others inside
+    ∙ take-append-le (length tail) (journal_line r) others inside
     ∙ ap (take (length tail)) l.whole
     ∙ take-append-le (length tail) l.body (10 ∷ []) within in
     let none : has_line_end (take (length tail) l.body) ≡ false = no_end_front (take (length tail) l.body) (drop (length tail) l.body) (ap has_line_end (take-append-drop (length tail) l.body) ∙ l.none) in

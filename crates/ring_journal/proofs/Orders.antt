@@ -1,4 +1,4 @@
--- What saved texts tell without a call more: surveys that stand in order stay as they are.
+-- The history of saved texts with no call more: surveys that are in order stay as they are.
 use Rattle.std.proofs.Common.{◌≡◌, ℕ, zero, suc, ◌+◌, ◌<◌, ◌≤◌, Bool, true, false, eqb, List, [], ◌∷◌, ◌++◌, length, map, Err, Some, None, Option, refl, sym, ap, ◌∙◌, subst, ◌⊎◌, inl, inr, arith}
 use Rattle.std.specs.Prelude.{not}
 use Rattle.std.specs.List.{filter}
@@ -10,7 +10,7 @@ use Rattle.ring_check.specs.declared.answers.Kind.{Kind}
 use Rattle.ring_check.specs.declared.answers.CheckError.TheVariants as check
 use Rattle.ring_check.specs.Legal.{IsLegalText, IsRightCheck}
 use Rattle.ring_check.specs.Meaning.{AreOnward, AreInOrder, AreRightBlocks, IsRightText}
-use Rattle.ring_journal.specs.declared.calls.Recorded.{Recorded}
+use Rattle.ring_journal.specs.declared.calls.JournalLine.{JournalLine}
 use Rattle.ring_journal.specs.Told.{is_of, by_seats, in_order, told}
 
 -- the seats do not fall, from this one on
@@ -33,7 +33,7 @@ rises (s ∷ ss) o = (omega arith, rise s.seat s.position ss o)
 abbrev Kept : ℕ → List SavedSurvey → Type 0
 Kept seat ss = (filter (is_of seat) ss ++ filter (λ s. not (is_of seat s)) ss ≡ ss) × Rise (seat + 1) (filter (λ s. not (is_of seat s)) ss)
 
--- none of a seat behind later ones
+-- none of a seat after later ones
 abbrev None_of : ℕ → List SavedSurvey → Type 0
 None_of seat ss = (filter (is_of seat) ss ≡ []) × (filter (λ s. not (is_of seat s)) ss ≡ ss)
 
@@ -85,7 +85,7 @@ blocks_stay version place (b ∷ bs) r =
     ap (λ (ss : List SavedSurvey). record b { surveys = ss } ∷ map in_order bs) (seated seat_limit 0 b.surveys (rises b.surveys r.0.order))
     ∙ ap (λ (xs : List Block). b ∷ xs) (blocks_stay version (place + 1) bs r.1)
 
--- with no call a journal tells what it began with
+-- with no call a journal records its start
 pub told_nothing : (began : Content) → IsRightText began → told began [] ≡ began
 told_nothing began r = ap (λ (bs : List Block). record began { rings = bs }) (blocks_stay began.version 0 began.rings r.blocks)
 
@@ -98,7 +98,7 @@ IsSome None = ⊥
 pub not_both : (c : Content) (line : ℕ) (kind : Kind) → IsLegalText c → IsRightCheck c (Err (check.Bad line kind)) → ⊥
 not_both c line kind good bad = subst IsSome (sym bad.6 ∙ good bad.0 bad.1 bad.2 bad.3) tt
 
--- so where what the calls tell has one, there are calls
-pub calls_there : (began : Content) (calls : List Recorded) (line : ℕ) (kind : Kind) → IsRightText began → IsLegalText began → IsRightCheck (told began calls) (Err (check.Bad line kind)) → 0 < length calls
+-- so where the recorded history has one, there are calls
+pub calls_there : (began : Content) (calls : List JournalLine) (line : ℕ) (kind : Kind) → IsRightText began → IsLegalText began → IsRightCheck (told began calls) (Err (check.Bad line kind)) → 0 < length calls
 calls_there began [] line kind right legal bad = absurd (not_both began line kind legal (subst (λ (c : Content). IsRightCheck c (Err (check.Bad line kind))) (told_nothing began right) bad))
 calls_there began (r ∷ rs) line kind right legal bad = omega arith

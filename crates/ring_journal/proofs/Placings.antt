@@ -5,7 +5,7 @@ use Rattle.std.proofs.lemmas.List.{map_push, drop_more}
 use Rattle.ring_saved.specs.declared.saved.SavedRing.{SavedRing}
 use Rattle.ring_saved.specs.Content.{Block, block_of}
 use Rattle.ring_journal.specs.declared.calls.Call.{Call}
-use Rattle.ring_journal.specs.declared.calls.Recorded.{Recorded}
+use Rattle.ring_journal.specs.declared.calls.JournalLine.{JournalLine}
 use Rattle.ring_journal.specs.Told.{with_call, with_call_at, with_calls, in_order}
 
 pub placed : (rings : List SavedRing) (i : ℕ) (x d : SavedRing) (call : Call) → i < length rings → block_of x ≡ with_call (block_of (get_or rings i d)) call → map block_of (set rings i x) ≡ with_call_at (map block_of rings) i call
@@ -14,11 +14,11 @@ placed (r ∷ rs) zero x d call lt e = ap (λ (b : Block). b ∷ map block_of rs
 placed (r ∷ rs) (suc i) x d call lt e = ap (λ (bs : List Block). block_of r ∷ bs) (placed rs i x d call (omega arith) e)
 
 -- one call more of those that are left
-pub placed_more : (rings : List SavedRing) (calls : List Recorded) (i : ℕ) (d : Recorded) (x y : SavedRing) (limit : ℕ) → i < length calls → All (λ (r : Recorded). r.ring < limit) calls → limit ≡ length rings
+pub placed_more : (rings : List SavedRing) (calls : List JournalLine) (i : ℕ) (d : JournalLine) (x y : SavedRing) (limit : ℕ) → i < length calls → All (λ (r : JournalLine). r.ring < limit) calls → limit ≡ length rings
     → y ≡ get_or rings (get_or calls i d).ring y → block_of x ≡ with_call (block_of y) (get_or calls i d).call
     → with_calls (map block_of (set rings (get_or calls i d).ring x)) (drop (i + 1) calls) ≡ with_calls (map block_of rings) (drop i calls)
 placed_more rings calls i d x y limit lt all same was e =
-    let r : Recorded = get_or calls i d in
+    let r : JournalLine = get_or calls i d in
     let low : r.ring < limit = all i d lt in
     let within : r.ring < length rings = omega (arith, low, same) in
     ap (λ (bs : List Block). with_calls bs (drop (i + 1) calls)) (placed rings r.ring x y r.call within (e ∙ ap (λ (z : SavedRing). with_call (block_of z) r.call) was))

@@ -1,4 +1,4 @@
--- What is recovered can be saved.
+-- A recovered history can be saved.
 use Rattle.std.proofs.Common.{◌≡◌, ℕ, zero, suc, Bool, true, false, cond, List, [], ◌∷◌, ◌++◌, length, map, refl, sym, ◌∙◌, subst, arith}
 use Rattle.std.specs.List.{AllByRecursion}
 use Rattle.std.proofs.lemmas.List.{length-map}
@@ -9,8 +9,8 @@ use Rattle.ring_saved.specs.Spelling.{EventFits, Fits, BlockFits, IsNoMember, Bl
 use Rattle.ring_saved.specs.Versions.{first_version}
 use Rattle.ring_journal.specs.declared.calls.Call.{Call}
 use Rattle.ring_journal.specs.declared.calls.Call.TheVariants.{Event, Survey}
-use Rattle.ring_journal.specs.declared.calls.Recorded.{Recorded}
-use Rattle.ring_journal.specs.Spelling.{CallFits, RecordedFits}
+use Rattle.ring_journal.specs.declared.calls.JournalLine.{JournalLine}
+use Rattle.ring_journal.specs.Spelling.{CallFits, JournalLineFits}
 use Rattle.ring_journal.specs.Told.{are_open, whole, with_call, with_call_at, with_calls, in_order, told}
 use Rattle.ring_journal.specs.Recovery.{IsRecovered}
 use Rattle.ring_journal.specs.Beginnings.{CanBeSaved}
@@ -22,7 +22,7 @@ as_many_at [] ring call = refl
 as_many_at (b ∷ bs) zero call = refl
 as_many_at (b ∷ bs) (suc ring) call = let more = as_many_at bs ring call in omega arith
 
-as_many : (bs : List Block) (calls : List Recorded) → length (with_calls bs calls) ≡ length bs
+as_many : (bs : List Block) (calls : List JournalLine) → length (with_calls bs calls) ≡ length bs
 as_many bs [] = refl
 as_many bs (r ∷ rs) = as_many (with_call_at bs r.ring r.call) rs ∙ as_many_at bs r.ring r.call
 
@@ -55,7 +55,7 @@ still_at [] ring call f g = g
 still_at (b ∷ bs) zero call f g = (still b call f g.0, g.1)
 still_at (b ∷ bs) (suc ring) call f g = (g.0, still_at bs ring call f g.1)
 
-still_all : (rings : ℕ) (bs : List Block) (calls : List Recorded) → AllByRecursion (RecordedFits first_version rings) calls → AllByRecursion BlockHasNoMember bs → AllByRecursion BlockHasNoMember (with_calls bs calls)
+still_all : (rings : ℕ) (bs : List Block) (calls : List JournalLine) → AllByRecursion (JournalLineFits first_version rings) calls → AllByRecursion BlockHasNoMember bs → AllByRecursion BlockHasNoMember (with_calls bs calls)
 still_all rings bs [] f g = g
 still_all rings bs (r ∷ rs) f g = still_all rings (with_call_at bs r.ring r.call) rs f.1 (still_at bs r.ring r.call f.0.call g)
 
@@ -63,21 +63,21 @@ still_ordered : (bs : List Block) → AllByRecursion BlockHasNoMember bs → All
 still_ordered [] g = tt
 still_ordered (b ∷ bs) g = (g.0, still_ordered bs g.1)
 
-either_fits : (P : Recorded → Type 0) (b : Bool) (r : Recorded) (rs : List Recorded) → P r → AllByRecursion P rs → AllByRecursion P (cond b [] (r ∷ rs))
+either_fits : (P : JournalLine → Type 0) (b : Bool) (r : JournalLine) (rs : List JournalLine) → P r → AllByRecursion P rs → AllByRecursion P (cond b [] (r ∷ rs))
 either_fits P true r rs f g = tt
 either_fits P false r rs f g = (f, g)
 
-whole_fits : (P : Recorded → Type 0) (rs : List Recorded) → AllByRecursion P rs → AllByRecursion P (whole rs)
+whole_fits : (P : JournalLine → Type 0) (rs : List JournalLine) → AllByRecursion P rs → AllByRecursion P (whole rs)
 whole_fits P [] f = tt
 whole_fits P (r ∷ rs) f = either_fits P (are_open (r ∷ rs)) r (whole rs) f.0 (whole_fits P rs f.1)
 
-told_has_none : (began : Content) (calls : List Recorded) → began.version ≡ first_version → Fits began → AllByRecursion (RecordedFits began.version (length began.rings)) calls → HasNoMember (told began calls)
+told_has_none : (began : Content) (calls : List JournalLine) → began.version ≡ first_version → Fits began → AllByRecursion (JournalLineFits began.version (length began.rings)) calls → HasNoMember (told began calls)
 told_has_none began calls e fits f =
     let blocks = subst (λ (v : ℕ). AllByRecursion (BlockFits v) began.rings) e fits.rings in
-    let fit = subst (λ (v : ℕ). AllByRecursion (RecordedFits v (length began.rings)) calls) e f in
-    still_ordered (with_calls began.rings (whole calls)) (still_all (length began.rings) began.rings (whole calls) (whole_fits (RecordedFits first_version (length began.rings)) calls fit) (no_blocks began.rings blocks))
+    let fit = subst (λ (v : ℕ). AllByRecursion (JournalLineFits v (length began.rings)) calls) e f in
+    still_ordered (with_calls began.rings (whole calls)) (still_all (length began.rings) began.rings (whole calls) (whole_fits (JournalLineFits first_version (length began.rings)) calls fit) (no_blocks began.rings blocks))
 
-told_saved : (began : Content) (calls : List Recorded) → Fits began → AllByRecursion (RecordedFits began.version (length began.rings)) calls → CanBeSaved (told began calls)
+told_saved : (began : Content) (calls : List JournalLine) → Fits began → AllByRecursion (JournalLineFits began.version (length began.rings)) calls → CanBeSaved (told began calls)
 told_saved began calls fits f = record {
   some =
       let some = fits.some in

@@ -25,7 +25,7 @@ seat_more seat limit front rest all lt so_far =
     append_assoc front (filter (is_of seat) rest) (by_seats (seat + 1) (limit - (seat + 1)) (filter (λ s. not (is_of seat s)) rest))
     ∙ sym (ap (λ (n : ℕ). front ++ by_seats seat n rest) next) ∙ so_far
 
--- behind the last seat the others are left
+-- after the last seat the others are left
 pub seats_all : (seat limit : ℕ) (front rest all : List SavedSurvey) → limit ≤ seat → front ++ by_seats seat (limit - seat) rest ≡ all → front ++ rest ≡ all
 unfolding by_seats
 seats_all seat limit front rest all le so_far =

@@ -1,40 +1,40 @@
--- What is recovered of a beginning of a right journal (this project's own).
+-- The history that is recovered of a prefix of a right journal (this project's own).
 use Rattle.std.specs.Prelude.{◌≡◌, ℕ, ◌<◌, ◌≤◌, List, ◌++◌, length, Result, Ok, Err}
 use Rattle.ring_saved.specs.declared.saved.Saved.{Saved}
 use Rattle.ring_saved.specs.Content.{Content, content}
 use Rattle.ring_saved.specs.Spelling.{HasNoMember}
 use Rattle.ring_saved.specs.Versions.{first_version, IsVersion}
 use Rattle.ring_check.specs.Legal.{IsLegalText}
-use Rattle.ring_journal.specs.declared.calls.Recorded.{Recorded}
+use Rattle.ring_journal.specs.declared.calls.JournalLine.{JournalLine}
 use Rattle.ring_journal.specs.declared.errors.RecoverError.{RecoverError}
 use Rattle.ring_journal.specs.declared.errors.RecoverError.TheVariants.{Truncated, Syntax, Bad, OutOfMemory}
 use Rattle.ring_journal.specs.Spelling.{Journal, JournalFits, head_text, journal_text}
 use Rattle.ring_journal.specs.Told.{told}
 use Rattle.ring_journal.specs.Recovery.{IsRecovered, IsRightRecovery}
 
--- a journal is right if what it began with is legal, and what its calls tell was legal at each
+-- a journal is right if its start is legal, and the recorded history was legal at each
 -- moment, of whole groups
 pub record IsRightJournal (j : Journal) : Type 0 where
   pub fits : JournalFits j
   pub began : IsLegalText j.began
-  pub legal : (front back : List Recorded) → j.calls ≡ front ++ back
+  pub legal : (front back : List JournalLine) → j.calls ≡ front ++ back
       → IsLegalText (told j.began front)
 
--- the journal with its first calls alone
-abbrev pub up_to : Journal → List Recorded → Journal
+-- the journal with only its first calls
+abbrev pub up_to : Journal → List JournalLine → Journal
 up_to j front = record { began = j.began; calls = front }
 
--- What is recovered is the journal's own history up to some call: no call stands behind that one
+-- The recovered history is the journal's own up to some call: no call comes after that one
 -- whose line ends in the bytes.
 pub record IsOwnHistory (j : Journal) (bytes : List ℕ) (c : Content) : Type 0 where
-  pub front : List Recorded
-  pub back : List Recorded
+  pub front : List JournalLine
+  pub back : List JournalLine
   pub parts : j.calls ≡ front ++ back
   pub told : c ≡ told j.began front
-  pub holds : (calls others : List Recorded) (rest : List ℕ) → j.calls ≡ calls ++ others
+  pub holds : (calls others : List JournalLine) (rest : List ℕ) → j.calls ≡ calls ++ others
       → bytes ≡ journal_text (up_to j calls) ++ rest → length calls ≤ length front
 
--- what may be answered of a beginning of a journal: its own history; or, if the bytes end before
+-- the right answers to a prefix of a journal: its own history; or, if the bytes end before
 -- the first call, that they are cut short; memory aside
 abbrev pub IsAnswerOfBeginning : Journal → List ℕ → Result Saved RecoverError → Type 0
 IsAnswerOfBeginning j bytes (Ok saved) = IsOwnHistory j bytes (content saved)
@@ -43,7 +43,7 @@ IsAnswerOfBeginning j bytes (Err (Syntax line)) = ⊥
 IsAnswerOfBeginning j bytes (Err (Bad line kind)) = ⊥
 IsAnswerOfBeginning j bytes (Err OutOfMemory) = Unit {0}
 
--- A right journal that was cut anywhere gives its own history: no other answer to a beginning of
+-- A right journal that was cut anywhere gives its own history: no other answer to a prefix of
 -- its text is right.
 abbrev pub BeginningsAreRecovered : Type 0
 BeginningsAreRecovered =
@@ -51,16 +51,16 @@ BeginningsAreRecovered =
     → bytes ++ more ≡ journal_text j → IsRightRecovery bytes answer
     → IsAnswerOfBeginning j bytes answer
 
--- ---- what is recovered can be saved
+-- ---- a recovered history can be saved
 
--- what the writer of saved texts asks of a value: a ring at least, a version that there is, and no
+-- the values that the writer of saved texts takes: a ring at least, a version that there is, and no
 -- member of a group in the first one
 pub record CanBeSaved (c : Content) : Type 0 where
   pub some : 0 < length c.rings
   pub version : IsVersion c.version
   pub members : c.version ≡ first_version → HasNoMember c
 
--- what is recovered is such a value
+-- a recovered history is such a value
 abbrev pub RecoveredCanBeSaved : Type 0
 RecoveredCanBeSaved = (bytes : List ℕ) (c : Content) → IsRecovered bytes c → CanBeSaved c
 

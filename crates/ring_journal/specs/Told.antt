@@ -1,4 +1,4 @@
--- The history that a journal tells: what it began with, and behind that the calls, each at its ring
+-- The history that a journal records: its start, and after that the calls, each at its ring
 -- (this project's own).
 use Rattle.std.specs.Prelude.{ℕ, zero, suc, ◌+◌, nat_lt, ◌==◌, not, cond, Bool, false, List, [], ◌∷◌, ◌++◌, length, map}
 use Rattle.std.specs.List.{filter, list_all}
@@ -9,11 +9,11 @@ use Rattle.ring_saved.specs.declared.saved.SavedSurvey.{SavedSurvey}
 use Rattle.ring_saved.specs.Content.{Block, Content}
 use Rattle.ring_journal.specs.declared.calls.Call.{Call}
 use Rattle.ring_journal.specs.declared.calls.Call.TheVariants.{Event, Survey}
-use Rattle.ring_journal.specs.declared.calls.Recorded.{Recorded}
+use Rattle.ring_journal.specs.declared.calls.JournalLine.{JournalLine}
 
 -- ---- whole groups
 
--- an event is a member of a group of which more come behind it
+-- an event is a member of a group with more members after it
 abbrev pub event_is_open : SavedEvent → Bool
 event_is_open (Granted seat machine order number answer) = false
 event_is_open (Refused seat machine order) = false
@@ -26,17 +26,17 @@ is_open (Event e) = event_is_open e
 is_open (Survey s) = false
 
 -- each of the calls is one
-abbrev pub are_open : List Recorded → Bool
-are_open rs = list_all (λ (r : Recorded). is_open r.call) rs
+abbrev pub are_open : List JournalLine → Bool
+are_open rs = list_all (λ (r : JournalLine). is_open r.call) rs
 
 -- the calls without the open members at their end: a group counts only if it is whole
-abbrev pub whole : List Recorded → List Recorded
+abbrev pub whole : List JournalLine → List JournalLine
 whole [] = []
 whole (r ∷ rs) = cond (are_open (r ∷ rs)) [] (r ∷ whole rs)
 
 -- ---- the rings' blocks
 
--- a block with one call more, behind those that it has
+-- a block with one call more, after those that it has
 abbrev pub with_call : Block → Call → Block
 with_call b (Event e) = record b { events = b.events ++ e ∷ []; events_said = length b.events + 1 }
 with_call b (Survey s) = record b { surveys = b.surveys ++ s ∷ [] }
@@ -48,7 +48,7 @@ with_call_at (b ∷ bs) zero call = with_call b call ∷ bs
 with_call_at (b ∷ bs) (suc ring) call = b ∷ with_call_at bs ring call
 
 -- the blocks with these calls more, one after the other
-abbrev pub with_calls : List Block → List Recorded → List Block
+abbrev pub with_calls : List Block → List JournalLine → List Block
 with_calls bs [] = bs
 with_calls bs (r ∷ rs) = with_calls (with_call_at bs r.ring r.call) rs
 
@@ -58,7 +58,7 @@ with_calls bs (r ∷ rs) = with_calls (with_call_at bs r.ring r.call) rs
 abbrev pub is_of : ℕ → SavedSurvey → Bool
 is_of seat s = s.seat == seat
 
--- those of so many seats from this one on, seat by seat, and then those that are left
+-- those of n seats from this one on, seat by seat, and then the rest
 unfoldable pub by_seats : ℕ → ℕ → List SavedSurvey → List SavedSurvey
 by_seats seat zero ss = ss
 by_seats seat (suc left) ss =
@@ -70,6 +70,6 @@ in_order b = record b { surveys = by_seats 0 seat_limit b.surveys }
 
 -- ---- the history
 
--- what saved rings and the calls behind them tell
-abbrev pub told : Content → List Recorded → Content
+-- the history of saved rings and the calls after them
+abbrev pub told : Content → List JournalLine → Content
 told began calls = record began { rings = map in_order (with_calls began.rings (whole calls)) }

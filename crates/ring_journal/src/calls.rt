@@ -1,8 +1,8 @@
-//! What a journal's lines record.
+//! The records of a journal's lines.
 
 use ring_saved::{SavedEvent, SavedSurvey};
 
-/// A call with its reply, as a saved text tells of it.
+/// A call with its reply, as a saved text has it.
 #[derive(Clone, Copy)]
 pub enum Call {
     Event(SavedEvent),
@@ -11,7 +11,7 @@ pub enum Call {
 
 /// A call of one of the rings.
 #[derive(Clone, Copy)]
-pub struct Recorded {
+pub struct JournalLine {
     /// The ring's number, from 0.
     pub ring: u32,
     pub call: Call,

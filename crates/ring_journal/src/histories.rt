@@ -1,18 +1,18 @@
-//! The history that a journal tells.
+//! The history that a journal records.
 
 ghost use Rattle.std.specs.Prelude.{◌≡◌, ◌≤◌, ◌<◌, ◌+◌, not, length, map, take, vec_len, IfOk, OnOk};
 ghost use Rattle.std.specs.List.{All, filter};
 ghost use Rattle.ring_model.specs.Limits.{seat_limit};
 ghost use Rattle.ring_saved.specs.Content.{block_of, content};
-ghost use Rattle.ring_journal.specs.declared.calls.Recorded.{Recorded};
+ghost use Rattle.ring_journal.specs.declared.calls.JournalLine.{JournalLine};
 ghost use Rattle.ring_journal.specs.Told.{is_open, whole, with_call, with_calls, is_of, by_seats, in_order, told};
 
-use crate::calls::{Call, Recorded};
+use crate::calls::{Call, JournalLine};
 use ring_model::limits::SEAT_LIMIT;
 use ring_saved::{Saved, SavedEvent, SavedRing, SavedSurvey};
 use std::alloc::{AllocError, Global};
 
-/// Whether a call is a member of a group of which more come behind it.
+/// Whether a call is a member of a group with more members after it.
 fn is_open(call: &Call) -> bool
     ensures { result ≡ is_open call.now }
 {
@@ -22,8 +22,8 @@ fn is_open(call: &Call) -> bool
     }
 }
 
-/// How many calls stand before the open members at the end.
-fn whole_length(calls: &[Recorded]) -> usize
+/// How many calls are before the open members at the end.
+fn whole_length(calls: &[JournalLine]) -> usize
     ensures within { result ≤ length calls.now }
     ensures is { take result calls.now ≡ whole calls.now }
 {
@@ -36,7 +36,7 @@ fn whole_length(calls: &[Recorded]) -> usize
     length
 }
 
-/// Puts a call behind those that a ring has.
+/// Puts a call after those that a ring has.
 fn add(ring: &mut SavedRing, call: Call) -> Result<(), AllocError>
     ensures { OnOk result (block_of ring.new ≡ with_call (block_of ring.old) call) }
 {
@@ -50,9 +50,9 @@ fn add(ring: &mut SavedRing, call: Call) -> Result<(), AllocError>
     Ok(())
 }
 
-/// Puts the calls behind those that the rings have, one after the other.
-fn add_all(rings: &mut Vec<SavedRing>, calls: &[Recorded]) -> Result<(), AllocError>
-    requires { All (λ (r : Recorded). r.ring < vec_len rings.old) calls.now }
+/// Puts the calls after those that the rings have, one after the other.
+fn add_all(rings: &mut Vec<SavedRing>, calls: &[JournalLine]) -> Result<(), AllocError>
+    requires { All (λ (r : JournalLine). r.ring < vec_len rings.old) calls.now }
     ensures { OnOk result
         (map block_of rings.new.items ≡ with_calls (map block_of rings.old.items) calls.now) }
 {
@@ -144,9 +144,13 @@ fn all_in_order(alloc: Global, rings: Vec<SavedRing>) -> Result<Vec<SavedRing>, 
     Ok(found)
 }
 
-/// What saved rings and the calls behind them tell.
-pub(crate) fn history(alloc: Global, began: Saved, calls: &[Recorded]) -> Result<Saved, AllocError>
-    requires { All (λ (r : Recorded). r.ring < vec_len began.rings) calls.now }
+/// Returns the history of saved rings and the calls after them.
+pub(crate) fn history(
+    alloc: Global,
+    began: Saved,
+    calls: &[JournalLine],
+) -> Result<Saved, AllocError>
+    requires { All (λ (r : JournalLine). r.ring < vec_len began.rings) calls.now }
     ensures { IfOk result (λ saved. content saved ≡ told (content began) calls.now) }
 {
     let Saved {

@@ -1,8 +1,8 @@
-//! Journals: what a running arbiter writes down of each call before it answers, and what is recovered of that text when it
+//! Journals: what a running arbiter writes down of each call before it answers, and the recovery of that text when it
 //! was cut off anywhere.
 //!
-//! A journal begins with the saved text of the rings as they stood, and has a line for each call since.
-//! `specs/Spelling.antt` spells it, `specs/Told.antt` says which history it tells, and `specs/Recovery.antt` what is
+//! A journal begins with the saved text of the rings as they were, and has a line for each call since.
+//! `specs/Spelling.antt` spells it, `specs/Told.antt` says which history it records, and `specs/Recovery.antt` what is
 //! recovered and what is refused.
 #![tactic(auto)]
 
@@ -14,8 +14,8 @@ mod read;
 mod recover;
 mod write;
 
-pub use calls::{Call, Recorded};
+pub use calls::{Call, JournalLine};
 pub use errors::RecoverError;
-pub use laws::{beginnings_law, one_history_law, saving_law};
-pub use recover::recovered;
-pub use write::{put_first_line, put_recorded};
+pub use laws::{beginnings_are_recovered, one_is_recovered, recovered_can_be_saved};
+pub use recover::recover_journal;
+pub use write::{put_first_line, put_journal_line};

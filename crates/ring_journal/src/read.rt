@@ -1,16 +1,17 @@
-//! The readers: what stands before the calls, and the calls.
+//! The readers: the part before the calls, and the calls.
 
 ghost use Rattle.std.specs.Prelude.{◌≡◌, ◌++◌, IfOk};
 ghost use Rattle.std.specs.List.{flat_map, AllByRecursion};
 ghost use Rattle.text_lines.specs.Reading.{Gives};
 ghost use Rattle.ring_saved.specs.Content.{content};
 ghost use Rattle.ring_saved.specs.Spelling.{event_line, survey_line, EventFits, SurveyFits};
-ghost use Rattle.ring_journal.specs.Spelling.{call_line, recorded_line, CallFits, RecordedFits};
+ghost use Rattle.ring_journal.specs.Spelling.{call_line, journal_line, CallFits, JournalLineFits};
 ghost use Rattle.ring_journal.specs.Reading.{BeginsNone, Finds, head_at};
 
-use crate::calls::{Call, Recorded};
+use crate::calls::{Call, JournalLine};
 use ring_saved::{
-    EventOrEnd, Saved, SavedEvent, SavedSurvey, SurveyOrNext, event_or_end, front, survey_or_next,
+    EventOrEnd, Saved, SavedEvent, SavedSurvey, SurveyOrNext, event_or_end, read_prefix,
+    survey_or_next,
 };
 use std::alloc::{AllocError, AllocFailed, Global};
 use text_lines::{Stop, number32, word};
@@ -31,16 +32,16 @@ impl<T: Drop> From<AllocFailed<T>> for NoRoom {
     }
 }
 
-/// The first line and the saved rings, and what stands behind them.
+/// Reads the first line and the saved rings; returns them with the bytes after them.
 #[tactic(auto, unfolding(crate::specs::Reading::head_at))]
 pub(crate) fn head(alloc: Global, bytes: &[u8]) -> Result<(Saved, &[u8]), Stop>
     ensures { Gives (λ x. (content x.0, x.1.now)) result (head_at bytes.now) }
 {
     let rest = word(bytes, b"ringjournal 1\n")?;
-    front(alloc, rest)
+    read_prefix(alloc, rest)
 }
 
-/// The line of an event, where one stands at the front of the bytes.
+/// Reads the line of an event, where one is at the front of the bytes.
 fn event(version: u32, bytes: &[u8]) -> Result<Option<(SavedEvent, &[u8])>, NoRoom>
     ensures { Finds (λ x. (x.0, x.1.now)) (EventFits version) event_line bytes.now result }
 {
@@ -52,7 +53,7 @@ fn event(version: u32, bytes: &[u8]) -> Result<Option<(SavedEvent, &[u8])>, NoRo
     }
 }
 
-/// The line of a survey, where one stands at the front of the bytes.
+/// Reads the line of a survey, where one is at the front of the bytes.
 fn survey(bytes: &[u8]) -> Result<Option<(SavedSurvey, &[u8])>, NoRoom>
     ensures { Finds (λ x. (x.0, x.1.now)) SurveyFits survey_line bytes.now result }
 {
@@ -64,7 +65,7 @@ fn survey(bytes: &[u8]) -> Result<Option<(SavedSurvey, &[u8])>, NoRoom>
     }
 }
 
-/// The line of a call behind its ring's number, where one stands at the front of the bytes.
+/// Reads the line of a call after its ring's number, where one is at the front of the bytes.
 fn call(version: u32, bytes: &[u8]) -> Result<Option<(Call, &[u8])>, NoRoom>
     ensures { Finds (λ x. (x.0, x.1.now)) (CallFits version) call_line bytes.now result }
 {
@@ -83,9 +84,9 @@ fn call(version: u32, bytes: &[u8]) -> Result<Option<(Call, &[u8])>, NoRoom>
     }
 }
 
-/// The line of a recorded call of one of so many rings, where one stands at the front of the bytes.
-fn recorded(version: u32, rings: usize, bytes: &[u8]) -> Result<Option<(Recorded, &[u8])>, NoRoom>
-    ensures { Finds (λ x. (x.0, x.1.now)) (RecordedFits version rings) recorded_line bytes.now
+/// Reads the line of a recorded call of one of these rings, where one is at the front of the bytes.
+fn line(version: u32, rings: usize, bytes: &[u8]) -> Result<Option<(JournalLine, &[u8])>, NoRoom>
+    ensures { Finds (λ x. (x.0, x.1.now)) (JournalLineFits version rings) journal_line bytes.now
         result }
 {
     match number32(bytes, b' ') {
@@ -94,7 +95,7 @@ fn recorded(version: u32, rings: usize, bytes: &[u8]) -> Result<Option<(Recorded
                 return Ok(None);
             }
             match call(version, after) {
-                Ok(Some((call, rest))) => Ok(Some((Recorded { ring, call }, rest))),
+                Ok(Some((call, rest))) => Ok(Some((JournalLine { ring, call }, rest))),
                 Ok(None) => Ok(None),
                 Err(NoRoom) => Err(NoRoom),
             }
@@ -104,21 +105,21 @@ fn recorded(version: u32, rings: usize, bytes: &[u8]) -> Result<Option<(Recorded
     }
 }
 
-/// The calls at the front of the bytes, as many as there are, and what stands behind their lines.
+/// Reads the calls at the front of the bytes, as many as there are; returns them with the bytes after their lines.
 pub(crate) fn calls(
     alloc: Global,
     version: u32,
     rings: usize,
     bytes: &[u8],
-) -> Result<(Vec<Recorded>, &[u8]), NoRoom>
-    ensures fit { IfOk result (λ x. AllByRecursion (RecordedFits version rings) x.0.items) }
-    ensures spelled { IfOk result (λ x. bytes.now ≡ flat_map recorded_line x.0.items ++ x.1.now) }
-    ensures all { IfOk result (λ x. BeginsNone (RecordedFits version rings) recorded_line x.1.now) }
+) -> Result<(Vec<JournalLine>, &[u8]), NoRoom>
+    ensures fit { IfOk result (λ x. AllByRecursion (JournalLineFits version rings) x.0.items) }
+    ensures spelled { IfOk result (λ x. bytes.now ≡ flat_map journal_line x.0.items ++ x.1.now) }
+    ensures all { IfOk result (λ x. BeginsNone (JournalLineFits version rings) journal_line x.1.now) }
 {
     let mut found = Vec::new(alloc);
     let mut rest = bytes;
     loop {
-        match recorded(version, rings, rest)? {
+        match line(version, rings, rest)? {
             Some((one, after)) => {
                 found.push(one)?;
                 rest = after;

@@ -1,16 +1,16 @@
-//! What is recovered of a journal that was cut anywhere.
+//! The recovery of a journal that was cut anywhere.
 
 ghost use Rattle.std.specs.Prelude.{◌≡◌, ℕ, ◌+◌, ◌<◌, ◌^◌, List, length, vec_len, Ok, Some, IfOk};
 ghost use Rattle.std.specs.List.{All};
 ghost use Rattle.ring_saved.specs.Content.{Content, content};
 ghost use Rattle.ring_check.specs.Lines.{lines};
-ghost use Rattle.ring_journal.specs.declared.calls.Recorded.{Recorded};
+ghost use Rattle.ring_journal.specs.declared.calls.JournalLine.{JournalLine};
 ghost use Rattle.ring_journal.specs.Reading.{head_at};
 ghost use Rattle.ring_journal.specs.Told.{told};
 ghost use Rattle.ring_journal.specs.Recovery.{IsWrongCall, IsRightRecovery};
 ghost use Rattle.ring_journal.specs.Judging.{refused_as, IsBegun, IsJudged, IsFaultOf, AreCallsOf};
 
-use crate::calls::Recorded;
+use crate::calls::JournalLine;
 use crate::errors::RecoverError;
 use crate::histories::history;
 use crate::read::{NoRoom, calls, head};
@@ -19,8 +19,8 @@ use ring_saved::Saved;
 use std::alloc::Global;
 use text_lines::{ReadError, line_at, refusal};
 
-/// What a reader's refusal is called here.
-fn refused(error: ReadError) -> RecoverError
+/// The name of a reader's refusal here.
+fn recover_error(error: ReadError) -> RecoverError
     ensures { result ≡ refused_as error }
 {
     match error {
@@ -30,17 +30,17 @@ fn refused(error: ReadError) -> RecoverError
     }
 }
 
-/// The legal saved rings that the journal began with, and what stands behind them.
-fn begun(alloc: Global, bytes: &[u8]) -> Result<(Saved, &[u8]), RecoverError>
+/// Reads the legal saved rings that the journal began with; returns them with the bytes after them.
+fn legal_beginning(alloc: Global, bytes: &[u8]) -> Result<(Saved, &[u8]), RecoverError>
     ensures { IsBegun (λ x. (content x.0, x.1.now)) bytes.now result }
 {
     let (began, rest) = match head(alloc, bytes) {
         Ok(found) => found,
-        Err(stop) => return Err(refused(refusal(bytes, stop))),
+        Err(stop) => return Err(recover_error(refusal(bytes, stop))),
     };
     match check_saved(alloc, &began) {
         Ok(_) => Ok((began, rest)),
-        // the journal's own first line stands before the lines that were checked
+        // the journal's own first line is before the lines that were checked
         Err(CheckError::Bad { line, kind }) => Err(RecoverError::Bad {
             line: line + 1,
             kind,
@@ -49,9 +49,9 @@ fn begun(alloc: Global, bytes: &[u8]) -> Result<(Saved, &[u8]), RecoverError>
     }
 }
 
-/// What saved rings and the calls behind them tell, if it is legal.
-fn judged(alloc: Global, began: Saved, calls: &[Recorded]) -> Result<Saved, CheckError>
-    requires rings { All (λ (r : Recorded). r.ring < vec_len began.rings) calls.now }
+/// Returns the history of saved rings and the calls after them, if it is legal.
+fn legal_history(alloc: Global, began: Saved, calls: &[JournalLine]) -> Result<Saved, CheckError>
+    requires rings { All (λ (r : JournalLine). r.ring < vec_len began.rings) calls.now }
     requires room { length (lines (content began)) + length calls.now + 1 < 2 ^ 64 }
     ensures { IsJudged (content began) calls.now result }
 {
@@ -64,8 +64,8 @@ fn judged(alloc: Global, began: Saved, calls: &[Recorded]) -> Result<Saved, Chec
     }
 }
 
-/// What is wrong with what the first calls of a journal tell. It reads again what the journal began with.
-fn fault_of(alloc: Global, bytes: &[u8], calls: &[Recorded]) -> Result<Option<Kind>, NoRoom>
+/// Finds the fault of the history that the first calls of a journal record. It reads the journal's start again.
+fn fault_of(alloc: Global, bytes: &[u8], calls: &[JournalLine]) -> Result<Option<Kind>, NoRoom>
     requires { AreCallsOf bytes.now calls.now }
     ensures { IfOk result (λ fault. (began : Content) (rest : List ℕ)
         → head_at bytes.now ≡ Ok (began, rest) → IsFaultOf (told began calls.now) fault) }
@@ -73,7 +73,7 @@ fn fault_of(alloc: Global, bytes: &[u8], calls: &[Recorded]) -> Result<Option<Ki
     let Ok((began, _)) = head(alloc, bytes) else {
         return Err(NoRoom);
     };
-    let Err(error) = judged(alloc, began, calls) else {
+    let Err(error) = legal_history(alloc, began, calls) else {
         return Ok(None);
     };
     match error {
@@ -82,11 +82,11 @@ fn fault_of(alloc: Global, bytes: &[u8], calls: &[Recorded]) -> Result<Option<Ki
     }
 }
 
-/// A call with which the calls tell what has a fault, while those before it tell a legal history: found by halves.
+/// Finds a call with which the recorded history has a fault, while those before it record a legal one: by halves.
 fn wrong_call(
     alloc: Global,
     bytes: &[u8],
-    calls: &[Recorded],
+    calls: &[JournalLine],
     kind: Kind,
 ) -> Result<(usize, Kind), NoRoom>
     requires calls { AreCallsOf bytes.now calls.now }
@@ -112,22 +112,22 @@ fn wrong_call(
     Ok((legal, kind))
 }
 
-/// The longest legal history that the bytes of a journal tell, which was cut anywhere: what its whole lines tell, without
-/// the members of a group that is not whole.
+/// Returns the longest legal history of the bytes of a journal that was cut anywhere: the one that its whole lines record,
+/// without the members of a group that is not whole.
 ///
 /// It takes time in proportion to the length of the text, as a check does; if a call is wrong, a few checks more.
 ///
 /// # Errors
 ///
-/// `Truncated` if the bytes end within what the journal began with. `Syntax` with a line, from 1, that ends, and that no
-/// journal has there. `Bad` if what the journal began with is not legal, with its first bad line and what is wrong with
-/// it, and if a call is wrong: the history of the calls before its line is legal, and with it is not. What is wrong
-/// within a group is told at its last line, where the group begins to count, or at the line that breaks it off.
+/// `Truncated` if the bytes end within the journal's start. `Syntax` with a line, from 1, that ends, and that no
+/// journal has there. `Bad` if the journal's start is not legal, with its first bad line and the fault of
+/// it, and if a call is wrong: the history of the calls before its line is legal, and with it is not. A fault
+/// within a group is reported at its last line, where the group begins to count, or at the line that breaks it off.
 /// `OutOfMemory` where there was no room.
-pub fn recovered(alloc: Global, bytes: &[u8]) -> Result<Saved, RecoverError>
+pub fn recover_journal(alloc: Global, bytes: &[u8]) -> Result<Saved, RecoverError>
     ensures { IsRightRecovery bytes.now result }
 {
-    let (began, rest) = match begun(alloc, bytes) {
+    let (began, rest) = match legal_beginning(alloc, bytes) {
         Ok(found) => found,
         Err(error) => return Err(error),
     };
@@ -138,7 +138,7 @@ pub fn recovered(alloc: Global, bytes: &[u8]) -> Result<Saved, RecoverError>
     if tail.contains(&b'\n') {
         return Err(RecoverError::Syntax(first_line + calls.len() as u64));
     }
-    match judged(alloc, began, &calls) {
+    match legal_history(alloc, began, &calls) {
         Ok(saved) => Ok(saved),
         Err(CheckError::OutOfMemory) => Err(RecoverError::OutOfMemory),
         Err(CheckError::Bad { kind, .. }) => match wrong_call(alloc, bytes, &calls, kind) {

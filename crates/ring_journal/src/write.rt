@@ -2,15 +2,15 @@
 
 ghost use Rattle.text_lines.specs.Writing.{Writes};
 ghost use Rattle.text_lines.specs.Spelling.{spaced};
-ghost use Rattle.ring_journal.specs.Spelling.{first_line, call_line, recorded_line};
+ghost use Rattle.ring_journal.specs.Spelling.{first_line, call_line, journal_line};
 
-use crate::calls::{Call, Recorded};
+use crate::calls::{Call, JournalLine};
 use itoa::Buffer;
 use ring_saved::put_lines::{put_event_line, put_survey_line};
 use std::io::Write;
 use text_lines::{WriteFault, put, put_all};
 
-/// Writes the first line of a journal. The saved text of the rings comes behind it.
+/// Writes the first line of a journal. The saved text of the rings comes after it.
 pub fn put_first_line<W: Write>(out: &mut W) -> Result<(), WriteFault>
     ensures { Writes (W.contents out.old) (W.contents out.new) result first_line }
 {
@@ -25,7 +25,7 @@ fn put_ring<W: Write>(out: &mut W, ring: u32) -> Result<(), WriteFault>
     put_all(out, &[buffer.format(ring).as_bytes(), b" "])
 }
 
-/// Writes what stands behind it.
+/// Writes the rest of the line, the call.
 fn put_call<W: Write>(out: &mut W, call: Call) -> Result<(), WriteFault>
     ensures { Writes (W.contents out.old) (W.contents out.new) result (call_line call) }
 {
@@ -39,10 +39,10 @@ fn put_call<W: Write>(out: &mut W, call: Call) -> Result<(), WriteFault>
 ///
 /// # Errors
 ///
-/// As [`put`](text_lines::put): the writer then holds a beginning of the line, which a recovery drops.
+/// As [`put`](text_lines::put): the writer then holds a prefix of the line, which a recovery drops.
 #[tactic(auto, using(text_lines::proofs::Writing::writes_then))]
-pub fn put_recorded<W: Write>(out: &mut W, recorded: Recorded) -> Result<(), WriteFault>
-    ensures { Writes (W.contents out.old) (W.contents out.new) result (recorded_line recorded) }
+pub fn put_journal_line<W: Write>(out: &mut W, recorded: JournalLine) -> Result<(), WriteFault>
+    ensures { Writes (W.contents out.old) (W.contents out.new) result (journal_line recorded) }
 {
     match put_ring(out, recorded.ring) {
         Ok(()) => put_call(out, recorded.call),

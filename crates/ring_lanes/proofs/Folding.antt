@@ -1,4 +1,4 @@
--- The fold by the greater lanes: what holds while it goes over a list, two blocks at a time, and how it ends.
+-- The fold by the greater lanes: its invariant over a list, two blocks at a time, and how it ends.
 use Rattle.std.proofs.Common.{◌≡◌, ℕ, ◌+◌, ◌-◌, ◌≤◌, List, length, refl, sym, ◌∙◌, arith}
 use Rattle.std.specs.Simd.Lanes.{chunk}
 use Rattle.std.proofs.lemmas.Simd.{length-chunk}

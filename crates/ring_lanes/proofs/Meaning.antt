@@ -1,4 +1,4 @@
--- What the kernels compute is what the shared definitions of a ring say.
+-- The kernels compute the shared definitions of a ring.
 use Rattle.std.proofs.Common.{◌≡◌, ℕ, zero, suc, ◌+◌, ◌-◌, ◌<◌, ◌≤◌, Bool, true, false, cond, not, eqb, List, length, get_or, refl, sym, ap, ◌∙◌, arith, inl, inr, ◌&&◌, ◌||◌}
 use Rattle.std.proofs.lemmas.Bool.{cases_eq, both_ways, not-true, false_from_ne_true}
 use Rattle.ring_model.specs.Numbers.{sum_below, bit, count_below, least}
@@ -114,7 +114,7 @@ prefix_decided s false found none =
     sym (every_from (λ i. eqb (get_or s i 0) (get_or s 0 0) || not (eqb (get_or s (suc i) 0) (get_or s 0 0))) (length s - 1)
     (λ k lt. sym (turned (eqb (get_or s (suc k) 0) (get_or s 0 0)) (eqb (get_or s k 0) (get_or s 0 0))) ∙ ap not (none refl (suc k) (omega arith) (omega arith))))
 
--- and that says that some prefix holds the value of machine 0 alone
+-- and that says that the value of machine 0 is held only by a prefix
 pub prefix_means : (s : List ℕ) (b : Bool) → 1 ≤ length s → b ≡ first_value_is_prefix s → (b ≡ true → (p : ℕ) × IsPrefix s p) × (((p : ℕ) × IsPrefix s p) → b ≡ true)
 prefix_means s b long e = (
   (λ t. let found : (p : ℕ) × (p < length s) × IsPrefix s p = (front_means s long).0 (sym e ∙ t) in (found.0, found.2)),

@@ -1,5 +1,5 @@
--- What the kernels compute, for any test of the machines: the tests of a block as a bit mask, their
--- count and their weight.
+-- The results of the kernels, for any test of the machines: the tests of a block as a bit mask,
+-- their count and their weight.
 use Rattle.std.specs.Prelude.{ℕ, zero, suc, ◌-◌, ◌==◌, ◌&&◌, nat_lt, Bool, false, not, cond, List, map, slice_index}
 use Rattle.std.specs.List.{range_with_len, sum_by, count_by}
 use Rattle.std.specs.Simd.Lanes.{mask_l}

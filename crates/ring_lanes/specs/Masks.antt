@@ -10,7 +10,7 @@ mask_limit = 256
 abbrev pub wide_mask_limit : ℕ
 wide_mask_limit = 1024
 
--- of so many bits, bit i % 64 of word i / 64 is set exactly where machine i is privileged, and
+-- of n bits, bit i % 64 of word i / 64 is set exactly where machine i is privileged, and
 -- every bit past the last machine is clear
 abbrev pub IsMaskOf : ℕ → List ℕ → List ℕ → Type 0
 IsMaskOf bits s words =

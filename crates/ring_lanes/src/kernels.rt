@@ -1,6 +1,6 @@
 // The kernels, over any test of the machines.
 //
-// Each takes machine 0 by itself, then blocks of 32 machines. What is left at the end, fewer than
+// Each takes machine 0 by itself, then blocks of 32 machines. The rest at the end, fewer than
 // 32 machines, comes from the block of the last 32. To count and to find, a ring of 9 to 32 machines
 // is read by blocks of 8 in the same way; any other small ring is read one machine at a time.
 ghost use Rattle.std.specs.Prelude.{◌≡◌, ℕ, ◌+◌, ◌-◌, ◌*◌, ◌≤◌, ◌<◌, Bool, true, false, slice_index, length, if◌then◌else◌};

@@ -1,4 +1,4 @@
-//! What a ring is asked in each survey and each settling step, read 32 machines at a time: a ring of
+//! The questions of each survey and each settling step, for 32 machines at a time: over a ring of
 //! bytes, and by the functions `wide_*` one of 16-bit values. No call takes memory, and each always
 //! succeeds.
 #![tactic(auto)]

@@ -1,4 +1,4 @@
-// What a kernel knows of a ring: a test that each machine passes or fails.
+// The view that a kernel has of a ring: a test that each machine passes or fails.
 ghost use Rattle.std.specs.Prelude.{◌≡◌, ℕ, ◌+◌, ◌≤◌, ◌<◌, Bool};
 ghost use Rattle.ring_lanes.specs.Hits.{mask_from};
 
@@ -24,7 +24,7 @@ pub(crate) trait Probe {
 
     /// The tests of machines `i` to `i + 31`: bit `k` is set exactly where machine `i + k` passes.
     ///
-    /// Machine 0 is never in such a block, since its left neighbour does not stand beside it.
+    /// Machine 0 is never in such a block, since its left neighbour is not beside it.
     fn hits(&self, i: usize) -> u64
         requires low { 1 ≤ i }
         requires room { i + 32 ≤ size self.now }

@@ -1,4 +1,4 @@
--- Following a log along a history, and what it says of the seat's calls.
+-- Following a log along a history, and the seat's calls in it.
 use Rattle.std.proofs.Common.{◌≡◌, ℕ, ◌+◌, ◌-◌, ◌≤◌, ◌==◌, ◌↔◌, List, [], ◌∷◌, ◌++◌, Bool, true, false, cond, Some, slice_get, All, length, length-append, take, drop, zero, suc, subst, ap, sym, ◌∙◌, refl, arith}
 use Rattle.std.proofs.lemmas.List.{take-append-drop, drop-drop}
 use Rattle.std.proofs.lemmas.List.Elements.{filter-append, All-nil, All-cons, All-head, All-tail}
@@ -13,7 +13,7 @@ use Rattle.ring_model.specs.declared.events.Entry.TheVariants as entry
 use Rattle.ring_logs.specs.Fronts.{front_of, IsReceiptFrom, IsSurveyFrom, IsPlacedFrom, ArePlaced, IsPlaced, is_receipt, receipt_count, surveys_of}
 use Rattle.ring_logs.proofs.Replaying.{drop_at}
 
--- the entry is right, and does not go back behind the front
+-- the entry is right, and does not go back before the front
 abbrev IsEntryFrom : {C : Type 0} → Works C → State C → List Event → ℕ → ℕ → Entry → Type 0
 IsEntryFrom w a h seat front (entry.Receipt r) = IsReceiptFrom h seat front r
 IsEntryFrom w a h seat front (entry.Survey s) = IsSurveyFrom w a h front s

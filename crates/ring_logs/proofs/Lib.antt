@@ -1,3 +1,4 @@
 pub mod Replaying
 pub mod Following
 pub mod AllSurveys
+pub mod Groups

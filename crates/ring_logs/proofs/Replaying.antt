@@ -2,9 +2,9 @@
 use Rattle.std.proofs.Common.{Bool, IsTrue, ◌↔◌, ◌≡◌, ℕ, ◌+◌, List, [], ◌∷◌, ◌++◌, true, false, cond, Some, slice_get, take, drop, zero, suc, subst, ap, sym, ◌∙◌, refl}
 use Rattle.std.proofs.lemmas.List.{take-append-drop}
 use Rattle.std.proofs.Math.Numerals.{add-one}
-use Rattle.ring_model.specs.Ring.{Ring, is_privileged, privileged_count, first_privileged, rest, moved}
+use Rattle.ring_model.specs.Ring.{Ring, is_privileged, moved}
 use Rattle.ring_model.specs.History.{Works, State, StepOf, opening, granted_state, next, after, IsLegal}
-use Rattle.ring_model.specs.Surveys.{calm, survey_at}
+use Rattle.ring_model.specs.Surveys.{calm, survey_at, survey_from}
 use Rattle.ring_model.specs.declared.events.Op.{Op}
 use Rattle.ring_model.specs.declared.events.Op.TheVariants.{Pass, Member, Corrupt}
 use Rattle.ring_model.specs.declared.events.Reply.{Reply}
@@ -71,7 +71,7 @@ pub calm_there : (h : List Event) (p : ℕ) (e : Event) (c : ℕ) → slice_get 
 calm_there h p e c at is =
     calm_same c e.reply ∙ (ap (λ (n : ℕ). calm_next n e.reply) is ∙ sym (ap calm (take_at p h e at) ∙ calm-push (take p h) e))
 
--- what is left of a group one place on
+-- the members left of a group one place on
 pub left_there : (h : List Event) (p : ℕ) (e : Event) → slice_get h p ≡ Some e → left_of e.op ≡ left_after (take (p + 1) h)
 left_there h p e at = sym (ap (λ (xs : List Event). left_after xs) (take_at p h e at) ∙ left_behind (take p h) e [])
 
@@ -84,8 +84,6 @@ surveyed_there w first b c place position s t e q h =
     (subst (λ p. IsTrue t ↔ (s ≡ survey_at w (opening c.start first) c.history p) × (left_after (take p c.history) ≡ 0)) q h)
 
 -- the survey of a place, of the ring and the calm there
-pub survey_there : {C : Type 0} (w : Works C) (a : State C) (h : List Event) (p : ℕ) (ring : Ring) (privileged first c left : ℕ) →
-    ring ≡ (after w a (take p h)).ring → c ≡ calm (take p h) →
-    privileged ≡ privileged_count ring.values → first ≡ first_privileged ring.values → left ≡ rest ring →
-    record { position = p; privileged = privileged; first = first; calm = c; rest = left } ≡ survey_at w a h p
-survey_there w a h p ring privileged first c left ring_is calm_is privileged_is first_is left_is = rw (privileged_is, first_is, left_is, calm_is, ring_is) refl
+pub survey_there : {C : Type 0} (w : Works C) (a : State C) (h : List Event) (p : ℕ) (ring : Ring) (c : ℕ) →
+    ring ≡ (after w a (take p h)).ring → c ≡ calm (take p h) → survey_from ring p c ≡ survey_at w a h p
+survey_there w a h p ring c ring_is calm_is = rw (calm_is, ring_is) refl

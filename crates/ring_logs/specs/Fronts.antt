@@ -14,7 +14,7 @@ abbrev pub front_of : Entry → ℕ
 front_of (entry.Receipt r) = r.position + 1
 front_of (entry.Survey s) = s.position
 
--- the receipt's event is the seat's, and stands at its position, which is at least the front
+-- the receipt's event is the seat's, and is at its position, which is at least the front
 abbrev pub IsReceiptFrom : List Event → ℕ → ℕ → Receipt → Type 0
 IsReceiptFrom h seat front r =
     (front ≤ r.position) × (slice_get h r.position ≡ Some r.event) × (r.event.seat ≡ seat)
@@ -23,7 +23,7 @@ IsReceiptFrom h seat front r =
 abbrev pub IsSurveyFrom : {C : Type 0} → Works C → State C → List Event → ℕ → Survey → Type 0
 IsSurveyFrom w a h front s = (front ≤ s.position) × IsSurvey w a h s
 
--- the entry does not go back behind the front, and a receipt is right; what a survey says is
+-- the entry does not go back before the front, and a receipt is right; the content of a survey is
 -- another matter
 abbrev pub IsPlacedFrom : List Event → ℕ → ℕ → Entry → Type 0
 IsPlacedFrom h seat front (entry.Receipt r) = IsReceiptFrom h seat front r

@@ -1,5 +1,6 @@
 pub mod Fronts
 pub mod Gathered
 pub mod Replays
-pub mod Told
+pub mod LogView
+pub mod Seats
 pub mod Walks

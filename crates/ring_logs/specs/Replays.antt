@@ -1,4 +1,4 @@
--- How a history is played again: what each event does to the ring and to the calm, whatever the
+-- How a history is played again: the ring and the calm after each event, whatever the
 -- resource.
 use Rattle.std.specs.Prelude.{ℕ, ◌+◌, ◌<◌, cond, length}
 use Rattle.ring_model.specs.Ring.{Ring, is_privileged, moved, written}

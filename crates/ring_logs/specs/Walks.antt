@@ -2,7 +2,7 @@
 use Rattle.std.specs.Prelude.{ℕ, List}
 use Rattle.ring_model.specs.declared.events.Event.{Event}
 use Rattle.ring_model.specs.declared.events.Entry.{Entry}
-use Rattle.ring_logs.specs.Told.{Told}
+use Rattle.ring_logs.specs.LogView.{LogView}
 use Rattle.ring_logs.specs.Fronts.{IsPlaced}
 
 -- a history, a client, and its log
@@ -12,7 +12,7 @@ pub record Walked : Type 0 where
   pub log : List Entry
 
 -- a client's log beside a history
-abbrev pub walk_of : List Event → Told → Walked
+abbrev pub walk_of : List Event → LogView → Walked
 walk_of history s = record { history = history; number = s.number; log = s.log }
 
 -- the client's log is placed along the history, with as many receipts as the client has calls

@@ -1,23 +1,24 @@
 //! Whether the logs of clients fit a history.
 ghost use Rattle.std.specs.Prelude.{◌↔◌, All, IsTrue, IfOk};
 ghost use Rattle.ring_model.specs.History.{opening};
-ghost use Rattle.ring_model.specs.Logs.{Fits};
+ghost use Rattle.ring_model.specs.Logs.{Fits, IsSurvey};
 
-use crate::gathering::surveys_in_order;
+use crate::gathering::{in_order, surveys_in_order};
 use crate::judge::are_right;
 use crate::logs::ClientLog;
 use crate::placing::all_placed;
 use ring_book::{Book, Resource};
+use ring_model::Survey;
 use std::alloc::{AllocError, Global};
 
 /// Whether each of these logs fits the history of the book: its receipts are the client's calls, in order and at their
 /// positions; each survey is that of the one-thread ring at its position, which is inside no block; no entry goes back
-/// behind what the client had been told. The history is gone through once for the receipts and once for the surveys,
+/// before the client's front. The history is gone through once for the receipts and once for the surveys,
 /// however many logs there are. The book and the logs stay.
 ///
 /// # Errors
 ///
-/// Want of memory for following the logs, for the list of the surveys, and for playing the history again.
+/// If there is no memory for following the logs, for the list of the surveys, and for playing the history again.
 pub fn logs_fit<R: Resource + Drop>(
     alloc: Global,
     book: &Book<R>,
@@ -33,4 +34,22 @@ pub fn logs_fit<R: Resource + Drop>(
     }
     let surveys = surveys_in_order(alloc, logs, book.history().len())?;
     are_right(alloc, book, surveys.as_slice())
+}
+
+/// Whether each of these surveys is that of the one-thread ring at its position, which is inside no block. They may come in
+/// any order; the history is gone through once for all of them.
+///
+/// # Errors
+///
+/// No memory for the list of the surveys, and for playing the history again.
+pub fn surveys_fit<R: Resource + Drop>(
+    alloc: Global,
+    book: &Book<R>,
+    surveys: &[Survey],
+) -> Result<bool, AllocError>
+    ensures { IfOk result (λ b. IsTrue b
+        ↔ All (IsSurvey R.works (opening book.now.start R.first) book.now.history) surveys.now) }
+{
+    let ordered = in_order(alloc, surveys)?;
+    are_right(alloc, book, ordered.as_slice())
 }

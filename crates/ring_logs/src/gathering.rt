@@ -38,8 +38,12 @@ fn add_all(surveys: &mut Vec<Survey>, log: &[Entry]) -> Result<(), AllocError>
 }
 
 /// The surveys of the logs, one log after another. Room is asked for once, for as many entries as there are
-/// besides the receipts of so many calls.
-fn gathered(alloc: Global, logs: &[ClientLog], calls: usize) -> Result<Vec<Survey>, AllocError>
+/// that are not receipts of the `calls` calls.
+fn gather_surveys(
+    alloc: Global,
+    logs: &[ClientLog],
+    calls: usize,
+) -> Result<Vec<Survey>, AllocError>
     ensures { IfOk result (λ v. v.items ≡ all_surveys logs.now) }
 {
     let mut surveys = Vec::with_capacity(alloc, entry_count(logs).saturating_sub(calls))?;
@@ -49,11 +53,11 @@ fn gathered(alloc: Global, logs: &[ClientLog], calls: usize) -> Result<Vec<Surve
     Ok(surveys)
 }
 
-/// The surveys of the logs, which have the receipts of so many calls, in the order of their places.
+/// The surveys of the logs, which have the receipts of `calls` calls, in the order of their places.
 ///
 /// # Errors
 ///
-/// Want of memory for their list.
+/// If there is no memory for their list.
 pub(crate) fn surveys_in_order(
     alloc: Global,
     logs: &[ClientLog],
@@ -62,7 +66,21 @@ pub(crate) fn surveys_in_order(
     ensures permutation { IfOk result (λ v. IsPermutation (all_surveys logs.now) v.items) }
     ensures sorted { IfOk result (λ v. IsNonDecreasingBy (λ s. s.position) v.items) }
 {
-    let mut surveys = gathered(alloc, logs, calls)?;
+    let mut surveys = gather_surveys(alloc, logs, calls)?;
     surveys.sort_unstable_by_key(|survey| survey.position);
     Ok(surveys)
+}
+
+/// Surveys in the order of their places.
+///
+/// # Errors
+///
+/// No memory for their list.
+pub(crate) fn in_order(alloc: Global, surveys: &[Survey]) -> Result<Vec<Survey>, AllocError>
+    ensures permutation { IfOk result (λ v. IsPermutation surveys.now v.items) }
+    ensures sorted { IfOk result (λ v. IsNonDecreasingBy (λ s. s.position) v.items) }
+{
+    let mut ordered = Vec::from_slice(alloc, surveys)?;
+    ordered.sort_unstable_by_key(|survey| survey.position);
+    Ok(ordered)
 }

@@ -11,7 +11,7 @@ ghost use Rattle.ring_logs.specs.Replays.{IsCallOf, called, calm_after};
 
 use ring_book::{Book, Resource};
 use ring_model::{Op, Reply, Survey};
-use ring_settle::rest_of_counted;
+use ring_settle::survey_here;
 use ring_state::RingState;
 use std::alloc::{AllocError, Global};
 
@@ -65,7 +65,7 @@ fn is_same_survey(one: Survey, other: Survey) -> bool
     one == other
 }
 
-/// The calm behind a reply, where it was `calm` before: the granted passes since the last corruption.
+/// The calm after a reply, where it was `calm` before: the granted passes since the last corruption.
 /// `calm` is at most `EVENT_LIMIT`.
 pub fn calm_behind(calm: u64, reply: Reply) -> u64
     requires { calm ≤ event_limit }
@@ -107,7 +107,7 @@ impl<'a, R: Resource + Drop> Replay<'a, R> {
         self.place += 1;
     }
 
-    /// Plays on to a place, and answers whether it stands ahead in the history.
+    /// Plays on to a place, and answers whether it is ahead in the history.
     fn advance(&mut self, place: u64) -> bool
         ensures book { self.new.book.now ≡ self.old.book.now }
         ensures ahead { IsTrue result
@@ -129,14 +129,7 @@ impl<'a, R: Resource + Drop> Replay<'a, R> {
             ≡ survey_at R.works (opening self.now.book.now.start R.first) self.now.book.now.history
             self.now.place }
     {
-        let privileged = self.ring.privileged();
-        Survey {
-            position: self.place as u64,
-            privileged,
-            first: self.ring.first(),
-            calm: self.calm,
-            rest: rest_of_counted(&self.ring, privileged),
-        }
+        survey_here(&self.ring, self.place as u64, self.calm)
     }
 
     /// Whether a survey is right here, which is inside no block.
@@ -150,7 +143,7 @@ impl<'a, R: Resource + Drop> Replay<'a, R> {
         self.left == 0 && is_same_survey(survey, self.survey())
     }
 
-    /// Plays on to the place of a survey, and answers whether it stands ahead and the survey is right there.
+    /// Plays on to the place of a survey, and answers whether it is ahead and the survey is right there.
     fn pass_survey(&mut self, survey: Survey) -> bool
         ensures book { self.new.book.now ≡ self.old.book.now }
         ensures front { IsTrue result → self.new.place ≡ survey.position }
@@ -162,12 +155,12 @@ impl<'a, R: Resource + Drop> Replay<'a, R> {
     }
 }
 
-/// Whether each of these surveys, which stand in the order of their places, is right. The history is played again once,
+/// Whether each of these surveys, which are in the order of their places, is right. The history is played again once,
 /// for all of them; where there is none, it isn't.
 ///
 /// # Errors
 ///
-/// Want of memory for playing the history again.
+/// If there is no memory for playing the history again.
 pub(crate) fn are_right<R: Resource + Drop>(
     alloc: Global,
     book: &Book<R>,

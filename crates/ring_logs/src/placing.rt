@@ -1,4 +1,4 @@
-//! Whether the receipts of a seat's log are the seat's calls where they stand, and no entry goes back.
+//! Whether the receipts of a seat's log are the seat's calls at their places, and no entry goes back.
 ghost use Rattle.std.specs.Prelude.{◌≡◌, ◌<◌, ◌≤◌, ◌^◌, ◌-◌, ◌↔◌, None, Some, All, take, drop, map, slice_get, length, IsTrue, IsFalse, IfSome, IfOk};
 ghost use Rattle.ring_logs.specs.Fronts.{front_of, is_receipt as is_receipt_entry, receipt_count, IsReceiptFrom, IsPlacedFrom, ArePlaced, IsPlaced};
 ghost use Rattle.ring_logs.specs.Walks.{IsPlacedWalk, walk_of};
@@ -9,7 +9,7 @@ use ring_model::{Entry, Event, Receipt};
 use std::alloc::{AllocError, Global};
 use std::marker::Model;
 
-/// How many events all logs are followed along before the next are: so many stay near the processor.
+/// How many events all logs are followed along before the next are: that many stay near the processor.
 const BLOCK: usize = 2048;
 
 fn is_same_event(one: &Event, other: &Event) -> bool
@@ -18,7 +18,7 @@ fn is_same_event(one: &Event, other: &Event) -> bool
     *one == *other
 }
 
-/// Whether this event stands at this place of a history.
+/// Whether this event is at this place of a history.
 fn is_at(history: &[Event], position: u64, event: &Event) -> bool
     ensures { IsTrue result ↔ slice_get history.now position ≡ Some event.now }
 {
@@ -28,7 +28,7 @@ fn is_at(history: &[Event], position: u64, event: &Event) -> bool
     }
 }
 
-/// Whether the event of a receipt stands where the receipt says, not before the front, and is this seat's.
+/// Whether the event of a receipt is where the receipt says, not before the front, and is this seat's.
 fn is_receipt_from(history: &[Event], seat: u32, front: u64, receipt: &Receipt) -> bool
     ensures { IsTrue result ↔ IsReceiptFrom history.now seat front receipt.now }
 {
@@ -37,7 +37,7 @@ fn is_receipt_from(history: &[Event], seat: u32, front: u64, receipt: &Receipt) 
         && is_at(history, receipt.position, &receipt.event)
 }
 
-/// The front behind an entry; none where its receipt is not right, or where it goes back behind the front before.
+/// The front after an entry; none where its receipt is not right, or where it goes back before the earlier front.
 fn front_past(history: &[Event], seat: u32, front: u64, entry: &Entry) -> Option<u64>
     ensures some { IfSome result
         (λ f. (f ≡ front_of entry.now) × IsPlacedFrom history.now seat front entry.now) }
@@ -66,7 +66,7 @@ struct Reached {
     receipts: u64,
 }
 
-/// Where an entry says that it stands.
+/// The place that an entry names.
 fn place_of(entry: &Entry) -> u64 {
     match entry {
         Entry::Receipt(receipt) => receipt.position,
@@ -74,15 +74,9 @@ fn place_of(entry: &Entry) -> u64 {
     }
 }
 
-/// Follows a log on, up to the first entry that stands at `until` or behind it, but to its end where that is the
+/// Follows a log on, up to the first entry that is at `until` or after it, but to its end where that is the
 /// greatest number; none where an entry is not placed.
-fn followed(
-    history: &[Event],
-    seat: u32,
-    log: &[Entry],
-    from: Reached,
-    until: u64,
-) -> Option<Reached>
+fn follow(history: &[Event], seat: u32, log: &[Entry], from: Reached, until: u64) -> Option<Reached>
     requires within { from.entry ≤ length log.now }
     requires few { from.receipts ≤ from.entry }
     requires counted { from.receipts ≡ receipt_count (take from.entry log.now) }
@@ -123,7 +117,7 @@ fn followed(
 
 /// A seat's log that is followed along a history, and how far it was.
 ///
-/// Contracts see the history and the client alone: what is left of the log is placed just where all of it is.
+/// Contracts see only the history and the client: the rest of the log is placed just where all of it is.
 #[derive(Drop)]
 struct Walk<'a> {
     history: &'a [Event],
@@ -169,12 +163,12 @@ impl<'a> Walk<'a> {
         }
     }
 
-    /// Follows the log up to the first entry that stands at `until` or behind it. False where an entry isn't placed.
+    /// Follows the log up to the first entry that is at `until` or after it. False where an entry isn't placed.
     fn walk(&mut self, until: u64) -> bool
         ensures same { self.new ≡ self.old }
         ensures wrong { IsFalse result → IsPlacedWalk self.old → ⊥ }
     {
-        match followed(self.history, self.seat, self.log, self.reached, until) {
+        match follow(self.history, self.seat, self.log, self.reached, until) {
             Some(reached) => {
                 self.reached = reached;
                 true
@@ -187,7 +181,7 @@ impl<'a> Walk<'a> {
     fn is_placed(&self) -> bool
         ensures { IsTrue result ↔ IsPlacedWalk self.now }
     {
-        match followed(self.history, self.seat, self.log, self.reached, u64::MAX) {
+        match follow(self.history, self.seat, self.log, self.reached, u64::MAX) {
             Some(end) => end.receipts == self.calls,
             None => false,
         }
@@ -209,7 +203,7 @@ fn walks_of<'a, R: Resource + Drop>(
     Ok(walks)
 }
 
-/// Follows each log up to its first entry that stands at `until` or behind it. False where an entry isn't placed.
+/// Follows each log up to its first entry that is at `until` or after it. False where an entry isn't placed.
 fn all_walk(walks: &mut Vec<Walk>, until: u64) -> bool
     ensures same { walks.new.items ≡ walks.old.items }
     ensures wrong { IsFalse result → All IsPlacedWalk walks.old.items → ⊥ }
@@ -234,13 +228,13 @@ fn all_end(walks: &[Walk]) -> bool
     true
 }
 
-/// Whether the receipts of each log are the client's calls where they stand in the history of the book, and no
-/// entry goes back. What the surveys say isn't looked at. The logs are followed side by side, so that the history is
+/// Whether the receipts of each log are the client's calls at their places in the history of the book, and no
+/// entry goes back. The content of the surveys isn't looked at. The logs are followed side by side, so that the history is
 /// gone through once.
 ///
 /// # Errors
 ///
-/// Want of memory for how far each log was followed.
+/// If there is no memory for how far each log was followed.
 pub(crate) fn all_placed<R: Resource + Drop>(
     alloc: Global,
     book: &Book<R>,

@@ -14,7 +14,7 @@ sum_same f g (suc n) h =
     let b : f n ≡ g n = h n (omega arith) in
     omega arith
 
--- sums of functions that differ at a alone
+-- sums of functions that differ only at a
 pub sum_but_one : (f g : ℕ → ℕ) (a n : ℕ) → a < n → ((k : ℕ) → k < n → k ≢ a → f k ≡ g k) → sum_below f n + g a ≡ sum_below g n + f a
 sum_but_one f g a zero l h = absurd (omega arith)
 sum_but_one f g a (suc n) l h = elim (cases_eq a n) [
@@ -29,7 +29,7 @@ sum_but_one f g a (suc n) l h = elim (cases_eq a n) [
       omega arith
 ]
 
--- sums of functions that differ at a and b alone
+-- sums of functions that differ only at a and b
 pub sum_but_two : (f g : ℕ → ℕ) (a b n : ℕ) → a < n → b < n → a ≢ b → ((k : ℕ) → k < n → k ≢ a → k ≢ b → f k ≡ g k) →
     sum_below f n + (g a + g b) ≡ sum_below g n + (f a + f b)
 sum_but_two f g a b zero la lb ab h = absurd (omega arith)
@@ -87,7 +87,7 @@ sum_two_le f a b (suc n) la lb ab = elim (cases_eq a n) [
   ]
 ]
 
--- a term stands alone where all others are 0
+-- where all other terms are 0 the sum is one term
 pub sum_only : (f : ℕ → ℕ) (a n : ℕ) → a < n → ((k : ℕ) → k < n → k ≢ a → f k ≡ 0) → sum_below f n ≡ f a
 sum_only f a n l h =
     let none : sum_below (λ _. 0) n ≡ 0 = sum_zero (λ _. 0) n (λ _ _. refl) in

@@ -1,4 +1,4 @@
--- Blocks in a legal history: what they move, and that they are steps.
+-- Blocks in a legal history: their moves, and that they are steps.
 use Rattle.std.proofs.Common.{◌≡◌, ℕ, ◌+◌, ◌<◌, true, List, [], ◌∷◌, length, take, refl, sym, ◌∙◌, ap, subst, inl, inr, arith}
 use Rattle.std.proofs.lemmas.Bool.{cond-true}
 use Rattle.ring_model.specs.Ring.{Ring, is_privileged}
@@ -33,7 +33,7 @@ member_step w a i order left l e =
     subst (λ (b : State _). StepOf w a (Member i order left) (reply w a (Member i order left)) b) (sym (member_next w a i order left e))
     (subst (λ (r : Reply). StepOf w a (Member i order left) r (granted_state w a i order)) (sym (member_reply w a i order left e)) (l, e, refl, refl, refl))
 
--- what a legal block leaves, and that its machines were privileged before it
+-- the state after a legal block, and that its machines were privileged before it
 pub record Moves (before : Ring) (group ms : List ℕ) (u : Ring) : Type 0 where
   pub able : (i : ℕ) → has ms i ≡ true → is_privileged before.values i ≡ true
   pub agrees : Agrees before group u

@@ -107,7 +107,7 @@ are_of_more group done ms i h = λ k. turned (has done k) (eqb k i) (has ms k) �
 pub are_of_end : (group done : List ℕ) → AreOf group done [] → (k : ℕ) → has done k ≡ has group k
 are_of_end group done h = λ k. sym (or_false (has done k)) ∙ h k
 
--- what a walk along the machines stands at: those in `done` have moved, those in `ms` are left
+-- the state of a walk along the machines: those in `done` have moved, those in `ms` are left
 pub record Walks (before : Ring) (group done ms : List ℕ) (u : Ring) : Type 0 where
   pub some : 1 ≤ length before.values
   pub agrees : Agrees before done u
@@ -229,7 +229,7 @@ order_below n ms o k h =
     let m : o.least < n = o.machine in
     elim (order_has n ms o k h) [ inl a ↦ omega arith | inr b ↦ b.1 ]
 
--- what the walk has made is the group move
+-- the walk makes the group move
 
 pub group_done : (before : Ring) (ms : List ℕ) (u : Ring) → IsInOrder (length before.values) ms → ((i : ℕ) → has ms i ≡ true → is_privileged before.values i ≡ true) → Agrees before ms u → GroupMove before ms u
 group_done before ms u o able a = record {

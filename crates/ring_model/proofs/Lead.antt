@@ -40,7 +40,7 @@ front_from s h = every_from (λ i. eqb (get_or s i 0) (get_or s 0 0) || not (eqb
           (not_from_false (eqb (get_or s (suc k) 0) (get_or s 0 0)) (ne_eqb (get_or s (suc k) 0) (get_or s 0 0) ne))
     ])
 
--- where S0 does not stand in a front alone, it stands past machine 0
+-- where S0 is not only in a prefix, it occurs past machine 0
 pub not_front : (s : List ℕ) → first_value_is_prefix s ≡ false → (k : ℕ) × (suc k < length s) × (get_or s (suc k) 0 ≡ get_or s 0 0)
 not_front s e =
     let w = every_fails (λ i. eqb (get_or s i 0) (get_or s 0 0) || not (eqb (get_or s (suc i) 0) (get_or s 0 0))) (length s - 1) e in
@@ -59,7 +59,7 @@ bit_not_and true false = omega arith
 bit_not_and false true = omega arith
 bit_not_and false false = omega arith
 
--- of the n values from v on, at most m stand among m machines
+-- of the n values from v on, at most m occur among m machines
 pub hits_le : (K v : ℕ) (s : List ℕ) (n m : ℕ) → v < K → n ≤ K →
     count_below (λ j. not (every_below (λ i. not (eqb (get_or s (suc i) 0) ((v + j) % K))) m)) n ≤ m
 hits_le K v s n zero lv ln = let z : sum_below (λ _. 0) n ≡ 0 = sum_zero (λ _. 0) n (λ _ _. refl) in omega arith
@@ -76,7 +76,7 @@ hits_le K v s n (suc m) lv ln =
     let ih : count_below (λ j. not (before j)) n ≤ m = hits_le K v s n m lv ln in
     omega arith
 
--- where S0 stands past machine 0, some S0 + j with 1 ≤ j < n does not
+-- where S0 occurs past machine 0, some S0 + j with 1 ≤ j < n does not
 pub some_absent : (K v : ℕ) (s : List ℕ) → v < K → length s ≤ K → 1 ≤ length s → is_absent s v ≡ false →
     (j : ℕ) × (1 ≤ j) × (j < length s) × (is_absent s ((v + j) % K) ≡ true)
 some_absent K v s lv ln one there =
@@ -90,7 +90,7 @@ some_absent K v s lv ln one there =
       | inr g ↦ (w.0, g, w.1, free)
     ]
 
--- a copy keeps a front, and brings no value past machine 0 but S0
+-- a copy keeps a prefix, and brings no value past machine 0 but S0
 
 pub front_copy : (r : Ring) (i : ℕ) → suc i < length r.values → IsFront r.values → IsFront (moved r (suc i)).values
 front_copy r i l f k lk q =
@@ -164,7 +164,7 @@ lead_copy r i l =
 
 -- machine 0
 
--- where S0 stands in a front alone and also at the last machine, it stands everywhere
+-- where S0 is only in a prefix and also at the last machine, it is everywhere
 pub front_all : (s : List ℕ) → IsFront s → get_or s (length s - 1) 0 ≡ get_or s 0 0 → (d k : ℕ) → suc (k + d) ≡ length s → get_or s k 0 ≡ get_or s 0 0
 front_all s f e zero k q = let at : k ≡ length s - 1 = omega arith in ap (λ x. get_or s x 0) at ∙ e
 front_all s f e (suc d) k q = f k (omega arith) (front_all s f e d (suc k) (omega arith))
@@ -180,7 +180,7 @@ all_settled s one e h =
     let b : bit (is_privileged s 0) ≡ 1 = bit_at (is_privileged s 0) true e in
     eq-eqb (privileged_count s) 1 (c ∙ b)
 
--- so a step of machine 0 in a ring that is not settled finds no front
+-- so a step of machine 0 in a ring that is not settled finds no such prefix
 pub step_not_front : (s : List ℕ) → 1 ≤ length s → is_privileged s 0 ≡ true → is_settled s ≡ false → first_value_is_prefix s ≡ false
 step_not_front s one e u = false_from_ne_true (first_value_is_prefix s)
     (λ f. both_ways (is_settled s) u (all_settled s one e

@@ -1,4 +1,4 @@
--- What the prefix test, the lead and a rest of 0 mean.
+-- The meaning of the prefix test, of the lead and of a rest of 0.
 use Rattle.std.proofs.Common.{◌≡◌, ℕ, zero, suc, ◌+◌, ◌-◌, ◌%◌, ◌<◌, ◌≤◌, Bool, true, List, length, get_or, ◌∙◌, ap, inl, inr, arith}
 use Rattle.std.proofs.lemmas.Bool.{cases_eq, cases_lt, cond-false}
 use Rattle.ring_model.specs.Numbers.{least}
@@ -12,7 +12,7 @@ use Rattle.ring_model.proofs.Settled.{count_positive, first_is, rest_settled, re
 pub prefix_front : (s : List ℕ) (p : ℕ) → IsPrefix s p → first_value_is_prefix s ≡ true
 prefix_front s p h = front_from s (λ k l e. (h k (omega arith)).1 (let q : suc k ≤ p = (h (suc k) l).0 e in omega arith))
 
--- in a front, a place below one that has S0 has it too
+-- in a prefix, a place below one that has S0 has it too
 pub front_down : (s : List ℕ) → IsFront s → (d k : ℕ) → k + d < length s → get_or s (k + d) 0 ≡ get_or s 0 0 → get_or s k 0 ≡ get_or s 0 0
 front_down s f zero k l e = let q : k ≡ k + 0 = omega arith in ap (λ x. get_or s x 0) q ∙ e
 front_down s f (suc d) k l e =

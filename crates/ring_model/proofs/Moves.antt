@@ -1,4 +1,4 @@
--- What one move does to the privileges, and closure.
+-- The effect of one move on the privileges, and closure.
 use Rattle.std.proofs.Common.{◌≡◌, ℕ, zero, suc, ◌+◌, ◌-◌, ◌%◌, ◌<◌, ◌≤◌, ◌≢◌, true, false, not, List, length, get_or, sym, ◌∙◌, ap, inl, inr, arith, eqb, get_or-set_same, get_or-set_other}
 use Rattle.std.proofs.lemmas.List.{length-set}
 use Rattle.std.specs.Prelude.{◌⊎◌}
@@ -30,7 +30,7 @@ same_value a b c d e f = cc
 pub next_is : (s : List ℕ) (i : ℕ) → i < length s → ((i + 1 < length s) × (right_neighbour s i ≡ i + 1)) ⊎ ((i + 1 ≡ length s) × (right_neighbour s i ≡ 0))
 next_is s i l = elim (wrap (length s) i 1 l (omega arith)) [ inl a ↦ inl (a.0, a.1) | inr a ↦ inr (omega arith, omega arith) ]
 
--- pointwise: the mover loses its privilege, and only its right neighbour's may change besides
+-- pointwise: the mover loses its privilege, and only its right neighbour's may also change
 
 pub mover_loses : (r : Ring) (i : ℕ) → IsRing r → i < length r.values → is_privileged r.values i ≡ true → is_privileged (moved r i).values i ≡ false
 mover_loses r zero g l e =

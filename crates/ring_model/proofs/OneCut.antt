@@ -15,7 +15,7 @@ piece_some n p (inr b) =
     let some : 1 ≤ length b.machines = b.is.in_order.some in
     omega arith
 
--- a piece is no beginning of a longer one
+-- a piece is not a prefix of a longer one
 not_shorter : (n : ℕ) (x y front back : List Event) → IsPiece n x → IsPiece n y → x ++ front ≡ y ++ back → length x < length y → ⊥
 not_shorter n x y front back a b e l =
     let inside : 1 ≤ left_after (take (length x) y) = piece_open n y (length x) b (piece_some n x a) l in

@@ -1,4 +1,4 @@
--- The places of a legal history: what stands between two of them, the ring at each, and the calm there.
+-- The places of a legal history: the events between two of them, the ring at each, and the calm there.
 use Rattle.std.proofs.Common.{◌≡◌, ℕ, ◌-◌, ◌<◌, ◌≤◌, true, false, List, [], ◌∷◌, ◌++◌, length, take, drop, get_or, set, refl, sym, ◌∙◌, ap, subst, inl, inr, arith, get_or-set_same, get_or-set_other}
 use Rattle.std.proofs.lemmas.Bool.{cases_eq}
 use Rattle.std.proofs.lemmas.List.{append-nil, append_assoc, length-set, take-append-drop, take-take}
@@ -30,7 +30,7 @@ between_legal w a h p q le l =
 pub between_after : {C : Type 0} (w : Works C) (a : State C) (h : List Event) (p q : ℕ) → p ≤ q → after w a (take q h) ≡ after w (after w a (take p h)) (between h p q)
 between_after w a h p q le = ap (λ (xs : List Event). after w a xs) (cut h p q le) ∙ after-append w a (take p h) (between h p q)
 
--- what holds of every history if it holds of none and goes on over one more event
+-- a claim holds of every history if it holds of the empty one and is kept by one more event
 pub by_pushes : (P : List Event → Type 0) → P [] → ((es : List Event) (e : Event) → P es → P (es ++ e ∷ [])) → (h : List Event) → P h
 by_pushes P none more h = go [] h none
   where

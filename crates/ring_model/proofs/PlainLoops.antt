@@ -1,4 +1,4 @@
--- What the loops of the plain programs need, one turn further and at their ends.
+-- Facts for the loops of the plain programs, one turn further and at their ends.
 use Rattle.std.proofs.Common.{◌≡◌, ℕ, zero, suc, ◌+◌, ◌-◌, ◌%◌, ◌<◌, ◌≤◌, ◌≢◌, Bool, true, false, List, length, get_or, refl, sym, ◌∙◌, ap, arith}
 use Rattle.std.proofs.lemmas.Bool.{cond-true, cond-false, both_ways, false_from_ne_true}
 use Rattle.ring_model.specs.Numbers.{sum_below, bit, count_below, least}
@@ -36,7 +36,7 @@ least_none p from (suc turns) h =
     let more : least p (suc from) turns ≡ suc from + turns = least_none p (suc from) turns (λ k l g. h k (omega arith) (omega arith)) in
     cond-false (p from) from (least p (suc from) turns) off ∙ omega arith
 
--- what a machine past machine 0 adds to the weight
+-- the part of a machine past machine 0 in the weight
 pub weight_on : (s : List ℕ) (i : ℕ) → 1 ≤ i → is_privileged s i ≡ true → weight_at s i ≡ length s - i
 weight_on s zero l e = absurd (omega arith)
 weight_on s (suc i) l e = pull_true s i e
@@ -45,7 +45,7 @@ pub weight_off : (s : List ℕ) (i : ℕ) → is_privileged s i ≡ false → we
 weight_off s zero e = refl
 weight_off s (suc i) e = pull_false s i e
 
--- the tests behind the lead
+-- the tests after the lead
 pub absent_past : (s : List ℕ) (v : ℕ) → ((k : ℕ) → 1 ≤ k → k < length s → get_or s k 0 ≢ v) → is_absent s v ≡ true
 absent_past s v h = absent_from s v (λ k l. h (suc k) (omega arith) l)
 
@@ -58,7 +58,7 @@ no_prefix_at s zero o l ne e = absurd (omega arith)
 no_prefix_at s (suc i) o l ne e =
     false_from_ne_true (first_value_is_prefix s) (λ q. ne (let at : suc i - 1 ≡ i = omega arith in ap (λ x. get_or s x 0) at ∙ front_true s q i l e))
 
--- the lead, found after so many steps or not at all
+-- the lead, found after j steps or not at all
 pub lead_at : (r : Ring) (j : ℕ) → first_value_is_prefix r.values ≡ false → 1 ≤ j → j < r.k + 1 → is_absent r.values ((get_or r.values 0 0 + j) % r.k) ≡ true →
     ((i : ℕ) → 1 ≤ i → i < j → is_absent r.values ((get_or r.values 0 0 + i) % r.k) ≡ false) → j ≡ lead r
 lead_at r j f one top e h =

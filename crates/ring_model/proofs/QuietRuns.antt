@@ -56,7 +56,7 @@ granted_off r i choices e =
     cond-false (is_privileged r.values i) (i ∷ granted_passes (passed r i) choices) (granted_passes (passed r i) choices) e
     ∙ ap (λ (t : Ring). granted_passes t choices) (pass_idle r i e)
 
--- one step that is no corruption, from ring s to ring t: a pass
+-- one step that is not a corruption, from ring s to ring t: a pass
 pub record IsPassed (s : Ring) (o : Op) (r : Reply) (t : Ring) : Type 0 where
   pub state : (choices : List ℕ) → after_passes s (and_asked o choices) ≡ after_passes t choices
   pub grants : (choices : List ℕ) → granted_passes s (and_asked o choices) ≡ and_granted o r (granted_passes t choices)

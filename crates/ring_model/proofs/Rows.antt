@@ -10,7 +10,8 @@ use Rattle.ring_model.specs.declared.events.Op.TheVariants.{Member}
 use Rattle.ring_model.specs.declared.events.Reply.TheVariants.{Granted}
 use Rattle.ring_model.specs.Ring.{ring_with, is_privileged, privileged_count, first_privileged, is_settled, moved, weight, first_value_is_prefix, lead, rest, bound}
 
--- three machines with three values: machine 0 of (0,2,0) steps on, machine 1 of (1,2,0) copies, machine 2 of (1,1,0) alone is privileged
+-- three machines with three values: machine 0 of (0,2,0) steps on, machine 1 of (1,2,0) copies, only machine 2 of (1,1,0) is
+-- privileged
 step_of_zero : moved (ring_with 3 (0 ∷ 2 ∷ 0 ∷ [])) 0 ≡ ring_with 3 (1 ∷ 2 ∷ 0 ∷ [])
 step_of_zero = refl
 

@@ -1,4 +1,4 @@
--- What one move does to the privileges.
+-- The effect of one move on the privileges.
 use Rattle.std.specs.Prelude.{◌≡◌, ◌≢◌, ℕ, ◌<◌, ◌≤◌, false, length}
 use Rattle.ring_model.specs.Ring.{Ring, is_privileged, privileged_count, right_neighbour}
 

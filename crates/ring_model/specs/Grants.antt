@@ -1,4 +1,5 @@
--- Who asked for passes, and who was granted them, in all and since the ring has settled.
+-- The machines that asked for passes, and that were granted them, in all and since the ring has
+-- settled.
 use Rattle.std.specs.Prelude.{ℕ, Bool, true, false, cond, not, ◌&&◌, ◌==◌, List, [], ◌∷◌}
 use Rattle.std.specs.List.{count_by}
 use Rattle.ring_model.specs.Ring.{is_settled}

@@ -21,7 +21,7 @@ pub record CanMove (s machines : List ℕ) : Type 0 where
   pub able : AreAllPrivileged s machines
 
 -- one after the other, in the order of the moves, each machine of the group is privileged in its
--- turn, and what they leave is the group move
+-- turn, and together they make the group move
 abbrev pub GroupOrder : Type 0
 GroupOrder =
     (before : Ring) (ms : List ℕ) → IsRing before → IsInOrder (length before.values) ms
@@ -79,7 +79,7 @@ BlocksMove C =
     → GroupMove (after w a (take p h)).ring ms (after w a (take q h)).ring
 
 -- a place of a whole history is outside its blocks exactly where the events before it are whole by
--- themselves, and then those behind it are too
+-- themselves, and then those after it are too
 abbrev pub WholePlaces : Type 0
 WholePlaces =
     (n : ℕ) (h : List Event) (p : ℕ) → IsWhole n h → p ≤ length h

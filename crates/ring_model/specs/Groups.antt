@@ -15,7 +15,7 @@ has (m ∷ ms) i = (i == m) || has ms i
 
 -- The group move from r to t: the group has a machine and leaves one out, each of its machines is
 -- privileged in r, and in t each of them holds what its own move from r gives, and each other
--- machine what it held.
+-- machine its old value.
 pub record GroupMove (r : Ring) (group : List ℕ) (t : Ring) : Type 0 where
   pub some : 1 ≤ length group
   pub leaves_out : (x : ℕ) × (x < length r.values) × (has group x ≡ false)
@@ -80,13 +80,13 @@ pub record IsBlock (n : ℕ) (es : List Event) : Type 0 where
   pub machines : List ℕ
   pub is : IsBlockOf n seat order machines es
 
--- a call that is no member's
+-- a call that is not a member's
 abbrev pub IsAlone : Op → Type 0
 IsAlone (Pass machine order) = Unit {0}
 IsAlone (Member machine order left) = ⊥
 IsAlone (Corrupt machine value) = Unit {0}
 
--- A history is whole where it is, end to end, a row of pieces: blocks, and events that are no
+-- A history is whole where it is, end to end, a row of pieces: blocks, and events that are not
 -- members.
 abbrev pub IsPiece : ℕ → List Event → Type 0
 IsPiece n es = ((e : Event) × (es ≡ e ∷ []) × IsAlone e.op) ⊎ IsBlock n es

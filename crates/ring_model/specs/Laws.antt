@@ -1,4 +1,4 @@
--- The laws of settlement, over the definitions of a ring alone.
+-- The laws of settlement, over the definitions of a ring.
 use Rattle.std.specs.Prelude.{◌≡◌, ℕ, ◌+◌, ◌-◌, ◌%◌, ◌<◌, ◌≤◌, true, false, List, length, slice_index}
 use Rattle.ring_model.specs.Ring.{Ring, IsRing, is_privileged, moved, privileged_count, first_privileged, is_settled, is_absent, first_value_is_prefix, IsPrefix, lead, rest, bound}
 use Rattle.ring_model.specs.Closure.{IsClosed, KeepsOthers}
@@ -11,7 +11,7 @@ Closure =
     (r : Ring) (i : ℕ) → IsRing r → i < length r.values → is_privileged r.values i ≡ true
     → IsClosed r (moved r i) i
 
--- besides the mover's only its right neighbour's privilege may change, also where the mover has
+-- beyond the mover's only its right neighbour's privilege may change, also where the mover has
 -- none
 abbrev pub OthersKeep : Type 0
 OthersKeep = (r : Ring) (i : ℕ) → IsRing r → i < length r.values → KeepsOthers r (moved r i) i
@@ -61,15 +61,15 @@ Round =
     → (is_settled (after_passes r choices).values ≡ true)
     × GoesRoundFrom (length r.values) (first_privileged r.values) (granted_passes r choices)
 
--- the test on neighbours says that some prefix holds the value of machine 0 alone
+-- the test on neighbours says that the value of machine 0 is held only by a prefix
 abbrev pub FrontMeans : Type 0
 FrontMeans =
     (s : List ℕ) → 1 ≤ length s
     → (first_value_is_prefix s ≡ true → (p : ℕ) × (p < length s) × IsPrefix s p)
     × ((p : ℕ) → IsPrefix s p → first_value_is_prefix s ≡ true)
 
--- where no prefix holds it alone, the lead is the least number of steps, from 1, to a value that no
--- other machine has, and is below n
+-- where it is not held only by a prefix, the lead is the least number of steps, from 1, to a value
+-- that no other machine has, and is below n
 abbrev pub LeadMeans : Type 0
 LeadMeans =
     (r : Ring) → IsRing r → first_value_is_prefix r.values ≡ false

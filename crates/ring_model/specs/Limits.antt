@@ -5,7 +5,7 @@ use Rattle.std.specs.Prelude.{ℕ}
 abbrev pub machine_limit : ℕ
 machine_limit = 1024
 
--- the most values, one of which a machine holds
+-- the most values that a machine can have
 abbrev pub value_limit : ℕ
 value_limit = 65536
 

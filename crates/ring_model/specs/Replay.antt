@@ -6,7 +6,7 @@ use Rattle.ring_model.specs.History.{State}
 use Rattle.ring_model.specs.declared.events.Op.{Op}
 use Rattle.ring_model.specs.declared.events.Op.TheVariants.{Pass, Member, Corrupt}
 
--- the state with this ring, this amount in the till and so many grants
+-- the state with this ring, this amount in the till and this number of grants
 abbrev pub till_state : Ring → ℕ → ℕ → State ℕ
 till_state r amount grants = record { ring = r; content = amount; grants = grants }
 

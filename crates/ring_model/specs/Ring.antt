@@ -1,7 +1,7 @@
 -- The ring of machines with K values each (E. W. Dijkstra, "Self-stabilizing systems in spite of
 -- distributed control", CACM 17(11), 1974, the solution with K-state machines; also S. Dolev,
--- "Self-Stabilization", 2000, chapter 2). What K has no part in is said of the list s of the values
--- alone; n is the length of that list.
+-- "Self-Stabilization", 2000, chapter 2). Definitions in which K has no part take only the list s
+-- of the values; n is the length of that list.
 use Rattle.std.specs.Prelude.{◌≡◌, ℕ, zero, suc, ◌+◌, ◌-◌, ◌*◌, ◌/◌, ◌%◌, ◌<◌, ◌≤◌, Bool, cond, not, ◌||◌, ◌==◌, List, length, slice_index, slice_set}
 use Rattle.ring_model.specs.Numbers.{every_below, sum_below, count_below, least}
 
@@ -27,7 +27,7 @@ abbrev pub is_privileged : List ℕ → ℕ → Bool
 is_privileged s zero = slice_index s (length s - 1) == slice_index s 0
 is_privileged s (suc i) = not (slice_index s i == slice_index s (suc i))
 
--- what machine i holds after its move: machine 0 steps on modulo K, each other copies its left
+-- the value of machine i after its move: machine 0 steps on modulo K, each other copies its left
 -- neighbour (Dijkstra 1974)
 abbrev pub moved_value : Ring → ℕ → ℕ
 moved_value r zero = (slice_index r.values 0 + 1) % r.k
@@ -60,7 +60,7 @@ is_settled s = privileged_count s == 1
 
 -- The potential, which is this project's own.
 
--- what machine i adds to the weight: n - i where it is privileged and not machine 0
+-- the part of machine i in the weight: n - i where it is privileged and not machine 0
 abbrev pub weight_at : List ℕ → ℕ → ℕ
 weight_at s zero = 0
 weight_at s (suc i) = cond (is_privileged s (suc i)) (length s - suc i) 0
@@ -87,7 +87,7 @@ IsPrefix s p =
     (i : ℕ) → i < length s
     → (slice_index s i ≡ slice_index s 0 → i ≤ p) × (i ≤ p → slice_index s i ≡ slice_index s 0)
 
--- the lead: 0 where the value of machine 0 is held by a prefix alone, else how far machine 0 has to
+-- the lead: 0 where the value of machine 0 is held only by a prefix, else how far machine 0 has to
 -- step until no other machine holds its value
 abbrev pub lead : Ring → ℕ
 lead r =

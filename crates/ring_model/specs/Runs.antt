@@ -29,7 +29,7 @@ abbrev pub GoesRoundFrom : ℕ → ℕ → List ℕ → Type 0
 GoesRoundFrom n i [] = Unit {0}
 GoesRoundFrom n i (j ∷ js) = (j ≡ i) × GoesRoundFrom n ((i + 1) % n) js
 
--- j, where the list goes on with it, is the right neighbour of i
+-- j, where the list continues with it, is the right neighbour of i
 abbrev pub GoesOnFrom : ℕ → ℕ → List ℕ → Type 0
 GoesOnFrom n i [] = Unit {0}
 GoesOnFrom n i (j ∷ js) = j ≡ (i + 1) % n

@@ -1,4 +1,4 @@
--- A legal history told by its list of states.
+-- A legal history described by its list of states.
 use Rattle.std.specs.Prelude.{◌≡◌, ℕ, ◌+◌, ◌≤◌, List, [], ◌∷◌, length, take, Some, slice_get}
 use Rattle.ring_model.specs.History.{Works, State, Step, after, IsLegal}
 use Rattle.ring_model.specs.declared.events.Event.{Event}

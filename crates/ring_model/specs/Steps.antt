@@ -1,4 +1,4 @@
--- A step told by its call: the calls in range, and the step that each of them has.
+-- A step determined by its call: the calls in range, and the step that each of them has.
 use Rattle.std.specs.Prelude.{◌≡◌, ℕ, ◌<◌, true, List, length}
 use Rattle.ring_model.specs.Ring.{Ring, is_privileged}
 use Rattle.ring_model.specs.Runs.{after_passes, granted_passes, AreBelow}

@@ -17,7 +17,7 @@ CalmMeans =
     × (corrupted_count (drop p h) ≡ 0)
     × ((q : ℕ) → q < p → corrupted_count (drop q h) ≢ 0)
 
--- the settled run is what stands from some place p on, where it has no corruption and the ring is
+-- the settled run is the part from some place p on, where it has no corruption and the ring is
 -- settled before each of its events, and from no earlier place on is it so
 abbrev pub SettledRunMeans : Type 0 → Type 0
 SettledRunMeans C =

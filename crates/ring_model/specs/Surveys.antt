@@ -1,7 +1,7 @@
--- What a reader learns of a history at one of its places.
+-- Surveys of a history: the measures of its ring at one of its places.
 use Rattle.std.specs.Prelude.{ℕ, Bool, true, false, not, List, take, reverse}
 use Rattle.std.specs.List.{take_while, count_by}
-use Rattle.ring_model.specs.Ring.{privileged_count, first_privileged, rest}
+use Rattle.ring_model.specs.Ring.{Ring, privileged_count, first_privileged, rest}
 use Rattle.ring_model.specs.History.{Works, State, after}
 use Rattle.ring_model.specs.declared.events.Reply.{Reply}
 use Rattle.ring_model.specs.declared.events.Reply.TheVariants.{Granted, NotPrivileged, Corrupted}
@@ -37,14 +37,17 @@ since_corruption h = take_while (λ (e : Event). not (is_corrupted e.reply)) (re
 abbrev pub calm : List Event → ℕ
 calm h = granted_count (since_corruption h)
 
--- what a survey answers where it stands behind the first `position` events
+-- the survey of a ring, of a position and of a calm
+abbrev pub survey_from : Ring → ℕ → ℕ → Survey
+survey_from now position calm = record {
+  position = position;
+  privileged = privileged_count now.values;
+  first = first_privileged now.values;
+  calm = calm;
+  rest = rest now;
+}
+
+-- the answer of a survey at the place after the first `position` events
 abbrev pub survey_at : {C : Type 0} → Works C → State C → List Event → ℕ → Survey
 survey_at w a h position =
-    let now = (after w a (take position h)).ring in
-    record {
-      position = position;
-      privileged = privileged_count now.values;
-      first = first_privileged now.values;
-      calm = calm (take position h);
-      rest = rest now;
-    }
+    survey_from (after w a (take position h)).ring position (calm (take position h))

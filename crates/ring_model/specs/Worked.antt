@@ -82,7 +82,7 @@ pub record WorkedPlaces : Type 0 where
   pub again : worked_survey 5 ≡ seen 5 1 2 1 0
   pub at_end : worked_survey 7 ≡ seen 7 1 1 3 0
 
--- the grants, in all and in the settled run, which begins behind the pass that settled the ring
+-- the grants, in all and in the settled run, which begins after the pass that settled the ring
 -- again
 pub record WorkedGrants : Type 0 where
   pub machines : granted_machines worked_history ≡ 0 ∷ 2 ∷ 1 ∷ 2 ∷ 0 ∷ []
@@ -113,7 +113,7 @@ pub record WorkedLogs : Type 0 where
   -- a call at another place
   pub misplaced : ¬ FitsWorked 0
       (called 0 zeroth_event ∷ called 3 second_event ∷ called 5 fifth_event ∷ [])
-  -- a survey that does not have the call before it behind it
+  -- a survey that does not include the call before it
   pub too_early : ¬ FitsWorked 0 (called 0 zeroth_event ∷ looked (worked_survey 0)
       ∷ called 2 second_event ∷ called 5 fifth_event ∷ [])
   -- a call from before the survey before it

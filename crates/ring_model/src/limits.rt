@@ -1,4 +1,4 @@
-//! How large rings and histories may be. The crates above cite these names, and no number stands twice.
+//! How large rings and histories may be. The crates above cite these names, and no number occurs twice.
 
 ghost use Rattle.std.specs.Prelude.{◌≡◌};
 ghost use Rattle.ring_model.specs.Limits.{machine_limit, value_limit, event_limit, seat_limit};
@@ -6,7 +6,7 @@ ghost use Rattle.ring_model.specs.Limits.{machine_limit, value_limit, event_limi
 /// The most machines of a ring.
 pub const MACHINE_LIMIT: u32 = 1_024;
 
-/// The most values, one of which a machine holds.
+/// The most values that a machine can have.
 pub const VALUE_LIMIT: u32 = 65_536;
 
 /// The most events of a history.

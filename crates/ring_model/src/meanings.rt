@@ -1,5 +1,5 @@
-//! What the definitions by tests and recursions mean, in words that need no program. Each is the contract
-//! of a function that does nothing; the statements stand in `specs/Laws.antt`, `specs/OtherLead.antt`,
+//! The meaning of the definitions by tests and recursions, in words that need no program. Each is the contract
+//! of a function that does nothing; the statements are in `specs/Laws.antt`, `specs/OtherLead.antt`,
 //! `specs/Suffixes.antt` and `specs/Worked.antt`.
 
 ghost use Rattle.ring_model.specs.Laws.{FrontMeans, LeadMeans};
@@ -12,7 +12,7 @@ pub fn prefix_meaning()
     ensures { FrontMeans }
 {}
 
-/// Where they are no such prefix, the lead is the least number of steps, from 1, to a value that no other
+/// Where they are not such a prefix, the lead is the least number of steps, from 1, to a value that no other
 /// machine has, and it is at most n - 1.
 pub fn lead_meaning()
     ensures { LeadMeans }

@@ -1,5 +1,5 @@
 //! Plain programs: each definition computed on a slice of values by the shortest loop that does it, and
-//! proved equal to the definition. Tests compare with them, and what is in no hurry calls them.
+//! proved equal to the definition. Tests compare with them, and callers that are in no hurry use them.
 //!
 //! A ring is its machines' values and the number K. No function here needs a true ring, with values
 //! below K and K at least n: each equals its definition on every list that its `requires` allow.
@@ -121,8 +121,8 @@ pub fn first_value_is_prefix(values: &[u32]) -> bool
     true
 }
 
-/// The lead: how far machine 0 has to step until no other machine holds its value, and 0 where a prefix
-/// alone holds it. K + 1 where there is no such step, which no ring has.
+/// The lead: how far machine 0 has to step until no other machine holds its value, and 0 where only a
+/// prefix holds it. K + 1 where there is no such step, which no ring has.
 pub fn lead(k: u32, values: &[u32]) -> u64
     requires positive { 0 < k }
     requires some { 1 ≤ length values.now }

@@ -1,4 +1,4 @@
--- A ring from place to place: what a call makes of it, whatever its resource holds.
+-- A ring from place to place: the ring after a call, whatever its resource holds.
 use Rattle.std.proofs.Common.{◌≡◌, ℕ, ◌+◌, ◌<◌, ◌≤◌, cond, true, false, List, [], ◌∷◌, ◌++◌, length, take, get_or, map, refl, sym, ap, ◌∙◌, arith}
 use Rattle.std.proofs.lemmas.List.{take_more, take_all, map-append}
 use Rattle.ring_model.specs.declared.events.Op.{Op}
@@ -33,7 +33,7 @@ ring_more b i d r t lt at e =
     ap (λ (u : List Event). after till start u) push ∙ after-push till start (map event_of (take i b.events)) event in
     e ∙ ap (λ (x : Ring). next_ring x event.op) at ∙ sym (ap (λ (s : State ℕ). s.ring) state ∙ next_is (after till start (map event_of (take i b.events))) event.op)
 
--- behind the last event the ring stays
+-- after the last event the ring stays
 pub ring_stays : (b : Block) (i : ℕ) → length b.events ≤ i → ring_at b i ≡ ring_at b (i + 1)
 ring_stays b i l =
     let e : take i b.events ≡ take (i + 1) b.events = take_all i b.events l ∙ sym (take_all (i + 1) b.events (omega arith)) in

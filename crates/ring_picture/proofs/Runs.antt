@@ -19,7 +19,7 @@ begin_le : (p : ℕ → Bool) (m : ℕ) → run_begin p m ≤ m
 begin_le p zero = omega arith
 begin_le p (suc m) = let h = begin_le p m in elim (p m) as (λ q. begin_after (run_begin p m) m q ≤ suc m) [ true ↦ omega arith | false ↦ omega arith ]
 
--- the test holds from the beginning of a run on
+-- the test holds from the start of a run on
 runs : (p : ℕ → Bool) (m c : ℕ) → run_begin p m ≤ c → c < m → p c ≡ true
 runs p zero c l h = absurd (omega arith)
 runs p (suc m) c l h = elim (cases_Bool (p m)) [
@@ -73,7 +73,7 @@ ended_past p (suc m) c h =
     let one : list_any (covers c) (run_ended p m) ≡ false = elim (p m) as (λ q. list_any (covers c) (ended_from (run_begin p m) m q) ≡ false) [ true ↦ refl | false ↦ before_past p m c (omega arith) ] in
     list_any-append (covers c) (runs_ended p m) (run_ended p m) ∙ (or_false (list_any (covers c) (runs_ended p m)) (list_any (covers c) (run_ended p m)) one ∙ ended_past p m c (omega arith))
 
--- all runs, where those that have ended cover what stands before the last
+-- all runs, where those that have ended cover the columns before the last
 whole : (p : ℕ → Bool) (m c : ℕ) → (c < run_begin p m → list_any (covers c) (runs_ended p m) ≡ p c) → c < m → list_any (covers c) (stretches p m) ≡ p c
 whole p m c h lt =
     let cut = list_any-append (covers c) (runs_ended p m) (run_before p m) in

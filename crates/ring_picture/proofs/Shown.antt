@@ -15,7 +15,7 @@ pub shown_here : (b : Block) (place : ℕ) → left_after (take place (history b
 shown_here b zero e = refl
 shown_here b (suc place) e = rw e refl
 
--- one inside a block shows what the place before it does
+-- one inside a block shows the same as the place before it
 pub shown_before : (b : Block) (place next : ℕ) → next ≡ place + 1 → 0 < left_after (take next (history b)) → shown b next ≡ shown b place
 shown_before b place zero e inside = absurd (omega arith)
 shown_before b place (suc same) e inside =
@@ -23,7 +23,7 @@ shown_before b place (suc same) e inside =
     let back : same ≡ place = omega arith in
     rw t (ap (shown b) back)
 
--- behind the last event as many are left as after it
+-- past the last event as many are left as after it
 pub left_past : (b : Block) (place : ℕ) → length b.events ≤ place → left_after (take (length b.events) (history b)) ≡ left_after (take place (history b))
 left_past b place l =
     let n : length (history b) ≡ length b.events = length-map b.events event_of in

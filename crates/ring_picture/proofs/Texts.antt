@@ -25,6 +25,6 @@ module _ (f : ℕ → List ℕ) where
             subst (λ (j : ℕ). Writes a c (Err e) (pieces f j ++ f j)) same (writes_then a b c (Err e) (pieces f i) (f i) so_far h)
       ]
 
--- a fault in a piece behind another one, and before more
+-- a fault in a piece after another one, and before more
 pub writes_second : (a b c : Option (List ℕ)) (e : WriteFault) (x y z : List ℕ) → Appends a b x → Writes b c (Err e) y → Writes a c (Err e) (x ++ (y ++ z))
 writes_second a b c e x y z h k = writes_then a b c (Err e) x (y ++ z) h (writes_err b c e y z k)

@@ -81,7 +81,7 @@ rows_new b from rows h = λ i d lt. h i d (privileged_in b from i) lt
 pub rows_more : (b : Block) (from c : ℕ) (values : List ℕ) (before behind : List Row) → length behind ≡ length before → ((i : ℕ) → is_privileged values i ≡ privileged_in b from i c) → AreRows b from c before → AreLooked c values before behind → AreRows b from (c + 1) behind
 rows_more b from c values before behind n e h l = λ i d lt. row_more (privileged_in b from i) c (is_privileged values i) (get_or before i d) (get_or behind i d) (e i) (h i d (omega arith)) (l i d (omega arith))
 
--- the text of a row, of which all columns were walked
+-- the text of a row whose columns were all walked
 row_is : (p : ℕ → Bool) (columns machine : ℕ) (row : Row) → IsRow p columns row → flat_map (rectangle machine) (stretches_to columns row) ≡ flat_map (rectangle machine) (stretches p columns)
 row_is p columns machine row h = ap (λ (x : List Stretch). flat_map (rectangle machine) (x ++ run_from row.begin columns)) h.ended ∙ ap (λ (x : ℕ). flat_map (rectangle machine) (runs_ended p columns ++ run_from x columns)) h.begin
 

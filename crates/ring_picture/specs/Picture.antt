@@ -22,7 +22,7 @@ next_ring r (Pass i order) = passed r i
 next_ring r (Member i order left) = passed r i
 next_ring r (Corrupt i v) = written r i v
 
--- the ring behind the first so many events of a block, by the definition
+-- the ring after the first n events of a block, by the definition
 abbrev pub ring_at : Block → ℕ → Ring
 ring_at b place =
     (after till (first_state (ring_with b.k b.start)) (map event_of (take place b.events))).ring
@@ -45,7 +45,7 @@ ring_shown b place = ring_at b (shown b place)
 abbrev pub calm_shown : Block → ℕ → ℕ
 calm_shown b place = calm_at b (shown b place)
 
--- whether a machine is privileged in a column: behind the events before the first one drawn and so
+-- whether a machine is privileged in a column: after the events before the first one drawn and this
 -- many more
 abbrev pub privileged_in : Block → ℕ → ℕ → ℕ → Bool
 privileged_in b from machine column = is_privileged (ring_shown b (from + column)).values machine
@@ -106,7 +106,7 @@ abbrev pub mark_in : Block → Bool → ℕ → ℕ → List ℕ
 mark_in b corruptions from column =
     mark_of corruptions (column + 1) (slice_get b.events (from + column))
 
--- the marks of so many events
+-- the marks of n events
 abbrev pub marks_text : Block → Bool → ℕ → ℕ → List ℕ
 marks_text b corruptions from count = pieces (mark_in b corruptions from) count
 
@@ -123,7 +123,7 @@ calm_points b from columns = pieces (λ c. point c (calm_in b from c)) columns
 
 -- ---- the scale of the curves
 
--- the highest rest of so many columns
+-- the highest rest of n columns
 abbrev pub highest_rest : Block → ℕ → ℕ → ℕ
 highest_rest b from zero = 0
 highest_rest b from (suc c) = max (highest_rest b from c) (rest_in b from c)
@@ -136,7 +136,7 @@ height_of high limit = cond (nat_lt 0 high && nat_lt high (limit / 4)) high limi
 abbrev pub curve_height : Block → ℕ → ℕ → ℕ
 curve_height b from columns = height_of (highest_rest b from columns) (bound b.n)
 
--- ---- what stands around them
+-- ---- the parts around them
 
 -- the head of the file, lines that are as thick in each part of the page, and a white page
 abbrev pub page_opening : List ℕ
@@ -210,7 +210,7 @@ axes_text n from count height =
     ++ (decimal height
     ++ codes "</text>\n<text x=\"62\" y=\"590\" text-anchor=\"end\">0</text>\n"))))))))))))
 
--- the beginning of the rows, of which the columns and the units are stretched over their part of
+-- the start of the rows, whose columns and units are stretched over their part of
 -- the page
 abbrev pub rows_opening : ℕ → ℕ → List ℕ
 rows_opening n columns =
@@ -220,8 +220,8 @@ rows_opening n columns =
     ++ (decimal (4 * n)
     ++ codes "\" preserveAspectRatio=\"none\" fill=\"#15489f\" stroke=\"#15489f\">\n")))
 
--- what stands between the rows and the marks of refused passes, between these and those of
--- corruptions, and behind them
+-- the text between the rows and the marks of refused passes, between these and those of
+-- corruptions, and after them
 abbrev pub refusals_opening : List ℕ
 refusals_opening = codes "<path stroke=\"#888\" stroke-width=\"1.5\" stroke-linecap=\"square\" d=\""
 
@@ -229,7 +229,7 @@ abbrev pub corruptions_opening : List ℕ
 corruptions_opening =
     codes "\"/>\n<path stroke=\"#e69f00\" stroke-width=\"5\" stroke-linecap=\"round\" d=\""
 
--- the end of the rows, the bound by its name, and the beginning of the curves, whose points are the
+-- the end of the rows, the bound by its name, and the start of the curves, whose points are the
 -- columns and the rests and the calms themselves, over the line of the bound; what is above the
 -- height is cut off
 abbrev pub curves_opening : ℕ → ℕ → ℕ → List ℕ
@@ -255,7 +255,7 @@ calm_opening =
 abbrev pub curves_end : List ℕ
 curves_end = codes "\"/>\n</g>\n</svg>\n<g font-size=\"14\">\n"
 
--- what each colour means: a word beside a piece of it
+-- the meaning of each colour: a word beside a piece of it
 abbrev pub privileged_key : List ℕ
 privileged_key =
     codes "<rect x=\"70\" y=\"608\" width=\"16\" height=\"10\" fill=\"#15489f\"/>\n<text x=\"92\" y=\"618\">privileged</text>\n"
@@ -308,7 +308,7 @@ lower_part b from columns =
     curves_opening columns (curve_height b from columns) (bound b.n)
     ++ (rest_points b from columns ++ (calm_opening ++ (calm_points b from columns ++ ending_text)))
 
--- for so many events: a column before the first of them and one behind each
+-- for n events: a column before the first of them and one after each
 abbrev pub picture : Block → ℕ → ℕ → List ℕ
 picture b from count =
     upper_part b from count ++ (marks_part b from count ++ lower_part b from (count + 1))

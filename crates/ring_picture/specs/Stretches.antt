@@ -1,4 +1,4 @@
--- The maximal runs of columns at which a test holds, and what is written column by column (this
+-- The maximal runs of columns at which a test holds, and the text written column by column (this
 -- project's own).
 use Rattle.std.specs.Prelude.{◌≡◌, ℕ, zero, suc, ◌+◌, ◌<◌, nat_lt, nat_le, ◌&&◌, Bool, cond, List, [], ◌∷◌, ◌++◌}
 use Rattle.std.specs.List.{list_any}
@@ -8,7 +8,7 @@ pub record Stretch : Type 0 where
   pub begin : ℕ
   pub end : ℕ
 
--- where the run begins that ends behind a column, from where the one before it does
+-- where the run begins that ends after a column, from where the one before it does
 abbrev pub begin_after : ℕ → ℕ → Bool → ℕ
 begin_after begin c passes = cond passes begin (c + 1)
 
@@ -34,12 +34,12 @@ run_before p c = run_from (run_begin p c) c
 abbrev pub run_ended : (ℕ → Bool) → ℕ → List Stretch
 run_ended p c = ended_from (run_begin p c) c (p c)
 
--- the runs that some of the first so many columns end
+-- the runs that some of the first n columns end
 abbrev pub runs_ended : (ℕ → Bool) → ℕ → List Stretch
 runs_ended p zero = []
 runs_ended p (suc c) = runs_ended p c ++ run_ended p c
 
--- the runs of so many columns
+-- the runs of n columns
 abbrev pub stretches : (ℕ → Bool) → ℕ → List Stretch
 stretches p columns = runs_ended p columns ++ run_before p columns
 
@@ -47,12 +47,12 @@ stretches p columns = runs_ended p columns ++ run_before p columns
 abbrev pub covers : ℕ → Stretch → Bool
 covers c s = nat_le s.begin c && nat_lt c s.end
 
--- Of so many columns, one is in some stretch exactly where the test holds.
+-- Of n columns, one is in some stretch exactly where the test holds.
 abbrev pub StretchesCover : Type 0
 StretchesCover =
     (p : ℕ → Bool) (columns c : ℕ) → c < columns → list_any (covers c) (stretches p columns) ≡ p c
 
--- one text for each of so many columns, one after the other
+-- one text for each of n columns, one after the other
 abbrev pub pieces : (ℕ → List ℕ) → ℕ → List ℕ
 pieces f zero = []
 pieces f (suc c) = pieces f c ++ f c

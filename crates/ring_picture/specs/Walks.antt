@@ -1,4 +1,4 @@
--- What is kept on the walk over the columns: a gauge that has the ring of a place, and the runs of
+-- The state of the walk over the columns: a gauge that has the ring of a place, and the runs of
 -- each machine so far (this project's own; no public clause names it).
 use Rattle.std.specs.Prelude.{◌≡◌, ℕ, ◌<◌, Bool, List, [], ◌++◌, length, get_or, map, Option, Some, None}
 use Rattle.std.specs.List.{flat_map, slice_get}
@@ -22,7 +22,7 @@ pub record HasRing (ring : SavedRing) (r : Ring) (g : Gauge) : Type 0 where
 abbrev pub stretch_of : Run → Stretch
 stretch_of run = record { begin = run.begin; end = run.end }
 
--- what one column more makes of a row
+-- a row after one column more
 pub record IsLooked (column : ℕ) (privileged : Bool) (before : Row) (behind : Row) : Type 0 where
   pub begin : behind.begin ≡ begin_after before.begin column privileged
   pub ended : map stretch_of behind.ended.items
@@ -33,7 +33,7 @@ AreLooked column values before behind =
     (i : ℕ) (d : Row) → i < length before
     → IsLooked column (is_privileged values i) (get_or before i d) (get_or behind i d)
 
--- a row has the runs of a test over so many columns
+-- a row has the runs of a test over n columns
 pub record IsRow (p : ℕ → Bool) (columns : ℕ) (row : Row) : Type 0 where
   pub begin : row.begin ≡ run_begin p columns
   pub ended : map stretch_of row.ended.items ≡ runs_ended p columns
@@ -45,7 +45,7 @@ abbrev pub AreRows : Block → ℕ → ℕ → List Row → Type 0
 AreRows b from columns rows =
     (i : ℕ) (d : Row) → i < length rows → IsRow (privileged_in b from i) columns (get_or rows i d)
 
--- the stretches of a row over so many columns
+-- the stretches of a row over n columns
 abbrev pub stretches_to : ℕ → Row → List Stretch
 stretches_to columns row = map stretch_of row.ended.items ++ run_from row.begin columns
 

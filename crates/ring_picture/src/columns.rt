@@ -63,7 +63,7 @@ fn call(k: u32, event: SavedEvent, gauge: &mut Gauge)
     }
 }
 
-/// Goes one event further; behind the last one the ring stays as it is.
+/// Goes one event further; after the last one the ring stays as it is.
 fn step_on(ring: &SavedRing, place: usize, gauge: &mut Gauge)
     requires { HasRing ring.now (ring_at (block_of ring.now) place) gauge.old }
     ensures { HasRing ring.now (ring_at (block_of ring.now) (place + 1)) gauge.new }
@@ -87,7 +87,7 @@ pub(crate) fn go_on(ring: &SavedRing, place: usize, gauge: &mut Gauge)
     }
 }
 
-/// Goes on from the start to a place.
+/// Goes from the start to a place.
 fn go_to(ring: &SavedRing, place: usize, gauge: &mut Gauge)
     requires start { HasRing ring.now (ring_shown (block_of ring.now) 0) gauge.old }
     requires room { place < 2 ^ 63 }
@@ -98,7 +98,7 @@ fn go_to(ring: &SavedRing, place: usize, gauge: &mut Gauge)
     }
 }
 
-/// The ring that is shown behind the first so many events.
+/// The ring that is shown after the first `place` events.
 pub(crate) fn gauge_at(alloc: Global, ring: &SavedRing, place: usize) -> Result<Gauge, AllocError>
     requires some { 0 < ring.now.k }
     requires few { ring.now.n ≤ machine_limit }
@@ -124,7 +124,7 @@ fn calm_after(calm: u64, event: SavedEvent) -> u64
     }
 }
 
-/// The calm one event further; behind the last one it stays as it is.
+/// The calm one event further; after the last one it stays as it is.
 fn calm_step(ring: &SavedRing, place: usize, calm: u64) -> u64
     requires calm { calm ≡ calm_at (block_of ring.now) place }
     requires few { calm ≤ place }

@@ -16,7 +16,7 @@ use ring_saved::SavedRing;
 use std::io::Write;
 use text_lines::{WriteFault, put_all};
 
-/// The highest rest of so many columns.
+/// The highest rest of `columns` columns.
 fn highest_rest(ring: &SavedRing, from: usize, columns: u32, gauge: &mut Gauge) -> u64
     requires ring { HasRing ring.now (ring_shown (block_of ring.now) from) gauge.old }
     requires room { from + columns < 2 ^ 63 }
@@ -42,7 +42,7 @@ fn height_of(highest: u64, limit: u64) -> u64
     }
 }
 
-/// The number at the top of the curves of so many columns.
+/// The number at the top of the curves of `columns` columns.
 pub(crate) fn curve_height(ring: &SavedRing, from: usize, columns: u32, gauge: &mut Gauge) -> u64
     requires few { ring.now.n ≤ machine_limit }
     requires ring { HasRing ring.now (ring_shown (block_of ring.now) from) gauge.old }

@@ -1,4 +1,4 @@
-//! What stands around the rows and the curves: the title, the numbers at the axes, and what opens and ends each part.
+//! The parts around the rows and the curves: the title, the numbers at the axes, and the text that opens and ends each part.
 
 ghost use Rattle.std.specs.Prelude.{◌≡◌, ◌+◌, ◌<◌, ◌≤◌, ◌^◌};
 ghost use Rattle.text_lines.specs.Writing.{Writes};
@@ -104,7 +104,7 @@ pub(crate) fn put_axes<W: Write>(
     )
 }
 
-/// What opens the rows.
+/// Writes the text that opens the rows.
 pub(crate) fn put_rows_opening<W: Write>(
     out: &mut W,
     n: u32,
@@ -128,7 +128,7 @@ pub(crate) fn put_rows_opening<W: Write>(
     )
 }
 
-/// What ends the marks and opens the curves.
+/// Writes the text that ends the marks and opens the curves.
 pub(crate) fn put_curves_opening<W: Write>(
     out: &mut W,
     columns: u32,
@@ -162,7 +162,7 @@ pub(crate) fn put_curves_opening<W: Write>(
     )
 }
 
-/// The end of the curves, and what each colour means.
+/// The end of the curves, and the meaning of each colour.
 pub(crate) fn put_ending<W: Write>(out: &mut W) -> Result<(), WriteFault>
     ensures { Writes (W.contents out.old) (W.contents out.new) result ending_text }
 {

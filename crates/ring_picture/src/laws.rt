@@ -1,8 +1,8 @@
-//! What the rectangles of a picture cover.
+//! The columns that the rectangles of a picture cover.
 
 ghost use Rattle.ring_picture.specs.Stretches.{StretchesCover};
 
-/// Of so many columns, one is in some stretch exactly where the test holds by which the stretches are made.
+/// Of n columns, one is in some stretch exactly where the test holds by which the stretches are made.
 #[tactic(auto, using(crate::proofs::Runs::stretches_cover))]
 pub fn stretches_cover()
     ensures { StretchesCover }

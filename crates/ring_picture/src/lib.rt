@@ -2,9 +2,9 @@
 //!
 //! `specs/Picture.antt` spells it. Time goes to the right, a column for each place of the history that is drawn; each
 //! machine has a row with a rectangle for each stretch of columns in which it is privileged by the definition, and a mark
-//! for each corruption and each refused pass. Below stand the curves of the rest and of the calm, one point for each column.
-//! A group moves at once: the columns inside its block show what was before it, and the one behind it what all its members
-//! have made of that.
+//! for each corruption and each refused pass. Below are the curves of the rest and of the calm, one point for each column.
+//! A group moves at once: the columns inside its block show the state before it, and the one after it the state after all
+//! its members.
 #![tactic(auto)]
 
 mod columns;

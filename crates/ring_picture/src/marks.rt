@@ -11,7 +11,7 @@ use std::io::Write;
 use text_lines::{WriteFault, put_all};
 
 /// The machine at which an event has a mark.
-fn marked(corruptions: bool, event: SavedEvent) -> Option<u32>
+fn marked_machine(corruptions: bool, event: SavedEvent) -> Option<u32>
     ensures { result ≡ marked corruptions event }
 {
     match event {
@@ -55,7 +55,7 @@ fn put_mark_of<W: Write>(
     let Some(event) = event else {
         return Ok(());
     };
-    match marked(corruptions, event) {
+    match marked_machine(corruptions, event) {
         Some(machine) => put_mark(out, corruptions, x, machine),
         None => Ok(()),
     }
@@ -72,7 +72,7 @@ fn event_at(ring: &SavedRing, place: usize) -> Option<SavedEvent>
     }
 }
 
-/// The marks of so many events.
+/// Writes the marks of `count` events.
 pub(crate) fn put_marks<W: Write>(
     out: &mut W,
     ring: &SavedRing,

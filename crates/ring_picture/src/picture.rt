@@ -22,7 +22,7 @@ use std::alloc::Global;
 use std::io::Write;
 use text_lines::{WriteFault, put};
 
-/// Why a picture does not stand behind what a writer held.
+/// Why a picture was not written.
 #[derive(Clone, Copy)]
 pub enum PictureFault {
     /// The writer failed, or took no byte.
@@ -78,7 +78,7 @@ fn put_both_marks<W: Write>(
     put_marks(out, ring, true, from, count)
 }
 
-/// The curves, and what they mean.
+/// The curves, and their meaning.
 fn put_lower<W: Write>(
     out: &mut W,
     ring: &SavedRing,
@@ -134,15 +134,15 @@ fn put_picture<W: Write>(
     put_lower(out, ring, from, count + 1, height, gauge)
 }
 
-/// Writes the picture of a ring from behind its first `from` events on, for `count` events: a column for each place from
-/// that one on up to `from + count`. Behind the last event of the history the ring stays as it is.
+/// Writes the picture of a ring from the place after its first `from` events on, for `count` events: a column for each place from
+/// that one on up to `from + count`. After the last event of the history the ring stays as it is.
 ///
 /// # Errors
 ///
 /// `OutOfMemory` if there is no room for the ring's values, a count of each of its K values and the stretches of its
 /// machines, and nothing is written then. `Write` at the first error of
-/// the writer, an interruption too, or write of 0 bytes: the writer then holds a beginning of the picture, but not all of
-/// it, behind what it held.
+/// the writer, an interruption too, or write of 0 bytes: the writer then holds a prefix of the picture, but not all of
+/// it, after what it held.
 pub fn write_picture<W: Write>(
     alloc: Global,
     out: &mut W,

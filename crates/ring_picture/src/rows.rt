@@ -68,7 +68,7 @@ fn put_row<W: Write>(out: &mut W, machine: u32, row: &Row, columns: u32) -> Resu
     put_run(out, machine, row.begin, columns)
 }
 
-/// The rows of all machines, of which so many columns were walked.
+/// Writes the rows of all machines, over the `columns` columns that were walked.
 pub(crate) fn put_rows<W: Write>(out: &mut W, rows: &[Row], columns: u32) -> Result<(), WriteFault>
     requires { length rows.now ≤ machine_limit }
     ensures { Writes (W.contents out.old) (W.contents out.new) result (rows_to columns rows.now) }

@@ -47,7 +47,7 @@ impl Row {
     }
 }
 
-/// The rows of so many machines, before any column.
+/// The rows of `n` machines, before any column.
 fn new_rows(alloc: Global, n: u32) -> Result<Vec<Row>, AllocError>
     ensures len { IfOk result (λ rows. vec_len rows ≡ n) }
     ensures new { IfOk result (λ rows. AreNew rows.items) }
@@ -77,7 +77,7 @@ fn look_at_each(rows: &mut Vec<Row>, values: &[u32], column: u32) -> Result<(), 
     Ok(())
 }
 
-/// The stretches of each machine over columns from a place of the history on, where the gauge stands.
+/// The stretches of each machine over columns from a place of the history on, the place of the gauge.
 pub(crate) fn walk(
     alloc: Global,
     ring: &SavedRing,

@@ -1,4 +1,4 @@
--- From what a command answered, and whether its output left, to how the program ends.
+-- From the answer of a command, and whether its output left, to how the program ends.
 use Rattle.std.proofs.Common.{◌≡◌, ◌∙◌, ◌≢◌, ℕ, List, Bool, true, false, cond, Option, Result, Ok, Err, ◌⊎◌, inl, inr, refl, ap, sym, subst, arith}
 use Rattle.std.specs.Prelude.{OnOk, IfErr}
 use Rattle.std.proofs.lemmas.Bool.{false≢true}
@@ -10,6 +10,7 @@ use Rattle.ring_commands.specs.Answered.{IsAnswer, IsRefusal, IsOfLines}
 use Rattle.ring_commands.specs.Served.{IsServeRefusal}
 use Rattle.ring_commands.proofs.ServeRefusals.{no_list}
 use Rattle.ring_commands.specs.Faults.{is_bad_list, end_status}
+use Rattle.ring_commands.specs.Worlds.{World, world}
 use Rattle.ring_commands.specs.declared.faults.ToolError.{ToolError}
 use Rattle.ring_commands.specs.declared.faults.ToolError.TheVariants as tool
 use Rattle.ring_program.specs.Ended.{HasEnded}
@@ -59,42 +60,44 @@ bad_list tool.ManyDrawn h = absurd (false≢true h)
 bad_list (tool.InUse a) h = absurd (false≢true h)
 bad_list (tool.Full a) h = absurd (false≢true h)
 bad_list (tool.Journal a b) h = absurd (false≢true h)
+bad_list tool.TotalsTooLarge h = absurd (false≢true h)
 
--- what serves lines is not refused for a list
-no_lines : (request : Request) (before after : Option Held) (was is old mid early told : Option (List ℕ)) (e : ToolError) → is_bad_list e ≡ true → IsRefusal request before after was is old mid early told e → IsOfLines request → ⊥
-no_lines (asked.Step words) before after was is old mid early told e bad refused lines = lines
-no_lines (asked.Run words) before after was is old mid early told e bad refused lines = lines
-no_lines (asked.Check words) before after was is old mid early told e bad refused lines = lines
-no_lines (asked.Picture words) before after was is old mid early told e bad refused lines = lines
-no_lines (asked.Upgrade words) before after was is old mid early told e bad refused lines = lines
-no_lines (asked.Recover words) before after was is old mid early told e bad refused lines = lines
-no_lines (asked.Serve words) before after was is old mid early told e bad refused lines =
-    no_list words before was is old mid (subst (λ (x : ToolError). IsServeRefusal words before was is old mid x) (bad_list e bad) refused)
+-- a request that serves lines is not refused for a list
+no_lines : (request : Request) (was is : World) (e : ToolError) → is_bad_list e ≡ true → IsRefusal request was is e → IsOfLines request → ⊥
+no_lines (asked.Step words) was is e bad refused lines = lines
+no_lines (asked.Run words) was is e bad refused lines = lines
+no_lines (asked.Check words) was is e bad refused lines = lines
+no_lines (asked.Picture words) was is e bad refused lines = lines
+no_lines (asked.Upgrade words) was is e bad refused lines = lines
+no_lines (asked.Recover words) was is e bad refused lines = lines
+no_lines (asked.Serve words) was is e bad refused lines =
+    no_list words was is (subst (λ (x : ToolError). IsServeRefusal words was is x) (bad_list e bad) refused)
 
--- what is said of a value is said of a part of it
+-- an equation of two values holds of a part of them
 pub silent_of : {A B : Type 0} {E F : Type 0} (part : A → B) (late early : A) (r : Result (Unit {0}) E) (f : Result (Unit {0}) F) → OnOk r (OnOk f (late ≡ early)) →
     OnOk r (OnOk f (part late ≡ part early))
 silent_of part late early (Ok u) (Ok v) same = ap part same
 silent_of part late early (Ok u) (Err e) same = tt
 silent_of part late early (Err e) f same = tt
 
-pub ended : {F : Type 0} (r : Result (Unit {0}) ToolError) (f : Result (Unit {0}) F) (request : Request) (before after : Option Held) (was is old mid new early told late : Option (List ℕ)) →
-    OnOk r (IsAnswer request before after was is old mid early told) → IfErr r (λ e. IsRefusal request before after was is old mid early told e) →
-    ((IsOfLines request → ⊥) → IfErr r (λ e. e ≢ tool.Write → after ≡ before)) → Keeps mid new → OnOk r (OnOk f (late ≡ told)) → HasEnded (end_status r f) before after was is old new early late
-ended (Ok u) (Ok v) request before after was is old mid new early told late answered refused kept keeps same = record {
-  done = λ s. inl (mid, (request, subst (λ (l : Option (List ℕ)). IsAnswer request before after was is old mid early l) (sym same) answered), keeps);
+-- the world that a command leaves, once its output is flushed, or a fault is reported
+pub ended : {F : Type 0} (r : Result (Unit {0}) ToolError) (f : Result (Unit {0}) F) (request : Request) (was : World) (files : Option Held) (input mid new told late : Option (List ℕ)) →
+    OnOk r (IsAnswer request was (world files input mid told)) → IfErr r (λ e. IsRefusal request was (world files input mid told) e) →
+    ((IsOfLines request → ⊥) → IfErr r (λ e. e ≢ tool.Write → files ≡ was.files)) → Keeps mid new → OnOk r (OnOk f (late ≡ told)) → HasEnded (end_status r f) was (world files input new late)
+ended (Ok u) (Ok v) request was files input mid new told late answered refused kept keeps same = record {
+  done = λ s. inl (mid, (request, subst (λ (l : Option (List ℕ)). IsAnswer request was (world files input mid l)) (sym same) answered), keeps);
   unread = λ s. absurd (omega (arith, s));
   refused = λ s. absurd (omega (arith, s));
 }
-ended (Ok u) (Err e) request before after was is old mid new early told late answered refused kept keeps same = record {
+ended (Ok u) (Err e) request was files input mid new told late answered refused kept keeps same = record {
   done = λ s. absurd (omega (arith, s));
   unread = λ s. absurd (omega (arith, s));
   refused = λ s. inr (mid, told, inl (request, answered));
 }
-ended (Err e) f request before after was is old mid new early told late answered refused kept keeps same = record {
+ended (Err e) f request was files input mid new told late answered refused kept keeps same = record {
   done = λ s. absurd (some (is_bad_list e) s);
   unread = λ s.
       let bad = two (is_bad_list e) s in
-      kept (no_lines request before after was is old mid early told e bad refused) (not_write e bad);
+      kept (no_lines request was (world files input mid told) e bad refused) (not_write e bad);
   refused = λ s. inr (mid, told, inr (request, e, refused, kept));
 }

@@ -1,6 +1,7 @@
 //! The whole program: the command line, as `ring_cli` reads it, and the command of `ring_commands` that it asks for.
 //!
-//! It passes on what else a caller of the program's parts names, so that `ring_tool` needs this crate and `disks` alone.
+//! It passes on the other items that a caller of the program's parts names, so that `ring_tool` needs only this crate and
+//! `disks`.
 #![tactic(auto)]
 
 mod program;

@@ -1,9 +1,9 @@
--- What a turn does to the rings: nothing, a growth of one history, or a survey that a seat was told.
-use Rattle.std.proofs.Common.{◌≡◌, ℕ, zero, suc, ◌+◌, ◌<◌, ◌≤◌, Bool, true, false, cond, not, ◌&&◌, ◌||◌, leb, ltb, eqb, List, [], ◌∷◌, length, Option, Some, None, Result, Ok, Err, refl, sym, ap, subst, ◌∙◌, ◌⊎◌, inl, inr, arith, slice_get, slice_set}
+-- The effect of a turn on the rings: nothing, a growth of one history, or a survey that a seat was given.
+use Rattle.std.proofs.Common.{◌≡◌, ℕ, zero, suc, ◌+◌, ◌<◌, ◌≤◌, Bool, true, false, cond, not, ◌&&◌, ◌||◌, leb, ltb, eqb, List, [], ◌∷◌, length, Option, Some, None, refl, sym, ap, subst, ◌∙◌, ◌⊎◌, inl, inr, arith, slice_get, slice_set, ◌≢◌}
 use Rattle.std.proofs.lemmas.Bool.{false≢true, leb-false, ltb-false, ltb-true, lt-ltb, eqb-false, eqb-true}
 use Rattle.ring_model.specs.Limits.{event_limit}
 use Rattle.ring_model.specs.Resources.{till}
-use Rattle.ring_model.specs.Ring.{is_privileged}
+use Rattle.ring_model.specs.Ring.{is_privileged, IsRing}
 use Rattle.ring_model.specs.History.{State, StepOf, next, reply, IsLegal}
 use Rattle.ring_model.specs.Groups.{has, move_order}
 use Rattle.ring_model.specs.GroupLaws.{CanMove, AreAllPrivileged, block_of}
@@ -14,20 +14,18 @@ use Rattle.ring_model.specs.declared.events.Reply.TheVariants as reply_is
 use Rattle.ring_model.specs.declared.events.Event.{Event}
 use Rattle.ring_desk.specs.Rings.{RingView, IsOneThreadRing}
 use Rattle.ring_journal.specs.Told.{event_is_open}
-use Rattle.ring_text.specs.SavedOf.{saved_event}
-use Rattle.text_lines.specs.declared.fault.Fault.{Fault}
-use Rattle.text_lines.specs.Reading.{whole_at}
-use Rattle.ring_serve.specs.Calls.{Call, pass, group, corrupt, survey, glance, save, ring_of, line_limit, call_at}
-use Rattle.ring_serve.specs.Standings.{Standing, standing_of, state_of, with_events, with_survey, survey_now, block_now}
-use Rattle.ring_serve.specs.Turns.{Turn, events, surveyed, refused, unless, pass_refusal, corrupt_refusal, group_refusal, move_refusal, seat_refusal, rise, first_without, turn_at, turn_among, placed, read_turn, line_turn, IsTurnOfLine}
+use Rattle.ring_blocks.specs.SavedOf.{saved_event}
+use Rattle.ring_serve.specs.Commands.{Command, pass, group, corrupt, survey, glance, save, heard, ring_of}
+use Rattle.ring_serve.specs.Standings.{Standing, standing_of, state_of, with_events, with_survey, survey_now, block_now, event_now}
+use Rattle.ring_serve.specs.Turns.{Turn, events, surveyed, refused, unless, turn_at, turn_among, placed, heard_turn, IsTurnOfLine, bounds_now}
 use Rattle.ring_serve.specs.declared.answers.Refusal.{Refusal}
-use Rattle.ring_serve.proofs.Groups.{rise_is, rises_few, both}
+use Rattle.ring_desk.specs.Refusals.{seat_refusal, pass_refusal, corrupt_refusal, group_refusal}
+use Rattle.ring_desk.specs.declared.errors.CallError.{CallError}
+use Rattle.ring_desk.proofs.Refusals.{seat_bounds, pass_bounds, corrupt_bounds, group_bounds}
 use Rattle.ring_serve.specs.Saved.{IsRight}
 use Rattle.ring_serve.specs.declared.answers.Refusal.TheVariants as refusal
-use Rattle.ring_model.specs.Ring.{IsRing}
 use Rattle.ring_model.proofs.Blocks.{blocks_are_legal}
 use Rattle.ring_model.proofs.Orders.{move_order_law}
-use Rattle.ring_serve.specs.Standings.{event_now}
 use Rattle.std.specs.List.{AllByRecursion}
 use Rattle.ring_recording.proofs.Turning.{call_right, survey_right, group_right}
 
@@ -37,7 +35,7 @@ Closes [] = ⊥
 Closes (e ∷ []) = event_is_open (saved_event e) ≡ false
 Closes (e ∷ f ∷ es) = (event_is_open (saved_event e) ≡ true) × Closes (f ∷ es)
 
--- the history of one ring grew, and a seat was told
+-- the history of one ring grew, and a seat got the receipts
 pub record Grew (ring : ℕ) (r : Standing) (turn : Turn Standing) : Type 0 where
   pub seat : ℕ
   pub es : List Event
@@ -47,7 +45,7 @@ pub record Grew (ring : ℕ) (r : Standing) (turn : Turn Standing) : Type 0 wher
   pub recorded : turn.recorded ≡ events ring es ∷ []
   pub leaves : turn.leaves ≡ with_events r seat es
 
--- a seat was told a survey
+-- a seat was given a survey
 pub record Looked (ring : ℕ) (r : Standing) (turn : Turn Standing) : Type 0 where
   pub seat : ℕ
   pub within : seat < length r.clients
@@ -61,7 +59,7 @@ Kept s turn = (turn.recorded ≡ []) × (turn.leaves ≡ s)
 abbrev pub Effect : ℕ → Standing → Turn Standing → Type 0
 Effect ring r turn = Kept r turn ⊎ (Grew ring r turn ⊎ Looked ring r turn)
 
-unless_effect : (ring : ℕ) (r : Standing) (q : Option Refusal) (turn : Turn Standing) → (q ≡ None → Effect ring r turn) → Effect ring r (unless q r turn)
+unless_effect : (ring : ℕ) (r : Standing) (q : Option CallError) (turn : Turn Standing) → (q ≡ None → Effect ring r turn) → Effect ring r (unless q r turn)
 unless_effect ring r None turn f = f refl
 unless_effect ring r (Some why) turn f = inl (refl, refl)
 
@@ -88,11 +86,7 @@ all_set [] i r all one = tt
 all_set (x ∷ rings) zero r all one = (one, all.1)
 all_set (x ∷ rings) (suc i) r all one = (all.0, all_set rings i r all.1 one)
 
--- ---- what is not refused
-
-no_two : (a : Bool) (x y : Option Refusal) (why : Refusal) → x ≡ Some why → cond a x y ≡ None → (a ≡ false) × (y ≡ None)
-no_two true x y why e n = absurd (some_none why (sym e ∙ n))
-no_two false x y why e n = (refl, n)
+-- ---- the calls that are not refused
 
 -- ---- a block closes
 
@@ -119,24 +113,19 @@ module _ (d : RingView ℕ) (k : IsOneThreadRing till 0 d) where
   abbrev size : ℕ
   size = length (state_of r).ring.values
 
-  within_of : (seat : ℕ) → leb (length r.clients) seat ≡ false → seat < length r.clients
-  within_of seat e = omega (arith, leb-false (length r.clients) seat e)
-
-  room_of : (h : ℕ) → h ≡ length d.book.history → eqb h event_limit ≡ false → h < event_limit
-  room_of h e f = let ne = eqb-false h event_limit f in let most = k.book.bounded in grind (arith, ne, most, e)
+  room_of : (h : ℕ) → h ≡ length d.book.history → h ≢ event_limit → h < event_limit
+  room_of h e ne = let most = k.book.bounded in grind (arith, ne, most, e)
 
   pass_effect : (ring seat machine order : ℕ) → Effect ring r (turn_at r (pass ring seat machine order))
-  pass_effect ring seat machine order = unless_effect ring r (pass_refusal r seat machine) _ (λ q.
-      let a = no_two (leb (length r.clients) seat) _ _ refusal.NoSeat refl q in
-      let b = no_two (leb size machine) _ _ refusal.NoMachine refl a.1 in
-      let c = no_two (eqb (length r.history) event_limit) _ _ refusal.HistoryFull refl b.1 in
-      let within = within_of seat a.0 in
+  pass_effect ring seat machine order = unless_effect ring r (pass_refusal (bounds_now r) seat machine) _ (λ q.
+      let b = pass_bounds (bounds_now r) seat machine q in
+      let within : seat < length r.clients = b.0 in
       inr (inl (record {
         seat = seat;
         es = event_now r seat (op.Pass machine order) ∷ [];
         within = within;
         closes = closes (reply till (state_of r) (op.Pass machine order));
-        right = call_right d seat k within (op.Pass machine order) (omega (arith, leb-false size machine b.0)) tt (room_of (length r.history) refl c.0);
+        right = call_right d seat k within (op.Pass machine order) b.1 tt (room_of (length r.history) refl b.2);
         recorded = refl;
         leaves = refl;
       })))
@@ -147,66 +136,31 @@ module _ (d : RingView ℕ) (k : IsOneThreadRing till 0 d) where
       closes (reply_is.Corrupted old) = refl
 
   corrupt_effect : (ring seat machine value : ℕ) → Effect ring r (turn_at r (corrupt ring seat machine value))
-  corrupt_effect ring seat machine value = unless_effect ring r (corrupt_refusal r seat machine value) _ (λ q.
-      let a = no_two (leb (length r.clients) seat) _ _ refusal.NoSeat refl q in
-      let b = no_two (leb size machine) _ _ refusal.NoMachine refl a.1 in
-      let v = no_two (leb (state_of r).ring.k value) _ _ refusal.NoValue refl b.1 in
-      let c = no_two (eqb (length r.history) event_limit) _ _ refusal.HistoryFull refl v.1 in
-      let within = within_of seat a.0 in
+  corrupt_effect ring seat machine value = unless_effect ring r (corrupt_refusal (bounds_now r) seat machine value) _ (λ q.
+      let b = corrupt_bounds (bounds_now r) seat machine value q in
+      let within : seat < length r.clients = b.0 in
       inr (inl (record {
         seat = seat;
         es = event_now r seat (op.Corrupt machine value) ∷ [];
         within = within;
         closes = refl;
-        right = call_right d seat k within (op.Corrupt machine value) (omega (arith, leb-false size machine b.0), omega (arith, leb-false (state_of r).ring.k value v.0)) tt (room_of (length r.history) refl c.0);
+        right = call_right d seat k within (op.Corrupt machine value) (b.1, b.2) tt (room_of (length r.history) refl b.3);
         recorded = refl;
         leaves = refl;
       })))
 
   survey_effect : (ring seat : ℕ) → Effect ring r (turn_at r (survey ring seat))
-  survey_effect ring seat = unless_effect ring r (seat_refusal r seat) _ (λ q.
-      let a = no_two (leb (length r.clients) seat) _ _ refusal.NoSeat refl q in
-      let within = within_of seat a.0 in
+  survey_effect ring seat = unless_effect ring r (seat_refusal (bounds_now r) seat) _ (λ q.
+      let within : seat < length r.clients = seat_bounds (bounds_now r) seat q in
       inr (inr (record { seat = seat; within = within; right = survey_right d seat k within; recorded = refl; leaves = refl })))
 
-  -- a group that is not refused can move
-  able_of : (s ms : List ℕ) → first_without s ms ≡ None → AreAllPrivileged s ms
-  able_of s [] e i h = absurd (false≢true h)
-  able_of s (m ∷ ms) e i h = go (is_privileged s m) refl e (λ n q. able_of s ms n i q)
-    where
-      side : is_privileged s m ≡ true → (c : Bool) → eqb i m ≡ c → (has ms i ≡ true → is_privileged s i ≡ true) → (c || has ms i) ≡ true → is_privileged s i ≡ true
-      side p true q more _ = ap (is_privileged s) (eqb-true i m q) ∙ p
-      side p false q more h = more h
-
-      go : (b : Bool) → is_privileged s m ≡ b → cond (not b) (Some m) (first_without s ms) ≡ None → (first_without s ms ≡ None → has ms i ≡ true → is_privileged s i ≡ true) → is_privileged s i ≡ true
-      go false p n more = absurd (some_none m n)
-      go true p n more = side p (eqb i m) refl (more n) h
-
-  moves_of : (s machines : List ℕ) (w : Option ℕ) → first_without s machines ≡ w → move_refusal r machines w ≡ None → (first_without s machines ≡ None) × (ltb event_limit (length r.history + length machines) ≡ false)
-  moves_of s machines None e q = (e, (no_two (ltb event_limit (length r.history + length machines)) _ _ refusal.HistoryFull refl q).0)
-  moves_of s machines (Some m) e q = absurd (some_none _ q)
-
-  not_not : (b : Bool) → not b ≡ false → b ≡ true
-  not_not true e = refl
-  not_not false e = absurd (false≢true (sym e))
-
   group_effect : (ring seat order : ℕ) (machines : List ℕ) → Effect ring r (turn_at r (group ring seat order machines))
-  group_effect ring seat order machines = unless_effect ring r (group_refusal r seat machines) _ (λ q.
-      let s : List ℕ = (state_of r).ring.values in
-      let a = no_two (leb (length r.clients) seat) _ _ refusal.NoSeat refl q in
-      let b = no_two (not (ltb 0 (length machines) && rise 0 (length s) machines)) _ _ refusal.NoGroup refl a.1 in
-      let c = no_two (eqb (length machines) (length s)) _ _ refusal.WholeRing refl b.1 in
-      let m = moves_of s machines (first_without s machines) refl c.1 in
-      let x = both (ltb 0 (length machines)) (rise 0 (length s) machines) (not_not _ b.0) in
-      let rising = rise_is 0 (length s) machines x.1 in
-      let few = rises_few 0 (length s) machines (omega arith) rising in
-      let ne = eqb-false (length machines) (length s) c.0 in
-      let some : 1 ≤ length machines = omega (arith, ltb-true 0 (length machines) x.0) in
-      let fewer : length machines < length s = grind (arith, few, ne) in
-      let can : CanMove s machines = record { rising = rising; some = some; fewer = fewer; able = able_of s machines m.0 } in
+  group_effect ring seat order machines = unless_effect ring r (group_refusal (bounds_now r) seat machines) _ (λ q.
+      let b = group_bounds (bounds_now r) seat machines q in
+      let within : seat < length r.clients = b.0 in
+      let can : CanMove (state_of r).ring.values machines = b.1 in
       let here : CanMove d.book.now.ring.values machines = subst (λ (t : State ℕ). CanMove t.ring.values machines) k.book.current can in
-      let room : length d.book.history + length machines ≤ event_limit = omega (arith, ltb-false event_limit (length r.history + length machines) m.1) in
-      let within = within_of seat a.0 in
+      let room : length d.book.history + length machines ≤ event_limit = b.2 in
       inr (inl (record {
         seat = seat;
         es = block_now r seat order machines;
@@ -226,16 +180,16 @@ module _ (d : RingView ℕ) (k : IsOneThreadRing till 0 d) where
           let some = can.some in
           block_closes (state_of r) seat order (move_order machines) (omega (arith, size, some)) (blocks_are_legal till (state_of r) seat order (move_order machines) ring law.in_order able).0
 
-  effect_at : (call : Call) → Effect (ring_of call) r (turn_at r call)
+  effect_at : (command : Command) → Effect (ring_of command) r (turn_at r command)
   effect_at (pass ring seat machine order) = pass_effect ring seat machine order
   effect_at (corrupt ring seat machine value) = corrupt_effect ring seat machine value
   effect_at (group ring seat order machines) = group_effect ring seat order machines
   effect_at (survey ring seat) = survey_effect ring seat
   effect_at (glance ring) = inl (refl, refl)
-  effect_at save = inl (refl, refl)
+  effect_at (save name) = inl (refl, refl)
 
-effect_of : (r : Standing) (call : Call) → IsRight r → Effect (ring_of call) r (turn_at r call)
-effect_of r call k = subst (λ (x : Standing). Effect (ring_of call) x (turn_at x call)) k.2 (effect_at k.0 k.1 call)
+effect_of : (r : Standing) (command : Command) → IsRight r → Effect (ring_of command) r (turn_at r command)
+effect_of r command k = subst (λ (x : Standing). Effect (ring_of command) x (turn_at x command)) k.2 (effect_at k.0 k.1 command)
 
 -- ---- among all rings
 
@@ -252,29 +206,24 @@ pub record Changed (rings : List Standing) (turn : Turn (List Standing)) : Type 
 abbrev pub EffectAmong : List Standing → Turn (List Standing) → Type 0
 EffectAmong rings turn = Kept rings turn ⊎ Changed rings turn
 
-among : (rings : List Standing) (call : Call) (x : Option Standing) → AllByRecursion IsRight rings → slice_get rings (ring_of call) ≡ x → EffectAmong rings (turn_among rings call x)
-among rings call None all e = inl (refl, refl)
-among rings call (Some r) all e = go (effect_of r call (right_at rings (ring_of call) r all e))
+among : (rings : List Standing) (command : Command) (x : Option Standing) → AllByRecursion IsRight rings → slice_get rings (ring_of command) ≡ x → EffectAmong rings (turn_among rings command x)
+among rings command None all e = inl (refl, refl)
+among rings command (Some r) all e = go (effect_of r command (right_at rings (ring_of command) r all e))
   where
-    go : Effect (ring_of call) r (turn_at r call) → EffectAmong rings (placed rings (ring_of call) (turn_at r call))
-    go (inl kept) = inl (kept.0, ap (λ (x : Standing). slice_set rings (ring_of call) x) kept.1 ∙ set_same rings (ring_of call) r e)
-    go (inr changed) = inr (record { ring = ring_of call; was = r; there = e; one = turn_at r call; effect = changed; recorded = refl; leaves = refl })
+    go : Effect (ring_of command) r (turn_at r command) → EffectAmong rings (placed rings (ring_of command) (turn_at r command))
+    go (inl kept) = inl (kept.0, ap (λ (x : Standing). slice_set rings (ring_of command) x) kept.1 ∙ set_same rings (ring_of command) r e)
+    go (inr changed) = inr (record { ring = ring_of command; was = r; there = e; one = turn_at r command; effect = changed; recorded = refl; leaves = refl })
 
-line_effect : (rings : List Standing) (line : List ℕ) → AllByRecursion IsRight rings → EffectAmong rings (line_turn rings line)
-unfolding line_turn
-line_effect rings line all = go (ltb line_limit (length line)) (whole_at call_at line)
-  where
-    go : (b : Bool) (x : Result (Option Call) Fault) → EffectAmong rings (cond b (refused rings refusal.Syntax) (read_turn rings x))
-    go true x = inl (refl, refl)
-    go false (Ok (Some call)) = among rings call (slice_get rings (ring_of call)) all refl
-    go false (Ok None) = inl (refl, refl)
-    go false (Err f) = inl (refl, refl)
+heard_effect : (rings : List Standing) (x : Option Command) → AllByRecursion IsRight rings → EffectAmong rings (heard_turn rings x)
+heard_effect rings (Some command) all = among rings command (slice_get rings (ring_of command)) all refl
+heard_effect rings None all = inl (refl, refl)
 
 pub turn_effect : (rings : List Standing) (line : List ℕ) (turn : Turn (List Standing)) → AllByRecursion IsRight rings → IsTurnOfLine rings line turn → EffectAmong rings turn
-turn_effect rings line turn all (inl e) = subst (λ (t : Turn (List Standing)). EffectAmong rings t) (sym e) (line_effect rings line all)
+turn_effect rings line turn all (inl (inl h)) = subst (λ (t : Turn (List Standing)). EffectAmong rings t) (sym h.2) (heard_effect rings (heard h.0) all)
+turn_effect rings line turn all (inl (inr h)) = subst (λ (t : Turn (List Standing)). EffectAmong rings t) (sym h.1) (inl (refl, refl))
 turn_effect rings line turn all (inr e) = subst (λ (t : Turn (List Standing)). EffectAmong rings t) (sym e) (inl (refl, refl))
 
--- the rings are right behind it
+-- the rings are right after it
 pub changed_right : (rings : List Standing) (turn : Turn (List Standing)) → AllByRecursion IsRight rings → EffectAmong rings turn → AllByRecursion IsRight turn.leaves
 changed_right rings turn all (inl kept) = subst (λ (x : List Standing). AllByRecursion IsRight x) (sym kept.1) all
 changed_right rings turn all (inr c) = subst (λ (x : List Standing). AllByRecursion IsRight x) (sym c.leaves) (all_set rings c.ring c.one.leaves all (one c.ring c.was c.one c.effect))

@@ -1,14 +1,14 @@
--- What saved texts have of blocks that tell where rings stand: their surveys seat by seat.
+-- Saved texts of blocks that record the state of rings: their surveys seat by seat.
 use Rattle.std.proofs.Common.{◌≡◌, ℕ, zero, suc, ◌+◌, ◌<◌, ◌≤◌, Bool, true, false, cond, List, [], ◌∷◌, ◌++◌, length, get_or, map, refl, sym, ap, subst, ◌∙◌, inl, inr, arith}
 use Rattle.std.specs.Prelude.{not}
 use Rattle.std.specs.List.{filter, AllByRecursion}
 use Rattle.std.proofs.lemmas.Bool.{cases_eq, eq-eqb, ne_eqb, cond-true, cond-false}
 use Rattle.ring_model.specs.Limits.{seat_limit}
 use Rattle.ring_model.specs.declared.events.Entry.{Entry}
-use Rattle.ring_logs.specs.Told.{Told}
+use Rattle.ring_logs.specs.LogView.{LogView}
 use Rattle.ring_saved.specs.declared.saved.SavedSurvey.{SavedSurvey}
 use Rattle.ring_saved.specs.Content.{Block}
-use Rattle.ring_text.specs.SavedOf.{entry_surveys}
+use Rattle.ring_blocks.specs.SavedOf.{entry_surveys}
 use Rattle.ring_journal.specs.Told.{is_of, by_seats, in_order}
 use Rattle.ring_desk.specs.Texts.{surveys_told}
 use Rattle.ring_serve.specs.Standings.{Standing}
@@ -51,15 +51,15 @@ wider : (left seat : ℕ) (xs : List SavedSurvey) → AllByRecursion (λ (s : Sa
 wider left seat [] a = tt
 wider left seat (x ∷ xs) a = let high = a.0.1 in ((a.0.0, omega (arith, high)), wider left seat xs a.1)
 
--- what each of some clients was told, the first of which has this number
-sorted : (left seat : ℕ) (ss : List SavedSurvey) (cs : List Told) → Numbered seat cs → length cs ≤ left → AllByRecursion (λ (s : SavedSurvey). (seat ≤ s.seat) × (s.seat < seat + left)) ss →
-    ((i : ℕ) (d : Told) → d.log ≡ [] → filter (is_of (seat + i)) ss ≡ entry_surveys (seat + i) (get_or cs i d).log) → by_seats seat left ss ≡ surveys_told cs
+-- the surveys of each of some clients, where the first has this number
+sorted : (left seat : ℕ) (ss : List SavedSurvey) (cs : List LogView) → Numbered seat cs → length cs ≤ left → AllByRecursion (λ (s : SavedSurvey). (seat ≤ s.seat) × (s.seat < seat + left)) ss →
+    ((i : ℕ) (d : LogView) → d.log ≡ [] → filter (is_of (seat + i)) ss ≡ entry_surveys (seat + i) (get_or cs i d).log) → by_seats seat left ss ≡ surveys_told cs
 unfolding by_seats
 sorted zero seat [] [] n few all f = refl
 sorted zero seat [] (c ∷ cs) n few all f = absurd (omega (arith, few))
 sorted zero seat (s ∷ ss) cs n few all f = let low = all.0.0 in let high = all.0.1 in absurd (omega (arith, low, high))
 sorted (suc left) seat ss [] n few all f =
-    let none : Told = record { number = 0; log = [] } in
+    let none : LogView = record { number = 0; log = [] } in
     let same : seat + 0 ≡ seat = omega arith in
     let here : filter (is_of seat) ss ≡ [] = ap (λ (m : ℕ). filter (is_of m) ss) (sym same) ∙ f 0 none refl in
     ap (λ (xs : List SavedSurvey). xs ++ by_seats (seat + 1) left (filter (not_of seat) ss)) here
@@ -70,7 +70,7 @@ sorted (suc left) seat ss [] n few all f =
 sorted (suc left) seat ss (c ∷ cs) n few all f =
     let number : c.number ≡ seat = n.0 in
     let same : seat + 0 ≡ seat = omega arith in
-    let none : Told = record { number = 0; log = [] } in
+    let none : LogView = record { number = 0; log = [] } in
     let here : filter (is_of seat) ss ≡ entry_surveys c.number c.log =
     ap (λ (m : ℕ). filter (is_of m) ss) (sym same) ∙ (f 0 none refl ∙ ap (λ (m : ℕ). entry_surveys m c.log) (same ∙ sym number)) in
     let more : by_seats (seat + 1) left (filter (not_of seat) ss) ≡ surveys_told cs =
@@ -80,16 +80,16 @@ sorted (suc left) seat ss (c ∷ cs) n few all f =
     other_seat seat (seat + 1 + i) ss (λ q. omega (arith, q)) ∙ (ap (λ (m : ℕ). filter (is_of m) ss) (sym next) ∙ (f (suc i) d e ∙ ap (λ (m : ℕ). entry_surveys m (get_or cs i d).log) next))) in
     ap (λ (xs : List SavedSurvey). xs ++ by_seats (seat + 1) left (filter (not_of seat) ss)) here ∙ ap (λ (xs : List SavedSurvey). entry_surveys c.number c.log ++ xs) more
 
-same_log : (i : ℕ) (cs : List Told) (d e : Told) → d.log ≡ [] → e.log ≡ [] → (get_or cs i d).log ≡ (get_or cs i e).log
+same_log : (i : ℕ) (cs : List LogView) (d e : LogView) → d.log ≡ [] → e.log ≡ [] → (get_or cs i d).log ≡ (get_or cs i e).log
 same_log i [] d e p q = p ∙ sym q
 same_log zero (c ∷ cs) d e p q = refl
 same_log (suc i) (c ∷ cs) d e p q = same_log i cs d e p q
 
--- one who is not there was told nothing
-any_client : (i : ℕ) (cs : List Told) (d e : Told) → d.log ≡ [] → e.log ≡ [] → entry_surveys i (get_or cs i d).log ≡ entry_surveys i (get_or cs i e).log
+-- a client that is not there has no surveys
+any_client : (i : ℕ) (cs : List LogView) (d e : LogView) → d.log ≡ [] → e.log ≡ [] → entry_surveys i (get_or cs i d).log ≡ entry_surveys i (get_or cs i e).log
 any_client i cs d e p q = ap (λ (log : List Entry). entry_surveys i log) (same_log i cs d e p q)
 
--- ---- in that order a block that tells where a ring stands is what is saved of it
+-- ---- in that order a block that records the state of a ring is its saved block
 
 within_seats : (ss : List SavedSurvey) → AllByRecursion (λ (s : SavedSurvey). s.seat < seat_limit) ss → AllByRecursion (λ (s : SavedSurvey). (0 ≤ s.seat) × (s.seat < 0 + seat_limit)) ss
 within_seats [] a = tt

@@ -1,4 +1,4 @@
--- Blocks that tell where rings stand, call by call.
+-- Blocks that record the state of rings, call by call.
 use Rattle.std.proofs.Common.{◌≡◌, ℕ, zero, suc, ◌+◌, ◌<◌, ◌≤◌, List, [], ◌∷◌, ◌++◌, length, get_or, map, Some, None, refl, sym, ap, subst, ◌∙◌, inl, inr, arith, length-append, append_assoc, slice_get, slice_set}
 use Rattle.std.specs.List.{filter, AllByRecursion}
 use Rattle.std.proofs.lemmas.Bool.{cases_eq, eq-eqb, ne_eqb, cond-true, cond-false}
@@ -9,23 +9,22 @@ use Rattle.ring_model.specs.declared.events.Event.{Event}
 use Rattle.ring_model.specs.declared.events.Survey.{Survey}
 use Rattle.ring_model.specs.declared.events.Entry.{Entry}
 use Rattle.ring_model.specs.declared.events.Entry.TheVariants as entry
-use Rattle.ring_logs.specs.Told.{Told}
+use Rattle.ring_logs.specs.LogView.{LogView}
 use Rattle.ring_saved.specs.declared.saved.SavedEvent.{SavedEvent}
 use Rattle.ring_saved.specs.declared.saved.SavedSurvey.{SavedSurvey}
 use Rattle.ring_saved.specs.Content.{Block}
-use Rattle.ring_text.specs.SavedOf.{saved_event, saved_survey, entry_surveys}
-use Rattle.ring_text.specs.Journals.{recorded_event, recorded_survey}
+use Rattle.ring_blocks.specs.SavedOf.{saved_event, saved_survey, entry_surveys}
+use Rattle.ring_blocks.specs.Journals.{line_of_event, line_of_survey}
 use Rattle.ring_journal.specs.declared.calls.Call.{Call}
 use Rattle.ring_journal.specs.declared.calls.Call.TheVariants as call
 use Rattle.ring_journal.specs.Told.{is_of, with_call, with_call_at, with_calls}
 use Rattle.ring_desk.specs.Rings.{told_more}
 use Rattle.ring_desk.specs.Texts.{surveys_told}
-use Rattle.ring_desk.specs.Replaying.{told_by}
-use Rattle.ring_desk.proofs.Replays.{told_besides, told_others}
+use Rattle.ring_desk.proofs.ToldBy.{told_by, told_besides, told_others}
 use Rattle.ring_serve.specs.Standings.{Standing}
 use Rattle.ring_serve.specs.Saved.{IsRight, block_at, blocks_from}
 
--- the block tells of a ring with this start and this history, and of what its clients were told
+-- the block records a ring with this start and this history, and the surveys of its clients
 pub record Tells (place : ℕ) (b : Block) (r : Standing) : Type 0 where
   pub index : b.index ≡ place
   pub n : b.n ≡ length r.start.values
@@ -54,7 +53,7 @@ all_append : (P : SavedSurvey → Type 0) (xs ys : List SavedSurvey) → AllByRe
 all_append P [] ys a b = b
 all_append P (x ∷ xs) ys a b = (a.0, all_append P xs ys a.1 b)
 
--- ---- what the clients' logs tell, seat by seat
+-- ---- the surveys in the clients' logs, seat by seat
 
 own : (seat number : ℕ) (log : List Entry) → number ≡ seat → filter (is_of seat) (entry_surveys number log) ≡ entry_surveys number log
 own seat number [] e = refl
@@ -67,11 +66,11 @@ others seat number (entry.Receipt r ∷ log) ne = others seat number log ne
 others seat number (entry.Survey s ∷ log) ne = left_out seat (saved_survey number s) (entry_surveys number log) ne ∙ others seat number log ne
 
 -- clients whose numbers rise one by one from this one on
-abbrev pub Numbered : ℕ → List Told → Type 0
+abbrev pub Numbered : ℕ → List LogView → Type 0
 Numbered from [] = Unit {0}
 Numbered from (c ∷ cs) = (c.number ≡ from) × Numbered (from + 1) cs
 
-none_below : (from seat : ℕ) (cs : List Told) → Numbered from cs → seat < from → filter (is_of seat) (surveys_told cs) ≡ []
+none_below : (from seat : ℕ) (cs : List LogView) → Numbered from cs → seat < from → filter (is_of seat) (surveys_told cs) ≡ []
 none_below from seat [] n l = refl
 none_below from seat (c ∷ cs) n l =
     let number : c.number ≡ from = n.0 in
@@ -79,10 +78,10 @@ none_below from seat (c ∷ cs) n l =
     ∙ (ap (λ (ss : List SavedSurvey). ss ++ filter (is_of seat) (surveys_told cs)) (others seat c.number c.log (λ e. omega (arith, l, number, e)))
     ∙ none_below (from + 1) seat cs n.1 (omega (arith, l)))
 
-abbrev nobody : ℕ → Told
+abbrev nobody : ℕ → LogView
 nobody seat = record { number = seat; log = [] }
 
-told_at : (from i : ℕ) (cs : List Told) (d : Told) → d.log ≡ [] → Numbered from cs → filter (is_of (from + i)) (surveys_told cs) ≡ entry_surveys (from + i) (get_or cs i d).log
+told_at : (from i : ℕ) (cs : List LogView) (d : LogView) → d.log ≡ [] → Numbered from cs → filter (is_of (from + i)) (surveys_told cs) ≡ entry_surveys (from + i) (get_or cs i d).log
 told_at from i [] d e n = sym (ap (λ (log : List Entry). entry_surveys (from + i) log) e)
 told_at from zero (c ∷ cs) d e n =
     let number : c.number ≡ from + zero = n.0 ∙ omega arith in
@@ -97,7 +96,7 @@ told_at from (suc i) (c ∷ cs) d e n =
     ∙ (ap (λ (ss : List SavedSurvey). ss ++ filter (is_of (from + suc i)) (surveys_told cs)) (others (from + suc i) c.number c.log (λ f. omega (arith, number, f)))
     ∙ (ap (λ (m : ℕ). filter (is_of m) (surveys_told cs)) next ∙ (told_at (from + 1) i cs d e n.1 ∙ ap (λ (m : ℕ). entry_surveys m (get_or cs i d).log) (sym next))))
 
-told_seat : (seat : ℕ) (cs : List Told) → Numbered 0 cs → filter (is_of seat) (surveys_told cs) ≡ told_by cs seat
+told_seat : (seat : ℕ) (cs : List LogView) → Numbered 0 cs → filter (is_of seat) (surveys_told cs) ≡ told_by cs seat
 told_seat seat cs n =
     let same : 0 + seat ≡ seat = omega arith in
     ap (λ (m : ℕ). filter (is_of m) (surveys_told cs)) (sym same) ∙ (told_at 0 seat cs (nobody seat) refl n ∙ ap (λ (m : ℕ). entry_surveys m (get_or cs seat (nobody seat)).log) same)
@@ -107,13 +106,13 @@ log_seats number [] l = tt
 log_seats number (entry.Receipt r ∷ log) l = log_seats number log l
 log_seats number (entry.Survey s ∷ log) l = (l, log_seats number log l)
 
-all_seats : (from : ℕ) (cs : List Told) → Numbered from cs → from + length cs ≤ seat_limit → AllByRecursion (λ (s : SavedSurvey). s.seat < seat_limit) (surveys_told cs)
+all_seats : (from : ℕ) (cs : List LogView) → Numbered from cs → from + length cs ≤ seat_limit → AllByRecursion (λ (s : SavedSurvey). s.seat < seat_limit) (surveys_told cs)
 all_seats from [] n l = tt
 all_seats from (c ∷ cs) n l =
     let number : c.number ≡ from = n.0 in
     all_append (λ (s : SavedSurvey). s.seat < seat_limit) (entry_surveys c.number c.log) (surveys_told cs) (log_seats c.number c.log (omega (arith, number, l))) (all_seats (from + 1) cs n.1 (omega (arith, l)))
 
-numbered : (from : ℕ) (cs : List Told) → ((i : ℕ) (d : Told) → i < length cs → (get_or cs i d).number ≡ from + i) → Numbered from cs
+numbered : (from : ℕ) (cs : List LogView) → ((i : ℕ) (d : LogView) → i < length cs → (get_or cs i d).number ≡ from + i) → Numbered from cs
 numbered from [] f = tt
 numbered from (c ∷ cs) f =
     let first : from + 0 ≡ from = omega arith in
@@ -123,7 +122,7 @@ pub right_numbered : (r : Standing) → IsRight r → Numbered 0 r.clients × (l
 right_numbered r k = subst (λ (x : Standing). Numbered 0 x.clients × (length x.clients ≤ seat_limit)) k.2
     (numbered 0 k.0.clients (λ i d l. let same : 0 + i ≡ i = omega arith in (k.1.each i d l).number ∙ sym same), k.1.few)
 
--- ---- what is saved of a ring tells where it stands
+-- ---- the saved block of a ring records its state
 
 saved_tells : (place : ℕ) (r : Standing) → IsRight r → Tells place (block_at place r) r
 saved_tells place r k =
@@ -160,7 +159,7 @@ event_told place b r e t =
       seats = t.seats;
     }
 
-clients_told : (place : ℕ) (b : Block) (r : Standing) (cs : List Told) → ((seat : ℕ) → told_by cs seat ≡ told_by r.clients seat) → Tells place b r → Tells place b (record { start = r.start; history = r.history; clients = cs })
+clients_told : (place : ℕ) (b : Block) (r : Standing) (cs : List LogView) → ((seat : ℕ) → told_by cs seat ≡ told_by r.clients seat) → Tells place b r → Tells place b (record { start = r.start; history = r.history; clients = cs })
 clients_told place b r cs same t = record {
   index = t.index;
   n = t.n;
@@ -211,7 +210,7 @@ one_told place (b ∷ bs) [] ring was is c e f t = absurd t
 one_told place (b ∷ bs) (r ∷ rs) zero was is c e f t = (f place b (subst (λ (x : Standing). Tells place b x) (some_one r was e) t.0), t.1)
 one_told place (b ∷ bs) (r ∷ rs) (suc ring) was is c e f t = (t.0, one_told (place + 1) bs rs ring was is c e f t.1)
 
--- one ring told in other words
+-- one ring described in other words
 one_kept : (place : ℕ) (bs : List Block) (rs : List Standing) (ring : ℕ) (was is : Standing) → slice_get rs ring ≡ Some was →
     ((p : ℕ) (b : Block) → Tells p b was → Tells p b is) → AllTell place bs rs → AllTell place bs (slice_set rs ring is)
 one_kept place [] [] ring was is e f t = absurd (some_none was e)
@@ -240,7 +239,7 @@ longer r es = record { start = r.start; history = r.history ++ es; clients = r.c
 
 -- the events by which one history grew
 events_told : (place : ℕ) (bs : List Block) (rs : List Standing) (ring : ℕ) (was : Standing) (es : List Event) → slice_get rs ring ≡ Some was →
-    AllTell place bs rs → AllTell place (with_calls bs (map (recorded_event ring) es)) (slice_set rs ring (longer was es))
+    AllTell place bs rs → AllTell place (with_calls bs (map (line_of_event ring) es)) (slice_set rs ring (longer was es))
 events_told place bs rs ring was [] e t =
     let same : was ≡ longer was [] = λ i. record { start = was.start; history = sym (append-nil was.history) i; clients = was.clients } in
     subst (λ (xs : List Standing). AllTell place bs xs) (sym (set_is rs ring was (longer was []) e same)) t
@@ -249,22 +248,22 @@ events_told place bs rs ring was (x ∷ es) e t =
     let first : AllTell place (with_call_at bs ring (call.Event (saved_event x))) (slice_set rs ring one) = one_told place bs rs ring was one (call.Event (saved_event x)) e (λ p b. event_told p b was x) t in
     let more = events_told place (with_call_at bs ring (call.Event (saved_event x))) (slice_set rs ring one) ring one es (set_there rs ring was one e) first in
     let same : longer one es ≡ longer was (x ∷ es) = ap (λ (h : List Event). let s : Standing = record { start = was.start; history = h; clients = was.clients } in s) (append_assoc was.history (x ∷ []) es) in
-    subst (λ (xs : List Standing). AllTell place (with_calls bs (map (recorded_event ring) (x ∷ es))) xs) (set_twice rs ring one (longer one es) ∙ ap (λ (s : Standing). slice_set rs ring s) same) more
+    subst (λ (xs : List Standing). AllTell place (with_calls bs (map (line_of_event ring) (x ∷ es))) xs) (set_twice rs ring one (longer one es) ∙ ap (λ (s : Standing). slice_set rs ring s) same) more
 
--- and what the seat was told of them
-pub grown_told : (place : ℕ) (bs : List Block) (rs : List Standing) (ring : ℕ) (was : Standing) (es : List Event) (cs : List Told) → slice_get rs ring ≡ Some was →
+-- and the receipts that the seat got of them
+pub grown_told : (place : ℕ) (bs : List Block) (rs : List Standing) (ring : ℕ) (was : Standing) (es : List Event) (cs : List LogView) → slice_get rs ring ≡ Some was →
     ((seat : ℕ) → told_by cs seat ≡ told_by was.clients seat) → AllTell place bs rs →
-    AllTell place (with_calls bs (map (recorded_event ring) es)) (slice_set rs ring (record { start = was.start; history = was.history ++ es; clients = cs }))
+    AllTell place (with_calls bs (map (line_of_event ring) es)) (slice_set rs ring (record { start = was.start; history = was.history ++ es; clients = cs }))
 grown_told place bs rs ring was es cs e same t =
     let is : Standing = record { start = was.start; history = was.history ++ es; clients = cs } in
-    subst (λ (xs : List Standing). AllTell place (with_calls bs (map (recorded_event ring) es)) xs) (set_twice rs ring (longer was es) is)
-    (one_kept place (with_calls bs (map (recorded_event ring) es)) (slice_set rs ring (longer was es)) ring (longer was es) is (set_there rs ring was (longer was es) e)
+    subst (λ (xs : List Standing). AllTell place (with_calls bs (map (line_of_event ring) es)) xs) (set_twice rs ring (longer was es) is)
+    (one_kept place (with_calls bs (map (line_of_event ring) es)) (slice_set rs ring (longer was es)) ring (longer was es) is (set_there rs ring was (longer was es) e)
     (λ p b. clients_told p b (longer was es) cs same) (events_told place bs rs ring was es e t))
 
--- a survey that a seat was told
+-- a survey that a seat was given
 pub looked_told : (place : ℕ) (bs : List Block) (rs : List Standing) (ring : ℕ) (was : Standing) (seat : ℕ) (s : Survey) → slice_get rs ring ≡ Some was →
     seat < length was.clients → length was.clients ≤ seat_limit → AllTell place bs rs →
-    AllTell place (with_calls bs (recorded_survey ring seat s ∷ [])) (slice_set rs ring (record { start = was.start; history = was.history; clients = told_more was.clients seat (entry.Survey s ∷ []) }))
+    AllTell place (with_calls bs (line_of_survey ring seat s ∷ [])) (slice_set rs ring (record { start = was.start; history = was.history; clients = told_more was.clients seat (entry.Survey s ∷ []) }))
 looked_told place bs rs ring was seat s e within few t =
     one_told place bs rs ring was (record { start = was.start; history = was.history; clients = told_more was.clients seat (entry.Survey s ∷ []) }) (call.Survey (saved_survey seat s)) e
     (λ p b. survey_told p b was seat s within few) t

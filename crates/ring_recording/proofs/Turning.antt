@@ -21,15 +21,15 @@ use Rattle.ring_book.specs.BookView.{BookView, IsBook, IsRecorded}
 use Rattle.ring_book.specs.GroupView.{HasMoved, IsGroupRecorded}
 use Rattle.ring_book.specs.declared.books.groups.GroupReceipt.{GroupReceipt}
 use Rattle.ring_model.specs.Ring.{Ring, moved_value, is_privileged}
-use Rattle.ring_logs.specs.Told.{Told}
-use Rattle.ring_shared.specs.Groups.{receipts_from}
+use Rattle.ring_logs.specs.LogView.{LogView}
+use Rattle.ring_logs.specs.Seats.{receipts_from}
 use Rattle.ring_state.specs.Sizes.{Size, size_of}
 use Rattle.ring_desk.specs.Rings.{RingView, IsOneThreadRing, told_more}
 use Rattle.ring_desk.proofs.Kept.{called_ring, grouped_ring, surveyed_ring}
 use Rattle.ring_serve.specs.Standings.{Standing, standing_of, state_of, event_now, block_now, with_events, with_survey, survey_now}
 use Rattle.ring_serve.specs.Saved.{IsRight}
 
--- ---- a book that went on
+-- ---- a book that grew
 
 abbrev pub gone_on : BookView ℕ → List Event → BookView ℕ
 gone_on b es = record { start = b.start; now = after till b.now es; history = b.history ++ es; room = 0 }
@@ -142,7 +142,7 @@ module _ (d : RingView ℕ) (seat order : ℕ) (machines : List ℕ) (k : IsOneT
       let g : IsGroupRecorded till d.book (gone_on d.book es) seat order machines receipt = record { moved = moved; first = refl; count = refl } in
       let cut : drop (length d.book.history) (d.book.history ++ es) ≡ es = drop_at d.book.history es (length d.book.history) refl in
       let now : es ≡ block_now (standing_of d) seat order machines = ap (λ (a : State ℕ). block_of till a seat order ms) (sym k.book.current) in
-      let told : List Event → List Told = λ x. told_more d.clients seat (receipts_from (length d.book.history) x) in (
+      let told : List Event → List LogView = λ x. told_more d.clients seat (receipts_from (length d.book.history) x) in (
         record { book = gone_on d.book es; clients = told (drop (length d.book.history) (d.book.history ++ es)) },
         grouped_ring till 0 d.book (gone_on d.book es) d.clients seat order machines receipt k book within g,
         λ i. record { start = d.book.start; history = d.book.history ++ now i; clients = told ((cut ∙ now) i) },

@@ -2,8 +2,8 @@
 
 ghost use Rattle.ring_recording.specs.Recording.{JournalsAreRight};
 
-/// What the turns of lines recorded, behind what was saved of the rings when they began, is a right journal: its history is legal
-/// at each moment, and it tells what is saved of the rings at the end. So whatever of it is recovered is theirs.
-pub fn journal_law()
+/// The records of the turns of lines, after the saved rings from which they began, are a right journal: its history is legal
+/// at each moment, and it records the rings as they are saved at the end. So any history that is recovered of it is theirs.
+pub fn journals_are_right()
     ensures { JournalsAreRight }
 {}

@@ -1,6 +1,6 @@
-//! That the journal of rings that are served is right, and tells where they stand.
+//! That the journal of rings that are served is right, and records their state.
 #![tactic(auto)]
 
 mod laws;
 
-pub use laws::journal_law;
+pub use laws::journals_are_right;

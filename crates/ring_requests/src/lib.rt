@@ -1,4 +1,4 @@
-//! What the program can be asked for. The command line makes these values and the commands are done by them, and neither
+//! The requests that the program takes. The command line makes these values and the commands are done by them, and neither
 //! knows the other.
 #![tactic(auto)]
 

@@ -1,6 +1,6 @@
-//! A command with its words, as they were given: what stands in a list or a file is not looked at here.
+//! A command with its words, as they were given: the content of a list or a file is not looked at here.
 
-/// What `step` was asked for, with its lists as they were given.
+/// The words of `step`, with its lists as they were given.
 #[derive(Clone, Copy)]
 pub struct StepWords<'a> {
     pub n: u32,
@@ -9,25 +9,25 @@ pub struct StepWords<'a> {
     pub choices: Option<&'a str>,
 }
 
-/// What `run` was asked for.
+/// The words of `run`.
 #[derive(Clone, Copy)]
 pub struct RunWords<'a> {
     /// The settings file's name; `-` is standard input.
     pub settings: &'a str,
-    /// The name of the file for the saved text; `-` is standard output, in the place of the report.
+    /// The name of the file for the saved text; `-` is standard output, instead of the report.
     pub history: Option<&'a str>,
-    /// Whether the report's last line alone is wanted.
+    /// Whether only the report's last line is wanted.
     pub quiet: bool,
 }
 
-/// What `check` was asked for.
+/// The words of `check`.
 #[derive(Clone, Copy)]
 pub struct CheckWords<'a> {
     /// The file's name; `-` is standard input.
     pub file: &'a str,
 }
 
-/// What `picture` was asked for.
+/// The words of `picture`.
 #[derive(Clone, Copy)]
 pub struct PictureWords<'a> {
     pub file: &'a str,
@@ -35,13 +35,13 @@ pub struct PictureWords<'a> {
     pub picture: &'a str,
     /// The ring that is drawn, by its place among the rings.
     pub ring: u32,
-    /// How many of its events stand before the first that is drawn.
+    /// How many of its events are before the first that is drawn.
     pub from: u32,
     /// How many are drawn at most.
     pub events: u32,
 }
 
-/// What `upgrade` was asked for.
+/// The words of `upgrade`.
 #[derive(Clone, Copy)]
 pub struct UpgradeWords<'a> {
     /// The name of the file with the saved text.
@@ -50,7 +50,7 @@ pub struct UpgradeWords<'a> {
     pub new: &'a str,
 }
 
-/// What `recover` was asked for.
+/// The words of `recover`.
 #[derive(Clone, Copy)]
 pub struct RecoverWords<'a> {
     /// The name of the file with the journal; `-` is standard input.
@@ -59,10 +59,10 @@ pub struct RecoverWords<'a> {
     pub new: &'a str,
 }
 
-/// What `serve` was asked for.
+/// The words of `serve`.
 #[derive(Clone, Copy)]
 pub struct ServeWords<'a> {
-    /// The name of the file with the saved text from which the rings go on.
+    /// The name of the file with the saved text from which the rings resume.
     pub history: &'a str,
     /// The name of the journal's file, if one is kept.
     pub journal: Option<&'a str>,

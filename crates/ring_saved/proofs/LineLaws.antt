@@ -13,9 +13,9 @@ use Rattle.text_lines.proofs.Decimals.{number_reads, positive_reads}
 use Rattle.ring_saved.specs.declared.saved.SavedEvent.{SavedEvent}
 use Rattle.ring_saved.specs.declared.saved.SavedEvent.TheVariants.{Granted, Refused, Member, Corrupted}
 use Rattle.ring_saved.specs.declared.saved.SavedSurvey.{SavedSurvey}
-use Rattle.ring_saved.specs.declared.saved.Head.{Head}
+use Rattle.ring_saved.specs.declared.saved.RingHeader.{RingHeader}
 use Rattle.ring_saved.specs.Versions.{first_version, latest_version, HasGroups, IsVersion}
-use Rattle.ring_saved.specs.Spelling.{head_line, event_line, end_line, survey_line, done_line, EventFits, SurveyFits, HeadFits}
+use Rattle.ring_saved.specs.Spelling.{head_line, event_line, end_line, survey_line, done_line, EventFits, SurveyFits, RingHeaderFits}
 use Rattle.ring_saved.specs.Lines.{first_branch, latest_branch, version_at, small, last_small, large, last_large, grant_branch, refusal_branch, reply_at, pass_of, pass_at, pass_branch, corruption_of, corruption_at, corruption_branch, member_of, member_at, member_branch, end_at, end_branch, event_or_end_at, events_at, head_from, head_at, head_branch, done_at, done_branch, survey_of, survey_at, Follow, survey_branch, survey_or_next_at, surveys_at}
 
 abbrev Small : ℕ → Type 0
@@ -381,9 +381,9 @@ events_reads version = many_reads (events_repeat version) tt tt
 
 -- ---- a ring's first line, the last line, and surveys
 
-pub head_reads : Reads HeadFits head_line head_at
+pub head_reads : Reads RingHeaderFits head_line head_at
 unfolding head_at
-head_reads = as_reads HeadFits head_line head_from (λ h. (h.index, (h.n, h.k)))
+head_reads = as_reads RingHeaderFits head_line head_from (λ h. (h.index, (h.n, h.k)))
     (after_reads (codes "ring ") (both_reads small_reads (both_reads (positive_reads (2 ^ 32) 32 (omega arith) (omega arith) (omega arith)) last_small_reads)))
     (λ a f. record { index = f.0; some = f.1.0.0; n = f.1.0.1; k = f.1.1 }) (λ h f. (f.index, ((f.some, f.n), f.k))) (λ h f. refl) (λ a f. refl)
 
@@ -397,10 +397,10 @@ survey_reads = as_reads SurveyFits survey_line survey_of (λ v. (v.seat, (v.posi
     (after_reads (codes "s ") (both_reads small_reads (both_reads large_reads (both_reads small_reads (both_reads small_reads (both_reads large_reads last_large_reads))))))
     (λ a f. record { seat = f.0; position = f.1.0; privileged = f.1.1.0; first = f.1.1.1.0; calm = f.1.1.1.1.0; rest = f.1.1.1.1.1 }) (λ v f. (f.seat, (f.position, (f.privileged, (f.first, (f.calm, f.rest)))))) (λ v f. refl) (λ a f. refl)
 
-abbrev pub NextFits : Either Head ℕ → Type 0
-NextFits = OfEither HeadFits Small
+abbrev pub NextFits : Either RingHeader ℕ → Type 0
+NextFits = OfEither RingHeaderFits Small
 
-abbrev pub next_line : Either Head ℕ → List ℕ
+abbrev pub next_line : Either RingHeader ℕ → List ℕ
 next_line = of_either head_line done_line
 
 abbrev pub FollowFits : Follow → Type 0
@@ -426,7 +426,7 @@ survey_branch_reads = as_reads (λ a. FollowFits a × StartsWith 115 (follow_lin
     same (that (this h)) f = absurd (starts_otherwise 114 115 _ (λ e. omega arith) f.1)
     same (that (that n)) f = absurd (starts_otherwise 100 115 _ (λ e. omega arith) f.1)
 
-abbrev head_back : Follow → Head
+abbrev head_back : Follow → RingHeader
 head_back (this v) = record { index = 0; n = 0; k = 0 }
 head_back (that (this h)) = h
 head_back (that (that n)) = record { index = 0; n = 0; k = 0 }
@@ -434,7 +434,7 @@ head_back (that (that n)) = record { index = 0; n = 0; k = 0 }
 head_branch_reads : ReadsBranch FollowFits follow_line head_branch
 head_branch_reads = as_reads (λ a. FollowFits a × StartsWith 114 (follow_line a)) follow_line (λ h. that (this h)) head_back head_reads (λ h f. (f, (_, refl))) back same (λ h f. refl)
   where
-    back : (b : Follow) → FollowFits b × StartsWith 114 (follow_line b) → HeadFits (head_back b)
+    back : (b : Follow) → FollowFits b × StartsWith 114 (follow_line b) → RingHeaderFits (head_back b)
     back (this v) f = absurd (starts_otherwise 115 114 _ (λ e. omega arith) f.1)
     back (that (this h)) f = f.0
     back (that (that n)) f = absurd (starts_otherwise 100 114 _ (λ e. omega arith) f.1)
@@ -474,7 +474,7 @@ survey_or_next_reads = choice_reads FollowFits follow_line survey_branch (head_b
 pub surveys_repeat : Repeats {S = Unit {0}} Always (λ _. SurveyFits) survey_line (λ _. NextFits) next_line (λ _. survey_or_next_at) (λ _. tt)
 surveys_repeat = record { reads = λ st v. survey_or_next_reads; keeps = λ st a f. tt; some = λ st a f. omega arith; final = λ st v. (that 0, omega arith) }
 
-abbrev pub SurveysFit : List SavedSurvey × Either Head ℕ → Type 0
+abbrev pub SurveysFit : List SavedSurvey × Either RingHeader ℕ → Type 0
 SurveysFit p = RunFits {S = Unit {0}} (λ _. SurveyFits) (λ _. NextFits) (λ _. tt) tt p.0 p.1
 
 pub surveys_reads : Reads SurveysFit (many survey_line next_line) surveys_at

@@ -1,4 +1,4 @@
--- A list written item by item: what is written so far, and what is left to write.
+-- A list written item by item: the part that is written so far, and the rest.
 use Rattle.std.proofs.Common.{◌≡◌, ℕ, ◌+◌, ◌<◌, ◌≤◌, List, [], ◌∷◌, ◌++◌, length, drop, get_or, Option, Err, sym, ap, ◌∙◌, subst}
 use Rattle.std.specs.Io.KnownBytes.{Appends}
 use Rattle.std.proofs.lemmas.List.{drop_more, drop_all}
@@ -6,7 +6,7 @@ use Rattle.text_lines.specs.declared.write.WriteFault.{WriteFault}
 use Rattle.text_lines.specs.Writing.{Wrote, Writes}
 use Rattle.text_lines.proofs.Writing.{wrote_none, wrote_piece, wrote_fault, wrote_all}
 
--- How the items from a place on are spelled and what they need: the item there first, then those behind it.
+-- How the items from a place on are spelled and what they need: the item there first, then those after it.
 pub record Spelled {X : Type 0} (piece : ℕ → X → List ℕ) (spell : ℕ → List X → List ℕ) (Fit : ℕ → X → Type 0) (Fits : ℕ → List X → Type 0) : Type 0 where
   pub none : (i : ℕ) → spell i [] ≡ []
   pub next : (i : ℕ) (x : X) (xs : List X) → spell i (x ∷ xs) ≡ piece i x ++ spell (i + 1) xs

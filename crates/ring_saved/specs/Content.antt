@@ -1,4 +1,4 @@
--- What a saved text says, as plain lists and numbers.
+-- The content of a saved text, as plain lists and numbers.
 use Rattle.std.specs.Prelude.{ℕ, List, map}
 use Rattle.ring_saved.specs.declared.saved.Saved.{Saved}
 use Rattle.ring_saved.specs.declared.saved.SavedRing.{SavedRing}
@@ -35,7 +35,7 @@ block_of r = record {
   surveys = r.surveys.items;
 }
 
--- what a saved value says
+-- the content of a saved value
 abbrev pub content : Saved → Content
 content s = record {
   version = s.version;

@@ -5,7 +5,7 @@ use Rattle.text_lines.specs.Reading.{Reader, Either, this, that, number_at, posi
 use Rattle.ring_saved.specs.declared.saved.SavedEvent.{SavedEvent}
 use Rattle.ring_saved.specs.declared.saved.SavedEvent.TheVariants.{Granted, Refused, Member, Corrupted}
 use Rattle.ring_saved.specs.declared.saved.SavedSurvey.{SavedSurvey}
-use Rattle.ring_saved.specs.declared.saved.Head.{Head}
+use Rattle.ring_saved.specs.declared.saved.RingHeader.{RingHeader}
 use Rattle.ring_saved.specs.declared.lines.EventOrEnd.{EventOrEnd}
 use Rattle.ring_saved.specs.declared.lines.EventOrEnd.TheVariants as items
 use Rattle.ring_saved.specs.declared.lines.Next.{Next}
@@ -15,7 +15,7 @@ use Rattle.ring_saved.specs.declared.lines.SurveyOrNext.TheVariants as follows
 use Rattle.ring_saved.specs.Content.{Block, Content}
 use Rattle.ring_saved.specs.Versions.{first_version, latest_version}
 
--- ---- numbers: below 2 ^ 32 or 2 ^ 64, with a space behind them or at the end of the line
+-- ---- numbers: below 2 ^ 32 or 2 ^ 64, with a space after them or at the end of the line
 
 abbrev pub small : Reader ℕ
 small = number_at (2 ^ 32) 32
@@ -99,10 +99,10 @@ events_at version = many_at {S = Unit {0}} (λ _. event_or_end_at version) (λ _
 
 -- ---- a ring's first line, and the last line
 
-abbrev pub head_from : ℕ × (ℕ × ℕ) → Head
+abbrev pub head_from : ℕ × (ℕ × ℕ) → RingHeader
 head_from (index, (n, k)) = record { index = index; n = n; k = k }
 
-unfoldable pub head_at : Reader Head
+unfoldable pub head_at : Reader RingHeader
 head_at =
     as_at head_from (after_at (codes "ring ") (small then positive_at (2 ^ 32) 32 then last_small))
 
@@ -127,7 +127,7 @@ survey_at =
     (after_at (codes "s ") (small then large then small then small then large then last_large))
 
 abbrev pub Follow : Type 0
-Follow = Either SavedSurvey (Either Head ℕ)
+Follow = Either SavedSurvey (Either RingHeader ℕ)
 
 abbrev pub survey_branch : Branch Follow
 survey_branch = branch 115 (as_at this survey_at)
@@ -141,19 +141,19 @@ done_branch = branch 100 (as_at (λ n. that (that n)) done_at)
 unfoldable pub survey_or_next_at : Reader Follow
 survey_or_next_at = choice_at (survey_branch ∷ head_branch ∷ done_branch ∷ [])
 
-unfoldable pub surveys_at : Reader (List SavedSurvey × Either Head ℕ)
+unfoldable pub surveys_at : Reader (List SavedSurvey × Either RingHeader ℕ)
 surveys_at = many_at {S = Unit {0}} (λ _. survey_or_next_at) (λ _. tt) tt
 
--- ---- a ring below its first line, and the line behind it
+-- ---- a ring below its first line, and the line after it
 
 abbrev pub Part : Type 0
-Part = List ℕ × ((List SavedEvent × ℕ) × (List SavedSurvey × Either Head ℕ))
+Part = List ℕ × ((List SavedEvent × ℕ) × (List SavedSurvey × Either RingHeader ℕ))
 
 unfoldable pub part_at : ℕ → ℕ → Reader Part
 part_at version n =
     after_at (codes "start ") (row_at (2 ^ 32) n then events_at version then surveys_at)
 
-abbrev pub block_with : Head → List ℕ → List SavedEvent → ℕ → List SavedSurvey → Block
+abbrev pub block_with : RingHeader → List ℕ → List SavedEvent → ℕ → List SavedSurvey → Block
 block_with h start events said surveys = record {
   index = h.index;
   n = h.n;
@@ -164,36 +164,36 @@ block_with h start events said surveys = record {
   surveys = surveys;
 }
 
-abbrev pub with_next : Block → Either Head ℕ → Either (Block × Head) (Block × ℕ)
+abbrev pub with_next : Block → Either RingHeader ℕ → Either (Block × RingHeader) (Block × ℕ)
 with_next b (this h) = this (b, h)
 with_next b (that n) = that (b, n)
 
-abbrev pub ring_from : Head → Part → Either (Block × Head) (Block × ℕ)
+abbrev pub ring_from : RingHeader → Part → Either (Block × RingHeader) (Block × ℕ)
 ring_from h p = with_next (block_with h p.0 p.1.0.0 p.1.0.1 p.1.1.0) p.1.1.1
 
-unfoldable pub ring_at : ℕ → Head → Reader (Either (Block × Head) (Block × ℕ))
+unfoldable pub ring_at : ℕ → RingHeader → Reader (Either (Block × RingHeader) (Block × ℕ))
 ring_at version h = as_at (ring_from h) (part_at version h.n)
 
--- ---- the rings: each with the first line of the one behind it, the last with the last line
+-- ---- the rings: each with the first line of the one after it, the last with the last line
 
 abbrev pub Rings : Type 0
-Rings = List (Block × Head) × (Block × ℕ)
+Rings = List (Block × RingHeader) × (Block × ℕ)
 
-unfoldable pub linked_rings_at : ℕ → Head → Reader Rings
+unfoldable pub linked_rings_at : ℕ → RingHeader → Reader Rings
 linked_rings_at version h = many_at (ring_at version) (λ p. p.1) h
 
 abbrev pub blocks : Rings → List Block
 blocks r = map (λ p. p.0) r.0 ++ r.1.0 ∷ []
 
--- what stands below the text's first line: the blocks, and how many the text says that it has
+-- the part below the text's first line: the blocks, and how many the text says that it has
 abbrev pub Body : Type 0
 Body = List Block × ℕ
 
-unfoldable pub rings_at : ℕ → Head → Reader Body
+unfoldable pub rings_at : ℕ → RingHeader → Reader Body
 rings_at version h = as_at (λ (r : Rings). (blocks r, r.1.1)) (linked_rings_at version h)
 
 unfoldable pub body_at : ℕ → Reader Body
-body_at version = as_at (λ (p : Head × Body). p.1) (then_at head_at (rings_at version))
+body_at version = as_at (λ (p : RingHeader × Body). p.1) (then_at head_at (rings_at version))
 
 -- ---- the text
 
@@ -217,16 +217,16 @@ content_with (version, (rings, said)) = record {
 unfoldable pub text_at : Reader Content
 text_at = after_at (codes "ringfarm ") (as_at content_with (then_at version_at body_at))
 
--- ---- what the program's own types say
+-- ---- the content of the program's own types
 
 abbrev pub item_of : EventOrEnd → Either SavedEvent ℕ
 item_of (items.Event e) = this e
 item_of (items.End n) = that n
 
-abbrev pub next_of : Next → Either Head ℕ
+abbrev pub next_of : Next → Either RingHeader ℕ
 next_of (nexts.Ring h) = this h
 next_of (nexts.Done n) = that n
 
-abbrev pub follow_of : SurveyOrNext → Either SavedSurvey (Either Head ℕ)
+abbrev pub follow_of : SurveyOrNext → Either SavedSurvey (Either RingHeader ℕ)
 follow_of (follows.Survey v) = this v
 follow_of (follows.Next n) = that (next_of n)

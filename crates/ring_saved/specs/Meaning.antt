@@ -1,4 +1,4 @@
--- What a saved text is, and what the right answer of its reader is.
+-- The saved texts, and the right answers of their reader.
 use Rattle.std.specs.Prelude.{◌≡◌, ℕ, List, [], ◌++◌, Result, Ok, Err}
 use Rattle.text_lines.specs.declared.answer.ReadError.{ReadError}
 use Rattle.text_lines.specs.declared.answer.ReadError.TheVariants.{Syntax, Truncated, OutOfMemory}
@@ -27,19 +27,19 @@ TextsAreApart =
 abbrev pub OneAnswerIsRight : Type 0
 OneAnswerIsRight = (bytes : List ℕ) → AnswersAreApart IsText bytes
 
--- the reader's answer is a value that says just this, or want of memory
+-- the reader's answer is a value that says just this, or out of memory
 abbrev pub IsReadAs : Content → Result Saved ReadError → Type 0
 IsReadAs c (Ok saved) = content saved ≡ c
 IsReadAs c (Err OutOfMemory) = Unit {0}
 IsReadAs c (Err Truncated) = ⊥
 IsReadAs c (Err (Syntax line)) = ⊥
 
--- What fits reads back from its text: no other answer to the text is right.
+-- A value that fits reads back from its text: no other answer to the text is right.
 abbrev pub TextsReadBack : Type 0
 TextsReadBack =
     (c : Content) (answer : Result Saved ReadError) → Fits c → IsRightRead (text c) answer
     → IsReadAs c answer
 
--- What fits in the first version has no member of a group.
+-- A value that fits in the first version has no member of a group.
 abbrev pub FirstHasNoMembers : Type 0
 FirstHasNoMembers = (c : Content) → Fits c → c.version ≡ first_version → HasNoMember c

@@ -1,11 +1,12 @@
--- The one text of a saved history, line by line (this project's own format), and what has one.
+-- The one text of a saved history, line by line (this project's own format), and the values that
+-- have one.
 use Rattle.std.specs.Prelude.{◌≡◌, ℕ, ◌<◌, ◌^◌, List, ◌++◌, length, codes}
 use Rattle.std.specs.List.{flat_map, AllByRecursion}
 use Rattle.text_lines.specs.Spelling.{spaced, ended, row}
 use Rattle.ring_saved.specs.declared.saved.SavedEvent.{SavedEvent}
 use Rattle.ring_saved.specs.declared.saved.SavedEvent.TheVariants.{Granted, Refused, Member, Corrupted}
 use Rattle.ring_saved.specs.declared.saved.SavedSurvey.{SavedSurvey}
-use Rattle.ring_saved.specs.declared.saved.Head.{Head}
+use Rattle.ring_saved.specs.declared.saved.RingHeader.{RingHeader}
 use Rattle.ring_saved.specs.Content.{Block, Content}
 use Rattle.ring_saved.specs.Versions.{HasGroups, IsVersion}
 
@@ -19,7 +20,7 @@ first_line version = codes "ringfarm " ++ ended version
 abbrev pub ring_line : ℕ → ℕ → ℕ → List ℕ
 ring_line index n k = codes "ring " ++ (spaced index ++ (spaced n ++ ended k))
 
-abbrev pub head_line : Head → List ℕ
+abbrev pub head_line : RingHeader → List ℕ
 head_line h = ring_line h.index h.n h.k
 
 -- the values that the ring started from
@@ -45,7 +46,7 @@ event_line (Corrupted seat machine value old) =
 abbrev pub end_line : ℕ → List ℕ
 end_line n = codes "end " ++ ended n
 
--- what a seat saw
+-- the survey of a seat
 abbrev pub survey_line : SavedSurvey → List ℕ
 survey_line v =
     codes "s "
@@ -59,11 +60,11 @@ done_line n = codes "done " ++ ended n
 
 -- ---- blocks and texts
 
--- what a ring's first line says
-abbrev pub head_of : Block → Head
+-- the content of a ring's first line
+abbrev pub head_of : Block → RingHeader
 head_of b = record { index = b.index; n = b.n; k = b.k }
 
--- what stands below it
+-- the part below it
 abbrev pub below_head : Block → List ℕ
 below_head b =
     start_line b.start
@@ -76,8 +77,8 @@ block_text b = head_line (head_of b) ++ below_head b
 abbrev pub text : Content → List ℕ
 text s = first_line s.version ++ (flat_map block_text s.rings ++ done_line s.rings_said)
 
--- ---- what has a text: a version that there is, each number within its range, a start of exactly n
--- values, and a ring at least
+-- ---- the values that have a text: a version that there is, each number within its range, a start
+-- of exactly n values, and a ring at least
 
 -- an event in a text of this version: a member of a group fits only where group passes have lines,
 -- the others in each version
@@ -105,14 +106,14 @@ pub record SurveyFits (v : SavedSurvey) : Type 0 where
   pub calm : v.calm < 2 ^ 64
   pub rest : v.rest < 2 ^ 64
 
-pub record HeadFits (h : Head) : Type 0 where
+pub record RingHeaderFits (h : RingHeader) : Type 0 where
   pub index : h.index < 2 ^ 32
   pub some : 0 < h.n
   pub n : h.n < 2 ^ 32
   pub k : h.k < 2 ^ 32
 
 pub record BlockFits (version : ℕ) (b : Block) : Type 0 where
-  pub head : HeadFits (head_of b)
+  pub head : RingHeaderFits (head_of b)
   pub start : length b.start ≡ b.n
   pub values : AllByRecursion (λ x. x < 2 ^ 32) b.start
   pub events : AllByRecursion (EventFits version) b.events
@@ -125,9 +126,9 @@ pub record Fits (s : Content) : Type 0 where
   pub rings : AllByRecursion (BlockFits s.version) s.rings
   pub rings_said : s.rings_said < 2 ^ 32
 
--- ---- what has no group passes
+-- ---- texts without group passes
 
--- an event that is no member of a group
+-- an event that is not a member of a group
 abbrev pub IsNoMember : SavedEvent → Type 0
 IsNoMember (Granted seat machine order number answer) = Unit {0}
 IsNoMember (Refused seat machine order) = Unit {0}

@@ -5,7 +5,7 @@ use Rattle.std.specs.Prelude.{ℕ, ◌<◌, ◌≤◌}
 abbrev pub first_version : ℕ
 first_version = 1
 
--- the one that is written of what a farm hands out
+-- the one in which a farm's outcome is written
 abbrev pub latest_version : ℕ
 latest_version = 2
 

@@ -3,15 +3,15 @@
 ghost use Rattle.std.specs.Prelude.{◌≡◌, ◌<◌, map};
 ghost use Rattle.text_lines.specs.Reading.{Gives, whole_at};
 ghost use Rattle.ring_saved.specs.Content.{block_of, content};
-ghost use Rattle.ring_saved.specs.Spelling.{HeadFits};
+ghost use Rattle.ring_saved.specs.Spelling.{RingHeaderFits};
 ghost use Rattle.ring_saved.specs.Lines.{events_at, surveys_at, ring_at, rings_at, body_at, text_at, next_of, with_next};
 
 use crate::lines::{EventOrEnd, Next, SurveyOrNext, event_or_end, head, survey_or_next, version};
-use crate::saved::{Head, Saved, SavedEvent, SavedRing, SavedSurvey};
+use crate::saved::{RingHeader, Saved, SavedEvent, SavedRing, SavedSurvey};
 use std::alloc::Global;
 use text_lines::{Stop, nothing_more, row32, word};
 
-/// The events of a block in a text of this version, the number of them that the text says, and what stands behind.
+/// Reads the events of a block in a text of this version; returns them, the number of them that the text says, and the rest.
 fn events(alloc: Global, version: u32, bytes: &[u8]) -> Result<(Vec<SavedEvent>, u64, &[u8]), Stop>
     ensures { Gives (λ x. ((x.0.items, x.1), x.2.now)) result (events_at version bytes.now) }
 {
@@ -27,7 +27,7 @@ fn events(alloc: Global, version: u32, bytes: &[u8]) -> Result<(Vec<SavedEvent>,
     }
 }
 
-/// The surveys, and the line behind them.
+/// Reads the surveys, and the line after them.
 fn surveys(alloc: Global, bytes: &[u8]) -> Result<(Vec<SavedSurvey>, Next, &[u8]), Stop>
     ensures { Gives (λ x. ((x.0.items, next_of x.1), x.2.now)) result (surveys_at bytes.now) }
 {
@@ -43,12 +43,12 @@ fn surveys(alloc: Global, bytes: &[u8]) -> Result<(Vec<SavedSurvey>, Next, &[u8]
     }
 }
 
-/// A block below its first line, and the line behind it.
+/// Reads a block below its first line, and the line after it.
 #[tactic(auto, unfolding(crate::specs::Lines::ring_at, crate::specs::Lines::part_at))]
 fn ring(
     alloc: Global,
     version: u32,
-    head: Head,
+    head: RingHeader,
     bytes: &[u8],
 ) -> Result<(SavedRing, Next, &[u8]), Stop>
     requires { 0 < head.n }
@@ -59,7 +59,7 @@ fn ring(
     let (start, rest) = row32(alloc, head.n, rest)?;
     let (events, events_said, rest) = events(alloc, version, rest)?;
     let (surveys, next, rest) = surveys(alloc, rest)?;
-    let Head { index, n, k } = head;
+    let RingHeader { index, n, k } = head;
     let ring = SavedRing {
         index,
         n,
@@ -72,14 +72,14 @@ fn ring(
     Ok((ring, next, rest))
 }
 
-/// The blocks, of which the first has this first line, and the number of them that the text says.
+/// Reads the blocks, where the first has this first line, and the number of them that the text says.
 fn rings(
     alloc: Global,
     version: u32,
-    first: Head,
+    first: RingHeader,
     bytes: &[u8],
 ) -> Result<(Vec<SavedRing>, u32, &[u8]), Stop>
-    requires { HeadFits first }
+    requires { RingHeaderFits first }
     ensures { Gives (λ x. ((map block_of x.0.items, x.1), x.2.now)) result
         (rings_at version first bytes.now) }
 {
@@ -97,7 +97,7 @@ fn rings(
     }
 }
 
-/// What stands below the first line of a text of this version: the blocks, and the number of them that the text says.
+/// Reads the part below the first line of a text of this version: the blocks, and the number of them that the text says.
 #[tactic(auto, unfolding(crate::specs::Lines::body_at))]
 fn body(alloc: Global, version: u32, bytes: &[u8]) -> Result<(Vec<SavedRing>, u32, &[u8]), Stop>
     ensures { Gives (λ x. ((map block_of x.0.items, x.1), x.2.now)) result
@@ -107,14 +107,14 @@ fn body(alloc: Global, version: u32, bytes: &[u8]) -> Result<(Vec<SavedRing>, u3
     rings(alloc, version, first, rest)
 }
 
-/// A text at the front of some bytes, and what stands behind it: for formats in which a saved text is a part.
+/// Reads a text at the front of some bytes; returns it with the bytes after it: for formats that contain a saved text.
 ///
 /// # Errors
 ///
 /// A fault where the bytes begin with no text: `Short` if they end within one, `Bad` at the first byte with which none
-/// goes on. `Memory` where there was no room.
+/// continues. `Memory` where there was no room.
 #[tactic(auto, unfolding(crate::specs::Lines::text_at))]
-pub fn front(alloc: Global, bytes: &[u8]) -> Result<(Saved, &[u8]), Stop>
+pub fn read_prefix(alloc: Global, bytes: &[u8]) -> Result<(Saved, &[u8]), Stop>
     ensures { Gives (λ x. (content x.0, x.1.now)) result (text_at bytes.now) }
 {
     let rest = word(bytes, b"ringfarm ")?;
@@ -128,12 +128,12 @@ pub fn front(alloc: Global, bytes: &[u8]) -> Result<(Saved, &[u8]), Stop>
     Ok((saved, rest))
 }
 
-/// A whole text, behind which nothing stands.
+/// Reads a whole text, with nothing after it.
 #[tactic(auto, unfolding(text_lines::specs::Reading::whole_at))]
 pub fn whole(alloc: Global, bytes: &[u8]) -> Result<Saved, Stop>
     ensures { Gives content result (whole_at text_at bytes.now) }
 {
-    let (saved, rest) = front(alloc, bytes)?;
+    let (saved, rest) = read_prefix(alloc, bytes)?;
     nothing_more(rest)?;
     Ok(saved)
 }

@@ -4,25 +4,25 @@ ghost use Rattle.std.specs.Prelude.{◌≡◌};
 ghost use Rattle.text_lines.specs.Reading.{Gives};
 ghost use Rattle.ring_saved.specs.Lines.{version_at, reply_at, pass_at, corruption_at, member_at, end_at, event_or_end_at, head_at, done_at, survey_at, survey_or_next_at, item_of, follow_of};
 
-use crate::saved::{Head, SavedEvent, SavedSurvey};
+use crate::saved::{RingHeader, SavedEvent, SavedSurvey};
 use crate::versions::{FIRST_VERSION, LATEST_VERSION};
 use text_lines::{Fault, Stop, number32, number64, positive32, word};
 
-/// The line of an event, or the line behind the events.
+/// The line of an event, or the line after the events.
 #[derive(Clone, Copy)]
 pub enum EventOrEnd {
     Event(SavedEvent),
     End(u64),
 }
 
-/// What stands behind a block.
+/// The line after a block.
 #[derive(Clone, Copy)]
 pub enum Next {
-    Ring(Head),
+    Ring(RingHeader),
     Done(u32),
 }
 
-/// The line of a survey, or what stands behind the block.
+/// The line of a survey, or the line after the block.
 #[derive(Clone, Copy)]
 pub enum SurveyOrNext {
     Survey(SavedSurvey),
@@ -144,7 +144,7 @@ fn end(bytes: &[u8]) -> Result<(u64, &[u8]), Stop>
     number64(rest, b'\n')
 }
 
-/// The line of an event of any kind that a text of this version has, or the line behind the events.
+/// Reads the line of an event of any kind that a text of this version has, or the line after the events.
 #[tactic(auto, unfolding(crate::specs::Lines::event_or_end_at))]
 pub fn event_or_end(version: u32, bytes: &[u8]) -> Result<(EventOrEnd, &[u8]), Stop>
     ensures { Gives (λ x. (item_of x.0, x.1.now)) result (event_or_end_at version bytes.now) }
@@ -172,14 +172,14 @@ pub fn event_or_end(version: u32, bytes: &[u8]) -> Result<(EventOrEnd, &[u8]), S
 }
 
 #[tactic(auto, unfolding(crate::specs::Lines::head_at))]
-pub fn head(bytes: &[u8]) -> Result<(Head, &[u8]), Stop>
+pub fn head(bytes: &[u8]) -> Result<(RingHeader, &[u8]), Stop>
     ensures { Gives (λ x. (x.0, x.1.now)) result (head_at bytes.now) }
 {
     let rest = word(bytes, b"ring ")?;
     let (index, rest) = number32(rest, b' ')?;
     let (n, rest) = positive32(rest, b' ')?;
     let (k, rest) = number32(rest, b'\n')?;
-    Ok((Head { index, n, k }, rest))
+    Ok((RingHeader { index, n, k }, rest))
 }
 
 #[tactic(auto, unfolding(crate::specs::Lines::done_at))]

@@ -1,11 +1,11 @@
-//! What a saved text holds, as it is read.
+//! The content of a saved text, as it is read.
 
 ghost use Rattle.std.specs.Prelude.{◌≡◌, ◌<◌, vec_len};
 
 /// One event line of a saved text.
 #[derive(Clone, Copy, Debug, PartialEq, Eq)]
 pub enum SavedEvent {
-    /// A pass that was granted: its place among the grants, from 1, and what it answered.
+    /// A pass that was granted: its place among the grants, from 1, and its answer.
     Granted {
         seat: u32,
         machine: u32,
@@ -19,7 +19,7 @@ pub enum SavedEvent {
         machine: u32,
         order: u64,
     },
-    /// A pass as a member of a group, of which `left` members come after it, told as a granted pass is.
+    /// A pass as a member of a group, with `left` members after it, described as a granted pass is.
     /// No text of the first version has one.
     Member {
         seat: u32,
@@ -29,7 +29,7 @@ pub enum SavedEvent {
         number: u64,
         result: u64,
     },
-    /// A corruption: the value that was written and the one that stood there.
+    /// A corruption: the value that was written and the one before it.
     Corrupted {
         seat: u32,
         machine: u32,
@@ -38,7 +38,7 @@ pub enum SavedEvent {
     },
 }
 
-/// One survey line of a saved text: what a seat saw after `position` events.
+/// One survey line of a saved text: the survey of a seat after `position` events.
 #[derive(Clone, Copy, Debug, PartialEq, Eq)]
 pub struct SavedSurvey {
     pub seat: u32,
@@ -75,9 +75,9 @@ pub struct Saved {
     pub rings_said: u32,
 }
 
-/// What a ring's first line says.
+/// The content of a ring's first line.
 #[derive(Clone, Copy)]
-pub struct Head {
+pub struct RingHeader {
     pub index: u32,
     pub n: u32,
     pub k: u32,

@@ -10,7 +10,7 @@ use crate::saved::Saved;
 /// The first version.
 pub const FIRST_VERSION: u32 = 1;
 
-/// The version that is written of what a farm hands out, and that an upgrade gives.
+/// The version in which a farm's outcome is written, and that an upgrade gives.
 pub const LATEST_VERSION: u32 = 2;
 
 /// The versions are those of the definitions.

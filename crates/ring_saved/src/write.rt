@@ -94,15 +94,15 @@ fn put_blocks<W: Write>(out: &mut W, rings: &[SavedRing]) -> Result<(), WriteFau
     Ok(())
 }
 
-/// Writes the saved text of a value of one ring or more, in the value's own version, of which the first has no members
-/// of groups. What is written reads back to the value ([`texts_read_back`](crate::texts_read_back)), since that fits.
+/// Writes the saved text of a value of one ring or more, in the value's own version, where the first has no members
+/// of groups. The written text reads back to the value ([`texts_read_back`](crate::texts_read_back)), since that fits.
 ///
 /// It takes no memory, does not flush, and calls the writer a few times for each line.
 ///
 /// # Errors
 ///
 /// `WriteFault` at the first error of the writer, an interruption too, or write of 0 bytes, and only there. The writer
-/// then holds a beginning of the text, but not all of it, behind what it held.
+/// then holds a prefix of the text, but not all of it, after what it held.
 pub fn write_saved<W: Write>(saved: &Saved, out: &mut W) -> Result<(), WriteFault>
     requires some { 1 ≤ length saved.now.rings.items }
     requires version { IsVersion saved.now.version }

@@ -44,13 +44,13 @@ module _ (stop : ℕ) (n : ℕ) (bs : List ℕ) (i : ℕ) where
   unfolding digits_at
   digits_short l = rw (drop_all i bs l) refl
 
--- a number that is read so far, and what it is of 64 bits
+-- a number that is read so far, and its value in 64 bits
 pub record IsReadTo (stop first : ℕ) (bs : List ℕ) (number : Option ℕ) (i : ℕ) : Type 0 where
   pub all : ℕ
   pub kept : number ≡ in_64_bits all
   pub rest : digits_at stop all (drop i bs) ≡ digits_at stop first bs
 
--- ---- what is read, as an order and as a place
+-- ---- the number that is read, as an order and as a place
 
 abbrev pub as_order : Result (ℕ × List ℕ) Fault → Result (Option ℕ × List ℕ) Fault
 as_order r = as_at in_64_bits (λ (_ : List ℕ). r) []

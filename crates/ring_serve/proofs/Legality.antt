@@ -1,4 +1,4 @@
--- What is saved of rings that are right is legal.
+-- The saved text of rings that are right is legal.
 use Rattle.std.proofs.Common.{◌≡◌, ℕ, suc, ◌+◌, List, [], ◌∷◌, length, map, refl, sym, ap, subst, arith}
 use Rattle.std.specs.List.{All, AllByRecursion}
 use Rattle.std.proofs.lemmas.List.Elements.{All-cons}
@@ -30,7 +30,7 @@ as_many place (r ∷ rs) = ap suc (as_many (place + 1) rs)
 pub content_legal : (rs : List Standing) → AllByRecursion IsRight rs → IsLegalText (content_of rs)
 content_legal rs all = (legal_means (content_of rs) (whole_starts 0 rs)).1 (record { blocks = right_blocks 0 rs all; rings_said = sym (as_many 0 rs) })
 
--- rings that are right stand right
+-- rings that are right have right standings
 pub all_right : (rings : List (RingView ℕ)) → AreRight rings → AllByRecursion IsRight (map standing_of rings)
 all_right [] are = tt
 all_right (d ∷ rings) are = ((d, are 0 d (omega arith), refl), all_right rings (λ i e l. are (suc i) e (omega (arith, l))))

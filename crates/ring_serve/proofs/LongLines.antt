@@ -1,12 +1,12 @@
 -- A line that is too long is kept only so far.
-use Rattle.std.proofs.Common.{◌≡◌, ℕ, ◌+◌, ◌<◌, ◌≤◌, List, [], ◌∷◌, ◌++◌, length, take, sym, ap, ◌∙◌, inl, inr, length-append, arith}
+use Rattle.std.proofs.Common.{◌≡◌, ℕ, ◌+◌, ◌<◌, ◌≤◌, List, [], ◌∷◌, ◌++◌, length, take, sym, ap, subst, ◌∙◌, inl, inr, length-append, arith, ◌⊎◌}
 use Rattle.std.proofs.lemmas.List.{take_all, take-append-le, length-take}
 use Rattle.std.proofs.lemmas.Bool.{cases_lt}
-use Rattle.ring_serve.specs.Calls.{line_limit}
+use Rattle.ring_serve.specs.Commands.{line_limit}
 use Rattle.ring_serve.specs.Standings.{Standing}
-use Rattle.ring_serve.specs.Turns.{Turn, IsTurnOfLine, line_turn}
+use Rattle.ring_serve.specs.Turns.{Turn, refused, IsTurnOfLine}
+use Rattle.ring_serve.specs.declared.answers.Refusal.TheVariants as refusal
 use Rattle.ring_serve.specs.Serving.{cut}
-use Rattle.ring_serve.proofs.Placing.{long_turn}
 
 cut_more : (n b : ℕ) (begun : List ℕ) → length begun ≤ n → take (n + 1) (begun ++ b ∷ []) ≡ begun ++ b ∷ []
 cut_more n b begun l = take_all (n + 1) (begun ++ b ∷ []) (omega (arith, length-append begun (b ∷ [])))
@@ -35,20 +35,26 @@ dropped_byte b begun line e l = go line_limit e l
         let size : length line ≡ length (take (n + 1) begun) = ap (λ (x : List ℕ). length x) e in
         e ∙ sym (take-append-le (n + 1) begun (b ∷ []) (omega (arith, long, size)))
 
--- a line that is too long is answered as its beginning is
-pub cut_turn : (rings : List Standing) (full : List ℕ) → line_turn rings (cut full) ≡ line_turn rings full
-unfolding cut
-cut_turn rings full = elim (cases_lt line_limit (length full)) [
-  | inl l ↦ long_turn rings (take (line_limit + 1) full) (go line_limit l) ∙ sym (long_turn rings full l)
-  | inr l ↦ ap (λ (x : List ℕ). line_turn rings x) (take_all (line_limit + 1) full (omega arith))
-]
-  where
-    go : (n : ℕ) → n < length full → n < length (take (n + 1) full)
-    go n l = omega (arith, length-take (n + 1) full)
+cut_long : (n : ℕ) (full : List ℕ) → n < length full → n < length (take (n + 1) full)
+cut_long n full l = omega (arith, length-take (n + 1) full)
 
+-- a line that is too long is refused, or memory ran out
+pub long_refused : (rings : List Standing) (line : List ℕ) (t : Turn (List Standing)) → line_limit < length line → IsTurnOfLine rings line t → (t ≡ refused rings refusal.Syntax) ⊎ (t ≡ refused rings refusal.OutOfMemory)
+long_refused rings line t l (inl (inl h)) = let few = h.1.1 in absurd (omega (arith, l, few))
+long_refused rings line t l (inl (inr h)) = inl h.1
+long_refused rings line t l (inr e) = inr e
+
+-- and is answered as its beginning is
 pub whole_line : (rings : List Standing) (full : List ℕ) (t : Turn (List Standing)) → IsTurnOfLine rings (cut full) t → IsTurnOfLine rings full t
-whole_line rings full t (inl e) = inl (e ∙ cut_turn rings full)
-whole_line rings full t (inr e) = inr e
+unfolding cut
+whole_line rings full t h = elim (cases_lt line_limit (length full)) [
+  | inl l ↦
+      elim (long_refused rings (take (line_limit + 1) full) t (cut_long line_limit full l) h) [
+        | inl e ↦ inl (inr ((λ c is. let few = is.1 in omega (arith, l, few)), e))
+        | inr e ↦ inr e
+      ]
+  | inr l ↦ subst (λ (x : List ℕ). IsTurnOfLine rings x t) (take_all (line_limit + 1) full (omega arith)) h
+]
 
 pub cut_nil : [] ≡ cut []
 unfolding cut

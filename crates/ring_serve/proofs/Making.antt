@@ -1,4 +1,4 @@
--- What a call of a ring leaves, as a turn.
+-- The result of a call of a ring, as a turn.
 use Rattle.std.proofs.Common.{◌≡◌, ℕ, List, ◌++◌, length, drop, sym, ap, ◌∙◌}
 use Rattle.ring_model.specs.History.{State}
 use Rattle.ring_model.specs.Groups.{move_order}
@@ -7,8 +7,8 @@ use Rattle.ring_model.specs.Resources.{till}
 use Rattle.ring_model.specs.declared.events.Event.{Event}
 use Rattle.ring_book.specs.GroupView.{IsGroupRecorded}
 use Rattle.ring_book.specs.declared.books.groups.GroupReceipt.{GroupReceipt}
-use Rattle.ring_shared.specs.Groups.{receipts_from}
-use Rattle.ring_shared.proofs.GroupLogs.{group_events}
+use Rattle.ring_logs.specs.Seats.{receipts_from}
+use Rattle.ring_logs.proofs.Groups.{group_events}
 use Rattle.ring_desk.specs.Rings.{RingView, IsOneThreadRing, told_more}
 use Rattle.ring_serve.specs.Standings.{standing_of, state_of, block_now, with_events}
 use Rattle.ring_serve.proofs.Groups.{members_block}
@@ -17,7 +17,7 @@ use Rattle.ring_serve.proofs.Groups.{members_block}
 pub state_is : (d : RingView ℕ) → IsOneThreadRing till 0 d → state_of (standing_of d) ≡ d.book.now
 state_is d k = k.book.current
 
--- the events that a call or a group leaves behind the history
+-- the events that a call or a group adds to the history
 pub grown_is : (d d' : RingView ℕ) (seat : ℕ) (es : List Event) → d'.book.start ≡ d.book.start → d'.book.history ≡ d.book.history ++ es →
     d'.clients ≡ told_more d.clients seat (receipts_from (length d.book.history) es) → standing_of d' ≡ with_events (standing_of d) seat es
 grown_is d d' seat es start history clients = λ i. record { start = start i; history = history i; clients = clients i }

@@ -1,4 +1,4 @@
--- A ring more that goes on.
+-- A ring more that resumes.
 use Rattle.std.proofs.Common.{◌≡◌, ℕ, ◌+◌, ◌<◌, List, [], ◌∷◌, ◌++◌, length, take, get_or, refl, sym, ap, subst, ◌∙◌}
 use Rattle.std.proofs.lemmas.List.{take_more}
 use Rattle.ring_saved.specs.declared.saved.SavedRing.{SavedRing}

@@ -3,7 +3,7 @@ use Rattle.std.proofs.Common.{◌≡◌, ◌≢◌, ℕ, ◌+◌, ◌<◌, ◌�
 use Rattle.std.proofs.lemmas.Bool.{ne_eqb}
 use Rattle.std.proofs.lemmas.List.{drop_more, drop_all}
 use Rattle.text_lines.specs.declared.fault.Fault.TheVariants.{Short}
-use Rattle.ring_serve.specs.Calls.{gaps, end_of_line}
+use Rattle.ring_serve.specs.Readers.{gaps, end_of_line}
 
 pub end_found : (bs : List ℕ) (i : ℕ) → i < length bs → get_or bs i 0 ≡ 10 → end_of_line (drop i bs) ≡ Ok (drop (i + 1) bs)
 unfolding end_of_line

@@ -1,4 +1,4 @@
--- Lines that are answered, one behind the other, and then told.
+-- Lines that are answered, one after the other, and then delivered.
 use Rattle.std.proofs.Common.{◌≡◌, ◌≢◌, ℕ, ◌+◌, ◌-◌, ◌<◌, ◌≤◌, Bool, List, [], ◌∷◌, ◌++◌, length, take, drop, get_or, Option, Some, None, Result, Ok, Err, refl, sym, ap, subst, ◌∙◌, inl, inr, append_assoc, arith}
 use Rattle.std.specs.Prelude.{OnOk}
 use Rattle.std.proofs.lemmas.List.{append-nil, take-append-drop, take_more, take_all, drop-take}
@@ -8,50 +8,54 @@ use Rattle.std.specs.Io.KnownBytes.{Appends, Keeps, Consumes}
 use Rattle.disks.specs.Held.{Held}
 use Rattle.text_lines.specs.Writing.{Wrote}
 use Rattle.text_lines.proofs.Writing.{appends_nil, appends_then}
-use Rattle.ring_serve.specs.Calls.{line_limit}
+use Rattle.ring_serve.specs.Commands.{line_limit}
 use Rattle.ring_serve.specs.declared.answers.Answer.{Answer}
 use Rattle.ring_serve.specs.declared.answers.Answer.TheVariants as answer
 use Rattle.ring_serve.specs.declared.answers.Refusal.{Refusal}
 use Rattle.ring_serve.specs.declared.answers.Refusal.TheVariants as refusal
 use Rattle.ring_serve.specs.declared.serving.Pending.{Pending}
+use Rattle.ring_serve.specs.declared.serving.ServeFault.{ServeFault}
+use Rattle.ring_serve.specs.declared.serving.ServeFault.TheVariants as fault
 use Rattle.ring_serve.specs.Standings.{Standing}
 use Rattle.ring_serve.specs.Turns.{Turn, IsTurnOfLine}
-use Rattle.ring_serve.specs.Serving.{IsLine, HasNoEnd, name_in, IsGiven, IsAnswered, Answers, joined_lines, AreAnswered, Written, AreTold, Stops, cut, GoesOn, Rests}
-use Rattle.ring_serve.proofs.Placing.{long_turn}
-use Rattle.ring_serve.proofs.LongLines.{cut_turn, whole_line, cut_nil}
+use Rattle.ring_serve.specs.Serving.{IsLine, HasNoEnd, name_in, IsGiven, IsAnswered, Answers, joined_lines, AreAnswered, Written, AreTold, Stops, cut, GoesOn, Rests, IsFaultOf}
+use Rattle.ring_serve.proofs.LongLines.{long_refused, whole_line, cut_nil}
 
--- ---- a line that is too long is answered as its beginning is
+-- ---- a line that is too long is answered as its start is
 
 any_name : (was is : Option Held) (n m : List ℕ) (rings : List Standing) (a given : Answer) (why : Refusal) → a ≡ answer.Refused why → IsGiven was is n rings a given → IsGiven was is m rings a given
 any_name was is n m rings a given why e g =
     subst (λ (x : Answer). IsGiven was is m rings x given) (sym e) (subst (λ (x : Answer). IsGiven was is n rings x given) e g)
 
 refused_why : (rings : List Standing) (full : List ℕ) (t : Turn (List Standing)) → line_limit < length full → IsTurnOfLine rings (cut full) t → (why : Refusal) × (t.answer ≡ answer.Refused why)
-refused_why rings full t l (inl e) = (refusal.Syntax, ap (λ (x : Turn (List Standing)). x.answer) (e ∙ (cut_turn rings full ∙ long_turn rings full l)))
-refused_why rings full t l (inr e) = (refusal.OutOfMemory, ap (λ (x : Turn (List Standing)). x.answer) e)
+refused_why rings full t l is =
+    elim (long_refused rings full t l (whole_line rings full t is)) [
+      | inl e ↦ (refusal.Syntax, ap (λ (x : Turn (List Standing)). x.answer) e)
+      | inr e ↦ (refusal.OutOfMemory, ap (λ (x : Turn (List Standing)). x.answer) e)
+    ]
 
 cut_short : (full : List ℕ) → length full ≤ line_limit → cut full ≡ full
 unfolding cut
 cut_short full l = take_all (line_limit + 1) full (omega arith)
 
-pub whole_answer : {keeps : Bool} {old new : List Standing} {was is : Option Held} {said noted : List ℕ} (full : List ℕ) → IsAnswered keeps old was (cut full) said noted new is → IsAnswered keeps old was full said noted new is
-whole_answer {keeps} {old} {new} {was} {is} full a =
+pub whole_answer : {noting : Bool} {old new : List Standing} {was is : Option Held} {said noted : List ℕ} (full : List ℕ) → IsAnswered noting old was (cut full) said noted new is → IsAnswered noting old was full said noted new is
+whole_answer {noting} {old} {new} {was} {is} full a =
     let given : IsGiven was is (name_in full) new a.turn.answer a.given = elim (cases_lt line_limit (length full)) [
       | inl l ↦ let why = refused_why old full a.turn l a.of_line in any_name was is (name_in (cut full)) (name_in full) new a.turn.answer a.given why.0 why.1 a.gives
       | inr l ↦ subst (λ (x : List ℕ). IsGiven was is (name_in x) new a.turn.answer a.given) (cut_short full l) a.gives
     ] in
     record { turn = a.turn; given = a.given; of_line = whole_line old full a.turn a.of_line; gives = given; says = a.says; notes = a.notes; leaves = a.leaves }
 
--- ---- lines behind others
+-- ---- lines after others
 
-answers_then : (keeps : Bool) (old mid new : List Standing) (was between is : Option Held) (lines more : List (List ℕ)) (said later noted notes : List ℕ) → Answers keeps old was lines said noted mid between → Answers keeps mid between more later notes new is →
-    Answers keeps old was (lines ++ more) (said ++ later) (noted ++ notes) new is
-answers_then keeps old mid new was between is [] more said later noted notes h k =
-    let a = subst (λ (s : List Standing). Answers keeps s between more later notes new is) h.2 k in
-    let b = subst (λ (w : Option Held). Answers keeps old w more later notes new is) h.3 a in
-    let c = subst (λ (x : List ℕ). Answers keeps old was more (x ++ later) notes new is) (sym h.0) b in
-    subst (λ (x : List ℕ). Answers keeps old was more (said ++ later) (x ++ notes) new is) (sym h.1) c
-answers_then keeps old mid new was between is (line ∷ lines) more said later noted notes h k = (
+answers_then : (noting : Bool) (old mid new : List Standing) (was between is : Option Held) (lines more : List (List ℕ)) (said later noted notes : List ℕ) → Answers noting old was lines said noted mid between → Answers noting mid between more later notes new is →
+    Answers noting old was (lines ++ more) (said ++ later) (noted ++ notes) new is
+answers_then noting old mid new was between is [] more said later noted notes h k =
+    let a = subst (λ (s : List Standing). Answers noting s between more later notes new is) h.2 k in
+    let b = subst (λ (w : Option Held). Answers noting old w more later notes new is) h.3 a in
+    let c = subst (λ (x : List ℕ). Answers noting old was more (x ++ later) notes new is) (sym h.0) b in
+    subst (λ (x : List ℕ). Answers noting old was more (said ++ later) (x ++ notes) new is) (sym h.1) c
+answers_then noting old mid new was between is (line ∷ lines) more said later noted notes h k = (
   h.0,
   h.1,
   h.2,
@@ -61,7 +65,7 @@ answers_then keeps old mid new was between is (line ∷ lines) more said later n
   h.6,
   ap (λ (x : List ℕ). x ++ later) h.7 ∙ append_assoc h.2 h.3 later,
   ap (λ (x : List ℕ). x ++ notes) h.8 ∙ append_assoc h.4 h.5 notes,
-  answers_then keeps h.0 mid new h.1 between is lines more h.3 later h.5 notes h.9 k,
+  answers_then noting h.0 mid new h.1 between is lines more h.3 later h.5 notes h.9 k,
 )
 
 joined_then : (lines more : List (List ℕ)) → joined_lines (lines ++ more) ≡ joined_lines lines ++ joined_lines more
@@ -72,20 +76,20 @@ each_then : (lines more : List (List ℕ)) → AllByRecursion IsLine lines → A
 each_then [] more a b = b
 each_then (l ∷ lines) more a b = (a.0, each_then lines more a.1 b)
 
-pub answered_then : {keeps : Bool} {old mid new : List Standing} {was between is : Option Held} {bytes behind rest said noted later notes : List ℕ} → AreAnswered keeps old was bytes behind said noted mid between → AreAnswered keeps mid between behind rest later notes new is →
-    AreAnswered keeps old was bytes rest (said ++ later) (noted ++ notes) new is
-answered_then {keeps} {old} {mid} {new} {was} {between} {is} {bytes} {behind} {rest} {said} {noted} {later} {notes} x y = record {
+pub answered_then : {noting : Bool} {old mid new : List Standing} {was between is : Option Held} {bytes behind rest said noted later notes : List ℕ} → AreAnswered noting old was bytes behind said noted mid between → AreAnswered noting mid between behind rest later notes new is →
+    AreAnswered noting old was bytes rest (said ++ later) (noted ++ notes) new is
+answered_then {noting} {old} {mid} {new} {was} {between} {is} {bytes} {behind} {rest} {said} {noted} {later} {notes} x y = record {
   lines = x.lines ++ y.lines;
   split = x.split ∙ (ap (λ (b : List ℕ). joined_lines x.lines ++ b) y.split ∙ (sym (append_assoc (joined_lines x.lines) (joined_lines y.lines) rest) ∙ ap (λ (b : List ℕ). b ++ rest) (sym (joined_then x.lines y.lines))));
   each = each_then x.lines y.lines x.each y.each;
-  answers = answers_then keeps old mid new was between is x.lines y.lines said later noted notes x.answers y.answers;
+  answers = answers_then noting old mid new was between is x.lines y.lines said later noted notes x.answers y.answers;
 }
 
-pub none_answered : (keeps : Bool) (old : List Standing) (was : Option Held) (rest : List ℕ) → AreAnswered keeps old was rest rest [] [] old was
-none_answered keeps old was rest = record { lines = []; split = refl; each = tt; answers = (refl, refl, refl, refl) }
+pub none_answered : (noting : Bool) (old : List Standing) (was : Option Held) (rest : List ℕ) → AreAnswered noting old was rest rest [] [] old was
+none_answered noting old was rest = record { lines = []; split = refl; each = tt; answers = (refl, refl, refl, refl) }
 
-one_answered : {keeps : Bool} {old new : List Standing} {was is : Option Held} {said noted : List ℕ} (line : List ℕ) → IsLine line → IsAnswered keeps old was line said noted new is → AreAnswered keeps old was line [] said noted new is
-one_answered {keeps} {old} {new} {was} {is} {said} {noted} line l a = record {
+one_answered : {noting : Bool} {old new : List Standing} {was is : Option Held} {said noted : List ℕ} (line : List ℕ) → IsLine line → IsAnswered noting old was line said noted new is → AreAnswered noting old was line [] said noted new is
+one_answered {noting} {old} {new} {was} {is} {said} {noted} line l a = record {
   lines = line ∷ [];
   split = sym (append-nil line) ∙ sym (append-nil (line ++ []));
   each = (l, tt);
@@ -93,7 +97,7 @@ one_answered {keeps} {old} {new} {was} {is} {said} {noted} line l a = record {
 }
 
 -- more bytes, which are not looked at yet
-pub answered_more : {keeps : Bool} {old new : List Standing} {was is : Option Held} {bytes rest said noted : List ℕ} (more : List ℕ) → AreAnswered keeps old was bytes rest said noted new is → AreAnswered keeps old was (bytes ++ more) (rest ++ more) said noted new is
+pub answered_more : {noting : Bool} {old new : List Standing} {was is : Option Held} {bytes rest said noted : List ℕ} (more : List ℕ) → AreAnswered noting old was bytes rest said noted new is → AreAnswered noting old was (bytes ++ more) (rest ++ more) said noted new is
 answered_more {rest = rest} more a = record {
   lines = a.lines;
   split = ap (λ (x : List ℕ). x ++ more) a.split ∙ append_assoc (joined_lines a.lines) rest more;
@@ -101,8 +105,8 @@ answered_more {rest = rest} more a = record {
   answers = a.answers;
 }
 
-pub told_more : {keeps : Bool} {old new : List Standing} {was is : Option Held} {before after : Written} {bytes rest : List ℕ} (more : List ℕ) → AreTold keeps old was before after bytes rest new is → AreTold keeps old was before after (bytes ++ more) (rest ++ more) new is
-told_more more t = record { said = t.said; noted = t.noted; answered = answered_more more t.answered; wrote = t.wrote; journaled = t.journaled }
+pub told_more : {noting : Bool} {old new : List Standing} {was is : Option Held} {before after : Written} {bytes rest : List ℕ} (more : List ℕ) → AreTold noting old was before after bytes rest new is → AreTold noting old was before after (bytes ++ more) (rest ++ more) new is
+told_more more t = record { said = t.said; noted = t.noted; answered = answered_more more t.answered; wrote = t.wrote; wrote_notes = t.wrote_notes }
 
 -- ---- a byte more
 
@@ -116,8 +120,8 @@ no_end_more [] b h n = (n, tt)
 no_end_more (x ∷ begun) b h n = (h.0, no_end_more begun b h.1 n)
 
 -- within a line
-pub byte_more : {keeps : Bool} {old new : List Standing} {was is : Option Held} {before after : Written} {bytes line : List ℕ} {pending : Pending} (b : ℕ) (line' : List ℕ) (g : GoesOn keeps old was before after bytes new is line pending) → b ≢ 10 → line' ≡ cut (g.begun ++ b ∷ []) →
-    GoesOn keeps old was before after (bytes ++ b ∷ []) new is line' pending
+pub byte_more : {noting : Bool} {old new : List Standing} {was is : Option Held} {before after : Written} {bytes line : List ℕ} {pending : Pending} (b : ℕ) (line' : List ℕ) (g : GoesOn noting old was before after bytes new is line pending) → b ≢ 10 → line' ≡ cut (g.begun ++ b ∷ []) →
+    GoesOn noting old was before after (bytes ++ b ∷ []) new is line' pending
 byte_more b line' g n e = record {
   mid = g.mid;
   between = g.between;
@@ -129,25 +133,25 @@ byte_more b line' g n e = record {
   kept = e;
 }
 
--- the line that a byte ends, behind those that were answered
-line_more : {keeps : Bool} {mid now new : List Standing} {between held is : Option Held} {behind begun later notes said noted : List ℕ} (b : ℕ) → b ≡ 10 → HasNoEnd begun → AreAnswered keeps mid between behind begun later notes now held → IsAnswered keeps now held (cut (begun ++ b ∷ [])) said noted new is →
-    AreAnswered keeps mid between (behind ++ b ∷ []) [] (later ++ said) (notes ++ noted) new is
+-- the line that a byte ends, after those that were answered
+line_more : {noting : Bool} {mid now new : List Standing} {between held is : Option Held} {behind begun later notes said noted : List ℕ} (b : ℕ) → b ≡ 10 → HasNoEnd begun → AreAnswered noting mid between behind begun later notes now held → IsAnswered noting now held (cut (begun ++ b ∷ [])) said noted new is →
+    AreAnswered noting mid between (behind ++ b ∷ []) [] (later ++ said) (notes ++ noted) new is
 line_more {begun = begun} b e partial u a =
     let ends : IsLine (begun ++ b ∷ []) = subst (λ (x : ℕ). IsLine (begun ++ x ∷ [])) (sym e) (line_ends begun partial) in
     answered_then (answered_more (b ∷ []) u) (one_answered (begun ++ b ∷ []) ends (whole_answer (begun ++ b ∷ []) a))
 
-pub line_pending : {keeps : Bool} {old new new' : List Standing} {was is is' : Option Held} {before after : Written} {bytes line said noted : List ℕ} {pending : Pending} (b : ℕ) (g : GoesOn keeps old was before after bytes new is line pending) → b ≡ 10 → IsAnswered keeps new is (cut (g.begun ++ b ∷ [])) said noted new' is' →
-    (pending' : Pending) (line' : List ℕ) → pending'.answers.items ≡ pending.answers.items ++ said → pending'.notes.items ≡ pending.notes.items ++ noted → line' ≡ [] → GoesOn keeps old was before after (bytes ++ b ∷ []) new' is' line' pending'
-line_pending {keeps} {new' = new'} {is' = is'} {said = said} {noted = noted} {pending = pending} b g e a pending' line' p q r =
-    let u : AreAnswered keeps g.mid g.between (g.behind ++ b ∷ []) [] (pending.answers.items ++ said) (pending.notes.items ++ noted) new' is' = line_more b e g.partial g.untold a in
-    let v = subst (λ (x : List ℕ). AreAnswered keeps g.mid g.between (g.behind ++ b ∷ []) [] x (pending.notes.items ++ noted) new' is') (sym p) u in
+pub line_pending : {noting : Bool} {old new new' : List Standing} {was is is' : Option Held} {before after : Written} {bytes line said noted : List ℕ} {pending : Pending} (b : ℕ) (g : GoesOn noting old was before after bytes new is line pending) → b ≡ 10 → IsAnswered noting new is (cut (g.begun ++ b ∷ [])) said noted new' is' →
+    (pending' : Pending) (line' : List ℕ) → pending'.answers.items ≡ pending.answers.items ++ said → pending'.notes.items ≡ pending.notes.items ++ noted → line' ≡ [] → GoesOn noting old was before after (bytes ++ b ∷ []) new' is' line' pending'
+line_pending {noting} {new' = new'} {is' = is'} {said = said} {noted = noted} {pending = pending} b g e a pending' line' p q r =
+    let u : AreAnswered noting g.mid g.between (g.behind ++ b ∷ []) [] (pending.answers.items ++ said) (pending.notes.items ++ noted) new' is' = line_more b e g.partial g.untold a in
+    let v = subst (λ (x : List ℕ). AreAnswered noting g.mid g.between (g.behind ++ b ∷ []) [] x (pending.notes.items ++ noted) new' is') (sym p) u in
     record {
       mid = g.mid;
       between = g.between;
       behind = g.behind ++ b ∷ [];
       begun = [];
       told = told_more (b ∷ []) g.told;
-      untold = subst (λ (x : List ℕ). AreAnswered keeps g.mid g.between (g.behind ++ b ∷ []) [] pending'.answers.items x new' is') (sym q) v;
+      untold = subst (λ (x : List ℕ). AreAnswered noting g.mid g.between (g.behind ++ b ∷ []) [] pending'.answers.items x new' is') (sym q) v;
       partial = tt;
       kept = r ∙ cut_nil;
     }
@@ -160,9 +164,9 @@ wrote_whole a b text h = (text, sym (append-nil text), h)
 appends_same : (a b : Option (List ℕ)) (x y : List ℕ) → x ≡ y → Appends a b x → Appends a b y
 appends_same a b x y e h = subst (λ (t : List ℕ). Appends a b t) e h
 
--- behind what was told these were answered, of which nothing has left
-pub stops_untold : {keeps : Bool} {old mid new : List Standing} {was between is : Option Held} {before after : Written} {bytes behind rest unsaid notes : List ℕ} → AreTold keeps old was before after bytes behind mid between → AreAnswered keeps mid between behind rest unsaid notes new is →
-    Stops keeps old was before after bytes new is
+-- after the delivered lines these were answered, and nothing of that has left
+pub stops_untold : {noting : Bool} {old mid new : List Standing} {was between is : Option Held} {before after : Written} {bytes behind rest unsaid notes : List ℕ} → AreTold noting old was before after bytes behind mid between → AreAnswered noting mid between behind rest unsaid notes new is →
+    Stops noting old was before after bytes new is
 stops_untold {mid = mid} {between = between} {before = before} {after = after} {behind = behind} {rest = rest} {unsaid = unsaid} {notes = notes} t u = record {
   mid = mid;
   between = between;
@@ -177,22 +181,22 @@ stops_untold {mid = mid} {between = between} {before = before} {after = after} {
   told = t.answered;
   untold = u;
   wrote = wrote_whole before.out after.out t.said t.wrote;
-  journaled = appends_same before.journal after.journal t.noted (t.noted ++ []) (sym (append-nil t.noted)) t.journaled;
+  wrote_notes = appends_same before.journal after.journal t.noted (t.noted ++ []) (sym (append-nil t.noted)) t.wrote_notes;
 }
 
-pub goes_stops : {keeps : Bool} {old new : List Standing} {was is : Option Held} {before after : Written} {bytes line : List ℕ} {pending : Pending} → GoesOn keeps old was before after bytes new is line pending → Stops keeps old was before after bytes new is
+pub goes_stops : {noting : Bool} {old new : List Standing} {was is : Option Held} {before after : Written} {bytes line : List ℕ} {pending : Pending} → GoesOn noting old was before after bytes new is line pending → Stops noting old was before after bytes new is
 goes_stops g = stops_untold g.told g.untold
 
-pub rests_stops : {keeps : Bool} {old new : List Standing} {was is : Option Held} {before after : Written} {bytes line : List ℕ} → Rests keeps old was before after bytes new is line → Stops keeps old was before after bytes new is
-rests_stops {keeps} {new = new} {is = is} r = stops_untold r.told (none_answered keeps new is r.begun)
+pub rests_stops : {noting : Bool} {old new : List Standing} {was is : Option Held} {before after : Written} {bytes line : List ℕ} → Rests noting old was before after bytes new is line → Stops noting old was before after bytes new is
+rests_stops {noting} {new = new} {is = is} r = stops_untold r.told (none_answered noting new is r.begun)
 
--- a line was answered, of which not all is pending
-pub line_stops : {keeps : Bool} {old new new' : List Standing} {was is is' : Option Held} {before after : Written} {bytes line said noted : List ℕ} {pending : Pending} (b : ℕ) (g : GoesOn keeps old was before after bytes new is line pending) → b ≡ 10 → IsAnswered keeps new is (cut (g.begun ++ b ∷ [])) said noted new' is' →
-    Stops keeps old was before after (bytes ++ b ∷ []) new' is'
+-- a line was answered, and not all of that is pending
+pub line_stops : {noting : Bool} {old new new' : List Standing} {was is is' : Option Held} {before after : Written} {bytes line said noted : List ℕ} {pending : Pending} (b : ℕ) (g : GoesOn noting old was before after bytes new is line pending) → b ≡ 10 → IsAnswered noting new is (cut (g.begun ++ b ∷ [])) said noted new' is' →
+    Stops noting old was before after (bytes ++ b ∷ []) new' is'
 line_stops b g e a = stops_untold (told_more (b ∷ []) g.told) (line_more b e g.partial g.untold a)
 
--- what was not read any more
-pub stops_more : {keeps : Bool} {old new : List Standing} {was is : Option Held} {before after : Written} {bytes : List ℕ} (more : List ℕ) → Stops keeps old was before after bytes new is → Stops keeps old was before after (bytes ++ more) new is
+-- the bytes that were not read any more
+pub stops_more : {noting : Bool} {old new : List Standing} {was is : Option Held} {before after : Written} {bytes : List ℕ} (more : List ℕ) → Stops noting old was before after bytes new is → Stops noting old was before after (bytes ++ more) new is
 stops_more more s = record {
   mid = s.mid;
   between = s.between;
@@ -207,15 +211,15 @@ stops_more more s = record {
   told = answered_more more s.told;
   untold = answered_more more s.untold;
   wrote = s.wrote;
-  journaled = s.journaled;
+  wrote_notes = s.wrote_notes;
 }
 
--- ---- what is pending leaves
+-- ---- the pending answers leave
 
 -- the journal could not be written
-pub journal_stops : {keeps : Bool} {old new : List Standing} {was is : Option Held} {before : Written} {bytes line : List ℕ} {pending : Pending} (journal after out : Option (List ℕ)) (left : List ℕ) → GoesOn keeps old was before (record { journal = journal; out = out }) bytes new is line pending →
-    Wrote journal after pending.notes.items left → Stops keeps old was before (record { journal = after; out = out }) bytes new is
-journal_stops {keeps} {new = new} {is = is} {before = before} {pending = pending} journal after out left g w = record {
+pub journal_stops : {noting : Bool} {old new : List Standing} {was is : Option Held} {before : Written} {bytes line : List ℕ} {pending : Pending} (journal after out : Option (List ℕ)) (left : List ℕ) → GoesOn noting old was before (record { journal = journal; out = out }) bytes new is line pending →
+    Wrote journal after pending.notes.items left → Stops noting old was before (record { journal = after; out = out }) bytes new is
+journal_stops {noting} {new = new} {is = is} {before = before} {pending = pending} journal after out left g w = record {
   mid = g.mid;
   between = g.between;
   behind = g.behind;
@@ -227,15 +231,15 @@ journal_stops {keeps} {new = new} {is = is} {before = before} {pending = pending
   back = left;
   left = [];
   told = g.told.answered;
-  untold = subst (λ (x : List ℕ). AreAnswered keeps g.mid g.between g.behind g.begun pending.answers.items x new is) w.1 g.untold;
+  untold = subst (λ (x : List ℕ). AreAnswered noting g.mid g.between g.behind g.begun pending.answers.items x new is) w.1 g.untold;
   wrote = wrote_whole before.out out g.told.said g.told.wrote;
-  journaled = appends_then before.journal journal after g.told.noted w.0 g.told.journaled w.2;
+  wrote_notes = appends_then before.journal journal after g.told.noted w.0 g.told.wrote_notes w.2;
 }
 
 -- it was, and the output could not be
-pub out_stops : {keeps : Bool} {old new : List Standing} {was is : Option Held} {before : Written} {bytes line : List ℕ} {pending : Pending} (journal after out end : Option (List ℕ)) (left : List ℕ) → GoesOn keeps old was before (record { journal = journal; out = out }) bytes new is line pending →
-    Appends journal after pending.notes.items → Wrote out end pending.answers.items left → Stops keeps old was before (record { journal = after; out = end }) bytes new is
-out_stops {keeps} {new = new} {is = is} {before = before} {pending = pending} journal after out end left g n w =
+pub out_stops : {noting : Bool} {old new : List Standing} {was is : Option Held} {before : Written} {bytes line : List ℕ} {pending : Pending} (journal after out end : Option (List ℕ)) (left : List ℕ) → GoesOn noting old was before (record { journal = journal; out = out }) bytes new is line pending →
+    Appends journal after pending.notes.items → Wrote out end pending.answers.items left → Stops noting old was before (record { journal = after; out = end }) bytes new is
+out_stops {noting} {new = new} {is = is} {before = before} {pending = pending} journal after out end left g n w =
     let notes = g.told.noted ++ pending.notes.items in
     record {
       mid = new;
@@ -249,14 +253,14 @@ out_stops {keeps} {new = new} {is = is} {before = before} {pending = pending} jo
       back = [];
       left = left;
       told = answered_then g.told.answered g.untold;
-      untold = none_answered keeps new is g.begun;
+      untold = none_answered noting new is g.begun;
       wrote = (g.told.said ++ w.0, ap (λ (x : List ℕ). g.told.said ++ x) w.1 ∙ sym (append_assoc g.told.said w.0 left), appends_then before.out out end g.told.said w.0 g.told.wrote w.2);
-      journaled = appends_same before.journal after notes (notes ++ []) (sym (append-nil notes)) (appends_then before.journal journal after g.told.noted pending.notes.items g.told.journaled n);
+      wrote_notes = appends_same before.journal after notes (notes ++ []) (sym (append-nil notes)) (appends_then before.journal journal after g.told.noted pending.notes.items g.told.wrote_notes n);
     }
 
 -- both were
-pub all_told : {keeps : Bool} {old new : List Standing} {was is : Option Held} {before : Written} {bytes line : List ℕ} {pending : Pending} (journal after out end : Option (List ℕ)) → GoesOn keeps old was before (record { journal = journal; out = out }) bytes new is line pending →
-    Appends journal after pending.notes.items → Appends out end pending.answers.items → Rests keeps old was before (record { journal = after; out = end }) bytes new is line
+pub all_told : {noting : Bool} {old new : List Standing} {was is : Option Held} {before : Written} {bytes line : List ℕ} {pending : Pending} (journal after out end : Option (List ℕ)) → GoesOn noting old was before (record { journal = journal; out = out }) bytes new is line pending →
+    Appends journal after pending.notes.items → Appends out end pending.answers.items → Rests noting old was before (record { journal = after; out = end }) bytes new is line
 all_told {before = before} {pending = pending} journal after out end g n a = record {
   begun = g.begun;
   told = record {
@@ -264,31 +268,31 @@ all_told {before = before} {pending = pending} journal after out end g n a = rec
     noted = g.told.noted ++ pending.notes.items;
     answered = answered_then g.told.answered g.untold;
     wrote = appends_then before.out out end g.told.said pending.answers.items g.told.wrote a;
-    journaled = appends_then before.journal journal after g.told.noted pending.notes.items g.told.journaled n;
+    wrote_notes = appends_then before.journal journal after g.told.noted pending.notes.items g.told.wrote_notes n;
   };
   partial = g.partial;
   kept = g.kept;
 }
 
 -- and then more is read
-pub rests_goes : {keeps : Bool} {old new : List Standing} {was is : Option Held} {before after : Written} {bytes line : List ℕ} (pending : Pending) → pending.answers.items ≡ [] → pending.notes.items ≡ [] → Rests keeps old was before after bytes new is line → GoesOn keeps old was before after bytes new is line pending
-rests_goes {keeps} {new = new} {is = is} pending p q r =
-    let u = subst (λ (x : List ℕ). AreAnswered keeps new is r.begun r.begun x [] new is) (sym p) (none_answered keeps new is r.begun) in
+pub rests_goes : {noting : Bool} {old new : List Standing} {was is : Option Held} {before after : Written} {bytes line : List ℕ} (pending : Pending) → pending.answers.items ≡ [] → pending.notes.items ≡ [] → Rests noting old was before after bytes new is line → GoesOn noting old was before after bytes new is line pending
+rests_goes {noting} {new = new} {is = is} pending p q r =
+    let u = subst (λ (x : List ℕ). AreAnswered noting new is r.begun r.begun x [] new is) (sym p) (none_answered noting new is r.begun) in
     record {
       mid = new;
       between = is;
       behind = r.begun;
       begun = r.begun;
       told = r.told;
-      untold = subst (λ (x : List ℕ). AreAnswered keeps new is r.begun r.begun pending.answers.items x new is) (sym q) u;
+      untold = subst (λ (x : List ℕ). AreAnswered noting new is r.begun r.begun pending.answers.items x new is) (sym q) u;
       partial = r.partial;
       kept = r.kept;
     }
 
-pub none_told : (keeps : Bool) (old : List Standing) (was : Option Held) (before : Written) → Rests keeps old was before before [] old was []
-none_told keeps old was before = record {
+pub none_told : (noting : Bool) (old : List Standing) (was : Option Held) (before : Written) → Rests noting old was before before [] old was []
+none_told noting old was before = record {
   begun = [];
-  told = record { said = []; noted = []; answered = none_answered keeps old was []; wrote = appends_nil before.out; journaled = appends_nil before.journal };
+  told = record { said = []; noted = []; answered = none_answered noting old was []; wrote = appends_nil before.out; wrote_notes = appends_nil before.journal };
   partial = tt;
   kept = cut_nil;
 }
@@ -303,7 +307,7 @@ block_rest bytes block i l =
     ap (λ (x : List ℕ). x ++ drop (i + 1) block) (block_more bytes block i l)
     ∙ (append_assoc bytes (take (i + 1) block) (drop (i + 1) block) ∙ ap (λ (x : List ℕ). bytes ++ x) (take-append-drop (i + 1) block))
 
--- ---- what a reader gave
+-- ---- the bytes that a reader gave
 
 pub consumes_nil : (a : Option (List ℕ)) → Consumes a a []
 consumes_nil None = tt
@@ -327,10 +331,18 @@ pub both_ok : {E : Type 0} (r : Result (Unit {0}) E) (A B : Type 0) → OnOk r A
 both_ok (Ok u) A B a b = (a, b)
 both_ok (Err e) A B a b = tt
 
-pub same_line : {keeps : Bool} {old new : List Standing} {was is : Option Held} {x y said noted : List ℕ} → x ≡ y → IsAnswered keeps old was x said noted new is → IsAnswered keeps old was y said noted new is
-same_line {keeps} {old} {new} {was} {is} {x} {y} {said} {noted} e a = subst (λ (l : List ℕ). IsAnswered keeps old was l said noted new is) e a
+pub same_line : {noting : Bool} {old new : List Standing} {was is : Option Held} {x y said noted : List ℕ} → x ≡ y → IsAnswered noting old was x said noted new is → IsAnswered noting old was y said noted new is
+same_line {noting} {old} {new} {was} {is} {x} {y} {said} {noted} e a = subst (λ (l : List ℕ). IsAnswered noting old was l said noted new is) e a
 
 pub name_is : (line : List ℕ) → 6 ≤ length line → take (length line - 1 - 5) (drop 5 line) ≡ drop 5 (take (length line - 1) line)
 name_is line l =
     let e : 5 + (length line - 1 - 5) ≡ length line - 1 = omega (arith, l) in
     sym (drop-take 5 (length line - 1 - 5) line) ∙ ap (λ (k : ℕ). drop 5 (take k line)) e
+
+-- any other fault
+pub not_long : (e : ServeFault) (unread rest : Option (List ℕ)) → (e ≡ fault.TooLong → ⊥) → IsFaultOf e unread rest
+not_long fault.Read unread rest n = tt
+not_long fault.Journal unread rest n = tt
+not_long fault.Write unread rest n = tt
+not_long fault.OutOfMemory unread rest n = tt
+not_long fault.TooLong unread rest n = absurd (n refl)

@@ -9,12 +9,12 @@ use Rattle.ring_serve.specs.declared.answers.Refusal.TheVariants as refusal
 -- the word of a refusal
 abbrev pub refusal_text : Refusal → List ℕ
 refusal_text refusal.Syntax = codes "syntax\n"
-refusal_text refusal.NoOrder = codes "order\n"
+refusal_text refusal.OrderTooLarge = codes "order\n"
 refusal_text refusal.NoRing = codes "ring\n"
 refusal_text refusal.NoSeat = codes "seat\n"
 refusal_text refusal.NoMachine = codes "machine\n"
 refusal_text refusal.NoValue = codes "value\n"
-refusal_text refusal.NoGroup = codes "group\n"
+refusal_text refusal.NotRising = codes "group\n"
 refusal_text refusal.WholeRing = codes "whole\n"
 refusal_text (refusal.NotPrivileged machine) = codes "privileged " ++ ended machine
 refusal_text refusal.HistoryFull = codes "full\n"

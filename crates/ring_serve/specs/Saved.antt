@@ -1,15 +1,15 @@
--- What is saved of rings that are served (this project's own).
+-- The saved text of rings that are served (this project's own).
 use Rattle.std.specs.Prelude.{◌≡◌, ℕ, ◌+◌, List, [], ◌∷◌, length, map}
 use Rattle.ring_model.specs.Resources.{till}
 use Rattle.ring_saved.specs.Versions.{latest_version}
 use Rattle.ring_saved.specs.Content.{Block, Content}
-use Rattle.ring_text.specs.SavedOf.{saved_event}
+use Rattle.ring_blocks.specs.SavedOf.{saved_event}
 use Rattle.ring_desk.specs.Rings.{RingView, IsOneThreadRing}
 use Rattle.ring_desk.specs.Texts.{surveys_told}
 use Rattle.ring_serve.specs.Standings.{Standing, standing_of}
 
 -- the block of a ring at its place: its start, its history, and the surveys that its clients were
--- told, client by client
+-- given, client by client
 abbrev pub block_at : ℕ → Standing → Block
 block_at place r = record {
   index = place;
@@ -21,12 +21,12 @@ block_at place r = record {
   surveys = surveys_told r.clients;
 }
 
--- the blocks of the rings, each at its place, the first of which is given
+-- the blocks of the rings, each at its place, the first at the given one
 abbrev pub blocks_from : ℕ → List Standing → List Block
 blocks_from place [] = []
 blocks_from place (r ∷ rs) = block_at place r ∷ blocks_from (place + 1) rs
 
--- what is saved of all rings, in the latest version
+-- the saved text of all rings, in the latest version
 abbrev pub content_of : List Standing → Content
 content_of rs = record {
   version = latest_version;

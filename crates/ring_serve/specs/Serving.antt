@@ -1,17 +1,20 @@
 -- Lines that are served one after the other (this project's own).
-use Rattle.std.specs.Prelude.{◌≡◌, ◌≢◌, ℕ, ◌+◌, ◌-◌, Bool, cond, List, [], ◌∷◌, ◌++◌, length, take, drop, Option, Some, Result, MatchResult, ◌⊎◌}
+use Rattle.std.specs.Prelude.{◌≡◌, ◌≢◌, ℕ, ◌+◌, ◌-◌, ◌^◌, ◌≤◌, Bool, cond, List, [], ◌∷◌, ◌++◌, length, take, drop, Option, None, Some, Result, MatchResult, ◌⊎◌}
 use Rattle.std.specs.List.{AllByRecursion}
 use Rattle.std.specs.Io.KnownBytes.{Appends, Consumes, IsAtEnd}
 use Rattle.text_lines.specs.Writing.{Wrote}
 use Rattle.disks.specs.Held.{Held, Replaces}
 use Rattle.ring_saved.specs.Spelling.{text}
 use Rattle.ring_check.specs.Legal.{IsLegalText}
-use Rattle.ring_serve.specs.Calls.{line_limit}
+use Rattle.ring_serve.specs.Commands.{line_limit}
 use Rattle.ring_serve.specs.Answers.{answer_line}
 use Rattle.ring_serve.specs.declared.answers.Answer.{Answer}
 use Rattle.ring_serve.specs.declared.answers.Answer.TheVariants as answer
 use Rattle.ring_serve.specs.declared.answers.Refusal.TheVariants as refusal
 use Rattle.ring_serve.specs.declared.serving.Pending.{Pending}
+use Rattle.ring_serve.specs.declared.serving.Journal.{Journal}
+use Rattle.ring_serve.specs.declared.serving.ServeFault.{ServeFault}
+use Rattle.ring_serve.specs.declared.serving.ServeFault.TheVariants as fault
 use Rattle.ring_serve.specs.Standings.{Standing}
 use Rattle.ring_serve.specs.Saved.{content_of}
 use Rattle.ring_serve.specs.Turns.{Turn, IsTurnOfLine}
@@ -27,7 +30,7 @@ IsLine (b ∷ c ∷ bs) = (b ≢ 10) × IsLine (c ∷ bs)
 abbrev pub HasNoEnd : List ℕ → Type 0
 HasNoEnd begun = AllByRecursion (λ b. b ≢ 10) begun
 
--- what a line names behind the word `save`: the bytes up to its LF
+-- the name in a line after the word `save`: the bytes up to its LF
 abbrev pub name_in : List ℕ → List ℕ
 name_in line = drop 5 (take (length line - 1) line)
 
@@ -42,34 +45,34 @@ IsGiven was is name rings answer.Saved given =
     ⊎ ((given ≡ answer.Refused refusal.File) × (is ≡ was))
 IsGiven was is name rings asked given = (given ≡ asked) × (is ≡ was)
 
--- One line answered, from where the rings and the files stand to where they are left: by its turn.
--- What it says is the answer's line, and what it notes, if a journal is kept, are the lines of what
--- the turn recorded.
-pub record IsAnswered (keeps : Bool) (old : List Standing) (was : Option Held)
+-- One line answered, from the rings and the files as they are to those after it: by its turn.
+-- It says the answer's line, and notes, if a journal is kept, the lines of the records of
+-- the turn.
+pub record IsAnswered (noting : Bool) (old : List Standing) (was : Option Held)
     (line said noted : List ℕ) (new : List Standing) (is : Option Held) : Type 0 where
   pub turn : Turn (List Standing)
   pub given : Answer
   pub of_line : IsTurnOfLine old line turn
   pub gives : IsGiven was is (name_in line) new turn.answer given
   pub says : said ≡ answer_line given
-  pub notes : noted ≡ cond keeps (notes_of turn.recorded) []
+  pub notes : noted ≡ cond noting (notes_of turn.recorded) []
   pub leaves : turn.leaves ≡ new
 
 -- The rings answer these lines, one after the other, with this text, and these are the notes.
 abbrev pub Answers : Bool → List Standing → Option Held → List (List ℕ) → List ℕ → List ℕ
     → List Standing → Option Held → Type 0
-Answers keeps old was [] said noted new is = (said ≡ []) × (noted ≡ []) × (new ≡ old) × (is ≡ was)
-Answers keeps old was (line ∷ lines) said noted new is =
+Answers noting old was [] said noted new is = (said ≡ []) × (noted ≡ []) × (new ≡ old) × (is ≡ was)
+Answers noting old was (line ∷ lines) said noted new is =
     (mid : List Standing)
     × (between : Option Held)
     × (first : List ℕ)
     × (later : List ℕ)
     × (note : List ℕ)
     × (notes : List ℕ)
-    × IsAnswered keeps old was line first note mid between
+    × IsAnswered noting old was line first note mid between
     × (said ≡ first ++ later)
     × (noted ≡ note ++ notes)
-    × Answers keeps mid between lines later notes new is
+    × Answers noting mid between lines later notes new is
 
 abbrev pub joined_lines : List (List ℕ) → List ℕ
 joined_lines [] = []
@@ -77,32 +80,39 @@ joined_lines (line ∷ lines) = line ++ joined_lines lines
 
 -- The lines of these bytes, up to where this rest begins, were answered with this text, and these
 -- are the notes.
-pub record AreAnswered (keeps : Bool) (old : List Standing) (was : Option Held)
+pub record AreAnswered (noting : Bool) (old : List Standing) (was : Option Held)
     (bytes rest said noted : List ℕ) (new : List Standing) (is : Option Held) : Type 0 where
   pub lines : List (List ℕ)
   pub split : bytes ≡ joined_lines lines ++ rest
   pub each : AllByRecursion IsLine lines
-  pub answers : Answers keeps old was lines said noted new is
+  pub answers : Answers noting old was lines said noted new is
 
--- what a journal and an output hold, where it is known
+-- the content of a journal and of an output, where it is known
 pub record Written : Type 0 where
   pub journal : Option (List ℕ)
   pub out : Option (List ℕ)
 
--- The lines up to the rest were answered and told: the output has all of the answers' text, and the
--- journal all notes.
-pub record AreTold (keeps : Bool) (old : List Standing) (was : Option Held) (before after : Written)
-    (bytes rest : List ℕ) (new : List Standing) (is : Option Held) : Type 0 where
+-- what a journal holds; nothing is known of it where none is kept
+abbrev pub held_by : {J : Type 0} → (J → Option (List ℕ)) → Option (Journal J) → Option (List ℕ)
+held_by contents None = None
+held_by contents (Some journal) = contents journal.writer
+
+-- The lines up to the rest were answered and delivered: the output has all of the answers' text,
+-- and the journal all notes.
+pub record AreTold (noting : Bool) (old : List Standing) (was : Option Held)
+    (before after : Written) (bytes rest : List ℕ) (new : List Standing) (is : Option Held) :
+    Type 0 where
   pub said : List ℕ
   pub noted : List ℕ
-  pub answered : AreAnswered keeps old was bytes rest said noted new is
+  pub answered : AreAnswered noting old was bytes rest said noted new is
   pub wrote : Appends before.out after.out said
-  pub journaled : Appends before.journal after.journal noted
+  pub wrote_notes : Appends before.journal after.journal noted
 
--- Served so far: some lines were told, those behind them were answered, and a beginning of the
--- answers to the told ones is all that went out. The journal has all notes of the told lines, and a
--- beginning of those of the others. So whatever was told is in the journal, wherever this ended.
-pub record Stops (keeps : Bool) (old : List Standing) (was : Option Held) (before after : Written)
+-- Served so far: some lines were delivered, those after them were answered, and a prefix of the
+-- answers to the delivered ones is all that went out. The journal has all notes of the delivered
+-- lines, and a prefix of those of the others. So each delivered line is in the journal, wherever
+-- this ended.
+pub record Stops (noting : Bool) (old : List Standing) (was : Option Held) (before after : Written)
     (bytes : List ℕ) (new : List Standing) (is : Option Held) : Type 0 where
   pub mid : List Standing
   pub between : Option Held
@@ -114,65 +124,71 @@ pub record Stops (keeps : Bool) (old : List Standing) (was : Option Held) (befor
   pub front : List ℕ
   pub back : List ℕ
   pub left : List ℕ
-  pub told : AreAnswered keeps old was bytes behind said noted mid between
-  pub untold : AreAnswered keeps mid between behind rest unsaid (front ++ back) new is
+  pub told : AreAnswered noting old was bytes behind said noted mid between
+  pub untold : AreAnswered noting mid between behind rest unsaid (front ++ back) new is
   pub wrote : Wrote before.out after.out said left
-  pub journaled : Appends before.journal after.journal (noted ++ front)
+  pub wrote_notes : Appends before.journal after.journal (noted ++ front)
 
--- what is kept of a line that has begun: of one that is too long, one byte more than a line may
+-- the kept part of a line that has begun: of one that is too long, one byte more than a line may
 -- have
 unfoldable pub cut : List ℕ → List ℕ
 cut begun = take (line_limit + 1) begun
 
--- All whole lines of the bytes were answered: some were told, and what the others say and note is
--- pending. This is kept of the line that has begun.
-pub record GoesOn (keeps : Bool) (old : List Standing) (was : Option Held) (before after : Written)
+-- All whole lines of the bytes were answered: some were delivered, and the answers and notes of the
+-- others are pending. This is kept of the line that has begun.
+pub record GoesOn (noting : Bool) (old : List Standing) (was : Option Held) (before after : Written)
     (bytes : List ℕ) (new : List Standing) (is : Option Held) (line : List ℕ) (pending : Pending) :
     Type 0 where
   pub mid : List Standing
   pub between : Option Held
   pub behind : List ℕ
   pub begun : List ℕ
-  pub told : AreTold keeps old was before after bytes behind mid between
-  pub untold : AreAnswered keeps mid between behind begun pending.answers.items pending.notes.items
+  pub told : AreTold noting old was before after bytes behind mid between
+  pub untold : AreAnswered noting mid between behind begun pending.answers.items pending.notes.items
       new is
   pub partial : HasNoEnd begun
   pub kept : line ≡ cut begun
 
--- it goes on, or after an error it has stopped
+-- it continues, or after an error it has stopped
 abbrev pub Serves : {E : Type 0} → Result (Unit {0}) E → Bool → List Standing → Option Held
     → Written → Written → List ℕ → List Standing → Option Held → List ℕ → Pending → Type 0
-Serves result keeps old was before after bytes new is line pending =
-    MatchResult result (λ _. GoesOn keeps old was before after bytes new is line pending)
-    (λ _. Stops keeps old was before after bytes new is)
+Serves result noting old was before after bytes new is line pending =
+    MatchResult result (λ _. GoesOn noting old was before after bytes new is line pending)
+    (λ _. Stops noting old was before after bytes new is)
 
--- All whole lines of the bytes were told, and this is kept of the line that has begun.
-pub record Rests (keeps : Bool) (old : List Standing) (was : Option Held) (before after : Written)
+-- All whole lines of the bytes were delivered, and this is kept of the line that has begun.
+pub record Rests (noting : Bool) (old : List Standing) (was : Option Held) (before after : Written)
     (bytes : List ℕ) (new : List Standing) (is : Option Held) (line : List ℕ) : Type 0 where
   pub begun : List ℕ
-  pub told : AreTold keeps old was before after bytes begun new is
+  pub told : AreTold noting old was before after bytes begun new is
   pub partial : HasNoEnd begun
   pub kept : line ≡ cut begun
 
--- all that was answered is told, or after an error it has stopped
+-- all answered lines are delivered, or after an error it has stopped
 abbrev pub Tells : {E : Type 0} → Result (Unit {0}) E → Bool → List Standing → Option Held → Written
     → Written → List ℕ → List Standing → Option Held → List ℕ → Type 0
-Tells result keeps old was before after bytes new is line =
-    MatchResult result (λ _. Rests keeps old was before after bytes new is line)
-    (λ _. Stops keeps old was before after bytes new is)
+Tells result noting old was before after bytes new is line =
+    MatchResult result (λ _. Rests noting old was before after bytes new is line)
+    (λ _. Stops noting old was before after bytes new is)
 
--- All that the reader gave was served: each whole line of it was told, behind which no line ended.
-pub record ServesAll (keeps : Bool) (old new : List Standing) (was is : Option Held)
+-- The whole input was served: each whole line of it was delivered, and no line ended after those.
+pub record ServesAll (noting : Bool) (old new : List Standing) (was is : Option Held)
     (unread rest : Option (List ℕ)) (before after : Written) : Type 0 where
   pub bytes : List ℕ
   pub begun : List ℕ
   pub read : Consumes unread rest bytes
   pub ended : IsAtEnd rest
   pub partial : HasNoEnd begun
-  pub told : AreTold keeps old was before after bytes begun new is
+  pub told : AreTold noting old was before after bytes begun new is
 
 -- Of what the reader gave some lines were answered.
 abbrev pub ServesSome : Bool → List Standing → List Standing → Option Held → Option Held
     → Option (List ℕ) → Option (List ℕ) → Written → Written → Type 0
-ServesSome keeps old new was is unread rest before after =
-    (bytes : List ℕ) × Consumes unread rest bytes × Stops keeps old was before after bytes new is
+ServesSome noting old new was is unread rest before after =
+    (bytes : List ℕ) × Consumes unread rest bytes × Stops noting old was before after bytes new is
+
+-- only of an input of so many bytes it is said that it is too long
+abbrev pub IsFaultOf : ServeFault → Option (List ℕ) → Option (List ℕ) → Type 0
+IsFaultOf fault.TooLong unread rest =
+    (bytes : List ℕ) × Consumes unread rest bytes × (2 ^ 64 - 1 ≤ length bytes)
+IsFaultOf _ unread rest = Unit {0}

@@ -1,5 +1,5 @@
--- What is served: rings over a till, each with its start, its history, and what its clients were
--- told (this project's own).
+-- The served rings, over a till, each with its start, its history, and the surveys that its clients
+-- were given (this project's own).
 use Rattle.std.specs.Prelude.{ℕ, ◌<◌, List, [], ◌∷◌, ◌++◌, length, slice_index_or}
 use Rattle.ring_model.specs.Ring.{Ring}
 use Rattle.ring_model.specs.History.{State, opening, after, reply}
@@ -11,15 +11,15 @@ use Rattle.ring_model.specs.declared.events.Op.{Op}
 use Rattle.ring_model.specs.declared.events.Event.{Event}
 use Rattle.ring_model.specs.declared.events.Survey.{Survey}
 use Rattle.ring_model.specs.declared.events.Entry.TheVariants as entry
-use Rattle.ring_logs.specs.Told.{Told}
-use Rattle.ring_shared.specs.Groups.{receipts_from}
+use Rattle.ring_logs.specs.LogView.{LogView}
+use Rattle.ring_logs.specs.Seats.{receipts_from}
 use Rattle.ring_desk.specs.Rings.{RingView, IsOneThreadRing, told_more}
 
 -- a ring that is served
 pub record Standing : Type 0 where
   pub start : Ring
   pub history : List Event
-  pub clients : List Told
+  pub clients : List LogView
 
 abbrev pub standing_of : RingView ℕ → Standing
 standing_of d = record { start = d.book.start; history = d.book.history; clients = d.clients }
@@ -40,7 +40,7 @@ block_now r seat order machines = block_of till (state_of r) seat order (move_or
 abbrev pub survey_now : Standing → Survey
 survey_now r = survey_at till (opening r.start 0) r.history (length r.history)
 
--- the ring with more events of a seat, which was told of them
+-- the ring with more events of a seat, which has their receipts
 abbrev pub with_events : Standing → ℕ → List Event → Standing
 with_events r seat es = record {
   start = r.start;
@@ -48,7 +48,7 @@ with_events r seat es = record {
   clients = told_more r.clients seat (receipts_from (length r.history) es);
 }
 
--- the ring with a survey more that a seat was told
+-- the ring with a survey more that a seat was given
 abbrev pub with_survey : Standing → ℕ → Survey → Standing
 with_survey r seat s = record {
   start = r.start;

@@ -1,4 +1,4 @@
--- Rings that go on where saved ones ended (this project's own).
+-- Rings that resume where saved ones ended (this project's own).
 use Rattle.std.specs.Prelude.{◌≡◌, ℕ, ◌<◌, List, [], ◌∷◌, length, map, slice_get, Some}
 use Rattle.ring_model.specs.Ring.{ring_with}
 use Rattle.ring_model.specs.Limits.{event_limit, seat_limit}
@@ -9,7 +9,7 @@ use Rattle.ring_serve.specs.declared.starting.StartError.{StartError}
 use Rattle.ring_serve.specs.declared.starting.StartError.TheVariants as start
 use Rattle.ring_serve.specs.Standings.{Standing}
 
--- the ring stands where the saved one ended: it has its start, its history and its surveys
+-- the ring is where the saved one ended: it has its start, its history and its surveys
 pub record IsResumed (r : Standing) (saved : SavedRing) : Type 0 where
   pub start : r.start ≡ ring_with saved.k saved.start.items
   pub history : r.history ≡ map event_of saved.events.items

@@ -1,15 +1,15 @@
--- What adds up over rings that are served (this project's own).
+-- The sums over rings that are served (this project's own).
 use Rattle.std.specs.Prelude.{ℕ, List, length}
 use Rattle.std.specs.List.{sum_by}
 use Rattle.ring_model.specs.Surveys.{granted_count}
-use Rattle.ring_logs.specs.Told.{Told}
-use Rattle.ring_text.specs.declared.counts.Totals.{Totals}
-use Rattle.ring_text.specs.Report.{survey_count}
+use Rattle.ring_logs.specs.LogView.{LogView}
+use Rattle.ring_blocks.specs.declared.counts.Totals.{Totals}
+use Rattle.ring_blocks.specs.Counts.{survey_count}
 use Rattle.ring_serve.specs.Standings.{Standing}
 
--- the surveys that clients were told
-abbrev pub surveys_among : List Told → ℕ
-surveys_among cs = sum_by (λ (c : Told). survey_count c.log) cs
+-- the surveys that clients were given
+abbrev pub surveys_among : List LogView → ℕ
+surveys_among cs = sum_by (λ (c : LogView). survey_count c.log) cs
 
 -- the events, the granted passes and the surveys of all rings
 abbrev pub totals_of : List Standing → Totals

@@ -11,11 +11,11 @@ use text_lines::Line;
 /// Why a call is refused. Nothing has changed then.
 #[derive(Clone, Copy)]
 pub enum Refusal {
-    /// The line is no call, or has more than 8 KiB.
+    /// The line is not a call, or has more than 8 KiB.
     Syntax,
     /// The order is 2 to the power 64 or more.
-    NoOrder,
-    /// There is no ring of this number.
+    OrderTooLarge,
+    /// No ring has this number.
     NoRing,
     /// The ring has no seat of this number.
     NoSeat,
@@ -23,8 +23,8 @@ pub enum Refusal {
     NoMachine,
     /// The value is not below K.
     NoValue,
-    /// The machines of a group do not rise, or one is none of the ring's.
-    NoGroup,
+    /// The machines of a group do not rise, or one is not the ring's.
+    NotRising,
     /// The group is the whole ring.
     WholeRing,
     /// The least machine of the group that is not privileged.
@@ -36,16 +36,16 @@ pub enum Refusal {
     File,
 }
 
-/// What a call is answered.
+/// The answer to a call.
 #[derive(Clone, Copy)]
 pub enum Answer {
-    /// The machine was privileged: the number of the grant, and what the resource answered.
+    /// The machine was privileged: the number of the grant, and the resource's answer.
     Granted { number: u64, result: u64 },
     /// The machine was not privileged.
     Waits,
     /// The fault was written over this value.
     Corrupted { old: u32 },
-    /// What is privileged now.
+    /// The survey of the state as it is now.
     Survey(Survey),
     /// The group moved: the place of its first event in the history, and how many events it has.
     Block { first: u64, count: u32 },
@@ -125,12 +125,12 @@ fn refusal_line(why: Refusal) -> Line
 {
     match why {
         Refusal::Syntax => only(b"refused syntax\n"),
-        Refusal::NoOrder => only(b"refused order\n"),
+        Refusal::OrderTooLarge => only(b"refused order\n"),
         Refusal::NoRing => only(b"refused ring\n"),
         Refusal::NoSeat => only(b"refused seat\n"),
         Refusal::NoMachine => only(b"refused machine\n"),
         Refusal::NoValue => only(b"refused value\n"),
-        Refusal::NoGroup => only(b"refused group\n"),
+        Refusal::NotRising => only(b"refused group\n"),
         Refusal::WholeRing => only(b"refused whole\n"),
         Refusal::NotPrivileged(machine) => with_number(b"refused privileged ", machine as u64),
         Refusal::HistoryFull => only(b"refused full\n"),

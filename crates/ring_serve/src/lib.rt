@@ -1,8 +1,8 @@
-//! Rings that are driven line by line: each line is a call, and is answered with one line.
+//! Rings that are driven line by line: each line is a command, and is answered with one line.
 #![tactic(auto)]
 
 mod answers;
-mod calls;
+mod commands;
 mod numbers;
 mod saving;
 mod served;
@@ -12,9 +12,9 @@ mod totals;
 mod turns;
 
 pub use answers::{Answer, Refusal};
-pub use calls::{Call, LINE_LIMIT, read_call};
+pub use commands::{Command, LINE_LIMIT, read_command};
 pub use saving::{put_rings, save_rings};
-pub use served::{Served, Turned, answer_line};
-pub use serving::{Pending, ServeFault, serve};
+pub use served::{LineAnswer, Served, answer_line, one_turn_is_right};
+pub use serving::{Journal, Pending, ServeFault, serve};
 pub use starting::StartError;
-pub use turns::{Made, Recorded};
+pub use turns::{CallAnswer, Trace};

@@ -1,8 +1,8 @@
-//! Decimals of any size, so that a call of what there is not is told so, however great its number is.
+//! Decimals of any size, so that a call of something that is not there is answered so, however great its number is.
 
-ghost use Rattle.std.specs.Prelude.{◌≡◌, ◌≤◌, ◌<◌, ◌+◌, ◌-◌, ◌*◌, ◌&&◌, ℕ, true, false, min, nat_lt, IfSome, IsNone};
+ghost use Rattle.std.specs.Prelude.{◌≡◌, ◌≤◌, ◌<◌, ◌+◌, ◌-◌, ◌*◌, ◌&&◌, ℕ, true, false, nat_lt, IfSome, IsNone};
 ghost use Rattle.text_lines.specs.Reading.{Gives, as_at, is_digit, stop_of};
-ghost use Rattle.ring_serve.specs.Numbers.{digits_at, in_64_bits, order_at, place_at, places_at};
+ghost use Rattle.ring_serve.specs.Numbers.{digits_at, in_64_bits, named, order_at, place_at, places_at};
 
 use std::alloc::Global;
 use text_lines::{Fault, Stop};
@@ -18,7 +18,7 @@ fn with_digit(number: Option<u64>, digit: u8) -> Option<u64>
     }
 }
 
-/// The number with the byte behind it, if it goes on so: no digit follows a leading 0.
+/// The number with the byte after it, if it continues so: no digit follows a leading 0.
 fn grown(number: Option<u64>, b: u8) -> Option<Option<u64>>
     ensures more { (n : ℕ) → number ≡ in_64_bits n
         → IfSome result
@@ -33,7 +33,7 @@ fn grown(number: Option<u64>, b: u8) -> Option<Option<u64>>
     }
 }
 
-/// The rest of a number of which `first` was read.
+/// Reads the rest of a number that begins with `first`.
 fn digits(first: u64, stop: u8, bytes: &[u8]) -> Result<(Option<u64>, &[u8]), Stop>
     ensures { Gives (λ x. (x.0, x.1.now)) result
         (as_at in_64_bits (digits_at stop first) bytes.now) }
@@ -51,8 +51,8 @@ fn digits(first: u64, stop: u8, bytes: &[u8]) -> Result<(Option<u64>, &[u8]), St
     Err(Stop::Fault(Fault::Short))
 }
 
-/// A decimal without signs or leading zeros, and what stands behind the byte that ends it: the number, or none if it is 2 to
-/// the power 64 or more.
+/// Reads a decimal without signs or leading zeros; returns it, or none if it is 2 to
+/// the power 64 or more, with the bytes after the byte that ends it.
 #[tactic(auto, unfolding(crate::specs::Numbers::decimal_at, crate::specs::Numbers::order_at))]
 pub(crate) fn decimal(bytes: &[u8], stop: u8) -> Result<(Option<u64>, &[u8]), Stop>
     ensures { Gives (λ x. (x.0, x.1.now)) result (order_at stop bytes.now) }
@@ -64,9 +64,9 @@ pub(crate) fn decimal(bytes: &[u8], stop: u8) -> Result<(Option<u64>, &[u8]), St
     }
 }
 
-/// What a number names of 32 bits.
+/// The number of 32 bits that stands for a number.
 fn named(number: Option<u64>) -> u32
-    ensures { (n : ℕ) → number ≡ in_64_bits n → result ≡ min n 4294967295 }
+    ensures { (n : ℕ) → number ≡ in_64_bits n → result ≡ named n }
 {
     match number {
         Some(n) if n < u32::MAX as u64 => n as u32,
@@ -82,8 +82,8 @@ pub(crate) fn place(bytes: &[u8], stop: u8) -> Result<(u32, &[u8]), Stop>
     Ok((named(number), rest))
 }
 
-/// The byte that ends a number with so many behind it on the line.
-fn stop_byte(left: u32) -> u8
+/// Returns the byte that ends a number with n more after it on the line.
+fn stop_byte(left: usize) -> u8
     ensures { result ≡ stop_of left }
 {
     match left {
@@ -92,8 +92,8 @@ fn stop_byte(left: u32) -> u8
     }
 }
 
-/// So many of them on one line. Room is asked for as they are read.
-pub(crate) fn places(alloc: Global, count: u32, bytes: &[u8]) -> Result<(Vec<u32>, &[u8]), Stop>
+/// n of them on one line. Room is asked for as they are read.
+pub(crate) fn places(alloc: Global, count: usize, bytes: &[u8]) -> Result<(Vec<u32>, &[u8]), Stop>
     ensures { Gives (λ x. (x.0.items, x.1.now)) result (places_at count bytes.now) }
 {
     let mut found = Vec::new(alloc);

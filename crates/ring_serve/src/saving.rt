@@ -38,7 +38,7 @@ fn put_blocks<W: Write>(out: &mut W, rings: &[OneThreadRing<Till>]) -> Result<()
     Ok(())
 }
 
-/// Writes the saved text of these rings, of which there is one at least.
+/// Writes the saved text of these rings, at least one.
 fn put_all_rings<W: Write>(out: &mut W, rings: &[OneThreadRing<Till>]) -> Result<(), WriteFault>
     requires some { 1 ≤ length rings.now }
     requires most { length rings.now < 2 ^ 32 }
@@ -52,12 +52,12 @@ fn put_all_rings<W: Write>(out: &mut W, rings: &[OneThreadRing<Till>]) -> Result
     Ok(())
 }
 
-/// Writes the saved text of all rings as they stand, in the latest version: for each its place, its start, its history and
-/// the surveys that its clients were told. The text is legal, whatever lines were answered.
+/// Writes the saved text of all rings as they are, in the latest version: for each its place, its start, its history and
+/// the surveys that its clients were given. The text is legal, whatever lines were answered.
 ///
 /// # Errors
 ///
-/// `WriteFault` at the first error of the writer: it holds a beginning of the text then.
+/// `WriteFault` at the first error of the writer: it holds a prefix of the text then.
 pub fn put_rings<W: Write>(out: &mut W, served: &Served) -> Result<(), WriteFault>
     requires some { 1 ≤ length served.now }
     requires most { length served.now < 2 ^ 32 }
@@ -69,7 +69,7 @@ pub fn put_rings<W: Write>(out: &mut W, served: &Served) -> Result<(), WriteFaul
     put_all_rings(out, served.rings())
 }
 
-/// Writes the saved text of all rings by this writer, through a buffer of which all leaves, and hands the writer back.
+/// Writes the saved text of all rings by this writer, through a buffer that is flushed whole, and hands the writer back.
 fn save_by<W: Write + Drop>(alloc: Global, served: &Served, out: W) -> Option<W>
     requires some { 1 ≤ length served.now }
     requires most { length served.now < 2 ^ 32 }
@@ -91,8 +91,8 @@ fn save_by<W: Write + Drop>(alloc: Global, served: &Served, out: W) -> Option<W>
     Some(after)
 }
 
-/// Puts a file with the saved text of all rings in the place of the one of this name, and says whether it did. If not, no
-/// file has changed: it could not be made, written or put there, or memory was wanting, or there is no ring or too many.
+/// Replaces the file of this name by one with the saved text of all rings, and says whether it did. If not, no
+/// file has changed: it could not be made, written or put there, or memory ran out, or there is no ring or too many.
 pub fn save_rings<D: Disk>(alloc: Global, disk: &mut D, served: &Served, name: &str) -> bool
     ensures saved { IsTrue result
         → Replaces (D.holds disk.old) (D.holds disk.new) name.now

@@ -2,16 +2,16 @@
 
 ghost use Rattle.std.specs.Prelude.{◌≡◌, [], ◌∷◌, ◌++◌, length, map, drop, slice_get, OnOk, OnErr};
 ghost use Rattle.ring_serve.specs.declared.answers.Answer.TheVariants as answer;
-ghost use Rattle.ring_serve.specs.declared.turns.Recorded.TheVariants as recorded;
-ghost use Rattle.ring_serve.specs.Calls.{seen, ring_of};
+ghost use Rattle.ring_serve.specs.declared.turns.Trace.TheVariants as trace;
+ghost use Rattle.ring_serve.specs.Commands.{seen, ring_of};
 ghost use Rattle.ring_model.specs.Resources.{till};
 ghost use Rattle.ring_desk.specs.Rings.{IsOneThreadRing};
 ghost use Rattle.ring_serve.specs.Standings.{standing_of, AreRight};
-ghost use Rattle.ring_serve.specs.Turns.{IsTurn, IsTurnOfLine, turn_seen_among, history_of};
+ghost use Rattle.ring_serve.specs.Turns.{IsTurn, IsTurnOfLine, OneTurnIsRight, turn_seen_among, history_of};
 
 use crate::answers::Refusal;
-use crate::calls::{Call, LINE_LIMIT, read_call};
-use crate::turns::{Made, make, refused};
+use crate::commands::{Command, LINE_LIMIT, read_command};
+use crate::turns::{CallAnswer, make, refused};
 use ring_book::Till;
 use ring_desk::OneThreadRing;
 use ring_model::Event;
@@ -19,7 +19,7 @@ use std::alloc::{AllocError, Global};
 use std::marker::Model;
 use text_lines::Stop;
 
-/// Rings that are called by their numbers, from 0. Contracts see where each of them stands.
+/// Rings that are called by their numbers, from 0. Contracts see the state of each of them.
 #[derive(Drop)]
 pub struct Served {
     rings: Vec<OneThreadRing<Till>>,
@@ -36,39 +36,39 @@ impl Model for Served {
     ghost invariant = { λ s. AreRight s.rings.items };
 }
 
-/// A line that was answered: the number of the ring that it calls, and what was made of it.
+/// A line that was answered: the number of the ring that it calls, and the answer to the call.
 #[derive(Clone, Copy)]
-pub struct Turned {
+pub struct LineAnswer {
     pub ring: u32,
-    pub made: Made,
+    pub call: CallAnswer,
 }
 
 /// The number of the ring that is called.
-fn ring_of(call: &Call) -> u32
-    ensures { result ≡ ring_of (seen call.now) }
+fn ring_of(command: &Command) -> u32
+    ensures { result ≡ ring_of (seen command.now) }
 {
-    match call {
-        Call::Pass { ring, .. } => *ring,
-        Call::Group { ring, .. } => *ring,
-        Call::Corrupt { ring, .. } => *ring,
-        Call::Survey { ring, .. } => *ring,
-        Call::Glance { ring } => *ring,
-        Call::Save => 0,
+    match command {
+        Command::Pass { ring, .. } => *ring,
+        Command::Group { ring, .. } => *ring,
+        Command::Corrupt { ring, .. } => *ring,
+        Command::Survey { ring, .. } => *ring,
+        Command::Glance { ring } => *ring,
+        Command::Save => 0,
     }
 }
 
-/// A call of one of the rings.
-fn make_among(rings: &mut Vec<OneThreadRing<Till>>, call: &Call) -> Made
+/// A command for one of the rings.
+fn make_among(rings: &mut Vec<OneThreadRing<Till>>, command: &Command) -> CallAnswer
     requires { AreRight rings.old.items }
-    ensures turn { IsTurn (map standing_of rings.old.items) (seen call.now)
-        (turn_seen_among (ring_of (seen call.now)) (map standing_of rings.new.items) result) }
+    ensures turn { IsTurn (map standing_of rings.old.items) (seen command.now)
+        (turn_seen_among (ring_of (seen command.now)) (map standing_of rings.new.items) result) }
     ensures right { AreRight rings.new.items }
 {
-    let at = ring_of(call) as usize;
+    let at = ring_of(command) as usize;
     if at >= rings.len() {
         return refused(Refusal::NoRing);
     }
-    make(&mut rings[at], call)
+    make(&mut rings[at], command)
 }
 
 /// The events of a ring's history from a place on; none if there is no such ring.
@@ -113,7 +113,7 @@ impl Served {
     ///
     /// # Errors
     ///
-    /// Want of memory alone.
+    /// Out of memory alone.
     pub fn add(&mut self, ring: OneThreadRing<Till>) -> Result<(), AllocError>
         requires { IsOneThreadRing till 0 ring }
         ensures ok { OnOk result (self.new ≡ self.old ++ standing_of ring ∷ []) }
@@ -129,7 +129,7 @@ impl Served {
         self.rings.len()
     }
 
-    /// The rings, in their order, as they stand.
+    /// The rings, in their order, as they are.
     pub(crate) fn rings(&self) -> &[OneThreadRing<Till>]
         ensures same { map standing_of result.now ≡ self.now }
         ensures right { AreRight result.now }
@@ -145,45 +145,51 @@ impl Served {
     }
 
     /// Makes a call.
-    fn make(&mut self, call: &Call) -> Made
-        ensures { IsTurn self.old (seen call.now)
-            (turn_seen_among (ring_of (seen call.now)) self.new result) }
+    fn make(&mut self, command: &Command) -> CallAnswer
+        ensures { IsTurn self.old (seen command.now)
+            (turn_seen_among (ring_of (seen command.now)) self.new result) }
     {
-        make_among(&mut self.rings, call)
+        make_among(&mut self.rings, command)
     }
 }
 
-/// Answers a line, which has its LF: as the one-thread ring answers to the call that it is, `refused syntax` where it is none or
-/// has more than 8 KiB, `refused order` where its order is 2 to the power 64 or more. `refused memory` can come at any line, and changes nothing. A `save` is answered `saved`: to save, or to
-/// answer that it was not done, is the caller's, as in [`serve`](crate::serve).
-pub fn answer_line(alloc: Global, served: &mut Served, line: &[u8]) -> Turned
+/// Answers a line, which has its LF: as the one-thread ring answers to the command whose line it is, `refused syntax` where it is
+/// that of none or has more than 8 KiB, `refused order` where its order is 2 to the power 64 or more. `refused memory` can come at
+/// any line, and changes nothing. A `save` is answered `saved`: to save, or to answer that it was not done, is the caller's, as in
+/// [`serve`](crate::serve).
+pub fn answer_line(alloc: Global, served: &mut Served, line: &[u8]) -> LineAnswer
     ensures { IsTurnOfLine served.old line.now
-        (turn_seen_among result.ring served.new result.made) }
+        (turn_seen_among result.ring served.new result.call) }
 {
     if line.len() > LINE_LIMIT {
         return no_call(Refusal::Syntax);
     }
-    match read_call(alloc, line) {
-        Ok(Some(call)) => Turned {
-            ring: ring_of(&call),
-            made: served.make(&call),
+    match read_command(alloc, line) {
+        Ok(Some(command)) => LineAnswer {
+            ring: ring_of(&command),
+            call: served.make(&command),
         },
-        Ok(None) => no_call(Refusal::NoOrder),
+        Ok(None) => no_call(Refusal::OrderTooLarge),
         Err(Stop::Memory) => no_call(Refusal::OutOfMemory),
         Err(Stop::Fault(_)) => no_call(Refusal::Syntax),
     }
 }
 
-/// A line that is no call.
-fn no_call(why: Refusal) -> Turned
+/// A line that is not a call.
+fn no_call(why: Refusal) -> LineAnswer
     ensures { result
         ≡ record {
           ring = 0;
-          made = record { answer = answer.Refused why; recorded = recorded.Nothing };
+          call = record { answer = answer.Refused why; trace = trace.Nothing };
         } }
 {
-    Turned {
+    LineAnswer {
         ring: 0,
-        made: refused(why),
+        call: refused(why),
     }
 }
+
+/// A line has one turn, memory aside.
+pub fn one_turn_is_right()
+    ensures { OneTurnIsRight }
+{}

@@ -1,27 +1,28 @@
 //! Lines that are served one after the other, over any reader and any writers.
 //!
-//! What the lines of a block are answered, and what of it the journal gets, is kept until the block has been read. Then the
-//! journal gets its part, and is flushed; only behind that do the answers leave.
+//! The answers to the lines of a block, and their part for the journal, are kept until the block has been read. Then the
+//! journal gets its part, and is flushed; only after that do the answers leave.
 
-ghost use Rattle.std.specs.Prelude.{◌≡◌, ℕ, List, Option, Bool, [], ◌∷◌, ◌++◌, OnOk, OnErr, MatchResult, Some, is_some, cond, IsTrue};
+ghost use Rattle.std.specs.Prelude.{◌≡◌, ◌≢◌, ℕ, List, Option, Bool, [], ◌∷◌, ◌++◌, OnOk, OnErr, IfErr, MatchResult, Some, is_some, cond, IsTrue};
 ghost use Rattle.disks.specs.Held.{Held};
 ghost use Rattle.std.specs.Io.KnownBytes.{Appends};
 ghost use Rattle.text_lines.specs.Writing.{Writes, Wrote};
 ghost use Rattle.ring_serve.specs.declared.answers.Answer.TheVariants as answer;
 ghost use Rattle.ring_serve.specs.declared.answers.Refusal.TheVariants as refusal;
+ghost use Rattle.ring_serve.specs.declared.serving.ServeFault.TheVariants as fault;
 ghost use Rattle.ring_serve.specs.Answers.{answer_line};
 ghost use Rattle.ring_serve.specs.Standings.{Standing};
 ghost use Rattle.ring_serve.specs.Turns.{recorded_among};
 ghost use Rattle.ring_serve.specs.Notes.{notes_of};
-ghost use Rattle.ring_serve.specs.Serving.{cut, name_in, IsGiven, IsAnswered, Written, GoesOn, Serves, Tells, ServesAll, ServesSome};
+ghost use Rattle.ring_serve.specs.Serving.{cut, name_in, IsGiven, IsAnswered, Written, GoesOn, Serves, Tells, held_by, IsFaultOf, ServesAll, ServesSome};
 
 use crate::answers::{Answer, Refusal};
-use crate::calls::LINE_LIMIT;
+use crate::commands::LINE_LIMIT;
 use crate::saving::save_rings;
-use crate::served::{Served, Turned, answer_line};
-use crate::turns::Recorded;
+use crate::served::{LineAnswer, Served, answer_line};
+use crate::turns::Trace;
 use disks::Disk;
-use ring_text::{put_events, put_survey};
+use ring_blocks::{put_events, put_survey};
 use std::alloc::{AllocError, Global};
 use std::io::{Read, Write};
 use text_lines::{WriteFault, put};
@@ -39,42 +40,55 @@ pub enum ServeFault {
     /// The output could not be written.
     Write,
     OutOfMemory,
+    /// The input goes on behind 2 to the power 64 less 1 blocks, more than are counted.
+    TooLong,
 }
 
-impl From<AllocError> for ServeFault {
-    fn from(_error: AllocError) -> ServeFault {
-        ServeFault::OutOfMemory
+/// A journal that is kept: the name of its file, and the writer of its lines.
+#[derive(Drop)]
+pub struct Journal<'n, J> {
+    pub name: &'n str,
+    pub writer: J,
+}
+
+/// The name of the journal's file, if one is kept.
+fn file_of<'n, J>(journal: &Option<Journal<'n, J>>) -> Option<&'n str>
+    ensures { is_some result ≡ is_some journal.now }
+{
+    match journal {
+        None => None,
+        Some(journal) => Some(journal.name),
     }
 }
 
-/// What lines were answered, and what of it the journal gets, until both leave.
+/// The answers to lines, and the journal's part of them, until both leave.
 #[derive(Drop)]
 pub struct Pending {
     answers: Vec<u8>,
     notes: Vec<u8>,
 }
 
-/// Writes the lines of what a turn recorded.
-fn note<J: Write>(served: &Served, turned: Turned, notes: &mut J) -> Result<(), WriteFault>
+/// Writes the lines of a turn's record.
+fn note<J: Write>(served: &Served, turn: LineAnswer, notes: &mut J) -> Result<(), WriteFault>
     ensures { Writes (J.contents notes.old) (J.contents notes.new) result
-        (notes_of (recorded_among turned.ring served.now turned.made.recorded)) }
+        (notes_of (recorded_among turn.ring served.now turn.call.trace)) }
 {
-    match turned.made.recorded {
-        Recorded::Nothing => Ok(()),
-        Recorded::Events(from) => put_events(notes, turned.ring, served.events(turned.ring, from)),
-        Recorded::Survey { seat, survey } => put_survey(notes, turned.ring, seat, survey),
+    match turn.call.trace {
+        Trace::Nothing => Ok(()),
+        Trace::Events(from) => put_events(notes, turn.ring, served.events(turn.ring, from)),
+        Trace::Survey { seat, survey } => put_survey(notes, turn.ring, seat, survey),
     }
 }
 
 /// Whether a name may lead to the journal's file.
-fn may_be_journal<D: Disk>(disk: &D, keeping: Option<&str>, name: &str) -> bool {
-    match keeping {
+fn may_be_journal<D: Disk>(disk: &D, journal: Option<&str>, name: &str) -> bool {
+    match journal {
         None => false,
         Some(journal) => disk.is_one_file(journal, name).unwrap_or(true),
     }
 }
 
-/// What stands behind the word `save` of a line, up to its LF.
+/// The bytes behind the word `save` of a line, up to its LF.
 fn name_of(line: &[u8]) -> &[u8]
     ensures { result.now ≡ name_in line.now }
 {
@@ -89,7 +103,7 @@ fn save_named<D: Disk>(
     alloc: Global,
     served: &Served,
     disk: &mut D,
-    keeping: Option<&str>,
+    journal: Option<&str>,
     line: &[u8],
 ) -> bool
     ensures { IsGiven (D.holds disk.old) (D.holds disk.new) (name_in line.now) served.now
@@ -98,18 +112,18 @@ fn save_named<D: Disk>(
     let Ok(name) = str::from_utf8(name_of(line)) else {
         return false;
     };
-    if name == "-" || may_be_journal(disk, keeping, name) {
+    if name == "-" || may_be_journal(disk, journal, name) {
         return false;
     }
     save_rings(alloc, disk, served, name)
 }
 
-/// What a line is answered, if its turn asks for this: the rings are saved, if that is asked for.
+/// The answer to a line, if its turn asks for this: the rings are saved, if that is asked for.
 fn give<D: Disk>(
     alloc: Global,
     served: &Served,
     disk: &mut D,
-    keeping: Option<&str>,
+    journal: Option<&str>,
     line: &[u8],
     asked: Answer,
 ) -> Answer
@@ -118,7 +132,7 @@ fn give<D: Disk>(
 {
     match asked {
         Answer::Saved => {
-            if save_named(alloc, served, disk, keeping, line) {
+            if save_named(alloc, served, disk, journal, line) {
                 Answer::Saved
             } else {
                 Answer::Refused(Refusal::File)
@@ -128,50 +142,50 @@ fn give<D: Disk>(
     }
 }
 
-/// Puts what a line is answered, and what its turn recorded, behind what is pending.
+/// Adds the answer to a line, and the record of its turn, to the pending ones.
 fn add_pending(
     served: &Served,
-    turned: Turned,
+    turn: LineAnswer,
     given: Answer,
-    keeps: bool,
+    noting: bool,
     pending: &mut Pending,
-) -> Result<(), ServeFault>
+) -> Result<(), AllocError>
     ensures answers { OnOk result
         (pending.new.answers.items ≡ pending.old.answers.items ++ answer_line given) }
     ensures notes { OnOk result (pending.new.notes.items
         ≡ pending.old.notes.items
-        ++ cond keeps (notes_of (recorded_among turned.ring served.now turned.made.recorded))
+        ++ cond noting (notes_of (recorded_among turn.ring served.now turn.call.trace))
         []) }
 {
     pending.answers.extend_from_slice(given.line().as_bytes())?;
-    if !keeps {
+    if !noting {
         return Ok(());
     }
-    match note(served, turned, &mut pending.notes) {
+    match note(served, turn, &mut pending.notes) {
         Ok(()) => Ok(()),
-        Err(_) => Err(ServeFault::OutOfMemory),
+        Err(_) => Err(AllocError),
     }
 }
 
-/// Answers a line: what it says and notes is pending then.
+/// Answers a line: its answer and its notes are pending then.
 fn answer<D: Disk>(
     alloc: Global,
     served: &mut Served,
     disk: &mut D,
-    keeping: Option<&str>,
+    journal: Option<&str>,
     line: &[u8],
     pending: &mut Pending,
-) -> Result<(), ServeFault>
+) -> Result<(), AllocError>
     ensures { (said : List ℕ)
         × (noted : List ℕ)
-        × IsAnswered (is_some keeping.entry) served.old (D.holds disk.old) line.now said noted
+        × IsAnswered (is_some journal.entry) served.old (D.holds disk.old) line.now said noted
         served.new (D.holds disk.new)
         × OnOk result ((pending.new.answers.items ≡ pending.old.answers.items ++ said)
         × (pending.new.notes.items ≡ pending.old.notes.items ++ noted)) }
 {
-    let turned = answer_line(alloc, served, line);
-    let given = give(alloc, served, disk, keeping, line, turned.made.answer);
-    add_pending(served, turned, given, keeping.is_some(), pending)
+    let turn = answer_line(alloc, served, line);
+    let given = give(alloc, served, disk, journal, line, turn.call.answer);
+    add_pending(served, turn, given, journal.is_some(), pending)
 }
 
 /// Keeps a byte of a line, unless the line is too long already.
@@ -191,22 +205,22 @@ fn take_byte<D: Disk>(
     alloc: Global,
     served: &mut Served,
     disk: &mut D,
-    keeping: Option<&str>,
+    journal: Option<&str>,
     line: &mut Vec<u8>,
     byte: u8,
     pending: &mut Pending,
-) -> Result<(), ServeFault>
+) -> Result<(), AllocError>
     ensures { (old : List Standing) (was : Option Held) (before after : Written) (bytes : List ℕ)
-        → GoesOn (is_some keeping.entry) old was before after bytes served.old (D.holds disk.old)
+        → GoesOn (is_some journal.entry) old was before after bytes served.old (D.holds disk.old)
         line.old.items pending.old
-        → Serves result (is_some keeping.entry) old was before after (bytes ++ byte ∷ []) served.new
+        → Serves result (is_some journal.entry) old was before after (bytes ++ byte ∷ []) served.new
         (D.holds disk.new) line.new.items pending.new }
 {
     keep(line, byte)?;
     if byte != b'\n' {
         return Ok(());
     }
-    answer(alloc, served, disk, keeping, line.as_slice(), pending)?;
+    answer(alloc, served, disk, journal, line.as_slice(), pending)?;
     line.clear();
     Ok(())
 }
@@ -216,19 +230,19 @@ fn take_block<D: Disk>(
     alloc: Global,
     served: &mut Served,
     disk: &mut D,
-    keeping: Option<&str>,
+    journal: Option<&str>,
     line: &mut Vec<u8>,
     block: &[u8],
     pending: &mut Pending,
-) -> Result<(), ServeFault>
+) -> Result<(), AllocError>
     ensures { (old : List Standing) (was : Option Held) (before after : Written) (bytes : List ℕ)
-        → GoesOn (is_some keeping.entry) old was before after bytes served.old (D.holds disk.old)
+        → GoesOn (is_some journal.entry) old was before after bytes served.old (D.holds disk.old)
         line.old.items pending.old
-        → Serves result (is_some keeping.entry) old was before after (bytes ++ block.now) served.new
+        → Serves result (is_some journal.entry) old was before after (bytes ++ block.now) served.new
         (D.holds disk.new) line.new.items pending.new }
 {
     for byte in block {
-        match take_byte(alloc, served, disk, keeping, line, *byte, pending) {
+        match take_byte(alloc, served, disk, journal, line, *byte, pending) {
             Ok(()) => {}
             Err(fault) => return Err(fault),
         }
@@ -251,22 +265,39 @@ fn put_out<W: Write>(out: &mut W, bytes: &[u8]) -> bool
     out.flush().is_ok()
 }
 
-/// Has what is pending leave: the journal's part first.
+/// Writes all of these bytes to the journal, if there is one, and says whether it could.
+fn put_notes<J: Write>(journal: &mut Option<Journal<'_, J>>, bytes: &[u8]) -> bool
+    ensures all { IsTrue result
+        → Appends (held_by J.contents journal.old) (held_by J.contents journal.new) bytes.now }
+    ensures part { (left : List ℕ)
+        × Wrote (held_by J.contents journal.old) (held_by J.contents journal.new) bytes.now left }
+    ensures kept { is_some journal.new ≡ is_some journal.old }
+{
+    match journal {
+        None => true,
+        Some(journal) => put_out(&mut journal.writer, bytes),
+    }
+}
+
+/// Writes the pending bytes: the journal's part first.
 fn commit<J: Write, W: Write>(
     pending: &mut Pending,
-    journal: &mut J,
+    journal: &mut Option<Journal<'_, J>>,
     out: &mut W,
 ) -> Result<(), ServeFault>
+    ensures known { IfErr result (λ e. e ≢ fault.TooLong) }
+    ensures kept { is_some journal.new ≡ is_some journal.old }
     ensures left { OnOk result ((pending.new.answers.items ≡ []) × (pending.new.notes.items ≡ [])) }
-    ensures told { (keeps : Bool) (old new : List Standing) (was is : Option Held) (before : Written)
-        (bytes line : List ℕ)
-        → GoesOn keeps old was before
-        (record { journal = J.contents journal.old; out = W.contents out.old }) bytes new is line
-        pending.old
-        → Tells result keeps old was before
-        (record { journal = J.contents journal.new; out = W.contents out.new }) bytes new is line }
+    ensures told { (noting : Bool) (old new : List Standing) (was is : Option Held)
+        (before : Written) (bytes line : List ℕ)
+        → GoesOn noting old was before
+        (record { journal = held_by J.contents journal.old; out = W.contents out.old })
+        bytes new is line pending.old
+        → Tells result noting old was before
+        (record { journal = held_by J.contents journal.new; out = W.contents out.new })
+        bytes new is line }
 {
-    if !put_out(journal, pending.notes.as_slice()) {
+    if !put_notes(journal, pending.notes.as_slice()) {
         return Err(ServeFault::Journal);
     }
     if !put_out(out, pending.answers.as_slice()) {
@@ -277,42 +308,45 @@ fn commit<J: Write, W: Write>(
     Ok(())
 }
 
-/// Serves the lines of a reader to its end: each line is answered by one line on the writer. What stands behind the last LF is
-/// no line, and is not answered.
+/// Serves the lines of a reader to its end: each line is answered by one line on the writer. The bytes after the last LF are
+/// not a line, and are not answered.
 ///
-/// If `keeping` names the journal's file, the journal gets the lines of what each turn recorded; no `save` replaces that file.
-/// Else no journal is kept, and its writer is not touched. Before more is read the journal is flushed, and then the writer: no
-/// answer leaves whose call is not in the journal.
+/// If there is a journal, it gets the lines of what each turn recorded, and no `save` replaces its file. Before more is read the
+/// journal is flushed, and then the writer: no answer leaves whose call is not in the journal.
 ///
 /// # Errors
 ///
-/// The first error of the reader, of the journal or of the writer, and want of memory for what a block is answered. The lines
-/// before were answered; the writer holds a beginning of their answers, and the journal what is noted of each that was told.
+/// The first error of the reader, of the journal or of the writer; `OutOfMemory` where there was none for what a block is
+/// answered; `TooLong` where no more blocks are counted. The lines before were answered; the writer holds a beginning of their
+/// answers, and the journal the notes of each that was told.
 pub fn serve<D: Disk, I: Read, J: Write, W: Write>(
     alloc: Global,
     served: &mut Served,
     disk: &mut D,
-    keeping: Option<&str>,
+    journal: &mut Option<Journal<'_, J>>,
     input: &mut I,
-    journal: &mut J,
     out: &mut W,
 ) -> Result<(), ServeFault>
-    ensures ok { OnOk result (ServesAll (is_some keeping.entry) served.old served.new
+    ensures ok { OnOk result (ServesAll (is_some journal.old) served.old served.new
         (D.holds disk.old) (D.holds disk.new) (I.remaining input.old) (I.remaining input.new)
-        (record { journal = J.contents journal.old; out = W.contents out.old })
-        (record { journal = J.contents journal.new; out = W.contents out.new })) }
-    ensures err { OnErr result (ServesSome (is_some keeping.entry) served.old served.new
+        (record { journal = held_by J.contents journal.old; out = W.contents out.old })
+        (record { journal = held_by J.contents journal.new; out = W.contents out.new })) }
+    ensures err { OnErr result (ServesSome (is_some journal.old) served.old served.new
         (D.holds disk.old) (D.holds disk.new) (I.remaining input.old) (I.remaining input.new)
-        (record { journal = J.contents journal.old; out = W.contents out.old })
-        (record { journal = J.contents journal.new; out = W.contents out.new })) }
+        (record { journal = held_by J.contents journal.old; out = W.contents out.old })
+        (record { journal = held_by J.contents journal.new; out = W.contents out.new })) }
+    ensures long { IfErr result (λ e.
+        IsFaultOf e (I.remaining input.old) (I.remaining input.new)) }
+    ensures kept { is_some journal.new ≡ is_some journal.old }
 {
+    let file = file_of(journal);
     let mut line = Vec::new(alloc);
     let mut pending = Pending {
         answers: Vec::new(alloc),
         notes: Vec::new(alloc),
     };
     let mut block = [0u8; BLOCK];
-    'rounds: for _ in 0..u64::MAX {
+    'rounds: for round in 0..u64::MAX {
         let Ok(count) = input.read(&mut block) else {
             return Err(ServeFault::Read);
         };
@@ -323,18 +357,18 @@ pub fn serve<D: Disk, I: Read, J: Write, W: Write>(
             alloc,
             served,
             disk,
-            keeping,
+            file,
             &mut line,
             &block[..count],
             &mut pending,
         ) {
             Ok(()) => {}
-            Err(fault) => return Err(fault),
+            Err(AllocError) => return Err(ServeFault::OutOfMemory),
         }
         match commit(&mut pending, journal, out) {
             Ok(()) => {}
             Err(fault) => return Err(fault),
         }
     }
-    Err(ServeFault::Read)
+    Err(ServeFault::TooLong)
 }

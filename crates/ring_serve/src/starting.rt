@@ -1,4 +1,4 @@
-//! Rings that go on where saved ones ended.
+//! Rings that resume where saved ones ended.
 
 ghost use Rattle.std.specs.Prelude.{◌≡◌, ◌<◌, length, IfOk, IfErr};
 ghost use Rattle.ring_serve.specs.Starting.{AreResumed, IsStartFault};
@@ -12,18 +12,18 @@ use std::alloc::Global;
 /// Why saved rings are not served.
 #[derive(Clone, Copy, Debug)]
 pub enum StartError {
-    /// The ring of this number, the first, has more events than a ring can go on with.
+    /// The ring of this number, the first, has more events than a ring can resume.
     Full(u64),
     OutOfMemory,
 }
 
 impl Served {
-    /// Rings that go on where saved ones ended, which are legal: each has the start, the history and the surveys of its
+    /// Makes rings that resume where saved ones ended, which are legal: each has the start, the history and the surveys of its
     /// saved ring, and as many seats as a ring can have.
     ///
     /// # Errors
     ///
-    /// `Full` with the number of the first ring that has more than `EVENT_LIMIT` events, and want of memory.
+    /// `Full` with the number of the first ring that has more than `EVENT_LIMIT` events, and `OutOfMemory`.
     pub fn from_saved(alloc: Global, saved: &Saved) -> Result<Served, StartError>
         ensures ok { IfOk result (λ served. AreResumed served saved.now.rings.items) }
         ensures err { IfErr result (λ e. IsStartFault saved.now.rings.items e) }

@@ -1,4 +1,4 @@
-//! What adds up over rings that are served.
+//! The sums over rings that are served.
 
 ghost use Rattle.std.specs.Prelude.{◌≡◌, ◌+◌, IfSome, length, map};
 ghost use Rattle.ring_model.specs.Surveys.{granted_count};
@@ -6,11 +6,11 @@ ghost use Rattle.ring_serve.specs.Standings.{standing_of};
 ghost use Rattle.ring_serve.specs.Totals.{surveys_among, totals_of};
 
 use crate::served::Served;
+use ring_blocks::{Totals, granted};
 use ring_book::Till;
 use ring_desk::OneThreadRing;
-use ring_text::{Totals, granted};
 
-/// How many surveys the clients of a ring were told.
+/// How many surveys the clients of a ring were given.
 fn surveys_of(ring: &OneThreadRing<Till>) -> Option<u64>
     ensures { IfSome result (λ count. count ≡ surveys_among ring.now.clients) }
 {
@@ -22,7 +22,7 @@ fn surveys_of(ring: &OneThreadRing<Till>) -> Option<u64>
     Some(all)
 }
 
-/// What adds up over rings, with one ring more.
+/// The sums over rings, with one ring more.
 fn with_ring(all: Totals, ring: &OneThreadRing<Till>) -> Option<Totals>
     ensures { IfSome result (λ totals. totals
         ≡ record {
@@ -39,7 +39,7 @@ fn with_ring(all: Totals, ring: &OneThreadRing<Till>) -> Option<Totals>
     })
 }
 
-/// What adds up over rings.
+/// The sums over rings.
 fn added_up(rings: &[OneThreadRing<Till>]) -> Option<Totals>
     ensures { IfSome result (λ totals. totals ≡ totals_of (map standing_of rings.now)) }
 {

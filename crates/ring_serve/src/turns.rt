@@ -1,21 +1,21 @@
-//! The calls of one ring, each with its answer and with what is to be recorded of it.
+//! The calls of one ring, each with its answer and its record.
 
 ghost use Rattle.std.specs.Prelude.{◌≡◌, ℕ};
 ghost use Rattle.ring_model.specs.Resources.{till};
 ghost use Rattle.ring_desk.specs.Rings.{IsOneThreadRing};
-ghost use Rattle.ring_serve.specs.Calls.{seen, ring_of, pass, group, corrupt, survey, glance};
+ghost use Rattle.ring_serve.specs.Commands.{seen, ring_of, pass, group, corrupt, survey, glance};
 ghost use Rattle.ring_serve.specs.Standings.{standing_of};
-ghost use Rattle.ring_serve.specs.Turns.{IsTurnAt, turn_seen, answer_of};
+ghost use Rattle.ring_serve.specs.Turns.{IsTurnAt, turn_seen, answer_of, refusal_of};
 
 use crate::answers::{Answer, Refusal};
-use crate::calls::Call;
+use crate::commands::Command;
 use ring_book::Till;
 use ring_desk::{CallError, OneThreadRing};
 use ring_model::{Reply, Survey};
 
-/// What is to be recorded of a call.
+/// The trace of a call: what is to be recorded of it.
 #[derive(Clone, Copy)]
-pub enum Recorded {
+pub enum Trace {
     Nothing,
     /// The events of the ring's history, from this place on.
     Events(usize),
@@ -23,20 +23,36 @@ pub enum Recorded {
     Survey { seat: u32, survey: Survey },
 }
 
-/// A call that was made: its answer, and what is to be recorded of it.
+/// The answer to a call, with its trace.
 #[derive(Clone, Copy)]
-pub struct Made {
+pub struct CallAnswer {
     pub answer: Answer,
-    pub recorded: Recorded,
+    pub trace: Trace,
 }
 
 /// A call that was refused.
-pub(crate) fn refused(why: Refusal) -> Made
-    ensures { result ≡ record { answer = Answer.Refused why; recorded = Recorded.Nothing } }
+pub(crate) fn refused(why: Refusal) -> CallAnswer
+    ensures { result ≡ record { answer = Answer.Refused why; trace = Trace.Nothing } }
 {
-    Made {
+    CallAnswer {
         answer: Answer::Refused(why),
-        recorded: Recorded::Nothing,
+        trace: Trace::Nothing,
+    }
+}
+
+/// The refusal of a ring that is called by numbers, as that of a command.
+fn refusal_of(error: CallError) -> Refusal
+    ensures { result ≡ refusal_of error }
+{
+    match error {
+        CallError::NoSeat => Refusal::NoSeat,
+        CallError::NoMachine => Refusal::NoMachine,
+        CallError::NoValue => Refusal::NoValue,
+        CallError::NotRising => Refusal::NotRising,
+        CallError::WholeRing => Refusal::WholeRing,
+        CallError::NotPrivileged(machine) => Refusal::NotPrivileged(machine),
+        CallError::HistoryFull => Refusal::HistoryFull,
+        CallError::OutOfMemory => Refusal::OutOfMemory,
     }
 }
 
@@ -52,7 +68,7 @@ fn answer_of(reply: Reply) -> Answer
 }
 
 /// A pass by a machine, for a seat.
-fn make_pass(ring: &mut OneThreadRing<Till>, seat: u32, machine: u32, order: u64) -> Made
+fn make_pass(ring: &mut OneThreadRing<Till>, seat: u32, machine: u32, order: u64) -> CallAnswer
     requires { IsOneThreadRing till 0 ring.old }
     ensures turn { (at : ℕ)
         → IsTurnAt (standing_of ring.old) (pass at seat machine order)
@@ -61,19 +77,16 @@ fn make_pass(ring: &mut OneThreadRing<Till>, seat: u32, machine: u32, order: u64
 {
     let from = ring.history().len();
     match ring.pass(seat, machine, order) {
-        Ok(receipt) => Made {
+        Ok(receipt) => CallAnswer {
             answer: answer_of(receipt.event.reply),
-            recorded: Recorded::Events(from),
+            trace: Trace::Events(from),
         },
-        Err(CallError::NoSeat) => refused(Refusal::NoSeat),
-        Err(CallError::NoMachine) => refused(Refusal::NoMachine),
-        Err(CallError::HistoryFull) => refused(Refusal::HistoryFull),
-        Err(_) => refused(Refusal::OutOfMemory),
+        Err(error) => refused(refusal_of(error)),
     }
 }
 
 /// A fault, for a seat.
-fn make_fault(ring: &mut OneThreadRing<Till>, seat: u32, machine: u32, value: u32) -> Made
+fn make_fault(ring: &mut OneThreadRing<Till>, seat: u32, machine: u32, value: u32) -> CallAnswer
     requires { IsOneThreadRing till 0 ring.old }
     ensures turn { (at : ℕ)
         → IsTurnAt (standing_of ring.old) (corrupt at seat machine value)
@@ -82,20 +95,16 @@ fn make_fault(ring: &mut OneThreadRing<Till>, seat: u32, machine: u32, value: u3
 {
     let from = ring.history().len();
     match ring.corrupt(seat, machine, value) {
-        Ok(receipt) => Made {
+        Ok(receipt) => CallAnswer {
             answer: answer_of(receipt.event.reply),
-            recorded: Recorded::Events(from),
+            trace: Trace::Events(from),
         },
-        Err(CallError::NoSeat) => refused(Refusal::NoSeat),
-        Err(CallError::NoMachine) => refused(Refusal::NoMachine),
-        Err(CallError::NoValue) => refused(Refusal::NoValue),
-        Err(CallError::HistoryFull) => refused(Refusal::HistoryFull),
-        Err(_) => refused(Refusal::OutOfMemory),
+        Err(error) => refused(refusal_of(error)),
     }
 }
 
 /// A pass by a group of machines at once, for a seat.
-fn make_group(ring: &mut OneThreadRing<Till>, seat: u32, order: u64, machines: &[u32]) -> Made
+fn make_group(ring: &mut OneThreadRing<Till>, seat: u32, order: u64, machines: &[u32]) -> CallAnswer
     requires { IsOneThreadRing till 0 ring.old }
     ensures turn { (at : ℕ)
         → IsTurnAt (standing_of ring.old) (group at seat order machines.now)
@@ -104,24 +113,19 @@ fn make_group(ring: &mut OneThreadRing<Till>, seat: u32, order: u64, machines: &
 {
     let from = ring.history().len();
     match ring.pass_group(seat, machines, order) {
-        Ok(receipt) => Made {
+        Ok(receipt) => CallAnswer {
             answer: Answer::Block {
                 first: receipt.first,
                 count: receipt.count,
             },
-            recorded: Recorded::Events(from),
+            trace: Trace::Events(from),
         },
-        Err(CallError::NoSeat) => refused(Refusal::NoSeat),
-        Err(CallError::NotRising) => refused(Refusal::NoGroup),
-        Err(CallError::WholeRing) => refused(Refusal::WholeRing),
-        Err(CallError::NotPrivileged(machine)) => refused(Refusal::NotPrivileged(machine)),
-        Err(CallError::HistoryFull) => refused(Refusal::HistoryFull),
-        Err(_) => refused(Refusal::OutOfMemory),
+        Err(error) => refused(refusal_of(error)),
     }
 }
 
 /// A survey, which the log of a seat keeps.
-fn make_survey(ring: &mut OneThreadRing<Till>, seat: u32) -> Made
+fn make_survey(ring: &mut OneThreadRing<Till>, seat: u32) -> CallAnswer
     requires { IsOneThreadRing till 0 ring.old }
     ensures turn { (at : ℕ)
         → IsTurnAt (standing_of ring.old) (survey at seat)
@@ -129,50 +133,49 @@ fn make_survey(ring: &mut OneThreadRing<Till>, seat: u32) -> Made
     ensures ring { IsOneThreadRing till 0 ring.new }
 {
     match ring.survey(seat) {
-        Ok(survey) => Made {
+        Ok(survey) => CallAnswer {
             answer: Answer::Survey(survey),
-            recorded: Recorded::Survey { seat, survey },
+            trace: Trace::Survey { seat, survey },
         },
-        Err(CallError::NoSeat) => refused(Refusal::NoSeat),
-        Err(_) => refused(Refusal::OutOfMemory),
+        Err(error) => refused(refusal_of(error)),
     }
 }
 
-/// A call of its ring.
-pub(crate) fn make(ring: &mut OneThreadRing<Till>, call: &Call) -> Made
+/// A command for its ring.
+pub(crate) fn make(ring: &mut OneThreadRing<Till>, command: &Command) -> CallAnswer
     requires { IsOneThreadRing till 0 ring.old }
-    ensures turn { IsTurnAt (standing_of ring.old) (seen call.now)
-        (turn_seen (ring_of (seen call.now)) (standing_of ring.new) result) }
+    ensures turn { IsTurnAt (standing_of ring.old) (seen command.now)
+        (turn_seen (ring_of (seen command.now)) (standing_of ring.new) result) }
     ensures ring { IsOneThreadRing till 0 ring.new }
 {
-    match call {
-        Call::Pass {
+    match command {
+        Command::Pass {
             seat,
             machine,
             order,
             ..
         } => make_pass(ring, *seat, *machine, *order),
-        Call::Group {
+        Command::Group {
             seat,
             order,
             machines,
             ..
         } => make_group(ring, *seat, *order, machines.as_slice()),
-        Call::Corrupt {
+        Command::Corrupt {
             seat,
             machine,
             value,
             ..
         } => make_fault(ring, *seat, *machine, *value),
-        Call::Survey { seat, .. } => make_survey(ring, *seat),
-        Call::Glance { .. } => Made {
+        Command::Survey { seat, .. } => make_survey(ring, *seat),
+        Command::Glance { .. } => CallAnswer {
             answer: Answer::Survey(ring.glance()),
-            recorded: Recorded::Nothing,
+            trace: Trace::Nothing,
         },
-        // that this is so is the caller's to see to
-        Call::Save => Made {
+        // the caller saves, or answers that it did not
+        Command::Save => CallAnswer {
             answer: Answer::Saved,
-            recorded: Recorded::Nothing,
+            trace: Trace::Nothing,
         },
     }
 }

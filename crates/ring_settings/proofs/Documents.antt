@@ -1,4 +1,4 @@
--- What a read of bytes says of the JSON value that they are.
+-- The JSON value of some bytes, by a read of them.
 use Rattle.std.proofs.Common.{◌≡◌, ℕ, List, Bool, true, false, refl, Some, None, IsUtf8, cond}
 use Rattle.std.specs.Str.{is_utf8}
 use Rattle.std.proofs.lemmas.Str.{is_utf8-from_IsUtf8, IsUtf8-from_is_utf8}

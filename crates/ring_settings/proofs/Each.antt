@@ -7,7 +7,7 @@ use Rattle.serde_json.specs.declared.value.Value.{Value}
 use Rattle.ring_settings.specs.Walk.{each_from, items_count, then_with}
 use Rattle.ring_settings.specs.declared.faults.SettingsError.{SettingsError}
 
--- what was read, and then the rest
+-- the entries that were read, and then the rest
 abbrev pub with_rest : {A : Type 0} → List A → Result (List A) SettingsError → Result (List A) SettingsError
 with_rest done rest = then_with rest (λ later. Ok (done ++ later))
 

@@ -1,4 +1,4 @@
--- What the rings that a walk reads are.
+-- Facts on the rings that a walk reads.
 use Rattle.std.proofs.Common.{◌≡◌, ℕ, ◌+◌, ◌<◌, ◌≤◌, ◌∷◌, List, [], length, refl, ap, Ok, Option, Some, None, true, ◌&&◌, map, nat_lt, nat_eq, arith, codes}
 use Rattle.std.specs.Prelude.{option_and_then, option_map, All, nat_le}
 use Rattle.std.proofs.lemmas.Bool.Decides.{nat_tests}

@@ -1,4 +1,4 @@
--- What the seats that a walk reads are, and the whole settings.
+-- Facts on the seats that a walk reads, and on the whole settings.
 use Rattle.std.proofs.Common.{◌≡◌, ℕ, ◌<◌, ◌≤◌, ◌++◌, ◌∷◌, List, [], length, subst, Result, Ok, Option, Some, None, Bool, true, false, cond, ◌&&◌, nat_lt, arith, codes, length-append}
 use Rattle.std.specs.Prelude.{option_and_then, All, nat_le, is_some}
 use Rattle.std.specs.Str.{bytes_eq}
@@ -122,7 +122,7 @@ seat_from-ok : (role : Role) (sizes : List Size) (seat : ℕ) (d : Data) (s : Se
 seat_from-ok role sizes seat d s h =
     seat_by_script-ok role sizes seat d (get (codes "script") d) s (chosen (is_object d) (seat_by_script role sizes seat d (get (codes "script") d)) (Shape (field_of role)) s h).1
 
--- at least one seat, at most so many, and each is one for these rings
+-- at least one seat, at most the limit, and each is one for these rings
 record AreSeats (sizes : List Size) (limit : ℕ) (seats : List SeatData) : Type 0 where
   some : 1 ≤ length seats
   most : length seats ≤ limit
@@ -171,7 +171,7 @@ seats_member-ok sizes d seats h =
 
 -- ---- the whole
 
--- what the walk accepts is settings that a farm can run
+-- the settings that the walk accepts can be run by a farm
 pub settings_of_parts : (d : Data) (rings : List RingData) (seats : List SeatData) → rings_member d ≡ Ok rings → seats_member (sizes_of rings) d ≡ Ok seats →
     IsSettings (record { rings = rings; seats = seats })
 settings_of_parts d rings seats of_rings of_seats =

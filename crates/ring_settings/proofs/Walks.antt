@@ -1,4 +1,4 @@
--- What a walk that comes to its end says of its parts.
+-- Facts on the parts of a walk that comes to its end.
 use Rattle.std.proofs.Common.{◌≡◌, ℕ, ◌+◌, ◌∷◌, List, [], length, refl, sym, ◌∙◌, ap, Result, Ok, Err, Option, Some, None, add-one, Bool, true, false, cond, ◌&&◌}
 use Rattle.std.specs.Prelude.{option_and_then, All}
 use Rattle.std.specs.Option.{ok_or}
@@ -12,7 +12,7 @@ pub both : (a b : Bool) → (a && b) ≡ true → (a ≡ true) × (b ≡ true)
 both true b h = (refl, h)
 both false b h = let no : ⊥ = cc in absurd no
 
--- a choice that is no refusal
+-- a choice that is not a refusal
 pub chosen : {A : Type 0} (test : Bool) (r : Result A SettingsError) (e : SettingsError) (a : A) → cond test r (Err e) ≡ Ok a → (test ≡ true) × (r ≡ Ok a)
 chosen true r e a h = (refl, h)
 chosen false r e a h = let no : ⊥ = cc in absurd no
@@ -35,7 +35,7 @@ pub ok_or-ok : {A : Type 0} (o : Option A) (e : SettingsError) (a : A) → ok_or
 ok_or-ok (Some b) e a h = cc
 ok_or-ok None e a h = let no : ⊥ = cc in absurd no
 
--- what holds of each entry that is read holds of all of them
+-- a fact on each entry that is read holds of all of them
 pub each_from-all : {A : Type 0} (P : A → Type 0) (entry : ℕ → Data → Result A SettingsError) →
     ((place : ℕ) (d : Data) (a : A) → entry place d ≡ Ok a → P a) →
     (place : ℕ) (ds : Items) (xs : List A) → each_from entry place ds ≡ Ok xs → All P xs

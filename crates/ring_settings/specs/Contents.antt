@@ -1,4 +1,4 @@
--- What settings hold, as data, and the plans that they give.
+-- The content of settings, as data, and the plans that they give.
 use Rattle.std.specs.Prelude.{◌≡◌, ℕ, ◌<◌, ◌≤◌, List, [], length, map, All, slice_get, unwrap_or}
 use Rattle.std.specs.List.{range_with_len}
 use Rattle.ring_settings.specs.Limits.{ring_limit, action_limit}

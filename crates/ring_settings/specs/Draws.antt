@@ -35,11 +35,11 @@ next_four s =
     let d = next_u32 c.1 in
     a.0 ∷ b.0 ∷ c.0 ∷ d.0 ∷ []
 
--- what is left of a stream after four words
+-- the rest of a stream after four words
 abbrev pub after_four : Stream → Stream
 after_four s = (next_u32 (next_u32 (next_u32 (next_u32 s).1).1).1).1
 
--- what is left of a stream after the words of m actions
+-- the rest of a stream after the words of m actions
 abbrev pub left_after : ℕ → Stream → Stream
 left_after zero s = s
 left_after (suc m) s = after_four (left_after m s)

@@ -15,7 +15,7 @@ use Rattle.ring_settings.specs.declared.faults.Field.TheVariants.{Top, Workers, 
 use Rattle.ring_settings.specs.declared.faults.SettingsError.{SettingsError}
 use Rattle.ring_settings.specs.declared.faults.SettingsError.TheVariants.{Json, Shape, Limit}
 
--- the member of the document that seats of this role stand in
+-- the member of the document that has the seats of this role
 abbrev pub field_of : Role → Field
 field_of role.Worker = Workers
 field_of role.Injector = Injector
@@ -74,11 +74,11 @@ settings_of_object d =
     then_with (seats_member (sizes_of rings) d) (λ seats.
     Ok (record { rings = rings; seats = seats })))
 
--- bytes that are no JSON, and what is no object, are refused first
+-- bytes that are not JSON, and JSON that is not an object, are refused first
 abbrev pub settings_of_json : Option Data → Result SettingsData SettingsError
 settings_of_json None = Err Json
 settings_of_json (Some d) = if is_object d then settings_of_object d else Err (Shape Top)
 
--- the settings that bytes are, or the first thing that is wrong with them (this project's own)
+-- the settings that bytes are, or their first fault (this project's own)
 abbrev pub settings_of : List ℕ → Result SettingsData SettingsError
 settings_of bytes = settings_of_json (json_of bytes)

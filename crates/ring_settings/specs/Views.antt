@@ -1,4 +1,4 @@
--- What the types of this crate are as data.
+-- The types of this crate as data.
 use Rattle.std.specs.Prelude.{List}
 use Rattle.ring_settings.specs.Contents.{RingData, SeatData, script, drawing}
 use Rattle.ring_settings.specs.declared.actions.Action.{Action}

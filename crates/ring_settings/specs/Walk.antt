@@ -1,4 +1,4 @@
--- How a walk over a document goes on, and its leaves.
+-- The steps of a walk over a document, and its leaves.
 use Rattle.std.specs.Prelude.{ℕ, ◌+◌, ◌^◌, nat_lt, if◌then◌else◌, List, [], ◌∷◌, Bool, is_some, Option, None, option_and_then, Result, Ok, Err}
 use Rattle.std.specs.Option.{ok_or}
 use Rattle.std.specs.Str.{is_utf8}
@@ -9,11 +9,11 @@ use Rattle.ring_settings.specs.declared.faults.Field.{Field}
 use Rattle.ring_settings.specs.declared.faults.SettingsError.{SettingsError}
 use Rattle.ring_settings.specs.declared.faults.SettingsError.TheVariants.{Shape, Limit}
 
--- the JSON value that bytes stand for, as `serde_json` reads them
+-- the JSON value of some bytes, as `serde_json` reads them
 abbrev pub json_of : List ℕ → Option Data
 json_of bytes = if is_utf8 bytes then read bytes else None
 
--- what was read goes on to the next part, and the first refusal stands
+-- a value that was read is handed to the next part, and the first refusal is kept
 abbrev pub then_with : {A B : Type 0} →
     Result A SettingsError → (A → Result B SettingsError) → Result B SettingsError
 then_with (Ok a) next = next a

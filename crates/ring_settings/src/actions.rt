@@ -18,11 +18,11 @@ pub struct Plan {
     pub actions: Vec<Action>,
 }
 
-/// What a seat with a drawn plan does.
+/// The actions of a seat with a drawn plan.
 #[derive(Clone, Copy, Debug, PartialEq, Eq)]
 pub enum Role {
     /// Passes and surveys.
     Worker,
-    /// Corruptions alone.
+    /// Only corruptions.
     Injector,
 }

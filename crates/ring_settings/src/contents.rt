@@ -18,7 +18,7 @@ pub(crate) struct RingSetting {
     pub(crate) start: Vec<u32>,
 }
 
-/// What one seat does.
+/// The work of one seat.
 #[derive(Drop)]
 pub enum SeatSetting {
     /// These actions, in order; at most `ACTION_LIMIT`.
@@ -27,9 +27,9 @@ pub enum SeatSetting {
     Drawn { role: Role, seed: u64, actions: u32 },
 }
 
-/// What a farm is to do: 1 to `RING_LIMIT` rings, and 1 to `SEAT_LIMIT` seats in the order of their numbers.
+/// The settings of a farm: 1 to `RING_LIMIT` rings, and 1 to `SEAT_LIMIT` seats in the order of their numbers.
 ///
-/// Made by `read_settings` alone, so each action of a script is for a ring that is there, a machine
+/// Only `read_settings` makes one, so each action of a script is for a ring that is there, a machine
 /// of that ring, and a value below its K.
 #[derive(Drop)]
 pub struct Settings {

@@ -29,7 +29,7 @@ fn read_object(alloc: Global, document: &Value) -> Result<Settings, SettingsErro
 /// # Errors
 ///
 /// The first fault that a walk over the document meets, rings before seats and each of them in
-/// order; `OutOfMemory` where memory is wanting before that.
+/// order; `OutOfMemory` where memory runs out before that.
 pub fn read_settings(alloc: Global, bytes: &[u8]) -> Result<Settings, SettingsError>
     ensures ok { IfOk result (λ s. settings_of bytes.now ≡ Ok s) }
     ensures err { IfErr result (λ e. e ≢ SettingsError.OutOfMemory

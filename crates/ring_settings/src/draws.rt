@@ -53,7 +53,7 @@ fn four_words<G: Rng>(g: &mut G) -> [u32; 4]
 ///
 /// # Errors
 ///
-/// Want of memory alone. The generator may have given words then.
+/// Only if memory runs out. The generator may have given words then.
 pub fn draw_plan<G: Rng>(
     alloc: Global,
     g: &mut G,

@@ -64,7 +64,7 @@ fn seat_plan(
 ///
 /// # Errors
 ///
-/// Want of memory alone.
+/// Only if memory runs out.
 pub fn plans(alloc: Global, settings: &Settings) -> Result<Vec<Plan>, AllocError>
     ensures is { IfOk result (λ ps. map plan_actions ps.items ≡ plans_of settings.now) }
     ensures count { IfOk result (λ ps. vec_len ps ≡ length settings.now.seats) }

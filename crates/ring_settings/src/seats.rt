@@ -17,7 +17,7 @@ use ring_state::Params;
 use serde_json::Value;
 use std::alloc::Global;
 
-/// The member of a document that seats of this role stand in.
+/// The member of a document that has the seats of this role.
 fn field_of(role: Role) -> Field
     ensures { result ≡ field_of role }
 {

@@ -1,4 +1,4 @@
--- What a loop for the lead has found, and how large the potential is.
+-- The findings of a loop for the lead, and how large the potential is.
 use Rattle.std.proofs.Common.{◌≡◌, not, refl, ℕ, suc, ◌+◌, ◌-◌, ◌%◌, ◌<◌, ◌≤◌, Bool, true, false, List, [], ◌∷◌, length, drop, drop-cons, get_or, sym, ◌∙◌, ap, subst, inl, inr, arith}
 use Rattle.std.proofs.lemmas.Bool.{both_ways, cases_Bool, cond-true, cond-false}
 use Rattle.std.proofs.lemmas.List.{drop_all}
@@ -72,7 +72,7 @@ follow_more r choices i t l g b e =
       moves = ap (λ (x : List ℕ). length (granted_passes r x)) cut ∙ granted_more r (get_or choices i 0) (drop (i + 1) choices);
     })
 
--- what the loop keeps: the state t has followed the choices before the index
+-- the invariant of the loop: the state t has followed the choices before the index
 pub record FollowsTo (r : Ring) (choices : List ℕ) (t : Ring) (granted at : ℕ) : Type 0 where
   pub ring : IsRing t
   pub same : t.k ≡ r.k

@@ -7,5 +7,5 @@ mod potential;
 mod runs;
 
 pub use groups::{least_left_out, machine_in_turn, move_group};
-pub use potential::{bound, is_settled, lead, rest, rest_of_counted};
+pub use potential::{bound, is_settled, lead, rest, survey_here};
 pub use runs::follow;

@@ -1,7 +1,9 @@
 ghost use Rattle.std.specs.Prelude.{◌≡◌, ◌<◌, ◌≤◌, length};
 ghost use Rattle.ring_model.specs.Limits.{value_limit};
 ghost use Rattle.ring_model.specs.Ring.{bound, is_settled, lead, privileged_count, rest};
+ghost use Rattle.ring_model.specs.Surveys.{survey_from};
 
+use ring_model::Survey;
 use ring_state::RingState;
 
 /// The bound of the rest, 3n(n-1)/2, of a ring of `n` machines; `n` is 2 to 65,536.
@@ -48,9 +50,9 @@ pub fn rest(state: &RingState) -> u64
     rest_of_counted(state, state.privileged())
 }
 
-/// The rest of a ring of which it is known how many machines are privileged, so that they are not counted again.
+/// Returns the rest of a ring whose number of privileged machines is known, so that they are not counted again.
 #[inline(always)]
-pub fn rest_of_counted(state: &RingState, privileged: u32) -> u64
+fn rest_of_counted(state: &RingState, privileged: u32) -> u64
     requires { privileged ≡ privileged_count state.now.values }
     ensures is { result ≡ rest state.now }
     ensures bounded { result ≤ bound (length state.now.values) }
@@ -60,4 +62,19 @@ pub fn rest_of_counted(state: &RingState, privileged: u32) -> u64
         return 0;
     }
     state.weight() + n as u64 * lead(state) as u64
+}
+
+/// The survey of this ring at a position of its history, with the calm there.
+#[inline]
+pub fn survey_here(state: &RingState, position: u64, calm: u64) -> Survey
+    ensures { result ≡ survey_from state.now position calm }
+{
+    let privileged = state.privileged();
+    Survey {
+        position,
+        privileged,
+        first: state.first(),
+        calm,
+        rest: rest_of_counted(state, privileged),
+    }
 }

@@ -1,10 +1,10 @@
--- The ring, the calm and the survey behind a list of events.
+-- The ring, the calm and the survey after a list of events.
 use Rattle.std.proofs.Common.{◌≡◌, Option, Some, None, ℕ, suc, ◌+◌, ◌-◌, ◌<◌, ◌≤◌, List, [], ◌∷◌, ◌++◌, length, take, true, false, cond, slice_index, slice_set, subst, ap, sym, ◌∙◌, refl, arith}
 use Rattle.std.proofs.lemmas.List.{take_all, length-set, get_or-set_same, set-get_or}
 use mathlib.Core.List.{IsPrefix}
 use Rattle.ring_model.specs.Ring.{Ring, IsRing, is_privileged, moved_value, moved, written, bound}
 use Rattle.ring_model.specs.History.{Works, State, opening, next, after, IsLegal}
-use Rattle.ring_model.specs.Surveys.{calm, survey_at}
+use Rattle.ring_model.specs.Surveys.{calm, survey_at, survey_from}
 use Rattle.ring_model.specs.declared.events.Op.{Op}
 use Rattle.ring_model.specs.declared.events.Op.TheVariants.{Pass, Member, Corrupt}
 use Rattle.ring_model.specs.declared.events.Event.{Event}
@@ -12,7 +12,7 @@ use Rattle.ring_model.specs.declared.events.Survey.{Survey}
 use Rattle.ring_book.specs.BookView.{BookView, IsBook}
 use Rattle.ring_model.proofs.HistoryLaws.{settlement}
 use Rattle.ring_logs.specs.Replays.{IsCallOf, machine_of, called}
-use Rattle.ring_shared.specs.Folds.{ring_after, survey_from, survey_of, IsSummary, IsSummaryWithin, IsWritten, AnswersFor}
+use Rattle.ring_shared.specs.Folds.{ring_after, survey_of, IsSummary, IsSummaryWithin, IsWritten, AnswersFor}
 use Rattle.ring_shared.proofs.Prefixes.{prefix_take, prefix_trans, prefix_length, take_before}
 use Rattle.ring_logs.proofs.Replaying.{next_ring}
 
@@ -52,7 +52,7 @@ ring_after_keeps r (e ∷ h) =
     let more = ring_after_keeps (called r e.op) h in
     let one = called_keeps r e.op in (more.0 ∙ one.0, more.1 ∙ one.1)
 
--- so what is a call at the start is one behind each list
+-- so a call at the start is one after each list
 pub call_behind : (r : Ring) (h : List Event) (o : Op) → IsCallOf r o → IsCallOf (ring_after r h) o
 call_behind r h (Pass i order) c = let k = ring_after_keeps r h in rw k.1 c
 call_behind r h (Member i order left) c = let k = ring_after_keeps r h in rw k.1 c
@@ -81,12 +81,12 @@ called_writes r (Member i order left) l =
     ]
 called_writes r (Corrupt i v) l = ap (λ (x : ℕ). written r i x) (sym (get_or-set_same r.values i v 0 l))
 
--- the ring of a book is that behind its history
+-- the ring of a book is that after its history
 pub ring_of_book : {C : Type 0} (w : Works C) (first : C) (start : Ring) (b : BookView C) → IsBook w first b → b.start ≡ start → b.now.ring ≡ ring_after start b.history
 ring_of_book {C = C} w first start b book begins =
     ap (λ (s : State C). s.ring) (sym book.current) ∙ (ring_after_is w (opening b.start first) b.history ∙ ap (λ (r : Ring). ring_after r b.history) begins)
 
--- what the last event did, by the ring behind it
+-- the effect of the last event, by the ring after it
 pub effect_of_last : (start now : Ring) (xs h : List Event) (e : Event) (machine value c : ℕ) → h ≡ xs ++ e ∷ [] → now ≡ ring_after start h → IsCallOf start e.op →
     machine ≡ machine_of e.op → value ≡ slice_index now.values machine → value < now.k → c ≡ calm h → IsWritten start h machine value c
 effect_of_last start now xs h e machine value c is now_is call machine_is value_is below calm_is =
@@ -103,7 +103,7 @@ effect_of_last start now xs h e machine value c is now_is call machine_is value_
       calm_is = calm_is;
     }
 
--- a summary goes on by one event
+-- a summary moves on by one event
 pub summary_goes_on : (start : Ring) (xs ys : List Event) (ring new : Ring) (position behind c d machine value : ℕ) → IsSummary start xs ring position c → IsWritten start ys machine value d →
     IsPrefix xs ys → length ys ≡ suc (length xs) → new ≡ written ring machine value → behind ≡ position + 1 → IsSummary start ys new behind d
 summary_goes_on start xs ys ring new position behind c d machine value s effect begins one new_is behind_is =
@@ -132,7 +132,7 @@ summary_size start h ring position c s =
     let kept = ring_after_keeps start h in
     (ap (λ (r : Ring). r.k) s.ring_is ∙ kept.0, ap (λ (r : Ring). length r.values) s.ring_is ∙ kept.1)
 
--- what answers for a beginning has a summary within
+-- the state that answers for a prefix has a summary within
 pub within_on : (start : Ring) (xs ys : List Event) (last : Option Survey) (ring : Ring) (position c : ℕ) → AnswersFor start xs last ring position c → IsPrefix xs ys →
     IsSummaryWithin start ys ring position c
 within_on start xs ys (Some s) ring position c a more =
@@ -143,7 +143,7 @@ within_on start xs ys (Some s) ring position c a more =
     }
 within_on start xs ys None ring position c a more = record { past = xs; begins = more; of_past = a }
 
--- where the last event alone is missing, the summary goes on by it
+-- where only the last event is missing, the summary moves on by it
 pub within_goes_on : (start : Ring) (h : List Event) (ring new : Ring) (position behind c d machine value : ℕ) → IsSummaryWithin start h ring position c → IsWritten start h machine value d →
     length h ≡ suc position → new ≡ written ring machine value → behind ≡ position + 1 → IsSummary start h new behind d
 within_goes_on start h ring new position behind c d machine value w effect one new_is behind_is =

@@ -1,8 +1,7 @@
--- What a group leaves in a ring that is held, and what its seat is told of it.
+-- The effect of a group on a ring that is held, and the receipts that its seat gets of it.
 use Rattle.std.proofs.Common.{rules, ◌≡◌, refl, ℕ, suc, ◌+◌, ◌-◌, ◌<◌, ◌≤◌, List, [], ◌∷◌, ◌++◌, length, take, drop, length-append, length-drop, sym, ◌∙◌, ap, subst, arith}
 use Rattle.std.proofs.lemmas.List.{length-take-le, take_all}
 use Rattle.std.proofs.lemmas.List.Elements.{All-append}
-use Rattle.std.proofs.Math.Seq.{drop-append_seam}
 use Rattle.ring_state.specs.Sizes.{Size}
 use Rattle.ring_model.specs.Ring.{Ring}
 use Rattle.ring_model.specs.History.{Works}
@@ -13,9 +12,11 @@ use Rattle.ring_model.proofs.Wholes.{members_length}
 use Rattle.ring_book.specs.BookView.{BookView, IsBook}
 use Rattle.ring_book.specs.GroupView.{HasMoved, IsGroupRecorded}
 use Rattle.ring_book.specs.declared.books.groups.GroupReceipt.{GroupReceipt}
+use Rattle.ring_logs.specs.Seats.{AreOfSeats, receipts_from}
+use Rattle.ring_logs.proofs.Groups.{group_events}
 use Rattle.ring_shared.specs.Client.{Client}
-use Rattle.ring_shared.specs.Groups.{receipts_from, IsGroupLogged}
-use Rattle.ring_shared.specs.Holding.{AreOfSeats, IsHeld}
+use Rattle.ring_shared.specs.Groups.{IsGroupLogged}
+use Rattle.ring_shared.specs.Holding.{IsHeld}
 
 members_seats : (n seat order : ℕ) (ms : List ℕ) (es : List Event) → seat < n → AreMembers seat order ms es → AreOfSeats n es
 members_seats n seat order [] es l m = subst (λ (x : List Event). AreOfSeats n x) (sym m) (search rules)
@@ -41,18 +42,12 @@ pub held_size : {C : Type 0} (w : Works C) (first : C) (start : Ring) (seats : �
     length b.now.ring.values ≡ length start.values
 held_size w first start seats legal b k = ap (λ (z : Size). z.n) k.book.same_size ∙ ap (λ (r : Ring). length r.values) k.begins
 
--- the events from a group's first position on are its block
-pub group_events : {C : Type 0} (w : Works C) (old new : BookView C) (seat order : ℕ) (machines : List ℕ) (r : GroupReceipt) (g : IsGroupRecorded w old new seat order machines r) →
-    drop r.first new.history ≡ g.moved.events
-group_events w old new seat order machines r g =
-    ap (λ (x : ℕ). drop x new.history) g.first ∙ (ap (λ (h : List Event). drop (length old.history) h) g.moved.grown ∙ drop-append_seam old.history g.moved.events)
-
 -- they are as many as its machines
 pub group_count : {C : Type 0} (w : Works C) (old new : BookView C) (seat order : ℕ) (machines : List ℕ) (r : GroupReceipt) (g : IsGroupRecorded w old new seat order machines r) →
     length g.moved.events ≡ length machines
 group_count w old new seat order machines r g = members_length seat order (move_order machines) g.moved.events g.moved.block.members ∙ order_length machines
 
--- as they stand in a slice of the history
+-- as they are in a slice of the history
 pub group_receipts : {C : Type 0} (w : Works C) (old new : BookView C) (seat order : ℕ) (machines : List ℕ) (r : GroupReceipt) → IsGroupRecorded w old new seat order machines r →
     length (take (length new.history - r.first) (drop r.first new.history)) ≡ length machines
 group_receipts w old new seat order machines r g =
@@ -62,7 +57,7 @@ group_receipts w old new seat order machines r g =
     let t : length (take (length new.history - r.first) (drop r.first new.history)) ≡ length new.history - r.first = length-take-le (length new.history - r.first) (drop r.first new.history) (omega arith) in
     omega arith
 
--- a seat that saw the whole history then was told of the group
+-- a seat that saw the whole history then has the group's receipts
 pub group_logged : {C : Type 0} (w : Works C) (n room : ℕ) (old new : BookView C) (a b : Client) (order : ℕ) (machines : List ℕ) (r : GroupReceipt) →
     length old.now.ring.values ≡ n → IsGroupRecorded w old new a.number order machines r →
     b ≡ record { number = a.number; log = a.log ++ receipts_from r.first (drop r.first new.history); seen = new.history; room = room } → a.room ≤ room + length machines → IsGroupLogged n a b order machines r
@@ -85,7 +80,7 @@ pub receipts_length : (position : ℕ) (es : List Event) → length (receipts_fr
 receipts_length position [] = refl
 receipts_length position (e ∷ es) = ap suc (receipts_length (position + 1) es)
 
--- the history has grown by what stands from the group's first position on
+-- the history has grown by the events from the group's first position on
 pub group_grown : {C : Type 0} (w : Works C) (old new : BookView C) (seat order : ℕ) (machines : List ℕ) (r : GroupReceipt) (front read : List Event) → IsGroupRecorded w old new seat order machines r →
     front ≡ old.history → read ≡ new.history → new.history ≡ front ++ take (length read - r.first) (drop r.first read)
 group_grown w old new seat order machines r front read g is there =

@@ -7,7 +7,8 @@ use Rattle.ring_model.specs.declared.events.Op.{Op}
 use Rattle.ring_model.specs.declared.events.Event.{Event}
 use Rattle.ring_model.specs.declared.events.Receipt.{Receipt}
 use Rattle.ring_book.specs.BookView.{BookView, IsBook, IsRecorded}
-use Rattle.ring_shared.specs.Holding.{IsHeld, AreOfSeats}
+use Rattle.ring_shared.specs.Holding.{IsHeld}
+use Rattle.ring_logs.specs.Seats.{AreOfSeats}
 
 of_seats_more : (seats : ℕ) (h : List Event) (e : Event) → AreOfSeats seats h → e.seat < seats → AreOfSeats seats (h ++ e ∷ [])
 of_seats_more seats h e all one = All-push (λ (x : Event). x.seat < seats) h e all one

@@ -13,6 +13,6 @@ numbers_kept (x ∷ xs) (y ∷ ys) long same =
     let more = numbers_kept xs ys (omega arith) (λ i d lt. same (suc i) d (omega arith)) in
     rw (here, more) refl
 
--- what a call kept of its argument is kept of what stood there before
+-- a fact that a call kept of its argument is kept of the value there before
 pub through : (x y argument left : Client) → argument ≡ x → left ≡ y → left.number ≡ argument.number → y.number ≡ x.number
 through x y argument left is_x is_y same = sym (ap (λ (s : Client). s.number) is_y) ∙ same ∙ ap (λ (s : Client). s.number) is_x

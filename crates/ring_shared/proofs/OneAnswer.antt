@@ -12,18 +12,18 @@ use Rattle.ring_model.proofs.Histories.{StepOf-reply, IsLegal-back, legal_step}
 use Rattle.ring_book.specs.declared.books.groups.GroupReceipt.{GroupReceipt}
 use Rattle.ring_book.proofs.OneAnswer.{one_answer}
 use Rattle.ring_shared.specs.Client.{Client}
-use Rattle.ring_shared.specs.Groups.{receipts_from}
+use Rattle.ring_logs.specs.Seats.{receipts_from}
 use Rattle.ring_shared.specs.OneAnswer.{CallsAreToldAlike, GroupsAreToldAlike, CallsHaveOneOutcome, GroupsHaveOneOutcome}
 use Rattle.ring_shared.proofs.Prefixes.{prefix_take}
 
--- a list whose last element stands at p
+-- a list whose last element is at p
 last_at : {A : Type 0} (xs : List A) (p : ℕ) (x : A) → length xs ≡ p + 1 → slice_get xs p ≡ Some x → xs ≡ take p xs ++ x ∷ []
 last_at [] p x n at = absurd (omega arith)
 last_at (y ∷ []) zero x n at = cc (at)
 last_at (y ∷ z ∷ ys) zero x n at = absurd (omega arith)
 last_at (y ∷ ys) (suc p) x n at = ap (λ zs. y ∷ zs) (last_at ys p x (omega arith) at)
 
--- what two equal lists have behind fronts of one length
+-- the rests of two equal lists after prefixes of one length
 behind : {A : Type 0} (front back xs ys : List A) → length front ≡ length back → front ++ xs ≡ back ++ ys → (front ≡ back) × (xs ≡ ys)
 behind [] [] xs ys n e = (refl, e)
 behind [] (b ∷ back) xs ys n e = absurd (omega arith)

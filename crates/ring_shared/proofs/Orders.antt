@@ -6,7 +6,7 @@ use Rattle.std.proofs.lemmas.Option.{slice_get-get_or, slice_get_within, get_or_
 use Rattle.ring_model.specs.History.{Works, State}
 use Rattle.ring_model.specs.Logs.{Fits, calls_of, receipts_of}
 use Rattle.ring_model.specs.declared.events.Event.{Event}
-use Rattle.ring_shared.specs.declared.seats.Log.{Log}
+use Rattle.ring_logs.specs.declared.logs.Log.{Log}
 use Rattle.ring_shared.specs.Client.{Client}
 use Rattle.ring_shared.specs.Closing.{IsLogOf, AreLogsOf, HasLog, AreNumbered}
 

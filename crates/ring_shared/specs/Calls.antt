@@ -1,5 +1,5 @@
--- What a call tells its client, and what one that is made under the lock of a ring does to the book
--- and to the seat (this project's own).
+-- The answer of a call to its client, and the effect of one that is made under the lock of a ring
+-- on the book and on the seat (this project's own).
 use Rattle.std.specs.Prelude.{◌≡◌, ℕ, ◌+◌, ◌≤◌, ◌++◌, ◌∷◌, [], List, length, Some, slice_get, Result, IsOk, IsErr, IsErrOf, OnErr}
 use mathlib.Core.List.{IsPrefix}
 use Rattle.ring_model.specs.Ring.{Ring}
@@ -16,9 +16,9 @@ use Rattle.ring_book.specs.declared.events.BookError.TheVariants.{HistoryFull}
 use Rattle.ring_shared.specs.Client.{Client, IsUnchanged}
 use Rattle.ring_shared.specs.Holding.{IsHeld}
 
--- What a call tells its client: the receipt is the call's and stands at the end of the log, it took
--- at most one place of the log's room, and the receipt's event is the last of the history that the
--- seat has seen then.
+-- The answer of a call to its client: the receipt is the call's and is at the end of the log, it
+-- took at most one place of the log's room, and the receipt's event is the last of the history that
+-- the seat has seen then.
 pub record IsToldCall {C : Type 0} (w : Works C) (a : State C) (before after : Client) (op : Op)
     (r : Receipt) : Type 0 where
   pub of_seat : r.event.seat ≡ before.number
@@ -31,9 +31,9 @@ pub record IsToldCall {C : Type 0} (w : Works C) (a : State C) (before after : C
   pub legal_and_whole : IsHistory w a after.seen
 
 -- The call was made, and r is its receipt: the book made the one step that the receipt records, the
--- seat's log has just that receipt besides and took at most one place of its room for it, the seat
--- has seen the whole history, which begins with what it had seen, and the book is as it is whenever
--- the lock is free.
+-- seat's log has just that receipt more and took at most one place of its room for it, the seat
+-- has seen the whole history, which begins with the events that it had seen, and the book is as it
+-- is whenever the lock is free.
 pub record IsCallUnderLock {C : Type 0} (w : Works C) (first : C) (start : Ring) (seats : ℕ)
     (legal : List Event → Type 0) (old new : BookView C) (before after : Client) (op : Op)
     (r : Receipt) : Type 0 where

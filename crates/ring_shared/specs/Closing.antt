@@ -1,13 +1,13 @@
--- What a closed ring hands out.
+-- The outcome of a closed ring.
 use Rattle.std.specs.Prelude.{◌≡◌, ℕ, List, [], ◌∷◌, Some, slice_get}
-use Rattle.ring_shared.specs.declared.seats.Log.{Log}
+use Rattle.ring_logs.specs.declared.logs.Log.{Log}
 use Rattle.ring_shared.specs.Client.{Client}
 
 -- the log is that of the client
 abbrev pub IsLogOf : Client → Log → Type 0
 IsLogOf s l = (l.seat ≡ s.number) × (l.entries.items ≡ s.log)
 
--- the client's log stands at its number
+-- the client's log is at its number
 abbrev pub HasLog : List Log → Client → Type 0
 HasLog logs s = (l : Log) × (slice_get logs s.number ≡ Some l) × IsLogOf s l
 

@@ -1,29 +1,19 @@
--- What a list of events does to a ring, whatever the resource: the ring behind it, its survey, and
--- its summary.
+-- The effect of a list of events on a ring, whatever the resource: the ring after it, its survey,
+-- and its summary.
 use Rattle.std.specs.Prelude.{◌≡◌, ℕ, Bool, true, false, ◌-◌, ◌<◌, List, [], ◌∷◌, length, take, Option, Some, None}
 use mathlib.Core.List.{IsPrefix}
-use Rattle.ring_model.specs.Ring.{Ring, privileged_count, first_privileged, rest, written}
-use Rattle.ring_model.specs.Surveys.{calm}
+use Rattle.ring_model.specs.Ring.{Ring, written}
+use Rattle.ring_model.specs.Surveys.{calm, survey_from}
 use Rattle.ring_model.specs.declared.events.Event.{Event}
 use Rattle.ring_model.specs.declared.events.Survey.{Survey}
 use Rattle.ring_logs.specs.Replays.{called}
 use Rattle.ring_shared.specs.declared.shown.Change.{Change}
 use Rattle.ring_shared.specs.declared.shown.Change.TheVariants.{Write, Become}
 
--- the ring behind these events
+-- the ring after these events
 abbrev pub ring_after : Ring → List Event → Ring
 ring_after r [] = r
 ring_after r (e ∷ es) = ring_after (called r e.op) es
-
--- the survey of a ring, of a position and of a calm
-abbrev pub survey_from : Ring → ℕ → ℕ → Survey
-survey_from now position calm = record {
-  position = position;
-  privileged = privileged_count now.values;
-  first = first_privileged now.values;
-  calm = calm;
-  rest = rest now;
-}
 
 -- the survey at the end of these events
 unfoldable pub survey_of : Ring → List Event → Survey
@@ -45,7 +35,7 @@ pub record IsWritten (start : Ring) (h : List Event) (machine value calm_there :
       → ring_after start h ≡ written (ring_after start (take (length h - 1) h)) machine value
   pub calm_is : calm_there ≡ calm h
 
--- what a change does is what these events did: the last of them alone, or all of them
+-- a change has the effect of these events: of the last of them only, or of all of them
 abbrev pub IsEffect : Ring → List Event → Change → ℕ → Type 0
 IsEffect start h (Write machine value) calm_there = IsWritten start h machine value calm_there
 IsEffect start h (Become ring) calm_there = (ring ≡ ring_after start h) × (calm_there ≡ calm h)
@@ -55,15 +45,15 @@ abbrev pub is_block : Change → Bool
 is_block (Write machine value) = false
 is_block (Become ring) = true
 
--- a ring, a position and a calm are those behind a beginning of these events
+-- a ring, a position and a calm are those after a prefix of these events
 pub record IsSummaryWithin (start : Ring) (h : List Event) (ring : Ring) (position : ℕ)
     (calm_there : ℕ) : Type 0 where
   pub past : List Event
   pub begins : IsPrefix past h
   pub of_past : IsSummary start past ring position calm_there
 
--- what answers for these events: their survey, beside a summary of a beginning of them, or a
--- summary of them where it was not made yet
+-- the state that answers for these events: their survey, beside a summary of a prefix of them, or a
+-- summary of all of them where the survey was not made yet
 abbrev pub AnswersFor : Ring → List Event → Option Survey → Ring → ℕ → ℕ → Type 0
 AnswersFor start h (Some s) ring position calm_there =
     (s ≡ survey_of start h) × IsSummaryWithin start h ring position calm_there

@@ -1,6 +1,6 @@
--- What a group pass does to the book and to the seat of a ring, and what a client is told of it
--- (this project's own).
-use Rattle.std.specs.Prelude.{◌≡◌, ◌≢◌, ◌⊎◌, ℕ, ◌+◌, ◌<◌, ◌≤◌, List, [], ◌∷◌, ◌++◌, length, Result, IsErrOf, OnErr}
+-- The effect of a group pass on the book and on the seat of a ring, and the receipts that a client
+-- gets (this project's own).
+use Rattle.std.specs.Prelude.{◌≡◌, ◌≢◌, ◌⊎◌, ℕ, ◌+◌, ◌<◌, ◌≤◌, List, ◌++◌, length, Result, IsErrOf, OnErr}
 use mathlib.Core.List.{IsPrefix}
 use Rattle.ring_model.specs.Ring.{Ring}
 use Rattle.ring_model.specs.Groups.{move_order, IsBlockOf}
@@ -8,25 +8,18 @@ use Rattle.ring_model.specs.GroupLaws.{CanMove}
 use Rattle.ring_model.specs.History.{Works}
 use Rattle.ring_model.specs.Limits.{event_limit}
 use Rattle.ring_model.specs.declared.events.Event.{Event}
-use Rattle.ring_model.specs.declared.events.Entry.{Entry}
-use Rattle.ring_model.specs.declared.events.Entry.TheVariants as entry
 use Rattle.ring_book.specs.BookView.{BookView}
 use Rattle.ring_book.specs.GroupView.{IsLeastWithout, IsGroupRecorded}
 use Rattle.ring_book.specs.declared.books.groups.GroupError.{GroupError}
 use Rattle.ring_book.specs.declared.books.groups.GroupError.TheVariants.{WholeRing, NotPrivileged, HistoryFull, OutOfMemory}
 use Rattle.ring_book.specs.declared.books.groups.GroupReceipt.{GroupReceipt}
+use Rattle.ring_logs.specs.Seats.{receipts_from}
 use Rattle.ring_shared.specs.Client.{Client, IsUnchanged}
 use Rattle.ring_shared.specs.Holding.{IsHeld}
 
--- the receipts of events that stand one behind the other in a history, from this position on
-abbrev pub receipts_from : ℕ → List Event → List Entry
-receipts_from position [] = []
-receipts_from position (e ∷ es) =
-    entry.Receipt (record { position = position; event = e }) ∷ receipts_from (position + 1) es
-
--- A client was told of a group: its log has the receipt of each member besides, from the answer's
--- first position on, for which it took at most a place each of its room, and what it has seen ends
--- with the block, which begins there.
+-- A client has received a group: its log also has the receipt of each member, from the answer's
+-- first position on, for which it took at most a place each of its room, and the events that
+-- it has seen end with the block, which begins there.
 pub record IsGroupLogged (n : ℕ) (before after : Client) (order : ℕ) (machines : List ℕ)
     (r : GroupReceipt) : Type 0 where
   pub events : List Event
@@ -39,9 +32,9 @@ pub record IsGroupLogged (n : ℕ) (before after : Client) (order : ℕ) (machin
   pub seen : after.seen ≡ past ++ events
   pub first : length past ≡ r.first
 
--- The group was passed: the book has its block besides, the seat's log the receipts of the block,
--- the seat has seen the whole history, which begins with what it had seen, and the book is as it is
--- whenever the lock is free.
+-- The group was passed: the book also has its block, the seat's log the receipts of the block,
+-- the seat has seen the whole history, which begins with the events that it had seen, and the book
+-- is as it is whenever the lock is free.
 pub record IsGroupUnderLock {C : Type 0} (w : Works C) (first : C) (start : Ring) (seats : ℕ)
     (legal : List Event → Type 0) (old new : BookView C) (before after : Client) (order : ℕ)
     (machines : List ℕ) (r : GroupReceipt) : Type 0 where
@@ -51,12 +44,12 @@ pub record IsGroupUnderLock {C : Type 0} (w : Works C) (first : C) (start : Ring
   pub later : IsPrefix before.seen after.seen
   pub held : IsHeld w first start seats legal new
 
--- the refusal is this one, unless memory is wanting
+-- the refusal is this one, unless memory runs out
 abbrev pub IsRefusedFor : GroupError → Result GroupReceipt GroupError → Type 0
 IsRefusedFor e result = IsErrOf result e ⊎ IsErrOf result OutOfMemory
 
 -- When a group is refused: each refusal has its cause, in this order, and where there is the cause
--- the group is refused, unless memory is wanting. A refusal leaves the book and the seat as they
+-- the group is refused, unless memory runs out. A refusal leaves the book and the seat as they
 -- were.
 pub record IsGroupRefused {C : Type 0} (old new : BookView C) (before after : Client)
     (machines : List ℕ) (result : Result GroupReceipt GroupError) : Type 0 where

@@ -1,14 +1,11 @@
--- What is true of a ring's book whenever its lock is free (this project's own).
-use Rattle.std.specs.Prelude.{◌≡◌, ℕ, ◌<◌, ◌↔◌, List, All}
+-- The invariant of a ring's book whenever its lock is free (this project's own).
+use Rattle.std.specs.Prelude.{◌≡◌, ℕ, ◌↔◌, List}
 use Rattle.ring_model.specs.Ring.{Ring}
 use Rattle.ring_model.specs.History.{Works, opening}
 use Rattle.ring_model.specs.Groups.{IsHistory}
 use Rattle.ring_model.specs.declared.events.Event.{Event}
 use Rattle.ring_book.specs.BookView.{BookView, IsBook}
-
--- each event's seat is below this number
-abbrev pub AreOfSeats : ℕ → List Event → Type 0
-AreOfSeats seats h = All (λ (e : Event). e.seat < seats) h
+use Rattle.ring_logs.specs.Seats.{AreOfSeats}
 
 -- legal, as a name says it, is a history of the one-thread ring from the start and the resource's
 -- first content

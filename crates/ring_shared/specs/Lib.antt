@@ -8,3 +8,5 @@ pub mod Rules
 pub mod Stepping
 pub mod Closing
 pub mod OneAnswer
+pub use Rattle.ring_logs.specs.declared.logs.Log
+pub use Rattle.ring_logs.specs.Seats

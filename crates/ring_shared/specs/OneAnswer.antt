@@ -12,13 +12,13 @@ use Rattle.ring_shared.specs.Client.{Client, AreAlike}
 use Rattle.ring_shared.specs.Calls.{IsToldCall, IsCallUnderLock}
 use Rattle.ring_shared.specs.Groups.{IsGroupLogged, IsGroupUnderLock}
 
--- What a group's call tells its client, as the clauses of `Ring::pass_group` say it.
+-- The answer of a group's call to its client, as the clauses of `Ring::pass_group` say it.
 pub record IsToldGroup {C : Type 0} (w : Works C) (a : State C) (n : ℕ) (before after : Client)
     (order : ℕ) (machines : List ℕ) (r : GroupReceipt) : Type 0 where
   pub told : IsGroupLogged n before after order machines r
   pub legal_and_whole : IsHistory w a after.seen
 
--- Two outcomes of one call behind the same events are the same: the receipt, and the seat then,
+-- Two outcomes of one call after the same events are the same: the receipt, and the seat then,
 -- room aside.
 abbrev pub CallsAreToldAlike : Type 0 → Type 0
 CallsAreToldAlike C =
@@ -26,7 +26,7 @@ CallsAreToldAlike C =
     → IsToldCall w a before one op r → IsToldCall w a before other op s
     → take r.position one.seen ≡ take s.position other.seen → (r ≡ s) × AreAlike one other
 
--- Two outcomes of one group's call behind the same events are the same.
+-- Two outcomes of one group's call after the same events are the same.
 abbrev pub GroupsAreToldAlike : Type 0 → Type 0
 GroupsAreToldAlike C =
     (w : Works C) (a : State C) (n : ℕ) (before one other : Client) (order : ℕ) (machines : List ℕ)

@@ -1,4 +1,4 @@
--- What contracts see of a ring that is opened.
+-- An opened ring as contracts see it.
 use Rattle.std.specs.Prelude.{◌≡◌, ℕ, ◌<◌, ◌≤◌, List, [], length, Some, slice_get}
 use Rattle.logbook.specs.Pages.{Book}
 use Rattle.ring_book.specs.BookView.{BookView}
@@ -28,8 +28,8 @@ pub record AreFresh (number_of_seats : ℕ) (seats : List Client) : Type 0 where
   pub each : (i : ℕ) → i < number_of_seats
       → (s : Client) × (slice_get seats i ≡ Some s) × IsFreshClient i s
 
--- what a ring keeps beside its lock: how many seats it has, that its start is a ring, and what
--- legal means
+-- the data that a ring keeps beside its lock: how many seats it has, that its start is a ring, and
+-- the meaning of "legal"
 pub record IsRingOf {C : Type 0} (w : Works C) (first : C) (start : Ring) (seats : ℕ)
     (legal : List Event → Type 0) (counted : ℕ) : Type 0 where
   pub count : counted ≡ seats

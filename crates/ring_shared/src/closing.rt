@@ -11,14 +11,14 @@ ghost use Rattle.ring_model.specs.Logs.{Fits, calls_of, receipts_of};
 ghost use Rattle.ring_book.specs.BookView.{IsBook};
 ghost use Rattle.ring_shared.specs.Client.{Client, told_of};
 ghost use Rattle.ring_shared.specs.Closing.{HasLog, AreNumbered, AreLogsOf};
-ghost use Rattle.ring_shared.specs.Holding.{AreOfSeats};
+ghost use Rattle.ring_logs.specs.Seats.{AreOfSeats};
 
 use crate::front::Front;
 use crate::names::Name;
 use crate::rings::Ring;
-use crate::seats::{Log, Seat};
+use crate::seats::Seat;
 use ring_book::{Book, Resource};
-use ring_logs::{ClientLog, logs_fit};
+use ring_logs::{ClientLog, Log, logs_fit};
 use std::alloc::{AllocError, Global};
 use std::sync::Wait;
 
@@ -48,7 +48,7 @@ pub struct CloseFault<N: Name, R: Resource + Drop> {
 }
 
 /// A ring that was not closed well, for this reason.
-fn refused<N: Name, R: Resource + Drop>(
+fn close_fault<N: Name, R: Resource + Drop>(
     reason: CloseReason,
     book: Book<R>,
     seats: Vec<Seat<N>>,
@@ -63,13 +63,13 @@ fn refused<N: Name, R: Resource + Drop>(
 }
 
 impl<N: Name, R: Resource + Drop> Ring<N, R> {
-    /// Ends the ring: its book, and the logs of its seats, each of which was compared with the history. The
+    /// Ends the ring: its book, and the logs of its seats, each compared with the history. The
     /// seats are given back all, in any order; no two have one number. It may wait.
     ///
     /// # Errors
     ///
     /// `SeatsMissing` where seats are fewer than the ring has; `Mismatch`, only where some log doesn't fit
-    /// the history; want of memory. The book and the seats are handed back, the seats as they were.
+    /// the history; `OutOfMemory`. The book and the seats are handed back, the seats as they were.
     pub fn close<W: Wait>(
         self,
         rt: &W,
@@ -78,7 +78,7 @@ impl<N: Name, R: Resource + Drop> Ring<N, R> {
     ) -> Result<Closed<R>, CloseFault<N, R>>
         requires { IsDistinct eqb (map (λ s. s.number) seats.items) }
 
-        // The history is one of the one-thread ring, which settles as the laws say, and serves those who ask.
+        // The history is one of the one-thread ring, which settles as the laws say, and serves its callers.
         ensures start { IfOk result (λ c. c.book.start ≡ N.start) }
         ensures book { IfOk result (λ c. IsBook R.works R.first c.book) }
         ensures legal_and_whole { IfOk result
@@ -88,7 +88,7 @@ impl<N: Name, R: Resource + Drop> Ring<N, R> {
         ensures progress { IfOk result
             (λ c. Progress R.works (opening N.start R.first) c.book.history) }
 
-        // It holds each client's calls, and no others; each reply and survey is right where it stands.
+        // It holds each client's calls, and no others; each reply and survey is right at its place.
         ensures logs { IfOk result (λ c. (vec_len c.logs ≡ N.seats)
             × AreNumbered c.logs.items
             × All (HasLog c.logs.items) seats.items) }
@@ -100,7 +100,7 @@ impl<N: Name, R: Resource + Drop> Ring<N, R> {
             (λ l. length (calls_of l.seat c.book.history) ≡ length (receipts_of l.entries.items))
             c.logs.items) }
 
-        // What each seat has seen begins it.
+        // The events that each seat has seen are a prefix of it.
         ensures seen { IfOk result (λ c. All (λ s. IsPrefix s.seen c.book.history) seats.items) }
 
         // Each refusal has its reason, and hands back what was given.
@@ -123,7 +123,7 @@ impl<N: Name, R: Resource + Drop> Ring<N, R> {
         writer.take(rt); // nobody looks now
         let logs = match room_for_logs(alloc, &book, all, seats.as_slice()) {
             Ok(logs) => logs,
-            Err(reason) => return Err(refused(reason, book, seats)),
+            Err(reason) => return Err(close_fault(reason, book, seats)),
         };
         all_begin(rt, seats.as_slice(), &front);
         Ok(Closed {
@@ -182,7 +182,7 @@ fn logs_of<N: Name>(alloc: Global, seats: &[Seat<N>]) -> Result<Vec<ClientLog>, 
 ///
 /// # Errors
 ///
-/// Want of memory for the list of the logs, and for what `logs_fit` takes.
+/// If there is no memory for the list of the logs, and for what `logs_fit` takes.
 fn all_fit<N: Name, R: Resource + Drop>(
     alloc: Global,
     book: &Book<R>,
@@ -196,8 +196,8 @@ fn all_fit<N: Name, R: Resource + Drop>(
     logs_fit(alloc, book, logs.as_slice())
 }
 
-/// Returns only where what each seat has seen begins this front. It returns where the front has the whole list, as that
-/// which lay under the lock has.
+/// Returns only where the list that each seat has seen is a prefix of this front. It returns where the front has the
+/// whole list, as the one that was under the lock has.
 fn all_begin<N: Name, W: Wait>(rt: &W, seats: &[Seat<N>], front: &Front<N>)
     ensures { All (λ s. IsPrefix s.seen front.now) seats.now }
 {
@@ -206,7 +206,7 @@ fn all_begin<N: Name, W: Wait>(rt: &W, seats: &[Seat<N>], front: &Front<N>)
     }
 }
 
-/// What the type of the seats says of them all.
+/// The facts that the type of the seats has for them all.
 fn all_given<N: Name>(seats: &[Seat<N>])
     ensures { All (λ s. s.number < N.seats) seats.now }
 {

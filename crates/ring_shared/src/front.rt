@@ -1,8 +1,8 @@
-//! Beginnings of a ring's one list of events. The list itself is in the proofs alone.
+//! Prefixes of a ring's one list of events. The list itself is only in the proofs.
 ghost use Rattle.std.specs.Prelude.{◌≡◌, ◌+◌, ◌<◌, ◌≤◌, ◌++◌, ◌∷◌, [], length, IsTrue, MatchBool};
 ghost use mathlib.Core.List.{IsPrefix};
 ghost use Rattle.ring_model.specs.Limits.{event_limit};
-ghost use Rattle.ring_shared.specs.Holding.{AreOfSeats};
+ghost use Rattle.ring_logs.specs.Seats.{AreOfSeats};
 ghost use Rattle.ring_shared.specs.Rules.{head_of};
 
 use crate::names::Name;
@@ -50,7 +50,7 @@ impl Play<Event, u64> for Add {
     ghost then = { Adds };
 }
 
-/// What a step asks for: the event.
+/// The parameter of a step: the event.
 impl Plain<Event, Event, u64> for Add {
     ghost use Rattle.std.specs.Prelude.{None};
 
@@ -78,14 +78,14 @@ impl Opened {
     }
 
     /// The list's word under a name, and the front that has seen nothing.
-    pub(crate) fn named<N: Name>(self) -> (Head<N>, Front<N>)
+    pub(crate) fn with_name<N: Name>(self) -> (ListWord<N>, Front<N>)
         requires log { self.seen.book ≡ N.log }
         requires legal { N.legal [] }
         ensures { result.1 ≡ [] }
     {
         let Opened { word, seen } = self;
         (
-            Head {
+            ListWord {
                 word,
                 of: PhantomData,
             },
@@ -102,13 +102,13 @@ impl Opened {
 
 /// The word that is as long as the list.
 #[derive(Drop)]
-pub struct Head<N: Name> {
+pub struct ListWord<N: Name> {
     word: Word<Event, u64, Law>,
     of: PhantomData<N>,
     ghost word_is: { word ≡ head_of N.log },
 }
 
-/// A beginning of the list that was seen, legal or not. Contracts see it as its events; it is a count, with no
+/// A prefix of the list that was seen, legal or not. Contracts see it as its events; it is a count, with no
 /// event.
 #[derive(Drop)]
 struct End<N: Name> {
@@ -150,7 +150,7 @@ impl<N: Name> End<N> {
         }
     }
 
-    /// Of two the shorter begins the longer.
+    /// Of two the shorter is a prefix of the longer.
     fn compare(&self, other: &End<N>)
         ensures shorter { length self.now ≤ length other.now → IsPrefix self.now other.now }
         ensures longer { length other.now ≤ length self.now → IsPrefix other.now self.now }
@@ -160,8 +160,8 @@ impl<N: Name> End<N> {
     }
 
     /// Adds an event to all that was seen, and says whether it did. It did not where the list is longer. Where it did,
-    /// this end has the whole list, so the other begins it.
-    fn add(&mut self, head: &Head<N>, other: &End<N>, event: Event) -> bool
+    /// this end has the whole list, so the other is a prefix of it.
+    fn add(&mut self, head: &ListWord<N>, other: &End<N>, event: Event) -> bool
         requires { length self.old < event_limit }
         ensures is { MatchBool result (self.new ≡ self.old ++ event ∷ []) (self.new ≡ self.old) }
         ensures begins { IsTrue result → IsPrefix other.now self.new }
@@ -181,9 +181,9 @@ impl<N: Name> End<N> {
         found == count
     }
 
-    /// Returns only where the event was added to all that was seen. The other begins the list then. It returns at its
+    /// Returns only where the event was added to all that was seen. The other is a prefix of the list then. It returns at its
     /// first turn where this end has the whole list, as that under the lock has.
-    fn surely_add<W: Wait>(&mut self, rt: &W, head: &Head<N>, other: &End<N>, event: Event)
+    fn surely_add<W: Wait>(&mut self, rt: &W, head: &ListWord<N>, other: &End<N>, event: Event)
         requires { length self.old < event_limit }
         ensures is { self.new ≡ self.old ++ event ∷ [] }
         ensures begins { IsPrefix other.now self.new }
@@ -197,7 +197,7 @@ impl<N: Name> End<N> {
     }
 }
 
-/// A legal beginning of the list that was seen, of events of the ring's seats, which ends inside no block. Contracts
+/// A legal prefix of the list that was seen, of events of the ring's seats, which ends inside no block. Contracts
 /// see it as its events.
 #[derive(Drop)]
 pub struct Front<N: Name> {
@@ -207,7 +207,7 @@ pub struct Front<N: Name> {
 impl<N: Name> Model for Front<N> {
     ghost use Rattle.std.specs.Prelude.{List};
     ghost use Rattle.ring_model.specs.declared.events.Event.{Event};
-    ghost use Rattle.ring_shared.specs.Holding.{AreOfSeats};
+    ghost use Rattle.ring_logs.specs.Seats.{AreOfSeats};
 
     ghost Value = { List Event };
 
@@ -236,7 +236,8 @@ impl<N: Name> Front<N> {
         }
     }
 
-    /// Of two fronts of one ring's name the shorter begins the longer. It changes neither: it is called for its clauses.
+    /// Of two fronts of one ring's name the shorter is a prefix of the longer. It changes neither: it is called for its
+    /// clauses.
     pub fn compare(&self, other: &Front<N>)
         ensures shorter { length self.now ≤ length other.now → IsPrefix self.now other.now }
         ensures longer { length other.now ≤ length self.now → IsPrefix other.now self.now }
@@ -244,11 +245,11 @@ impl<N: Name> Front<N> {
         self.end.compare(&other.end);
     }
 
-    /// Returns only where this front begins the other. It returns at its first turn where the other has the whole list.
+    /// Returns only where this front is a prefix of the other. It returns at its first turn where the other has the whole list.
     pub(crate) fn surely_begins<W: Wait>(&self, rt: &W, other: &Front<N>)
         ensures { IsPrefix self.now other.now }
     {
-        self.compare(other); // says: of the two the shorter begins the longer
+        self.compare(other); // says: the shorter of the two is a prefix of the longer
         for _ in rt.forever() {
             if self.len() <= other.len() {
                 return;
@@ -257,12 +258,12 @@ impl<N: Name> Front<N> {
         unreachable!()
     }
 
-    /// Returns only where the event was added to all that was seen. The other begins the list then. It returns at its
+    /// Returns only where the event was added to all that was seen. The other is a prefix of the list then. It returns at its
     /// first turn where this front has the whole list, as that under the lock has.
     pub(crate) fn surely_add<W: Wait>(
         &mut self,
         rt: &W,
-        head: &Head<N>,
+        head: &ListWord<N>,
         other: &Front<N>,
         event: Event,
     )
@@ -275,12 +276,12 @@ impl<N: Name> Front<N> {
         self.end.surely_add(rt, head, &other.end, event);
     }
 
-    /// Returns only where the events, at least one, were added, in order, to all that was seen. The other begins the
-    /// list then. It returns as `surely_add` does, for each event.
+    /// Returns only where the events, at least one, were added, in order, to all that was seen. The other is a prefix
+    /// of the list then. It returns as `surely_add` does, for each event.
     pub(crate) fn surely_add_all<W: Wait>(
         &mut self,
         rt: &W,
-        head: &Head<N>,
+        head: &ListWord<N>,
         other: &Front<N>,
         events: &[Event],
     )

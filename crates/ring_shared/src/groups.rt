@@ -3,7 +3,8 @@ ghost use Rattle.std.specs.Prelude.{◌≡◌, [], ◌<◌, ◌≤◌, ◌+◌, 
 ghost use Rattle.ring_model.specs.Groups.{Rises};
 ghost use Rattle.ring_book.specs.BookView.{IsBook};
 ghost use Rattle.ring_book.specs.GroupView.{IsGroupRecorded};
-ghost use Rattle.ring_shared.specs.Groups.{receipts_from, IsGroupUnderLock, IsGroupRefused};
+ghost use Rattle.ring_shared.specs.Groups.{IsGroupUnderLock, IsGroupRefused};
+ghost use Rattle.ring_logs.specs.Seats.{receipts_from};
 ghost use Rattle.ring_shared.specs.Holding.{IsHeld};
 ghost use Rattle.ring_shared.specs.Stepping.{stepped};
 
@@ -17,7 +18,7 @@ use ring_model::{Entry, Event, Receipt};
 use ring_state::RingState;
 use std::sync::Wait;
 
-/// Shows readers the block that ends the book's history, the rest of which is shown. The ring is the book's.
+/// Shows readers the block that ends the book's history, where the events before it are shown. The ring is the book's.
 fn show_block<N: Name, R: Resource + Drop, W: Wait>(
     rt: &W,
     book: &Book<R>,
@@ -39,7 +40,7 @@ fn show_block<N: Name, R: Resource + Drop, W: Wait>(
     show(rt, writer, operation);
 }
 
-/// Logs the receipts of events that stand one behind the other in a history, from `first` on.
+/// Logs the receipts of events that follow one another in a history, from `first` on.
 fn log_events(log: &mut Vec<Entry>, events: &[Event], first: u64)
     requires room { length log.old.items + length events.now ≤ vec_capacity log.old }
     requires few { first + length events.now < 2 ^ 64 }
@@ -56,7 +57,7 @@ fn log_events(log: &mut Vec<Entry>, events: &[Event], first: u64)
     }
 }
 
-/// Grows a seat's log, behind which nothing but the book refuses; makes the group pass of the book, and logs the
+/// Grows a seat's log, after which only the book can refuse; makes the group pass of the book, and logs the
 /// receipt of each member.
 fn log_group<N: Name, R: Resource + Drop>(
     book: &mut Book<R>,
@@ -95,12 +96,12 @@ fn log_group<N: Name, R: Resource + Drop>(
 
 impl<N: Name, R: Resource + Drop> Locked<N, R> {
     /// The critical section of a pass by a group of machines at once, for the seat: its log gains the receipt of each
-    /// member, and what they did is shown at once. The machines are strictly increasing, below n and at least one.
+    /// member, and their effect is shown at once. The machines are strictly increasing, below n and at least one.
     /// `rt` is as of `pass`.
     ///
     /// # Errors
     ///
-    /// As of the book's `pass_group`, and want of memory for the log and for what is shown. Nothing has changed then.
+    /// As of the book's `pass_group`, and `OutOfMemory` for the log and for what is shown. Nothing has changed then.
     pub fn pass_group<W: Wait>(
         &mut self,
         rt: &W,

@@ -1,5 +1,5 @@
-//! A ring that clients on many threads share: one lock, a seat for each client, and an exact end. What a
-//! client asks of the ring's state is answered beside the lock.
+//! A ring that clients on many threads share: one lock, a seat for each client, and an exact end. Questions of
+//! clients about the ring's state are answered beside the lock.
 #![tactic(auto)]
 
 mod closing;
@@ -18,6 +18,7 @@ pub use front::Front;
 pub use laws::{calls_have_one_answer, groups_have_one_answer};
 pub use locked::Locked;
 pub use names::Name;
+pub use ring_logs::Log;
 pub use ring_model::Entry;
 pub use rings::{Draft, DraftFault, OpenFault, OpenReason, Ring};
-pub use seats::{Log, Seat};
+pub use seats::Seat;

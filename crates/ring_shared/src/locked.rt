@@ -1,4 +1,4 @@
-//! What lies under the lock of a ring, and the critical sections.
+//! The value under the lock of a ring, and the critical sections.
 ghost use Rattle.std.specs.Prelude.{◌≡◌, ◌<◌, ◌++◌, ◌∷◌, ◌+◌, ◌≤◌, ◌↔◌, [], length, drop, fold, IsOk, IfOk, OnErr, IsErrOf};
 ghost use Rattle.ring_book.specs.BookView.{IsBook, IsRecorded};
 ghost use Rattle.ring_model.specs.Groups.{IsAlone};
@@ -8,7 +8,7 @@ ghost use Rattle.ring_shared.specs.Holding.{IsHeld};
 ghost use Rattle.ring_logs.specs.Replays.{IsCallOf};
 ghost use Rattle.ring_shared.specs.Stepping.{stepped};
 
-use crate::front::{Front, Head};
+use crate::front::{Front, ListWord};
 use crate::names::Name;
 use crate::seats::{RingWriter, Seat};
 use crate::shown::{Operation, Shown, last_effect};
@@ -21,19 +21,19 @@ use std::alloc::Global;
 use std::marker::Model;
 use std::sync::Wait;
 
-/// What lies under the lock of a ring: its book, the word of its list of events, the front of the whole
+/// The value under the lock of a ring: its book, the word of its list of events, the front of the whole
 /// list, and the writer that shows it.
 ///
 /// Contracts see the book. Whenever the lock is free, the book's start and its resource's first content are
-/// the ring's, its history is legal from them and whole, each event's seat is one of the ring's, and what the writer
-/// shows is the book's history. It is not `Drop`, since a writer is not.
+/// the ring's, its history is legal from them and whole, each event's seat is one of the ring's, and the writer
+/// shows the book's history. It is not `Drop`, since a writer is not.
 pub struct Locked<N: Name, R: Resource + Drop>
 where
     Shown<N>: Absorb<Operation<N>, State = [Event; 0]>,
 {
     pub(crate) alloc: Global,
     pub(crate) book: Book<R>,
-    pub(crate) head: Head<N>,
+    pub(crate) head: ListWord<N>,
     pub(crate) front: Front<N>,
     pub(crate) writer: RingWriter<N>,
 }
@@ -58,9 +58,9 @@ where
         ≡ l.book.history) };
 }
 
-/// Shows readers what is pending, in the place of the copy that they see.
+/// Shows readers the pending operations, instead of the copy that they see.
 #[inline(always)]
-pub(crate) fn turn<N: Name, W: Wait>(rt: &W, writer: &mut RingWriter<N>)
+pub(crate) fn publish<N: Name, W: Wait>(rt: &W, writer: &mut RingWriter<N>)
     ensures shown { writer.new.desk.shown.value
         ≡ fold stepped writer.old.desk.shown.value (drop writer.old.behind writer.old.log.items) }
     ensures pending { drop writer.new.behind writer.new.log.items ≡ [] }
@@ -71,7 +71,7 @@ pub(crate) fn turn<N: Name, W: Wait>(rt: &W, writer: &mut RingWriter<N>)
     });
 }
 
-/// Shows readers one event or one block more. Returns only where the operation was appended to what is pending. It
+/// Shows readers one event or one block more. Returns only where the operation was appended to the pending ones. It
 /// returns at its first turn, since the places for operations are taken when the ring is opened.
 #[inline(always)]
 #[tactic(auto, using(crate::proofs::Stepped::stepped_last))]
@@ -87,7 +87,7 @@ pub(crate) fn show<N: Name, W: Wait>(rt: &W, writer: &mut RingWriter<N>, operati
     for _ in rt.forever() {
         match writer.append(operation) {
             Ok(()) => {
-                turn(rt, writer);
+                publish(rt, writer);
                 return;
             }
             Err(back) => operation = back,
@@ -101,7 +101,7 @@ impl<N: Name, R: Resource + Drop> Locked<N, R> {
     pub(crate) fn new(
         alloc: Global,
         book: Book<R>,
-        head: Head<N>,
+        head: ListWord<N>,
         front: Front<N>,
         writer: RingWriter<N>,
     ) -> Locked<N, R>
@@ -122,8 +122,8 @@ impl<N: Name, R: Resource + Drop> Locked<N, R> {
         }
     }
 
-    /// One critical section: the seat's log and the history are grown, behind which nothing is refused; the
-    /// book makes the call for the seat, its receipt is logged, what it did is shown, and the seat is told.
+    /// One critical section: the seat's log and the history are grown, after which nothing is refused; the
+    /// book makes the call for the seat, its receipt is logged, its effect is shown, and the seat gets the receipt.
     #[inline(always)]
     pub(crate) fn call<W: Wait>(
         &mut self,
@@ -152,7 +152,7 @@ impl<N: Name, R: Resource + Drop> Locked<N, R> {
     ///
     /// # Errors
     ///
-    /// `HistoryFull` where the history has `EVENT_LIMIT` events; want of memory for the log or the history.
+    /// `HistoryFull` where the history has `EVENT_LIMIT` events; `OutOfMemory` for the log or the history.
     /// Nothing has changed then.
     #[inline(always)]
     pub fn pass<W: Wait>(
@@ -192,7 +192,7 @@ impl<N: Name, R: Resource + Drop> Locked<N, R> {
         self.call(rt, seat, Op::Corrupt { machine, value })
     }
 
-    /// What lay under the lock, of a ring that is closed.
+    /// The parts of the value under the lock, of a ring that is closed.
     pub(crate) fn into_parts(self) -> (Book<R>, Front<N>, RingWriter<N>)
         ensures held { IsHeld R.works R.first N.start N.seats N.legal result.0 }
         ensures front { result.1 ≡ result.0.history }
@@ -231,7 +231,7 @@ fn make_call<R: Resource + Drop>(
     }
 }
 
-/// Grows a seat's log, behind which the book alone can refuse; makes the seat's call of the book, and
+/// Grows a seat's log, after which only the book can refuse; makes the seat's call of the book, and
 /// logs its receipt.
 #[inline(always)]
 fn log_call<N: Name, R: Resource + Drop>(

@@ -2,12 +2,12 @@
 
 use std::marker::Brand;
 
-/// The name of a ring. It has no bytes: what it says exists in contracts alone, and each call of a program
+/// The name of a ring. It has no bytes: its meaning exists only in contracts, and each call of a program
 /// that opens a ring picks it. Seats of rings with different names have different types, so neither can be used
 /// at the other.
 ///
 /// A name says a ring's start, its number of seats, which histories are legal, and the log that the ring's list
-/// of events stands in. Each draft has a log of its own, and nothing tells that two logs are one, so that with one
+/// of events is in. Each draft has a log of its own, and nothing says that two logs are one, so that with one
 /// name no second ring can be opened.
 pub trait Name {
     ghost use Rattle.std.specs.Prelude.{ℕ, List};

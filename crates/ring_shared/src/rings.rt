@@ -11,11 +11,12 @@ ghost use Rattle.ring_state.specs.Sizes.{IsRingState};
 ghost use Rattle.ring_shared.specs.Calls.{IsToldCall};
 ghost use Rattle.ring_shared.specs.Client.{IsFreshClient, IsUnchanged};
 ghost use Rattle.ring_shared.specs.Groups.{IsGroupLogged, IsRefusedFor};
-ghost use Rattle.ring_shared.specs.Holding.{MeansLegal, AreOfSeats};
+ghost use Rattle.ring_shared.specs.Holding.{MeansLegal};
+ghost use Rattle.ring_logs.specs.Seats.{AreOfSeats};
 ghost use Rattle.ring_shared.specs.Opening.{AreFresh};
 
 use crate::front::{Front, Opened};
-use crate::locked::{Locked, turn};
+use crate::locked::{Locked, publish};
 use crate::names::Name;
 use crate::seats::{RingWriter, Seat};
 use crate::shown::{Operation, Shown};
@@ -58,11 +59,11 @@ pub struct DraftFault<R: Resource + Drop> {
 }
 
 impl<R: Resource + Drop> Draft<R> {
-    /// The draft of a ring over this book, which has no events, with 1 to `SEAT_LIMIT` seats.
+    /// Makes the draft of a ring over this book, which has no events, with 1 to `SEAT_LIMIT` seats.
     ///
     /// # Errors
     ///
-    /// None today: what takes memory is made when the ring is opened.
+    /// None today: the parts that take memory are made when the ring is opened.
     pub fn new(book: Book<R>, seats: u32) -> Result<Draft<R>, DraftFault<R>>
         requires some { 1 ≤ seats }
         requires most { seats ≤ seat_limit }
@@ -83,12 +84,12 @@ impl<R: Resource + Drop> Draft<R> {
 #[derive(Clone, Copy, Debug, PartialEq, Eq)]
 pub enum OpenReason {
     OutOfMemory,
-    /// There is no place for a seat to look from.
+    /// No place is left for a seat to look from.
     NoSeat,
 }
 
 /// A ring that was not opened: why, and the book as it was. It ends by `into_book`, and by nothing else, since
-/// a writer that was made can only be ended by one who may wait.
+/// a writer that was made can only be ended by a caller that may wait.
 pub struct OpenFault<N: Name, R: Resource + Drop>
 where
     Shown<N>: Absorb<Operation<N>, State = [Event; 0]>,
@@ -120,7 +121,7 @@ const TRIES: u32 = 100;
 
 /// Waits for the lock: at the door awake for a while, as the only one, and then asleep, with the door given back. So a
 /// holder that runs is soon followed without a call of the kernel, and for one that was put aside all sleep.
-fn take<'a, T, W: Wait>(rt: &W, door: &Mutex<()>, lock: &'a Mutex<T>) -> MutexGuard<'a, T> {
+fn acquire<'a, T, W: Wait>(rt: &W, door: &Mutex<()>, lock: &'a Mutex<T>) -> MutexGuard<'a, T> {
     if let Some(guard) = lock.try_lock() {
         return guard;
     }
@@ -139,15 +140,15 @@ fn take<'a, T, W: Wait>(rt: &W, door: &Mutex<()>, lock: &'a Mutex<T>) -> MutexGu
 
 /// A ring that threads share. It ends by `close`, and by nothing else.
 ///
-/// A pass, a group pass or a corruption waits for the lock; what it then does is one critical section. A survey and a
+/// A pass, a group pass or a corruption waits for the lock; its work after that is one critical section. A survey and a
 /// glance wait for nobody.
 ///
-/// What a pass, a group pass, a corruption and `close` promise holds if they return. Each returns once it has the lock and
+/// The promises of a pass, a group pass, a corruption and `close` hold if they return. Each returns once it has the lock and
 /// those that look have left the copy that is not shown: its loops end at their first turn, since whoever holds the lock
 /// has seen the whole list of events, and since the places for what is shown are taken when the ring is opened.
 pub struct Ring<N: Name, R: Resource + Drop> {
     pub(crate) shared: Mutex<Locked<N, R>>,
-    /// One call at most waits awake for the lock; those behind it sleep at this one.
+    /// One call at most waits awake for the lock; those after it sleep at this one.
     pub(crate) door: Mutex<()>,
     pub(crate) seats: u32,
 }
@@ -209,7 +210,7 @@ fn seats_of<N: Name>(
 }
 
 /// Makes eight places for operations, and empties them by a turn of each copy. A call has at most two: its own, and
-/// that of the last one, which one copy lacks. So no call asks for memory for what it shows.
+/// that of the last one, which one copy lacks. So no call asks for memory to show its effect.
 #[tactic(auto, using(crate::proofs::Stepped::stepped_still))]
 fn warm<N: Name, W: Wait>(rt: &W, writer: &mut RingWriter<N>, front: &Front<N>) -> bool
     requires machine { 0 < length N.start.values }
@@ -226,8 +227,8 @@ fn warm<N: Name, W: Wait>(rt: &W, writer: &mut RingWriter<N>, front: &Front<N>) 
             return false;
         }
     }
-    turn(rt, writer);
-    turn(rt, writer);
+    publish(rt, writer);
+    publish(rt, writer);
     true
 }
 
@@ -251,7 +252,7 @@ fn writer_of<N: Name>(
 
 /// A writer that shows the start, with room for operations, and this many seats. Where a seat is refused there may
 /// be a writer, which has to be ended.
-fn seated<N: Name, W: Wait>(
+fn writer_and_seats<N: Name, W: Wait>(
     rt: &W,
     alloc: Global,
     front: &Front<N>,
@@ -289,7 +290,7 @@ impl<N: Name, R: Resource + Drop> Ring<N, R> {
     ///
     /// # Errors
     ///
-    /// Want of memory; `NoSeat`, where there is no place for a seat to look from. The book is handed back as
+    /// `OutOfMemory`; `NoSeat`, where there is no place for a seat to look from. The book is handed back as
     /// it was.
     pub fn open<W: Wait>(
         rt: &W,
@@ -310,8 +311,8 @@ impl<N: Name, R: Resource + Drop> Ring<N, R> {
             opened,
         } = draft;
         book.history(); // says: the book is one
-        let (head, front) = opened.named::<N>();
-        match seated(rt, alloc, &front, book.start(), count) {
+        let (head, front) = opened.with_name::<N>();
+        match writer_and_seats(rt, alloc, &front, book.start(), count) {
             Ok((writer, seats)) => {
                 let ring = Ring {
                     shared: Mutex::new(Locked::new(alloc, book, head, front, writer)),
@@ -333,7 +334,7 @@ impl<N: Name, R: Resource + Drop> Ring<N, R> {
     ///
     /// # Errors
     ///
-    /// `HistoryFull` where the history has `EVENT_LIMIT` events; want of memory. Nothing has changed then.
+    /// `HistoryFull` where the history has `EVENT_LIMIT` events; `OutOfMemory`. Nothing has changed then.
     pub fn pass<W: Wait>(
         &self,
         rt: &W,
@@ -348,7 +349,7 @@ impl<N: Name, R: Resource + Drop> Ring<N, R> {
         ensures later { IsPrefix seat.old.seen seat.new.seen }
         ensures err { OnErr result (IsUnchanged seat.old seat.new) }
     {
-        let mut locked = take(rt, &self.door, &self.shared);
+        let mut locked = acquire(rt, &self.door, &self.shared);
         let result = locked.call(rt, seat, Op::Pass { machine, order });
         MutexGuard::unlock(locked);
         result
@@ -375,20 +376,20 @@ impl<N: Name, R: Resource + Drop> Ring<N, R> {
         ensures later { IsPrefix seat.old.seen seat.new.seen }
         ensures err { OnErr result (IsUnchanged seat.old seat.new) }
     {
-        let mut locked = take(rt, &self.door, &self.shared);
+        let mut locked = acquire(rt, &self.door, &self.shared);
         let result = locked.call(rt, seat, Op::Corrupt { machine, value });
         MutexGuard::unlock(locked);
         result
     }
 
     /// Waits for the lock, and makes a pass by a group of machines at once, for the seat: its log gains the receipt of
-    /// each member, in the order of their positions, and what the seat has seen ends with their block. The machines are
+    /// each member, in the order of their positions, and the list that the seat has seen ends with their block. The machines are
     /// strictly increasing, below n and at least one.
     ///
     /// # Errors
     ///
     /// `WholeRing` where the group is all n machines; `NotPrivileged` with the least machine of the group that is not
-    /// privileged; `HistoryFull` where the history has fewer places left than the group has machines; want of memory.
+    /// privileged; `HistoryFull` where the history has fewer places left than the group has machines; `OutOfMemory`.
     /// Nothing has changed then.
     pub fn pass_group<W: Wait>(
         &self,
@@ -410,18 +411,18 @@ impl<N: Name, R: Resource + Drop> Ring<N, R> {
             → length machines.now ≡ length N.start.values }
         ensures err { OnErr result (IsUnchanged seat.old seat.new) }
     {
-        let mut locked = take(rt, &self.door, &self.shared);
+        let mut locked = acquire(rt, &self.door, &self.shared);
         let result = locked.pass_group(rt, seat, machines, order);
         MutexGuard::unlock(locked);
         result
     }
 
-    /// Answers the survey of what the seat sees now, which is added to its log. What it sees begins with what
-    /// it saw before. It waits for nobody.
+    /// Answers the survey of the state that the seat sees now, which is added to its log. That begins with the
+    /// state that it saw before. It waits for nobody.
     ///
     /// # Errors
     ///
-    /// Want of memory for the log alone, where it has no room. Nothing has changed then.
+    /// Only if there is no memory for the log, where it has no room. Nothing has changed then.
     pub fn survey(&self, seat: &mut Seat<N>) -> Result<Survey, AllocError>
         ensures number { seat.new.number ≡ seat.old.number }
         ensures logged { IfOk result (λ s. seat.new.log ≡ seat.old.log ++ Entry.Survey s ∷ []) }
@@ -436,13 +437,13 @@ impl<N: Name, R: Resource + Drop> Ring<N, R> {
             (λ s. bound (length N.start.values) ≤ s.calm → (s.privileged ≡ 1) × (s.rest ≡ 0)) }
         ensures err { OnErr result (seat.new ≡ seat.old) }
     {
-        let _ = &self.shared; // says: what the ring's name calls legal is a history of the one-thread ring
+        let _ = &self.shared; // says: a history that the ring's name calls legal is one of the one-thread ring
         let survey = seat.survey()?;
         Ok(survey)
     }
 
-    /// Answers the survey of what the seat sees now, which is not logged. What it sees begins with what it saw
-    /// before. It waits for nobody, takes no memory and always answers.
+    /// Answers the survey of the state that the seat sees now, which is not logged. That begins with the state
+    /// that it saw before. It waits for nobody, takes no memory and always answers.
     pub fn glance(&self, seat: &mut Seat<N>) -> Survey
         ensures number { seat.new.number ≡ seat.old.number }
         ensures log { seat.new.log ≡ seat.old.log }
@@ -455,7 +456,7 @@ impl<N: Name, R: Resource + Drop> Ring<N, R> {
         ensures calm { bound (length N.start.values) ≤ result.calm
             → (result.privileged ≡ 1) × (result.rest ≡ 0) }
     {
-        let _ = &self.shared; // says: what the ring's name calls legal is a history of the one-thread ring
+        let _ = &self.shared; // says: a history that the ring's name calls legal is one of the one-thread ring
         seat.glance()
     }
 }

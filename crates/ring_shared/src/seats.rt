@@ -1,11 +1,11 @@
-//! The seats of a ring, one for each client: their logs, and what they have seen.
+//! The seats of a ring, one for each client: their logs, and the events that they have seen.
 ghost use Rattle.std.specs.Prelude.{◌≡◌, ◌<◌, ◌≤◌, ◌+◌, ◌++◌, ◌∷◌, [], length, IsOk, IfOk, IfSome, IfNone, OnErr, vec_len, vec_capacity};
 ghost use mathlib.Core.List.{IsPrefix};
 ghost use Rattle.ring_model.specs.Limits.{seat_limit};
 ghost use Rattle.ring_shared.specs.Client.{fresh_client, told_of, IsUnchanged};
 ghost use Rattle.ring_shared.specs.Closing.{IsLogOf};
 ghost use Rattle.ring_shared.specs.Folds.{survey_of, AnswersFor, IsWritten};
-ghost use Rattle.ring_shared.specs.Holding.{AreOfSeats};
+ghost use Rattle.ring_logs.specs.Seats.{AreOfSeats};
 
 use crate::front::Front;
 use crate::names::Name;
@@ -15,23 +15,23 @@ use core::mem::replace_with;
 use crossbeam_utils::rule::Unruled;
 use left_right::reader::Reader;
 use left_right::writer::Writer;
-use ring_logs::ClientLog;
+use ring_logs::{ClientLog, Log};
 use ring_model::{Entry, Survey};
 use ring_state::RingState;
 use std::alloc::{AllocError, Global};
 use std::marker::Model;
 use std::sync::Wait;
 
-/// What looks beside the lock.
+/// The reader that looks beside the lock.
 pub type RingReader<N> = Reader<Shown<N>, (), Unruled>;
 
-/// What shows each call to those who look.
+/// The writer that shows each call to the readers.
 pub type RingWriter<N> = Writer<Shown<N>, Operation<N>, (), Unruled>;
 
-/// One client's place at a ring, with what the client was told.
+/// One client's place at a ring, with the client's log.
 ///
 /// Contracts see its number, its log, the events that it has seen, and its room: how many entries more its log takes
-/// without asking for memory. It carries the ring's name `N`, so it serves at rings of that name alone.
+/// without asking for memory. It carries the ring's name `N`, so it serves only at rings of that name.
 #[derive(Drop)]
 pub struct Seat<N: Name> {
     number: u32,
@@ -76,7 +76,7 @@ fn look<N: Name>(reader: RingReader<N>) -> (RingReader<N>, Option<(Survey, Front
     }
 }
 
-/// Sees what is shown, where that is no less than what was seen, and answers its survey.
+/// Sees the shown state, where that is no earlier than the seen one, and answers its survey.
 #[tactic(auto, using(crate::proofs::Prefixes::prefix_self))]
 fn refresh<N: Name>(reader: &mut RingReader<N>, front: &mut Front<N>) -> Option<Survey>
     ensures legal { N.legal front.new }
@@ -87,7 +87,7 @@ fn refresh<N: Name>(reader: &mut RingReader<N>, front: &mut Front<N>) -> Option<
 {
     let found = replace_with(reader, (), |reader, _| look(reader));
     if let Some((survey, shown)) = found {
-        front.compare(&shown); // says: of the two the shorter begins the longer
+        front.compare(&shown); // says: the shorter of the two is a prefix of the longer
         if front.len() <= shown.len() {
             *front = shown;
             front.len(); // says: it is legal, of the ring's seats
@@ -98,7 +98,7 @@ fn refresh<N: Name>(reader: &mut RingReader<N>, front: &mut Front<N>) -> Option<
     None
 }
 
-/// What answers for a front.
+/// The state that answers for a front.
 fn answer<N: Name>(last: &Option<Survey>, summary: &Summary, front: &Front<N>) -> Survey
     requires { AnswersFor N.start front.now last.now summary.now.ring summary.now.position
         summary.now.calm }
@@ -110,7 +110,7 @@ fn answer<N: Name>(last: &Option<Survey>, summary: &Summary, front: &Front<N>) -
     }
 }
 
-/// Sees what is shown, where that is no less than what was seen, and answers for what is seen then.
+/// Sees the shown state, where that is no earlier than the seen one, and answers for the state seen then.
 fn renew<N: Name>(
     reader: &mut RingReader<N>,
     front: &mut Front<N>,
@@ -169,8 +169,8 @@ impl<N: Name> Seat<N> {
         self.number
     }
 
-    /// Of what two seats of one ring's name have seen the shorter begins the longer. It changes neither: it is called
-    /// for its clauses.
+    /// Of the lists that two seats of one ring's name have seen the shorter is a prefix of the longer. It changes neither:
+    /// it is called for its clauses.
     pub fn compare(&self, other: &Seat<N>)
         ensures shorter { length self.now.seen ≤ length other.now.seen
             → IsPrefix self.now.seen other.now.seen }
@@ -180,14 +180,14 @@ impl<N: Name> Seat<N> {
         self.front.compare(&other.front);
     }
 
-    /// A copy of what the seat has seen, for those who compare what they know of the history.
+    /// A copy of the front that the seat has seen, to compare it with others.
     pub fn seen(&self) -> Front<N>
         ensures { result ≡ self.now.seen }
     {
         self.front.again()
     }
 
-    /// What the client was told, in order: the receipt of each of its calls, and each of its surveys.
+    /// Returns the client's log, in order: the receipt of each of its calls, and each of its surveys.
     pub fn log(&self) -> &[Entry]
         ensures { result.now ≡ self.now.log }
     {
@@ -205,11 +205,11 @@ impl<N: Name> Seat<N> {
     }
 
     /// Takes memory for `more` entries of the log, and answers how many it then has room for: a call or a survey takes one
-    /// place of it, a group one for each machine. The number, the log and what was seen stay, also after a refusal.
+    /// place of it, a group one for each machine. The number, the log and the seen list stay, also after a refusal.
     ///
     /// # Errors
     ///
-    /// Want of memory alone.
+    /// Only if memory runs out.
     pub fn reserve(&mut self, more: usize) -> Result<usize, AllocError>
         ensures room { IfOk result (λ room. (more ≤ room) × (self.new.room ≡ room)) }
         ensures same { IsUnchanged self.old self.new }
@@ -217,7 +217,7 @@ impl<N: Name> Seat<N> {
         reserve_entries(&mut self.log, more)
     }
 
-    /// The survey of what is seen now. It waits for nobody, takes no memory, and is not logged.
+    /// The survey of the state seen now. It waits for nobody, takes no memory, and is not logged.
     pub(crate) fn glance(&mut self) -> Survey
         ensures number { self.new.number ≡ self.old.number }
         ensures log { self.new.log ≡ self.old.log }
@@ -235,7 +235,7 @@ impl<N: Name> Seat<N> {
         )
     }
 
-    /// The survey of what is seen now, which is logged. It waits for nobody.
+    /// The survey of the state seen now, which is logged. It waits for nobody.
     #[tactic(auto, using(crate::proofs::Prefixes::prefix_self))]
     pub(crate) fn survey(&mut self) -> Result<Survey, AllocError>
         ensures number { self.new.number ≡ self.old.number }
@@ -260,15 +260,15 @@ impl<N: Name> Seat<N> {
         Ok(survey)
     }
 
-    /// What was seen.
+    /// The front that was seen.
     pub(crate) fn front(&self) -> &Front<N>
         ensures { result.now ≡ self.now.seen }
     {
         &self.front
     }
 
-    /// Sees what is shown, which begins with what was seen and ends with the event of this effect. Where that event
-    /// alone was not seen, the seat's summary takes what it wrote, and nothing else.
+    /// Sees the shown state, which begins with the seen one and ends with the event of this effect. Where only that event
+    /// was not seen, the seat's summary takes the written value, and nothing else.
     #[inline(always)]
     pub(crate) fn go_on(&mut self, shown: &Shown<N>, effect: Effect)
         requires later { IsPrefix self.old.seen shown.now }
@@ -286,7 +286,7 @@ impl<N: Name> Seat<N> {
         shown.lead_on(&mut self.summary, effect);
     }
 
-    /// Sees what is shown, which begins with what was seen.
+    /// Sees the shown state, which begins with the seen one.
     pub(crate) fn catch_up(&mut self, shown: &Shown<N>)
         requires { IsPrefix self.old.seen shown.now }
         ensures { self.new
@@ -302,8 +302,8 @@ impl<N: Name> Seat<N> {
         shown.copy_to(&mut self.summary);
     }
 
-    /// Returns only where what was seen begins this front. It returns at its first turn where the front has the whole
-    /// list.
+    /// Returns only where the seen list is a prefix of this front. It returns at its first turn where the front has the
+    /// whole list.
     pub(crate) fn surely_begins<W: Wait>(&self, rt: &W, front: &Front<N>)
         ensures { IsPrefix self.now.seen front.now }
     {
@@ -338,11 +338,4 @@ fn reserve_entries(log: &mut Vec<Entry>, more: usize) -> Result<usize, AllocErro
 {
     log.reserve_exact(more)?;
     Ok(log.capacity() - log.len())
-}
-
-/// What the client of a seat was told, once its ring is closed.
-#[derive(Drop)]
-pub struct Log {
-    pub seat: u32,
-    pub entries: Vec<Entry>,
 }

@@ -37,7 +37,7 @@ impl<N: Name> Model for Shown<N> {
         IsSummary N.start s.front s.summary.ring s.summary.position s.summary.calm };
 }
 
-/// What events do to the ring of a summary.
+/// The effect of events on the ring of a summary.
 #[derive(Drop)]
 enum Change {
     /// One event leaves this value in this machine.
@@ -46,7 +46,7 @@ enum Change {
     Become(RingState),
 }
 
-/// What an event or a block does to a summary: the change of the ring, and the calm behind it; and the front that
+/// The effect of an event or a block on a summary: the change of the ring, and the calm after it; and the front that
 /// ends with it. Contracts see that front, and whether it is a block that ends it.
 #[derive(Drop)]
 pub struct Operation<N: Name> {
@@ -57,9 +57,9 @@ pub struct Operation<N: Name> {
 
 impl<N: Name> Model for Operation<N> {
     ghost use Rattle.ring_shared.specs.Folds.{IsEffect, is_block};
-    ghost use Rattle.ring_shared.specs.Stepping.{Told};
+    ghost use Rattle.ring_shared.specs.Stepping.{Target};
 
-    ghost Value = { Told };
+    ghost Value = { Target };
 
     ghost view = { λ o. record { list = o.front; block = is_block o.change } };
 
@@ -86,7 +86,7 @@ impl<N: Name> Shown<N> {
         self.summary.survey()
     }
 
-    /// Writes the summary of the list over another, which is of a beginning of it.
+    /// Writes the summary of the list over another, which is of a prefix of it.
     pub(crate) fn copy_to(&self, summary: &mut Summary)
         requires { IsSummaryWithin N.start self.now summary.old.ring summary.old.position
             summary.old.calm }
@@ -96,8 +96,8 @@ impl<N: Name> Shown<N> {
         summary.go_to(&self.summary.ring, self.summary.position, self.summary.calm);
     }
 
-    /// Brings another summary up to the list, of which it has a beginning. Where it lacks the last event alone, nothing
-    /// but what that event wrote is written.
+    /// Brings another summary up to the list, where it has a prefix of that. Where it lacks only the last event, nothing
+    /// but the value of that event is written.
     pub(crate) fn lead_on(&self, summary: &mut Summary, effect: Effect)
         requires within { IsSummaryWithin N.start self.now summary.old.ring summary.old.position
             summary.old.calm }
@@ -119,20 +119,20 @@ impl<N: Name> Shown<N> {
         self.front.again()
     }
 
-    /// Goes on to a list that is one event longer, which left this value in this machine and the calm there. Another
+    /// Moves on to a list that is one event longer, which left this value in this machine and the calm there. Another
     /// list changes nothing.
     fn take_event(&mut self, machine: u32, value: u32, calm: u64, front: &Front<N>)
         requires { IsWritten N.start front.now machine value calm }
         ensures { self.new ≡ stepped self.old (record { list = front.now; block = false }) }
     {
-        self.front.compare(front); // says: of the two the shorter begins the longer
+        self.front.compare(front); // says: the shorter of the two is a prefix of the longer
         if front.len() == self.front.len() + 1 {
             self.summary.go_on(machine, value, calm);
             self.front = front.again();
         }
     }
 
-    /// Goes on to a list that is longer, with the ring and the calm there. Another list changes nothing.
+    /// Moves on to a list that is longer, with the ring and the calm there. Another list changes nothing.
     fn take_block(&mut self, ring: &RingState, calm: u64, front: &Front<N>)
         requires ring { ring.now ≡ ring_after N.start front.now }
         requires calm { calm ≡ calm_of front.now }
@@ -155,7 +155,7 @@ fn machine_named(op: Op) -> u32
     }
 }
 
-/// What the event that ends the book's history did.
+/// Returns the effect of the event that ends the book's history.
 #[inline(always)]
 pub(crate) fn last_effect<N: Name, R: Resource + Drop>(book: &Book<R>, event: Event) -> Effect
     requires held { IsHeld R.works R.first N.start N.seats N.legal book.now }
@@ -189,7 +189,7 @@ impl<N: Name> Operation<N> {
         }
     }
 
-    /// What the event that ends the list of this front does to a summary of that list without it.
+    /// Returns the effect of the event that ends the list of this front on a summary of that list without it.
     #[inline(always)]
     pub(crate) fn event(effect: Effect, front: Front<N>) -> Operation<N>
         requires { IsWritten N.start front effect.machine effect.value effect.calm }
@@ -205,7 +205,7 @@ impl<N: Name> Operation<N> {
         }
     }
 
-    /// What the block that ends the book's history does to what is shown, whatever part of the history that is. The
+    /// Returns the effect of the block that ends the book's history on the shown state, whatever part of the history that is. The
     /// ring is the book's.
     pub(crate) fn block<R: Resource + Drop>(
         book: &Book<R>,

@@ -1,14 +1,14 @@
-//! What is kept of a list of events to survey its end: the ring there, how many events, and the calm.
+//! The summary of a list of events, to survey its end: the ring there, how many events, and the calm.
 ghost use Rattle.std.specs.Prelude.{◌≡◌, ◌<◌, ◌≤◌, ◌+◌, length};
 ghost use Rattle.ring_model.specs.Ring.{written};
 ghost use Rattle.ring_model.specs.Limits.{event_limit};
-ghost use Rattle.ring_shared.specs.Folds.{survey_from};
+ghost use Rattle.ring_model.specs.Surveys.{survey_from};
 
 use ring_model::Survey;
-use ring_settle::rest_of_counted;
+use ring_settle::survey_here;
 use ring_state::RingState;
 
-/// What the last of some events did to a summary: it left this value in this machine, and the calm behind it.
+/// The effect of the last of some events on a summary: it left this value in this machine, and the calm after it.
 #[derive(Clone, Copy)]
 pub(crate) struct Effect {
     pub(crate) machine: u32,
@@ -16,7 +16,7 @@ pub(crate) struct Effect {
     pub(crate) calm: u64,
 }
 
-/// The ring behind so many events, and the calm there.
+/// The ring after a number of events, and the calm there.
 #[derive(Drop)]
 pub(crate) struct Summary {
     pub(crate) ring: RingState,
@@ -37,7 +37,7 @@ impl Summary {
         }
     }
 
-    /// Goes on by one event, which left `value` in `machine` and the calm at `calm`. It takes no memory, and
+    /// Moves on by one event, which left `value` in `machine` and the calm at `calm`. It takes no memory, and
     /// its time does not depend on how many machines there are.
     pub(crate) fn go_on(&mut self, machine: u32, value: u32, calm: u64)
         requires machine { machine < length self.old.ring.values }
@@ -69,13 +69,6 @@ impl Summary {
     pub(crate) fn survey(&self) -> Survey
         ensures { result ≡ survey_from self.now.ring self.now.position self.now.calm }
     {
-        let privileged = self.ring.privileged();
-        Survey {
-            position: self.position,
-            privileged,
-            first: self.ring.first(),
-            calm: self.calm,
-            rest: rest_of_counted(&self.ring, privileged),
-        }
+        survey_here(&self.ring, self.position, self.calm)
     }
 }

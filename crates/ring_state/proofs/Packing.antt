@@ -1,4 +1,4 @@
--- Cells in place of values: what a read finds, what a write leaves, and what the words of a narrow mask say in a wide one.
+-- Cells instead of values: the value that a read finds, the list after a write, and the words of a narrow mask in a wide one.
 use Rattle.std.proofs.Common.{◌≡◌, ℕ, suc, ◌-◌, ◌/◌, ◌%◌, ◌<◌, ◌≤◌, ◌&&◌, Bool, true, false, cond, not, eqb, ltb, List, map, length, get_or, set, sym, ap, ◌∙◌, arith, inl, inr}
 use Rattle.std.specs.Int.{bit_at}
 use Rattle.std.proofs.lemmas.Bool.{cases_lt, eqb-true, not-true, not-false, le-ltb}
@@ -44,7 +44,7 @@ held_means s v b e = (
   (λ found. e ∙ ap not (present_at s v found.0 found.1 found.2 found.3)),
 )
 
--- the words of a mask for 256 machines and, behind them, words of 0
+-- the words of a mask for 256 machines and, after them, words of 0
 pub widened : (s words out : List ℕ) → length s ≤ 256 → length words ≡ 4 → IsMaskOf 256 s words → ((w : ℕ) → w < 16 → get_or out w 0 ≡ get_or words w 0) → IsMaskOf 1024 s out
 widened s words out few four narrow same i lt =
     let here : get_or out (i / 64) 0 ≡ get_or words (i / 64) 0 = same (i / 64) (omega arith) in

@@ -10,7 +10,7 @@ pub record IsFirstOver (k : ℕ) (values : List ℕ) (i : ℕ) : Type 0 where
   pub over : k ≤ slice_index values i
   pub least : (j : ℕ) → j < i → slice_index values j < k
 
--- each refusal says which fault is the first: the length, then the least value, and want of memory
+-- each refusal says which fault is the first: the length, then the least value, and out of memory
 -- only where there is neither
 abbrev pub IsFaultOf : Size → List ℕ → StateError → Type 0
 IsFaultOf size values Length = length values ≢ size.n

@@ -1,4 +1,4 @@
-//! What a state has one of for each machine: a byte, or two.
+//! The cells of a state, one for each machine: a byte, or two.
 ghost use Rattle.std.specs.Prelude.{◌≡◌, ◌<◌, ◌≤◌, ℕ, map, length, not, slice_index, true};
 ghost use Rattle.ring_model.specs.Ring.{is_privileged, privileged_count, first_privileged, weight, is_absent, first_value_is_prefix};
 ghost use Rattle.ring_model.specs.Limits.{machine_limit, value_limit};
@@ -10,7 +10,7 @@ pub(crate) trait Cell: Copy {
     /// The value that it holds.
     ghost number: { Self → ℕ };
 
-    /// How many values such cells tell apart.
+    /// How many values such a cell can hold.
     ghost most: { ℕ };
 
     /// The cell that holds `value`.

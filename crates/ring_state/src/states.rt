@@ -45,7 +45,7 @@ impl Drop for RingState {
     }
 }
 
-// What is asked of a state is asked of its cells, whichever their width.
+// Each question to a state goes to its cells, whichever their width.
 macro_rules! of_either {
     ($cells:expr, $state:ident => $answer:expr) => {
         match $cells {
@@ -55,7 +55,7 @@ macro_rules! of_either {
     };
 }
 
-// How many values a byte tells apart.
+// How many values a byte can hold.
 const BYTE_VALUES: u32 = 256;
 
 /// Why start values are refused.
@@ -193,7 +193,7 @@ impl RingState {
         self.take_step(i);
     }
 
-    /// The move alone.
+    /// Only the move.
     fn take_step(&mut self, i: u32)
         requires { i < length self.old.values }
         ensures is { self.new ≡ moved self.old i }
@@ -216,7 +216,7 @@ impl RingState {
     ///
     /// # Errors
     ///
-    /// Want of memory alone.
+    /// Only if memory runs out.
     pub fn try_copy(&self, alloc: Global) -> Result<RingState, AllocError>
         ensures ok { IfOk result (λ r. r ≡ self.now) }
     {

@@ -5,6 +5,7 @@ ghost use Rattle.std.specs.Prelude.{◌≡◌};
 mod calls;
 mod fitting;
 mod groups;
+mod histories;
 mod limits;
 
 use crate::groups::rises;
@@ -15,7 +16,7 @@ use ring_book::{
 use std::alloc::Global;
 use std::process::Abort;
 
-/// What a book is asked, and what it answers. Seat 0 passes, seat 9 corrupts, and seat 3 has the ring settled.
+/// The calls of a book, and their answers. Seat 0 passes, seat 9 corrupts, and seat 3 has the ring settled.
 #[derive(Clone, Copy)]
 pub enum Step<'a> {
     /// A pass that is granted: its position, the machine, the order, the number of the grant, and the resource's answer.
@@ -28,9 +29,9 @@ pub enum Step<'a> {
     Refused(Op),
     /// A pass by a group with an order. Where it is refused, nothing changes.
     Group(&'a [u32], u64, Result<GroupReceipt, GroupError>),
-    /// Memory for so many events.
+    /// Memory for this many events.
     Reserve(u32, Result<(), BookError>),
-    /// To be settled, by so many passes.
+    /// To be settled, by this many passes.
     Settle(Result<u64, BookError>),
     /// A survey: the position, how many machines are privileged, the first of them, the calm and the rest.
     Survey(u64, u32, u32, u64, u64),
@@ -49,7 +50,7 @@ pub enum Step<'a> {
 pub struct Scene<'a> {
     pub k: u32,
     pub start: &'a [u32],
-    /// How many events come first: corruptions of machine 0, which holds 0, to 0, behind a request for memory for all that
+    /// How many events come first: corruptions of machine 0, which holds 0, to 0, after a request for memory for all that
     /// a history may have.
     pub filled: u32,
     pub steps: &'a [Step<'a>],
@@ -145,7 +146,7 @@ fn pass_group<R: Resource + Drop>(
     }
 }
 
-/// Memory for so many events, with a second try.
+/// Memory for this many events, with a second try.
 fn reserve<R: Resource + Drop>(
     rt: &impl Abort,
     book: &mut Book<R>,
@@ -160,7 +161,7 @@ fn reserve<R: Resource + Drop>(
     made
 }
 
-/// Settled by seat 3, with a second try: by so many passes.
+/// Settled by seat 3, with a second try: by this many passes.
 fn settle<R: Resource + Drop>(book: &mut Book<R>) -> Result<u64, BookError> {
     let before = book.survey().position;
     let made = match book.settle(3) {
@@ -243,7 +244,7 @@ fn play<R: Resource + Drop>(rt: &impl Abort, book: &mut Book<R>, steps: &[Step])
     }
 }
 
-/// Has the book make so many events.
+/// Has the book make this many events.
 fn fill<R: Resource + Drop>(rt: &impl Abort, book: &mut Book<R>, events: u32) {
     assert!(rt; reserve(rt, book, 4_000_000).is_ok());
     let fault = Op::Corrupt {

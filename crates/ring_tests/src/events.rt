@@ -37,7 +37,7 @@ pub(crate) fn told(position: u64, event: Event) -> Entry {
     Entry::Receipt(Receipt { position, event })
 }
 
-/// A member of a group that passes with order 2, behind which so many more come.
+/// A member of a group that passes with order 2, with this many more after it.
 pub(crate) fn member(seat: u32, machine: u32, left: u32, number: u64, answer: u64) -> Event {
     Event {
         seat,

@@ -86,7 +86,7 @@ pub fn widest_group() -> [u32; 1023] {
     machines
 }
 
-/// Where they have moved: machine 0 went on from 65,535 to 0, machine 500 stayed.
+/// Where they have moved: machine 0 stepped from 65,535 to 0, machine 500 stayed.
 pub fn widest_values_moved() -> [u32; 1024] {
     let mut values = [0u32; 1024];
     for machine in 1..1024usize {

@@ -49,7 +49,7 @@ fn is_found(ring: &[u8], lone: &Lone) -> bool
     requires low { 2 ≤ length ring.now }
     requires high { length ring.now ≤ 256 }
 {
-    // Every bit is set at first, so that one which is not written stands out.
+    // Every bit is set at first, so that one which is not written shows.
     let mut mask = [u64::MAX; 4];
     privileged_mask(ring, &mut mask);
     mask == lone.mask

@@ -1,4 +1,4 @@
-//! Tests of the crates from `ring_model` to `ring_turns`, by their public items alone. They stand here so that those crates are
+//! Tests of the crates from `ring_model` to `ring_turns`, by their public items only. They are here so that those crates are
 //! not proved once more with their tests; each module is named after what it tests.
 #![tactic(auto)]
 

@@ -20,9 +20,9 @@ fn steps_and_copies(rt: HostRuntime) {
     }
 }
 
-/// A ring with as many values as machines, and what is told of it.
+/// A ring with as many values as machines, and what is expected of it.
 #[derive(Clone, Copy)]
-struct Told<'a> {
+struct Expected<'a> {
     ring: &'a [u32],
     count: usize,
     first: usize,
@@ -32,9 +32,9 @@ struct Told<'a> {
     rest: u64,
 }
 
-macro_rules! told {
+macro_rules! expected {
     ($ring:expr, $count:expr, $first:expr, $prefix:expr, $weight:expr, $lead:expr, $rest:expr) => {
-        Told {
+        Expected {
             ring: $ring,
             count: $count,
             first: $first,
@@ -46,36 +46,36 @@ macro_rules! told {
     };
 }
 
-const RINGS: [Told<'static>; 8] = [
-    told!(&[0, 2, 0], 3, 0, false, 3, 1, 6),
-    told!(&[1, 2, 0], 2, 1, true, 3, 0, 3),
-    told!(&[1, 1, 0], 1, 2, true, 1, 0, 0),
-    told!(&[0, 2, 1, 0], 4, 0, false, 6, 3, 18),
-    told!(&[1, 2, 1, 0], 3, 1, false, 6, 2, 14),
-    told!(&[1, 1, 1, 0], 1, 3, true, 1, 0, 0),
-    told!(&[3, 3, 1, 0], 2, 2, true, 3, 0, 3),
-    told!(&[1, 0, 1, 1], 3, 0, false, 5, 1, 9),
+const RINGS: [Expected<'static>; 8] = [
+    expected!(&[0, 2, 0], 3, 0, false, 3, 1, 6),
+    expected!(&[1, 2, 0], 2, 1, true, 3, 0, 3),
+    expected!(&[1, 1, 0], 1, 2, true, 1, 0, 0),
+    expected!(&[0, 2, 1, 0], 4, 0, false, 6, 3, 18),
+    expected!(&[1, 2, 1, 0], 3, 1, false, 6, 2, 14),
+    expected!(&[1, 1, 1, 0], 1, 3, true, 1, 0, 0),
+    expected!(&[3, 3, 1, 0], 2, 2, true, 3, 0, 3),
+    expected!(&[1, 0, 1, 1], 3, 0, false, 5, 1, 9),
 ];
 
-/// Whether it is told of the privileges.
-fn is_told(told: &Told) -> bool {
-    privileged_count(told.ring) == told.count
-        && first_privileged(told.ring) == told.first
-        && is_settled(told.ring) == (told.count == 1)
-        && first_value_is_prefix(told.ring) == told.prefix
+/// Whether the privileges are as expected.
+fn has_expected_privileges(expected: &Expected) -> bool {
+    privileged_count(expected.ring) == expected.count
+        && first_privileged(expected.ring) == expected.first
+        && is_settled(expected.ring) == (expected.count == 1)
+        && first_value_is_prefix(expected.ring) == expected.prefix
 }
 
 #[test]
 fn answers_for_small_rings(rt: HostRuntime) {
-    for (place, told) in RINGS.iter().enumerate() {
-        let ring = told.ring;
+    for (place, expected) in RINGS.iter().enumerate() {
+        let ring = expected.ring;
         assert!(rt; ring.len() >= 1 && ring.len() <= 4);
         let k = ring.len() as u32;
-        let is_weighed = weight(ring) == told.weight
-            && lead(k, ring) == told.lead
-            && rest(k, ring) == told.rest;
+        let is_weighed = weight(ring) == expected.weight
+            && lead(k, ring) == expected.lead
+            && rest(k, ring) == expected.rest;
         assert!(rt;
-            is_weighed && is_ring(k, ring) && is_told(told),
+            is_weighed && is_ring(k, ring) && has_expected_privileges(expected),
             "ring {place}"
         );
     }

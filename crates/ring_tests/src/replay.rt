@@ -66,7 +66,7 @@ const LAST: (Op, Reply) = (
     },
 );
 
-// Each step with its reply, and the values, the amount and the grants behind it.
+// Each step with its reply, and the values, the amount and the grants after it.
 #[test]
 fn steps_with_a_till(rt: HostRuntime) {
     let mut ring = [0, 2, 0];

@@ -27,7 +27,7 @@ use std::sync::Wait;
 use std::thread::Threads;
 use threads::pass_at_once;
 
-/// What is done with a ring over a till that has two seats. Its machines have as many values as there are machines.
+/// A use of a ring over a till that has two seats. Its machines have as many values as there are machines.
 #[derive(Clone, Copy)]
 enum Script {
     Calls { scene: Scene, scarce: bool },
@@ -404,7 +404,7 @@ fn close_one_seat_short<N: Name, W: Wait + Abort>(
     }
 }
 
-/// No further call is taken, and each is told why; what the seat was told and sees stays.
+/// No further call is taken, and each is refused with the reason; the seat's log and what it sees stay.
 fn stays_full<N: Name, W: Wait + Abort>(rt: &W, ring: &Ring<N, Till>, seat: Seat<N>) -> Seat<N>
     requires machines { 2 ≤ length N.start.values }
     requires values { 2 ≤ N.start.k }

@@ -60,7 +60,7 @@ fn a_refused_request_for_memory_is_told(rt: HostRuntime) {
     assert!(rt; has_values(&state, &[1, 2, 0]) && has_values(&copy, &[0, 2, 0]));
 }
 
-/// Three machines have these values; those whose bit is set are privileged, so many, with this as the first of them.
+/// Three machines have these values; those whose bit is set are privileged, this many, with this as the first of them.
 fn is_at(rt: &impl Abort, state: &RingState, values: &[u32], bits: u64, count: u32, first: u32) {
     assert!(rt; has_values(state, values));
     assert!(rt; state.privileged() == count && state.first() == first);
@@ -90,8 +90,8 @@ fn machines_move_by_the_rule(rt: HostRuntime) -> Result<(), Fail> {
     Ok(())
 }
 
-// The ring (0, 2, 0): the weight is 2 + 1, and machine 2 holds the value of machine 0 behind machine 1, which does not. In
-// (1, 2, 2) machine 1 alone is privileged.
+// The ring (0, 2, 0): the weight is 2 + 1, and machine 2 holds the value of machine 0 after machine 1, which does not. In
+// (1, 2, 2) only machine 1 is privileged.
 #[test]
 fn readers_see_the_whole_ring(rt: HostRuntime) -> Result<(), Fail> {
     for (values, weight, prefix, held) in [

@@ -18,12 +18,12 @@ use std::marker::Brand;
 use std::process::Abort;
 use std::sync::Wait;
 
-/// What the two clients do.
+/// The work of the two clients.
 #[derive(Clone, Copy)]
 enum Scene {
     /// The first takes two turns, and the other wants nothing.
     OneAlone,
-    /// The first takes a turn behind a fault.
+    /// The first takes a turn after a fault.
     BehindAFault,
     /// There are to be three clients of the two machines.
     TooMany,
@@ -63,7 +63,7 @@ fn turn(asked_at: u64, position: u64, order: u64, number: u64, answer: u64) -> T
     }
 }
 
-/// The first client alone: machine 0 is its own, and machine 1 is passed on for the other, who wants nothing.
+/// Only the first client: machine 0 is its own, and machine 1 is passed on for the other, which wants nothing.
 fn alone<N: Name, W: Wait + Abort>(rt: &W, turns: &Turns<N, Till>, seat: &mut Seat<N>)
     requires clients { 2 ≤ turns.now }
     requires first { seat.old.number ≡ 0 }
@@ -75,7 +75,7 @@ fn alone<N: Name, W: Wait + Abort>(rt: &W, turns: &Turns<N, Till>, seat: &mut Se
     assert_eq!(rt; second, turn(1, 2, 5, 3, 12));
 }
 
-/// The first client behind a fault, which makes machine 1 privileged in the place of machine 0.
+/// The first client after a fault, which makes machine 1 privileged instead of machine 0.
 fn behind_a_fault<N: Name, W: Wait + Abort>(rt: &W, turns: &Turns<N, Till>, seat: &mut Seat<N>)
     requires clients { 2 ≤ turns.now }
     requires machines { length N.start.values ≡ 2 }

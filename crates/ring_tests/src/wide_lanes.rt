@@ -52,7 +52,7 @@ fn is_found(ring: &[u16], lone: &Lone) -> bool
 {
     let mut wanted = [0u64; 16];
     wanted[..3].copy_from_slice(&lone.mask);
-    // Every bit is set at first, so that one which is not written stands out.
+    // Every bit is set at first, so that one which is not written shows.
     let mut mask = [u64::MAX; 16];
     wide_mask(ring, &mut mask);
     mask == wanted

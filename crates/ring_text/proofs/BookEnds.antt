@@ -1,4 +1,4 @@
--- What a book's readers answer is what the report says of its end.
+-- The answers of a book's readers are those of the report on its end.
 use Rattle.std.proofs.Common.{◌≡◌, ◌∙◌, ℕ, List, length, ap}
 use Rattle.std.proofs.lemmas.List.FromFn.{fill_by_all}
 use Rattle.ring_model.specs.Ring.{bound}

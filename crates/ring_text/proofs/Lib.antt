@@ -1,4 +1,4 @@
-pub mod SavedParts
+pub mod Blocks
 pub mod Fitting
 pub mod Sums
 pub mod BookEnds

@@ -1,4 +1,4 @@
--- From what `run_farm` promises of an outcome to right runs.
+-- From the promise of `run_farm` on an outcome to right runs.
 use Rattle.std.proofs.Common.{◌≡◌, ℕ, ◌<◌, ◌≤◌, [], length, get_or, sym, subst, arith}
 use Rattle.std.specs.Prelude.{All, Some, slice_get}
 use Rattle.std.proofs.lemmas.Option.{slice_get-get_or}
@@ -10,14 +10,15 @@ use Rattle.ring_model.specs.Logs.{Fits}
 use Rattle.ring_model.specs.Resources.{till}
 use Rattle.ring_state.specs.Sizes.{IsRingState}
 use Rattle.ring_settings.specs.Contents.{SettingsData, RingData, IsRingSetting}
-use Rattle.ring_farm.specs.Holding.{AreOfSeats}
+use Rattle.ring_logs.specs.Seats.{AreOfSeats}
 use Rattle.ring_farm.specs.Log.{Log}
 use Rattle.ring_farm.specs.declared.outcomes.Outcome.{Outcome}
-use Rattle.ring_farm.specs.declared.outcomes.RingOutcome.{RingOutcome}
+use Rattle.ring_logs.specs.declared.outcomes.RingOutcome.{RingOutcome}
 use Rattle.ring_farm.specs.Runs.{ring_of_data}
 use Rattle.ring_farm.specs.Headline.{IsFarmRing, IsFarmOf}
 use Rattle.ring_farm.proofs.Lawful.{is_whole}
-use Rattle.ring_text.specs.Written.{IsRightRun, OutcomeIsLegal, OutcomeIsRight}
+use Rattle.ring_text.specs.Written.{OutcomeIsLegal, OutcomeIsRight}
+use Rattle.ring_blocks.specs.Runs.{IsRightRun}
 use Rattle.ring_text.proofs.WrittenTexts.{written_is_legal, written_is_right}
 
 -- a ring of settings is one of an allowed size
@@ -28,7 +29,7 @@ ring_allowed d h =
     let enough = h.size.values in
     record { ring = record { two = omega arith; enough = omega arith; below = λ i l. h.below i 0 l }; most_machines = omega (arith, h.size.most_machines); most = h.size.most }
 
--- what a farm with at most ten seats hands out of a ring of its settings
+-- the outcome of a farm with at most ten seats for a ring of its settings
 promised_run : (settings : SettingsData) (ring : ℕ) (d : RingData) (r : RingOutcome) → IsRingSetting d → length settings.seats ≤ seat_limit →
     IsFarmRing settings ring d r → IsRightRun r
 promised_run settings ring d r is most farm =

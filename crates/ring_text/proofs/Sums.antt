@@ -1,12 +1,13 @@
--- What is counted of one ring: how it adds up, and that it is within what is known of all.
+-- The counts of one ring: how they add up, and that they are within the known limits of all.
 use Rattle.std.proofs.Common.{◌≡◌, ◌+◌, ◌<◌, ◌≤◌, ◌∙◌, ℕ, List, length, take, get_or, sum_by, ap, sym, arith}
 use Rattle.std.proofs.lemmas.List.Sums.{sum_by_more, sum_by_more_le_part, sum_by-le-sum_by, count_by-le-length}
 use Rattle.ring_model.specs.Surveys.{granted_count}
 use Rattle.ring_farm.specs.Log.{Log}
-use Rattle.ring_farm.specs.declared.outcomes.RingOutcome.{RingOutcome}
+use Rattle.ring_logs.specs.declared.outcomes.RingOutcome.{RingOutcome}
 use Rattle.ring_text.specs.declared.counts.Counts.{Counts}
-use Rattle.ring_text.specs.declared.counts.Totals.{Totals}
-use Rattle.ring_text.specs.Report.{is_survey, survey_count, surveys_in, entries_of, counts_of, totals_of}
+use Rattle.ring_blocks.specs.declared.counts.Totals.{Totals}
+use Rattle.ring_text.specs.Report.{entries_of, counts_of, surveys_in, totals_of}
+use Rattle.ring_blocks.specs.Counts.{is_survey, survey_count}
 
 -- ---- surveys are entries
 

@@ -1,4 +1,3 @@
 pub mod SavedOf
 pub mod Report
 pub mod Written
-pub mod Journals

@@ -1,4 +1,4 @@
--- The report on what a farm hands out, as a plain function of it (this project's own lines), over
+-- The report on a farm's outcome, as a plain function of it (this project's own lines), over
 -- the definitions of the one-thread ring.
 use Rattle.std.specs.Prelude.{ℕ, ◌+◌, Bool, true, false, List, [], ◌∷◌, ◌++◌, map, length, sum_by, count_by, codes}
 use Rattle.std.specs.Fmt.{decimal}
@@ -13,16 +13,16 @@ use Rattle.ring_model.specs.declared.events.Reply.{Reply}
 use Rattle.ring_model.specs.declared.events.Reply.TheVariants.{Granted, NotPrivileged, Corrupted}
 use Rattle.ring_model.specs.declared.events.Event.{Event}
 use Rattle.ring_model.specs.declared.events.Survey.{Survey}
-use Rattle.ring_model.specs.declared.events.Entry.{Entry}
-use Rattle.ring_model.specs.declared.events.Entry.TheVariants as entry
 use Rattle.ring_book.specs.BookView.{BookView}
 use Rattle.ring_farm.specs.Log.{Log}
 use Rattle.ring_farm.specs.declared.outcomes.Outcome.{Outcome}
-use Rattle.ring_farm.specs.declared.outcomes.RingOutcome.{RingOutcome}
+use Rattle.ring_logs.specs.declared.outcomes.RingOutcome.{RingOutcome}
+use Rattle.ring_blocks.specs.declared.counts.Totals.{Totals}
+use Rattle.ring_blocks.specs.Counts.{survey_count}
 use Rattle.ring_text.specs.declared.counts.Counts.{Counts}
-use Rattle.ring_text.specs.declared.counts.Totals.{Totals}
+use Rattle.ring_blocks.specs.declared.counts.Totals.{Totals}
 
--- ---- what is counted
+-- ---- the counts
 
 -- the reply to a pass that found no privilege, and how many such passes a history has
 abbrev pub is_refused : Reply → Bool
@@ -32,14 +32,6 @@ is_refused (Corrupted old) = false
 
 abbrev pub refused_count : List Event → ℕ
 refused_count h = count_by (λ (e : Event). is_refused e.reply) h
-
--- an entry that is a survey, and how many surveys a seat's entries have
-abbrev pub is_survey : Entry → Bool
-is_survey (entry.Receipt r) = false
-is_survey (entry.Survey s) = true
-
-abbrev pub survey_count : List Entry → ℕ
-survey_count entries = count_by is_survey entries
 
 -- the surveys in logs, and all entries in them
 abbrev pub surveys_in : List Log → ℕ
@@ -55,7 +47,7 @@ entries_among rings = sum_by (λ (r : RingOutcome). entries_of r.logs.items) rin
 abbrev pub entries_in : Outcome → ℕ
 entries_in o = entries_among o.rings.items
 
--- what is counted of a ring: its events, among them the granted passes, the passes that found no
+-- the counts of a ring: its events, among them the granted passes, the passes that found no
 -- privilege and the corruptions, and the surveys in its logs
 abbrev pub counts_of : RingOutcome → Counts
 counts_of r = record {
@@ -66,7 +58,7 @@ counts_of r = record {
   surveys = surveys_in r.logs.items;
 }
 
--- what adds up over rings
+-- the sums over rings
 abbrev pub totals_of : List RingOutcome → Totals
 totals_of rings = record {
   events = sum_by (λ (r : RingOutcome). length r.book.history) rings;
@@ -81,7 +73,7 @@ abbrev pub size_words : ℕ → ℕ → ℕ → List ℕ
 size_words place n k =
     codes "ring " ++ (decimal place ++ (codes " n " ++ (decimal n ++ (codes " k " ++ decimal k))))
 
--- what is counted of it, and the end of the line
+-- the counts, and the end of the line
 abbrev pub count_words : Counts → List ℕ
 count_words c =
     codes " events "
@@ -102,7 +94,7 @@ counts_line place n k c = size_words place n k ++ count_words c
 abbrev pub states_line : List ℕ → List ℕ
 states_line values = codes "states " ++ (list_text values ++ codes "\n")
 
--- what a survey says of it, and the bound of the rest
+-- the survey, and the bound of the rest
 abbrev pub standing_line : Survey → ℕ → List ℕ
 standing_line s limit =
     codes "privileged "
@@ -119,7 +111,7 @@ abbrev pub grants_line : List ℕ → List ℕ → List ℕ
 grants_line each settled =
     codes "grants " ++ (list_text each ++ (codes " settled " ++ (list_text settled ++ codes "\n")))
 
--- the number of rings, and what adds up over them
+-- the number of rings, and the sums over them
 abbrev pub total_line : ℕ → Totals → List ℕ
 total_line rings t =
     codes "total rings "
@@ -135,7 +127,7 @@ total_line rings t =
 abbrev pub each_machine : ℕ → (ℕ → ℕ) → List ℕ
 each_machine n number = map number (range_with_len 0 n)
 
--- What a book comes to: the state behind its whole history, the survey there with the bound, and
+-- The end of a book: the state after its whole history, the survey there with the bound, and
 -- the grants of each machine.
 abbrev pub end_lines : BookView ℕ → List ℕ
 end_lines b =
@@ -150,7 +142,7 @@ abbrev pub ring_lines : ℕ → RingOutcome → List ℕ
 ring_lines place r =
     counts_line place (length r.book.start.values) r.book.start.k (counts_of r) ++ end_lines r.book
 
--- the lines of rings, of which the first stands at the given place
+-- the lines of rings, the first at the given place
 abbrev pub rings_from : ℕ → List RingOutcome → List ℕ
 rings_from place [] = []
 rings_from place (r ∷ rs) = ring_lines place r ++ rings_from (place + 1) rs

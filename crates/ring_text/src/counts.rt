@@ -1,15 +1,17 @@
-//! What a report counts.
+//! The counts of a report.
 
 ghost use Rattle.std.specs.Prelude.{◌≡◌, ◌+◌, ◌<◌, ◌≤◌, ◌^◌, [], length};
-ghost use Rattle.ring_model.specs.Surveys.{granted_count, corrupted_count};
+ghost use Rattle.ring_model.specs.Surveys.{corrupted_count};
 ghost use Rattle.ring_model.specs.Limits.{event_limit};
 ghost use Rattle.ring_settings.specs.Limits.{ring_limit};
-ghost use Rattle.ring_text.specs.Report.{refused_count, survey_count, surveys_in, entries_of, entries_among, counts_of, totals_of};
+ghost use Rattle.ring_text.specs.Report.{refused_count, entries_of, entries_among, counts_of, surveys_in, totals_of};
+ghost use Rattle.ring_blocks.specs.Counts.{survey_count};
 
+use ring_blocks::{Totals, granted};
 use ring_farm::{Log, RingOutcome};
 use ring_model::{Entry, Event, Reply};
 
-/// What is counted of one ring.
+/// The counts of one ring.
 #[derive(Clone, Copy)]
 pub struct Counts {
     pub events: u64,
@@ -22,52 +24,32 @@ pub struct Counts {
     pub surveys: u64,
 }
 
-/// What adds up over the rings of a farm.
-#[derive(Clone, Copy)]
-pub struct Totals {
-    pub events: u64,
-    pub granted: u64,
-    pub surveys: u64,
-}
-
-impl Totals {
-    /// Those of no ring.
-    pub fn new() -> Totals
-        ensures { result ≡ totals_of [] }
-    {
-        Totals {
-            events: 0,
-            granted: 0,
-            surveys: 0,
-        }
-    }
-
-    /// Adds what was counted of a ring.
-    pub fn add(&mut self, counts: Counts)
-        requires events { self.old.events + counts.events < 2 ^ 64 }
-        requires granted { self.old.granted + counts.granted < 2 ^ 64 }
-        requires surveys { self.old.surveys + counts.surveys < 2 ^ 64 }
-        ensures { self.new
-            ≡ record {
-              events = self.old.events + counts.events;
-              granted = self.old.granted + counts.granted;
-              surveys = self.old.surveys + counts.surveys;
-            } }
-    {
-        self.events += counts.events;
-        self.granted += counts.granted;
-        self.surveys += counts.surveys;
-    }
-}
-
-/// How many passes of a history were granted.
-pub fn granted(history: &[Event]) -> usize
-    ensures { result ≡ granted_count history.now }
+/// Returns the sums over no ring.
+pub fn no_totals() -> Totals
+    ensures { result ≡ totals_of [] }
 {
-    history
-        .iter()
-        .filter(|event| matches!(event.reply, Reply::Granted { .. }))
-        .count()
+    Totals {
+        events: 0,
+        granted: 0,
+        surveys: 0,
+    }
+}
+
+/// Adds the counts of a ring.
+pub fn add(all: &mut Totals, counts: Counts)
+    requires events { all.old.events + counts.events < 2 ^ 64 }
+    requires granted { all.old.granted + counts.granted < 2 ^ 64 }
+    requires surveys { all.old.surveys + counts.surveys < 2 ^ 64 }
+    ensures { all.new
+        ≡ record {
+          events = all.old.events + counts.events;
+          granted = all.old.granted + counts.granted;
+          surveys = all.old.surveys + counts.surveys;
+        } }
+{
+    all.events += counts.events;
+    all.granted += counts.granted;
+    all.surveys += counts.surveys;
 }
 
 fn refused(history: &[Event]) -> usize
@@ -110,7 +92,7 @@ fn surveys_of(logs: &[Log]) -> u64
 }
 
 /// Counts a ring's events and surveys.
-pub fn counted(ring: &RingOutcome) -> Counts
+pub fn counts_of(ring: &RingOutcome) -> Counts
     requires { entries_of ring.now.logs.items < 2 ^ 64 }
     ensures is { result ≡ counts_of ring.now }
     ensures few { result.events ≤ event_limit }
@@ -126,15 +108,15 @@ pub fn counted(ring: &RingOutcome) -> Counts
     }
 }
 
-/// Counts what adds up over rings.
+/// Counts the sums over rings.
 pub fn added_up(rings: &[RingOutcome]) -> Totals
     requires most { length rings.now ≤ ring_limit }
     requires few { entries_among rings.now < 2 ^ 64 }
     ensures { result ≡ totals_of rings.now }
 {
-    let mut all = Totals::new();
+    let mut all = no_totals();
     for ring in rings {
-        all.add(counted(ring));
+        add(&mut all, counts_of(ring));
     }
     all
 }

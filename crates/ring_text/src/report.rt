@@ -1,4 +1,4 @@
-//! The writer of the report on what a farm hands out. It takes no memory.
+//! The writer of the report on a farm's outcome. It takes no memory.
 
 ghost use Rattle.std.specs.Prelude.{◌≡◌, ◌<◌, ◌≤◌, ◌^◌, ◌++◌, ℕ, List, length, codes};
 ghost use Rattle.ring_settings.specs.Limits.{ring_limit};
@@ -8,8 +8,9 @@ ghost use Rattle.ring_model.specs.History.{after, opening};
 ghost use Rattle.ring_model.specs.Resources.{till};
 ghost use Rattle.ring_text.specs.Report.{entries_in, counts_of, size_words, count_words, counts_line, states_line, standing_line, grants_line, end_lines, ring_lines, total_line, farm_line, report};
 
-use crate::counts::{Counts, Totals, added_up, counted};
+use crate::counts::{Counts, add, added_up, counts_of, no_totals};
 use itoa::Buffer;
+use ring_blocks::Totals;
 use ring_book::{Book, GrantBook, Survey, Till};
 use ring_farm::{Outcome, RingOutcome};
 use ring_settle::bound;
@@ -28,7 +29,7 @@ fn put_size<W: Write>(out: &mut W, place: u32, n: u32, k: u32) -> Result<(), Wri
     put_all(out, &[b"ring ", place, b" n ", n, b" k ", k])
 }
 
-/// What is counted of a ring, and the end of the line.
+/// Writes the counts of a ring, and the end of the line.
 fn put_counts<W: Write>(out: &mut W, counts: Counts) -> Result<(), WriteFault>
     ensures { Writes (W.contents out.old) (W.contents out.new) result (count_words counts) }
 {
@@ -57,7 +58,7 @@ fn put_counts<W: Write>(out: &mut W, counts: Counts) -> Result<(), WriteFault>
     )
 }
 
-/// The line of a ring's place, its size and what is counted of it.
+/// The line of a ring's place, its size and its counts.
 #[tactic(auto, using(text_lines::proofs::Writing::writes_then))]
 fn put_counts_line<W: Write>(
     out: &mut W,
@@ -75,7 +76,7 @@ fn put_counts_line<W: Write>(
     }
 }
 
-/// A word, and a list of so many numbers behind it, the one at place `i` as `number` answers it.
+/// Writes a word, and a list of `count` numbers after it, the one at place `i` as `number` answers it.
 #[tactic(auto, using(text_lines::proofs::Writing::writes_then))]
 fn put_worded_list<W: Write, F: Fn(u32) -> u64>(
     out: &mut W,
@@ -160,7 +161,7 @@ fn put_grants_line<W: Write>(out: &mut W, grants: &GrantBook, n: u32) -> Result<
     }
 }
 
-/// The state behind a book's whole history.
+/// The state after a book's whole history.
 fn end_state(book: &Book<Till>) -> &RingState
     ensures { result.now.values
         ≡ (after till (opening book.now.start 0) book.now.history).ring.values }
@@ -168,7 +169,7 @@ fn end_state(book: &Book<Till>) -> &RingState
     book.state()
 }
 
-/// What a book comes to: its state, a survey of it, and the grants of each machine.
+/// Writes the end of a book: its state, a survey of it, and the grants of each machine.
 fn put_end<W: Write>(out: &mut W, book: &Book<Till>) -> Result<(), WriteFault>
     ensures { Writes (W.contents out.old) (W.contents out.new) result (end_lines book.now) }
 {
@@ -182,7 +183,7 @@ fn put_end<W: Write>(out: &mut W, book: &Book<Till>) -> Result<(), WriteFault>
     }
 }
 
-/// The lines of the ring at a place, of which this was counted.
+/// Writes the lines of the ring at a place, with these counts.
 #[tactic(auto, using(text_lines::proofs::Writing::writes_then))]
 fn put_ring<W: Write>(
     out: &mut W,
@@ -200,11 +201,11 @@ fn put_ring<W: Write>(
     }
 }
 
-/// Writes the line of the farm: how many rings there are, and what adds up over them.
+/// Writes the line of the farm: how many rings there are, and the sums over them.
 ///
 /// # Errors
 ///
-/// As [`write_report`], with a beginning of the line.
+/// As [`write_report`], with a prefix of the line.
 pub fn put_total_line<W: Write>(out: &mut W, rings: u32, totals: Totals) -> Result<(), WriteFault>
     ensures { Writes (W.contents out.old) (W.contents out.new) result (total_line rings totals) }
 {
@@ -229,40 +230,40 @@ pub fn put_total_line<W: Write>(out: &mut W, rings: u32, totals: Totals) -> Resu
     )
 }
 
-/// Writes the report on what a farm hands out: four lines for each ring, and one for the farm.
+/// Writes the report on a farm's outcome: four lines for each ring, and one for the farm.
 ///
 /// The first line of a ring has its place, its size and the numbers of its events, its granted passes, its passes
 /// that found no privilege, its corruptions and the surveys in its logs. The second has the values of its machines
-/// behind its whole history, the third a survey of it there and the bound of the rest, and the fourth the granted
+/// after its whole history, the third a survey of it there and the bound of the rest, and the fourth the granted
 /// passes of each machine, in all and in the settled run. The line of the farm adds up over the rings. It takes no
 /// memory.
 ///
 /// # Errors
 ///
 /// `WriteFault` at the first error of the writer, an interruption too, or write of 0 bytes. The writer then holds a
-/// beginning of the report, but not all of it, behind what it held.
+/// prefix of the report, but not all of it, after what it held.
 pub fn write_report<W: Write>(outcome: &Outcome, out: &mut W) -> Result<(), WriteFault>
     requires most { length outcome.now.rings.items ≤ ring_limit }
     requires few { entries_in outcome.now < 2 ^ 64 }
     ensures { Writes (W.contents out.old) (W.contents out.new) result (report outcome.now) }
 {
-    let mut totals = Totals::new();
+    let mut totals = no_totals();
     for (place, ring) in outcome.rings.iter().enumerate() {
-        let counts = counted(ring);
+        let counts = counts_of(ring);
         match put_ring(out, place as u32, ring, counts) {
-            Ok(()) => totals.add(counts),
+            Ok(()) => add(&mut totals, counts),
             Err(fault) => return Err(fault),
         }
     }
     put_total_line(out, outcome.rings.len() as u32, totals)
 }
 
-/// Writes the line of the farm alone, as it stands at the end of the report: what adds up over the rings. It takes no
+/// Writes only the line of the farm, as it is at the end of the report: the sums over the rings. It takes no
 /// memory.
 ///
 /// # Errors
 ///
-/// `WriteFault` as at [`write_report`]. The writer then holds a beginning of the line, but not all of it, behind what it
+/// `WriteFault` as at [`write_report`]. The writer then holds a prefix of the line, but not all of it, after what it
 /// held.
 pub fn write_total<W: Write>(outcome: &Outcome, out: &mut W) -> Result<(), WriteFault>
     requires most { length outcome.now.rings.items ≤ ring_limit }

@@ -2,8 +2,7 @@
 #![tactic(auto)]
 
 use disks::{SystemDisk, take_low};
-use ring_program::tell;
-pub use ring_program::{ToolError, read_limited, run_tool, step_lines};
+use ring_program::{ToolError, run_tool, tell};
 use std::fs::File;
 use std::io::{self, BufWriter, ErrorKind, Input, Write};
 use std::process::ExitCode;
@@ -11,7 +10,7 @@ use std::rt::{Env, Files};
 use std::sync::Wait;
 use std::thread::Threads;
 
-/// The words behind the program's name; none where one of them is not UTF-8.
+/// The words after the program's name; none where one of them is not UTF-8.
 fn words_of<R: AllocGlobal + Env>(rt: &R) -> Result<Option<Vec<String>>, ToolError<'static>> {
     let all = match std::env::args(rt) {
         Ok(all) => all,
@@ -27,7 +26,7 @@ fn words_of<R: AllocGlobal + Env>(rt: &R) -> Result<Option<Vec<String>>, ToolErr
     Ok(Some(words))
 }
 
-/// The whole run: what it prints goes through a buffer to standard output.
+/// The whole run: its output goes through a buffer to standard output.
 fn run<R: AllocGlobal + Env + Files<File = File> + Input + Print + Threads + Wait + Sync, E: Write>(
     rt: &R,
     err: &mut E,

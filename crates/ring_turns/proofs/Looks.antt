@@ -1,4 +1,4 @@
--- What one look of a client at the desk adds to what it was told.
+-- The additions to a client's log by one look at the desk.
 use Rattle.std.proofs.Common.{◌≡◌, ℕ, ◌≤◌, List, [], ◌∷◌, ◌++◌, All, length, take, refl, sym, ◌∙◌, ap, subst, append_assoc, arith}
 use Rattle.ring_model.specs.History.{Works, State}
 use Rattle.ring_model.specs.declared.events.Entry.{Entry}
@@ -34,13 +34,13 @@ granted_from w a x b after m order r h n l s =
       granted = h.granted;
     }
 
--- what was seen first begins what is seen, so a survey of its end stays what it is
+-- the events seen first are a prefix of those seen now, so a survey of their end stays the same
 survey_stays : {C : Type 0} (w : Works C) (a : State C) (h seen : List Event) (p : ℕ) → p ≡ length h → IsPrefix h seen → survey_at w a h p ≡ survey_at w a seen p
 survey_stays w a h seen p n b =
     let front : take p h ≡ take p seen = take_all p h (omega arith) ∙ (sym (prefix_take h seen b) ∙ ap (λ (x : ℕ). take x seen) (sym n)) in
     rw front refl
 
--- who asked at the end of what it had seen then, and had its turn
+-- a client that asked at the end of the events that it had seen then, and had its turn
 pub is_turn : {C : Type 0} (w : Works C) (a : State C) (before asked after : Client) (p order : ℕ) (r : Receipt) → p ≡ length asked.seen →
     asked.log ≡ before.log ++ entry.Survey (survey_at w a asked.seen p) ∷ [] → asked.number ≡ before.number → IsPrefix before.seen asked.seen →
     IsPrefix asked.seen after.seen → IsTaken w a asked after p order r → IsTurn w a before after order (record { asked_at = p; receipt = r })

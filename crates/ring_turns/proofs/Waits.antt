@@ -1,4 +1,4 @@
--- Those who wait, over one pass more.
+-- The waiting clients, over one pass more.
 use Rattle.std.proofs.Common.{◌≡◌, ℕ, suc, ◌+◌, ◌<◌, ◌≤◌, ◌≢◌, Bool, true, false, List, [], ◌∷◌, ◌++◌, length, get_or, set, take, drop, refl, sym, ◌∙◌, ap, subst, inl, inr, arith}
 use Rattle.std.specs.Prelude.{◌⊎◌, Option, Some, None, slice_get, slice_set}
 use mathlib.Core.List.{IsPrefix}
@@ -25,7 +25,7 @@ use Rattle.ring_model.proofs.Progress.{history_progress}
 use Rattle.ring_shared.proofs.Prefixes.{prefix_take}
 use Rattle.ring_turns.specs.Waiting.{AreWaiting, HasWaited}
 
--- what stands in an option
+-- the value in an option
 
 abbrev value_or : {X : Type 0} → X → Option X → X
 value_or d None = d
@@ -41,7 +41,7 @@ some-injective x y e = ap (value_or x) e
 none_some : (p : ℕ) → None ≡ Some p → ⊥
 none_some p e = both_ways false refl (ap has_value e)
 
--- what is read behind a write is what was written, or what was there
+-- a read after a write gives the written value, or the one that was there
 pub get_set : (xs : List (Option ℕ)) (i k p : ℕ) (v : Option ℕ) → slice_get (slice_set xs k v) i ≡ Some (Some p) →
     ((i ≡ k) × (v ≡ Some p)) ⊎ (slice_get xs i ≡ Some (Some p))
 get_set xs i k p v h =
@@ -77,7 +77,7 @@ left waits client p e =
     let read : slice_get (set waits client None) client ≡ Some (get_or (set waits client None) client None) = slice_get-get_or (set waits client None) client None within in
     none_some p (sym (get_or-set_same waits client None None l) ∙ some-injective (get_or (set waits client None) client None) (Some p) (sym read ∙ e))
 
--- a list that is one longer than its beginning
+-- a list that is one longer than its prefix
 pub one_more : (h seen : List Event) (e : Event) → IsPrefix h seen → length seen ≡ length h + 1 → slice_get seen (length h) ≡ Some e → seen ≡ h ++ e ∷ []
 one_more h seen e b n at =
     let l : length h < length seen = omega arith in
@@ -94,7 +94,7 @@ anothers i machine order (Granted number result) ne = ne_eqb machine i (λ q. ne
 anothers i machine order NotPrivileged ne = refl
 anothers i machine order (Corrupted old) ne = refl
 
--- one event more, which is no grant of a machine whose client waits
+-- one event more, which is not a grant of a machine whose client waits
 grows : (waits : List (Option ℕ)) (h : List Event) (e : Event) → AreWaiting waits h →
     ((i p : ℕ) → slice_get waits i ≡ Some (Some p) → is_grant_of i e.op e.reply ≡ false) → AreWaiting waits (h ++ e ∷ [])
 grows waits h e kept others i p w =
@@ -118,7 +118,7 @@ pub notes : (waits : List (Option ℕ)) (h seen : List Event) (e : Event) (machi
     e.op ≡ Corrupt machine value → AreWaiting waits seen
 notes waits h seen e machine value kept one call = subst (λ (x : List Event). AreWaiting waits x) (sym one) (grows waits h e kept (λ i p w. ap (λ (o : Op). is_grant_of i o e.reply) call))
 
--- who has waited from p on, up to what was seen before its pass
+-- a client that has waited from p on, up to the events seen before its pass
 pub has_waited : {C : Type 0} (w : Works C) (a : State C) (h : List Event) (e : Event) (seen : List Event) (i p q : ℕ) → IsRing a.ring → IsLegal w a seen → i < length a.ring.values →
     seen ≡ h ++ e ∷ [] → length seen ≡ q + 1 → p ≤ length h → grants_of i (drop p h) ≡ 0 → HasWaited w a seen i p q
 has_waited w a h e seen i p q g l li one at le none =

@@ -1,4 +1,4 @@
--- What a client at the desk came to (this project's own).
+-- The result of a client's look at the desk (this project's own).
 use Rattle.std.specs.Prelude.{◌≡◌, ◌≢◌, ℕ, true, List}
 use Rattle.ring_model.specs.Ring.{first_privileged}
 use Rattle.ring_model.specs.History.{Works, State, after}
@@ -13,11 +13,11 @@ use Rattle.ring_turns.specs.Waiting.{HasWaited}
 use Rattle.ring_turns.specs.declared.desks.Look.{Look}
 use Rattle.ring_turns.specs.declared.desks.Look.TheVariants.{Taken, PassedOn, Waits}
 
--- behind all of the history this machine is the first that is privileged
+-- after all of the history this machine is the first that is privileged
 abbrev pub IsFirst : {C : Type 0} → Works C → State C → List Event → ℕ → Type 0
 IsFirst w a h i = i ≡ first_privileged (after w a h).ring.values
 
--- the client called for a pass of this machine on this order, was told of it, and it was granted
+-- the client called for a pass of this machine on this order, has its receipt, and it was granted
 pub record IsGrantedPass {C : Type 0} (w : Works C) (a : State C) (before after : Client)
     (machine order : ℕ) (r : Receipt) : Type 0 where
   pub told : IsToldCall w a before after (Pass machine order) r

@@ -1,4 +1,4 @@
--- What a client is told of its turn (this project's own).
+-- The log of a client after its turn (this project's own).
 use Rattle.std.specs.Prelude.{◌≡◌, ◌≢◌, ◌⊎◌, ℕ, ◌+◌, ◌≤◌, true, List, [], ◌∷◌, ◌++◌, All, length, Some, slice_get}
 use Rattle.ring_model.specs.History.{Works, State}
 use Rattle.ring_model.specs.Groups.{IsHistory}
@@ -25,7 +25,7 @@ IsPassedOn i (entry.Receipt r) =
     × (r.event.op ≡ Pass m on_order)
     × (is_granted r.event.reply ≡ true)
 
--- all that a client's log has besides is receipts of machines that it passed on
+-- all the other entries of a client's log are receipts of machines that it passed on
 abbrev pub HasPassedOn : ℕ → List Entry → List Entry → Type 0
 HasPassedOn i before after =
     (passed : List Entry) × (after ≡ before ++ passed) × All (IsPassedOn i) passed
@@ -40,9 +40,9 @@ pub record IsTaken {C : Type 0} (w : Works C) (a : State C) (before after : Clie
   pub own : IsGrantedPass w a then after before.number order r
   pub waited : HasWaited w a after.seen before.number at r.position
 
--- A client had a turn: it asked at a place no earlier than what it had seen, and its log has its
--- survey of that place; then it passed on machines of others, and last its own machine was granted
--- its pass.
+-- A client had a turn: it asked at a place no earlier than the end of the events that it had seen,
+-- and its log has its survey of that place; then it passed on machines of others, and last its own
+-- machine was granted its pass.
 pub record IsTurn {C : Type 0} (w : Works C) (a : State C) (before after : Client) (order : ℕ)
     (t : Turn) : Type 0 where
   pub later : length before.seen ≤ t.asked_at

@@ -1,4 +1,5 @@
--- Who waits for a turn, and what a client that waited knows of the others (this project's own).
+-- The clients that wait for a turn, and the facts that a client that waited has of the others (this
+-- project's own).
 use Rattle.std.specs.Prelude.{◌≡◌, ℕ, ◌+◌, ◌%◌, ◌<◌, ◌≤◌, true, List, Option, Some, slice_get, length, drop}
 use Rattle.ring_model.specs.Ring.{is_settled}
 use Rattle.ring_model.specs.History.{Works, State}

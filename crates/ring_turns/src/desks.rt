@@ -1,4 +1,4 @@
-//! Who waits for a turn at a ring, and since when.
+//! The clients that wait for a turn at a ring, and since when.
 ghost use Rattle.std.specs.Prelude.{◌≡◌, ◌<◌, ◌≤◌, ◌+◌, ◌++◌, ◌∷◌, [], ℕ, false, Some, length, drop, slice_get, IfOk, OnErr};
 ghost use mathlib.Core.List.{IsPrefix};
 ghost use Rattle.ring_model.specs.Grants.{grants_of};
@@ -19,7 +19,7 @@ use ring_shared::{Front, Name, Ring, Seat};
 use std::alloc::AllocError;
 use std::sync::Wait;
 
-/// What a client at the desk came to.
+/// The result of a client's look at the desk.
 #[derive(Clone, Copy, Debug, PartialEq, Eq)]
 pub(crate) enum Look {
     /// Its turn.
@@ -122,14 +122,14 @@ impl<N: Name> Desk<N> {
         self.last = seen;
     }
 
-    /// Returns only if all that the seat has seen is the list that was seen last, and this event behind it. It is: the
+    /// Returns only if all that the seat has seen is the list that was seen last, and this event after it. It is: the
     /// desk sees each event, since nobody calls the ring beside it.
     fn surely_one_more<W: Wait>(&self, rt: &W, seen: &Front<N>, receipt: Receipt)
         requires length { length seen.now ≡ receipt.position + 1 }
         requires event { slice_get seen.now receipt.position ≡ Some receipt.event }
         ensures { seen.now ≡ self.now.last ++ receipt.event ∷ [] }
     {
-        self.last.compare(seen); // says: of the two the shorter begins the longer
+        self.last.compare(seen); // says: the shorter of the two is a prefix of the longer
         for _ in rt.forever() {
             if receipt.position == self.last.len() {
                 return;
@@ -142,7 +142,7 @@ impl<N: Name> Desk<N> {
     fn surely_last<W: Wait>(&self, rt: &W, seen: &Front<N>)
         ensures { seen.now ≡ self.now.last }
     {
-        self.last.compare(seen); // says: of the two the shorter begins the longer
+        self.last.compare(seen); // says: the shorter of the two is a prefix of the longer
         for _ in rt.forever() {
             if seen.len() == self.last.len() {
                 return;
@@ -155,7 +155,7 @@ impl<N: Name> Desk<N> {
     ///
     /// # Errors
     ///
-    /// Want of memory for the seat's log. Nothing has changed then.
+    /// If there is no memory for the seat's log. Nothing has changed then.
     pub(crate) fn ask<R: Resource + Drop, W: Wait>(
         &mut self,
         rt: &W,
@@ -177,7 +177,7 @@ impl<N: Name> Desk<N> {
         Ok(seen.len())
     }
 
-    /// The first privileged machine behind the whole history, which the seat has seen then.
+    /// The first privileged machine after the whole history, which the seat has seen then.
     fn first_privileged<R: Resource + Drop, W: Wait>(
         &self,
         rt: &W,
@@ -281,7 +281,7 @@ impl<N: Name> Desk<N> {
         Ok(Look::PassedOn(receipt))
     }
 
-    /// A fault, which is no grant of any machine.
+    /// A fault, which is not a grant of any machine.
     pub(crate) fn corrupt<R: Resource + Drop, W: Wait>(
         &mut self,
         rt: &W,

@@ -10,7 +10,7 @@ ghost use Rattle.ring_model.specs.Logs.{Fits, calls_of, receipts_of};
 ghost use Rattle.ring_model.specs.Progress.{Progress};
 ghost use Rattle.ring_model.specs.Ring.{IsRing};
 ghost use Rattle.ring_shared.specs.Closing.{HasLog, AreNumbered};
-ghost use Rattle.ring_shared.specs.Holding.{AreOfSeats};
+ghost use Rattle.ring_shared.specs.Seats.{AreOfSeats};
 ghost use Rattle.ring_turns.specs.Spared.{spared};
 ghost use Rattle.ring_turns.specs.Turning.{HasPassedOn, HasNoTurn, IsTaken, IsTurn};
 ghost use Rattle.ring_shared.specs.Client.{IsUnchanged};
@@ -96,7 +96,7 @@ fn await_turn<N: Name, R: Resource + Drop, W: Wait>(
 }
 
 impl<N: Name, R: Resource + Drop> Turns<N, R> {
-    /// Turns at a ring for so many clients. The seat may be any of the ring's.
+    /// Turns at a ring for `clients` clients. The seat may be any of the ring's.
     ///
     /// # Errors
     ///

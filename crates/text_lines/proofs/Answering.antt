@@ -1,4 +1,4 @@
--- What the first fault says of the whole bytes.
+-- The meaning of the first fault for the whole bytes.
 use Rattle.std.proofs.Common.{◌≡◌, ℕ, zero, suc, ◌+◌, ◌-◌, ◌≤◌, Bool, true, false, cond, eqb, List, [], ◌∷◌, ◌++◌, length, take, Result, Ok, Err, refl, sym, ap, subst, ◌∙◌, append_assoc, arith, inl, inr, length-append}
 use Rattle.std.specs.List.{count_by}
 use Rattle.std.proofs.lemmas.Bool.{cases_lt}
@@ -40,7 +40,7 @@ lines_yes k b bs e = rw e refl
 lines_no : (k b : ℕ) (bs : List ℕ) → eqb b 10 ≡ false → first_lines (suc k) (b ∷ bs) ≡ b ∷ first_lines (suc k) bs
 lines_no k b bs e = rw e refl
 
--- through the line of a byte: what is before it, and it
+-- through the line of a byte: the bytes before it, and it
 through : (front : List ℕ) (byte : ℕ) (back : List ℕ) → (w : List ℕ) × (first_lines (suc (newlines front)) (front ++ byte ∷ back) ≡ (front ++ byte ∷ []) ++ w)
 unfolding newlines
 through [] byte back = (cond (eqb byte 10) [] (first_lines 1 back), refl)
@@ -51,7 +51,7 @@ through (b ∷ front) byte back = go (eqb b 10) refl (through front byte back)
     go true e h = (h.0, ap (λ (n : ℕ). first_lines (suc n) (b ∷ (front ++ byte ∷ back))) (newlines_yes b front e) ∙ lines_yes (suc (newlines front)) b (front ++ byte ∷ back) e ∙ ap (λ (u : List ℕ). b ∷ u) h.1)
     go false e h = (h.0, ap (λ (n : ℕ). first_lines (suc n) (b ∷ (front ++ byte ∷ back))) (newlines_no b front e) ∙ lines_no (newlines front) b (front ++ byte ∷ back) e ∙ ap (λ (u : List ℕ). b ∷ u) h.1)
 
--- fewer lines: a beginning of what is before the byte
+-- fewer lines: a prefix of the bytes before the byte
 before : (front : List ℕ) (byte : ℕ) (back : List ℕ) (k : ℕ) → k ≤ newlines front → (w : List ℕ) × (front ≡ first_lines k (front ++ byte ∷ back) ++ w)
 before front byte back zero le = (front, refl)
 before [] byte back (suc k) le = absurd (omega (arith, newlines_nil))
@@ -70,7 +70,7 @@ end_ok : (rest : List ℕ) (u : Unit {0}) → end_at rest ≡ Ok u → rest ≡ 
 end_ok [] u e = refl
 end_ok (b ∷ bs) u e = absurd cc
 
--- a front that some text goes on, and a byte with which none does
+-- a prefix of some text, and a byte with which it is a prefix of none
 record Breaks (IsText : List ℕ → Type 0) (bytes : List ℕ) (n : ℕ) : Type 0 where
   front : List ℕ
   byte : ℕ

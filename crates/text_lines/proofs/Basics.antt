@@ -1,4 +1,4 @@
--- What a step of reading came to, and that something has a spelling.
+-- The result of a step of reading, and that something has a spelling.
 use Rattle.std.proofs.Common.{◌≡◌, ℕ, Bool, true, false, cond, eqb, List, [], ◌∷◌, ◌++◌, Result, Ok, Err, refl, ◌⊎◌, inl, inr, arith}
 use Rattle.text_lines.specs.declared.fault.Fault.{Fault}
 use Rattle.text_lines.specs.declared.fault.Fault.TheVariants.{Short, Bad}
@@ -32,7 +32,7 @@ no_parts : (front : List ℕ) (byte : ℕ) (back : List ℕ) → [] ≡ front ++
 no_parts [] byte back e = cc
 no_parts (c ∷ front) byte back e = cc
 
--- two lists that agree behind a front begin alike
+-- two lists that agree after a prefix begin alike
 pub same_head : (front : List ℕ) (byte : ℕ) (back : List ℕ) (b : ℕ) (bs w : List ℕ) → b ∷ bs ≡ front ++ byte ∷ back → (u : List ℕ) × (front ++ byte ∷ w ≡ b ∷ u)
 same_head [] byte back b bs w e = (w, cc)
 same_head (c ∷ front) byte back b bs w e = (front ++ byte ∷ w, cc)

@@ -1,4 +1,4 @@
--- Readers of several kinds, told apart by the first byte.
+-- Readers of several kinds, chosen by the first byte.
 use Rattle.std.proofs.Common.{◌≡◌, ◌≢◌, ℕ, suc, eqb, List, [], ◌∷◌, ◌++◌, length, Ok, Err, refl, sym, ap, ◌∙◌, ◌⊎◌, inl, inr}
 use Rattle.std.specs.List.{AllByRecursion}
 use Rattle.std.proofs.lemmas.Bool.{ne_eqb}
@@ -79,7 +79,7 @@ module _ (A : Type 0) (s : A → List ℕ) (F : A → Type 0) (at : Reader A) (G
   or_law : Reads FG s (or_at c at also)
   or_law = record { takes = or_takes; again = or_again; short = or_short; bad = or_bad }
 
--- ---- one kind alone
+-- ---- only one kind
 
 module _ (A : Type 0) (s : A → List ℕ) (F : A → Type 0) (at : Reader A) (first : Reads F s at) (c : ℕ) (begins : (a : A) → F a → StartsWith c (s a)) where
   one_takes : (bytes : List ℕ) (a : A) (rest : List ℕ) → or_at c at none_at bytes ≡ Ok (a, rest) → F a × (bytes ≡ s a ++ rest)
@@ -131,7 +131,7 @@ module _ (A : Type 0) (s : A → List ℕ) (F : A → Type 0) (at : Reader A) (f
 
 -- ---- all of them
 
--- what begins with the byte of one of these begins with no other byte
+-- a text that begins with the byte of one of these begins with no other byte
 begins_apart : {A : Type 0} (c : ℕ) (rs : List (Branch A)) (text : List ℕ) → AllByRecursion (λ q. q.byte ≢ c) rs → IsOfBranch rs text → (d : ℕ) × (u : List ℕ) × (text ≡ d ∷ u) × (d ≢ c)
 begins_apart c [] text apart is = absurd is
 begins_apart c (r ∷ rs) text apart (inl b) = (r.byte, b.0, b.1, apart.0)
@@ -167,6 +167,6 @@ abbrev first_of : List ℕ → ℕ
 first_of [] = 0
 first_of (b ∷ bs) = b
 
--- what begins with one byte begins with no other one
+-- a text that begins with one byte begins with no other one
 pub starts_otherwise : (c d : ℕ) (u : List ℕ) → c ≢ d → StartsWith d (c ∷ u) → ⊥
 starts_otherwise c d u other starts = other (ap first_of starts.1)

@@ -8,14 +8,14 @@ use Rattle.std.proofs.lemmas.List.{append-nil, drop_more}
 use Rattle.text_lines.specs.Spelling.{row, list_text, numbers_text, stop_text}
 
 module _ (between behind : List ℕ) where
-  -- numbers are the first one, what stands behind it, and the others
+  -- numbers are the first one, the bytes after it, and the others
   numbers_step : (k x : ℕ) (xs : List ℕ) → length xs ≡ k → numbers_text between behind (x ∷ xs) ≡ (decimal x ++ stop_text between behind k) ++ numbers_text between behind xs
   numbers_step zero x [] e = sym (append-nil (decimal x ++ behind))
   numbers_step zero x (y ∷ ys) e = absurd cc
   numbers_step (suc k) x [] e = absurd cc
   numbers_step (suc k) x (y ∷ ys) e = sym (append_assoc (decimal x) between (numbers_text between behind (y ∷ ys)))
 
-  -- what is left is the next number, what stands behind it, and what is left then
+  -- the rest is the next number, the bytes after it, and the rest of that
   pub numbers_next : (numbers : List ℕ) (i : ℕ) → i < length numbers →
       numbers_text between behind (drop i numbers) ≡ (decimal (get_or numbers i 0) ++ (stop_text between behind (length numbers - i - 1) ++ [])) ++ numbers_text between behind (drop (i + 1) numbers)
   numbers_next numbers i lt =
@@ -32,7 +32,7 @@ list_is [] = refl
 list_is (x ∷ []) = append-nil (decimal x)
 list_is (x ∷ y ∷ xs) = ap (λ (u : List ℕ). decimal x ++ 44 ∷ u) (list_is (y ∷ xs))
 
--- what holds below a place and at it
+-- a fact below a place and at it
 pub one_more : (P : ℕ → Type 0) (n : ℕ) → ((i : ℕ) → i < n → P i) → P n → (i : ℕ) → i < n + 1 → P i
 one_more P n below here i lt = elim (cases_lt i n) [ inl l ↦ below i l | inr ge ↦ let e : n ≡ i = omega arith in subst P e here ]
 

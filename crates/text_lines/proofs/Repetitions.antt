@@ -221,7 +221,7 @@ module _ {S A E : Type 0} {V : S → Type 0} {F : S → A → Type 0} {s : A →
       let one : many_at item next st rest ≡ (many_at item next (next a) after >>= λ y. Ok ((a ∷ y.0.0, y.0.1), y.1)) = more_law S A E V F s G t item next r.reads r.keeps r.some r.final st v rest a after h in
       sym (with_one front a (many_at item next (next a) after)) ∙ sym (ap (with_items front) one) ∙ so_far
 
--- ---- items that fit whatever stands before them
+-- ---- items that fit whatever is before them
 
 abbrev pub Always : {X : Type 0} → X → Type 0
 Always st = Unit {0}

@@ -56,7 +56,7 @@ module _ (limit : ℕ) (wide : 10 ≤ limit) (small : limit ≤ 2 ^ 64) where
       same [] f = absurd (omega (arith, f.0))
       same (x ∷ xs) f = refl
 
--- so many numbers below a limit that is neither too small for a digit nor past a machine word
+-- n numbers below a limit that is neither too small for a digit nor past a machine word
 pub row_reads : (limit : ℕ) → 10 ≤ limit → limit ≤ 2 ^ 64 → (n : ℕ) → Reads (RowFits limit n) row (row_at limit n)
 row_reads limit wide small n = row_law limit wide small n
 

@@ -1,4 +1,4 @@
--- One value behind another, a value under another name, a value behind a word.
+-- One value after another, a value under another name, a value after a word.
 use Rattle.std.proofs.Common.{◌≡◌, ℕ, suc, Bool, true, false, cond, eqb, List, [], ◌∷◌, ◌++◌, length, Result, Ok, Err, refl, sym, ap, subst, ◌∙◌, append_assoc, inl, inr}
 use Rattle.std.proofs.lemmas.Bool.{eqb-true}
 use Rattle.text_lines.specs.declared.fault.Fault.{Fault}
@@ -138,7 +138,7 @@ pub as_reads : {A B : Type 0} {F : A → Type 0} {s : A → List ℕ} {at : Read
     → ((a : A) → F a → G (to a)) → ((b : B) → G b → F (from b)) → ((b : B) → G b → to (from b) ≡ b) → ((a : A) → F a → t (to a) ≡ s a) → Reads G t (as_at to at)
 as_reads {A} {B} {F} {s} {at} G t to from reads to_fits from_fits same spelled = as_law A B F s at G t to from reads to_fits from_fits same spelled
 
--- what fits, and how it is spelled, said another way
+-- the values that fit, and how they are spelled, said another way
 pub said_reads : {A : Type 0} {F : A → Type 0} {s : A → List ℕ} {at : Reader A} (G : A → Type 0) (t : A → List ℕ) → ((a : A) → F a → G a) → ((a : A) → G a → F a) → ((a : A) → F a → t a ≡ s a) → Reads F s at → Reads G t at
 said_reads {A} {F} {s} {at} G t to back spelled reads = record {
   takes = λ bytes a rest e. let k = reads.takes bytes a rest e in (to a k.0, k.1 ∙ ap (λ (u : List ℕ). u ++ rest) (sym (spelled a k.0)));
@@ -148,7 +148,7 @@ said_reads {A} {F} {s} {at} G t to back spelled reads = record {
       record { front = k.front; byte = k.byte; back = k.back; value = k.value; more = k.more; parts = k.parts; fits = to k.value k.fits; viable = k.viable ∙ sym (spelled k.value k.fits); dead = k.dead };
 }
 
--- ---- behind a word
+-- ---- after a word
 
 -- one byte, and then the rest
 abbrev byte_at : {A : Type 0} → ℕ → Reader A → Reader A

@@ -50,7 +50,7 @@ writes_err a b e x y q = (q.0 ++ y, (let some = q.1 in omega (arith, length-appe
 pub writes_same : (a b : Option (List ℕ)) (r : Result (Unit {0}) WriteFault) (x y : List ℕ) → x ≡ y → Writes a b r x → Writes a b r y
 writes_same a b r x y e h = let P : List ℕ → Type 0 = λ t. Writes a b r t in subst P e h
 
--- what is left of a text, after what is written of it
+-- the rest of a text, after the part that is written
 pub writes_left : (a b c : Option (List ℕ)) (r : Result (Unit {0}) WriteFault) (text left : List ℕ) → Wrote a b text left → Writes b c r left → Writes a c r text
 writes_left a b c r text left h p = writes_same a c r (h.0 ++ left) text (sym h.1) (writes_then a b c r h.0 left h.2 p)
 

@@ -1,11 +1,11 @@
--- Readers as functions on lists: the value and the bytes behind it, or the first fault.
+-- Readers as functions on lists: the value and the bytes after it, or the first fault.
 use Rattle.std.specs.Prelude.{◌≡◌, ℕ, zero, suc, ◌+◌, ◌-◌, ◌*◌, List, [], ◌∷◌, length, Result, Ok, Err, Bool, nat_lt, nat_le, ◌==◌, ◌&&◌, if◌then◌else◌}
 use Rattle.text_lines.specs.declared.fault.Fault.{Fault}
 use Rattle.text_lines.specs.declared.fault.Fault.TheVariants.{Short, Bad}
 use Rattle.text_lines.specs.declared.fault.Stop.{Stop}
 use Rattle.text_lines.specs.declared.fault.Stop.TheVariants as stops
 
--- What a reader is to its contract: from the bytes, a value and what stands behind it (this
+-- A reader as its contract sees it: from the bytes, a value and the bytes after it (this
 -- project's own).
 abbrev pub Reader : Type 0 → Type 0
 Reader A = List ℕ → Result (A × List ℕ) Fault
@@ -21,7 +21,7 @@ abbrev pub Fails : {Y : Type 0} → Stop → Result Y Fault → Type 0
 Fails stops.Memory read = Unit {0}
 Fails (stops.Fault f) read = read ≡ Err f
 
--- What a function returned, seen by view, is what the function on lists gives, unless memory ran
+-- The result of a function, seen by view, is the result of the function on lists, unless memory ran
 -- out.
 abbrev pub Gives : {X Y : Type 0} → (X → Y) → Result X Stop → Result Y Fault → Type 0
 Gives view (Ok x) read = read ≡ Ok (view x)
@@ -45,11 +45,11 @@ word_at (c ∷ cs) (b ∷ bs) = if b == c then word_at cs bs else Err (Bad (suc 
 abbrev pub is_digit : ℕ → Bool
 is_digit b = nat_le 48 b && nat_le b 57
 
--- whether a number of which value was read goes on with the byte: no digit follows a leading 0
+-- whether a number read so far as value continues with the byte: no digit follows a leading 0
 abbrev pub grows : ℕ → ℕ → ℕ → Bool
 grows limit value b = nat_lt 0 value && (is_digit b && nat_lt (value * 10 + (b - 48)) limit)
 
--- the digits behind the first, up to the byte that ends the number
+-- the digits after the first, up to the byte that ends the number
 unfoldable pub digits_at : ℕ → ℕ → ℕ → List ℕ → Result (ℕ × List ℕ) Fault
 digits_at limit stop value [] = Err Short
 digits_at limit stop value (b ∷ bs) =
@@ -125,20 +125,20 @@ some_at item next zero st bytes = Err Short
 some_at item next (suc fuel) st bytes =
     item st bytes >>= λ x. many_with (λ u. some_at item next fuel u x.1) next x.0 x.1
 
--- Items up to the one that ends them. What may come next depends on a state, which the item before
--- it fixes. An item has a byte at least, so that there are no more of them than bytes.
+-- Items up to the one that ends them. The items that may come next depend on a state, which the
+-- item before it fixes. An item has a byte at least, so that there are no more of them than bytes.
 abbrev pub many_at : {S A E : Type 0} → (S → Reader (Either A E)) → (A → S) → S
     → Reader (List A × E)
 many_at item next st bytes = some_at item next (suc (length bytes)) st bytes
 
 -- ---- a line of numbers
 
--- what ends a number with so many behind it: a space, or an LF behind the last
+-- the byte that ends a number with this many after it: a space, or an LF after the last
 abbrev pub stop_of : ℕ → ℕ
 stop_of zero = 10
 stop_of (suc k) = 32
 
--- so many numbers below the limit
+-- n numbers below the limit
 unfoldable pub row_at : ℕ → ℕ → Reader (List ℕ)
 row_at limit zero bytes = Ok ([], bytes)
 row_at limit (suc k) bytes =
@@ -147,11 +147,11 @@ row_at limit (suc k) bytes =
 
 -- ---- all of the bytes
 
--- nothing stands here
+-- there is nothing here
 abbrev pub end_at : List ℕ → Result (Unit {0}) Fault
 end_at [] = Ok tt
 end_at (b ∷ bs) = Err (Bad (suc (length bs)))
 
--- the value, where nothing stands behind it
+-- the value, where nothing follows it
 unfoldable pub whole_at : {A : Type 0} → Reader A → List ℕ → Result A Fault
 whole_at at bytes = at bytes >>= λ x. end_at x.1 >>= λ _. Ok x.0

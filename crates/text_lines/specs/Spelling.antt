@@ -12,7 +12,7 @@ spaced n = decimal n ++ 32 ∷ []
 abbrev pub ended : ℕ → List ℕ
 ended n = decimal n ++ 10 ∷ []
 
--- numbers on one line: a space between two of them, an LF behind the last
+-- numbers on one line: a space between two of them, an LF after the last
 abbrev pub row : List ℕ → List ℕ
 row [] = []
 row (x ∷ []) = ended x
@@ -22,14 +22,14 @@ row (x ∷ y ∷ xs) = spaced x ++ row (y ∷ xs)
 abbrev pub list_text : List ℕ → List ℕ
 list_text numbers = join_with_byte 44 (map decimal numbers)
 
--- numbers with something between two of them and something behind the last
+-- numbers with something between two of them and something after the last
 abbrev pub numbers_text : List ℕ → List ℕ → List ℕ → List ℕ
 numbers_text between behind [] = []
 numbers_text between behind (x ∷ []) = decimal x ++ behind
 numbers_text between behind (x ∷ y ∷ xs) =
     decimal x ++ (between ++ numbers_text between behind (y ∷ xs))
 
--- what stands behind a number with so many behind it
+-- the bytes after a number with this many after it
 abbrev pub stop_text : List ℕ → List ℕ → ℕ → List ℕ
 stop_text between behind zero = behind
 stop_text between behind (suc n) = between
@@ -42,11 +42,11 @@ Below limit n = n < limit
 abbrev pub Positive : ℕ → ℕ → Type 0
 Positive limit n = (0 < n) × (n < limit)
 
--- so many numbers below the limit
+-- n numbers below the limit
 abbrev pub RowFits : ℕ → ℕ → List ℕ → Type 0
 RowFits limit n xs = (length xs ≡ n) × AllByRecursion (λ x. x < limit) xs
 
--- what fits, and how it is spelled, of one of two
+-- the values that fit, and how they are spelled, of one of two
 abbrev pub OfEither : {A B : Type 0} → (A → Type 0) → (B → Type 0) → Either A B → Type 0
 OfEither F G (this a) = F a
 OfEither F G (that b) = G b

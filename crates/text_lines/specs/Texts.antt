@@ -1,4 +1,4 @@
--- What a text is, over any spelling, and which refusal some bytes deserve (this project's own).
+-- The texts of any spelling, and which refusal some bytes deserve (this project's own).
 use Rattle.std.specs.Prelude.{◌≡◌, ℕ, zero, suc, ◌+◌, ◌-◌, ◌<◌, List, [], ◌∷◌, ◌++◌, ◌==◌, take, length, if◌then◌else◌, Result, Ok, Err}
 use Rattle.std.specs.List.{count_by}
 use Rattle.text_lines.specs.declared.fault.Fault.TheVariants.{Short, Bad}
@@ -44,8 +44,8 @@ IsRightAnswer view Fits spell bytes (Err OutOfMemory) = Unit {0}
 abbrev pub NoneBeginsAnother : (List ℕ → Type 0) → Type 0
 NoneBeginsAnother IsText = (bytes more : List ℕ) → IsText bytes → IsText (bytes ++ more) → more ≡ []
 
--- At most one answer is right: a text is neither cut short nor has a bad line, what is cut short
--- has no bad line, and there is one first bad line.
+-- At most one answer is right: a text is neither cut short nor has a bad line, bytes that are cut
+-- short have no bad line, and there is one first bad line.
 pub record AnswersAreApart (IsText : List ℕ → Type 0) (bytes : List ℕ) : Type 0 where
   pub text : IsText bytes
       → (IsCutShort IsText bytes → ⊥) × ((line : ℕ) → IsFirstBadLine IsText bytes line → ⊥)
@@ -56,13 +56,13 @@ pub record AnswersAreApart (IsText : List ℕ → Type 0) (bytes : List ℕ) : T
 abbrev pub line_of : List ℕ → ℕ → ℕ
 line_of bytes place = count_by (λ b. b == 10) (take place bytes) + 1
 
--- what a reader that stopped says of the whole bytes
+-- the verdict of a reader that stopped on the whole bytes
 abbrev pub refusal_of : List ℕ → Stop → ReadError
 refusal_of bytes stops.Memory = OutOfMemory
 refusal_of bytes (stops.Fault Short) = Truncated
 refusal_of bytes (stops.Fault (Bad left)) = Syntax (line_of bytes (length bytes - left))
 
--- the same of a reader's result: what it took, or what it says
+-- the same of a reader's result: its value, or its verdict
 abbrev pub answer_of : {X : Type 0} → List ℕ → Result X Stop → Result X ReadError
 answer_of bytes (Ok x) = Ok x
 answer_of bytes (Err stop) = Err (refusal_of bytes stop)

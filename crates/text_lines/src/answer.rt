@@ -1,4 +1,4 @@
-//! What a whole text is read as.
+//! The result of reading a whole text.
 
 ghost use Rattle.std.specs.Prelude.{◌≡◌, ◌≤◌, ◌+◌, ◌-◌, ◌<◌, List, ℕ, Bool, IsTrue, length, Result};
 ghost use Rattle.text_lines.specs.Grammar.{Reads};
@@ -12,13 +12,13 @@ use crate::fault::{Fault, Stop};
 pub enum ReadError {
     /// The first line, from 1, such that no text begins with the bytes up to its end.
     Syntax(u64),
-    /// The bytes are the beginning of a longer text.
+    /// The bytes are a proper prefix of a text.
     Truncated,
-    /// There was no room for what the text says.
+    /// There was no room for the value.
     OutOfMemory,
 }
 
-/// That nothing stands here.
+/// Succeeds if nothing is left.
 ///
 /// # Errors
 ///
@@ -32,7 +32,7 @@ pub fn nothing_more(rest: &[u8]) -> Result<(), Stop>
     }
 }
 
-/// The number, from 1, of the line on which the byte at `place` stands, or on which one would.
+/// The number, from 1, of the line of the byte at `place`, or of one that would be there.
 pub fn line_at(bytes: &[u8], place: usize) -> u64
     requires { place ≤ length bytes.now }
     ensures { result ≡ line_of bytes.now place }
@@ -40,7 +40,7 @@ pub fn line_at(bytes: &[u8], place: usize) -> u64
     bytes[..place].iter().filter(|b| **b == b'\n').count() as u64 + 1
 }
 
-/// What a reader that stopped at these bytes says of them.
+/// The verdict on the whole bytes of a reader that stopped at these.
 pub fn refusal(bytes: &[u8], stop: Stop) -> ReadError
     ensures { result ≡ refusal_of bytes.now stop }
 {
@@ -54,7 +54,7 @@ pub fn refusal(bytes: &[u8], stop: Stop) -> ReadError
     }
 }
 
-/// A reader with the law of a spelling answers right, and no spelling begins another one.
+/// A reader with the law of a spelling answers right, and no spelling is a proper prefix of another one.
 pub fn readers_answer_right<T>()
     ensures right { (fits : T → Bool) (spell : T → List ℕ) (at : Reader T)
         → Reads (λ a. IsTrue (fits a)) spell at → (bytes : List ℕ) (read : Result T Stop)
@@ -65,7 +65,7 @@ pub fn readers_answer_right<T>()
         → NoneBeginsAnother (Spells (λ a. IsTrue (fits a)) spell) }
 {}
 
-/// Where no text begins another one, at most one answer to some bytes is right.
+/// Where no text is a proper prefix of another one, at most one answer to some bytes is right.
 pub fn answers_are_apart()
     ensures { (is_text : List ℕ → Bool) → NoneBeginsAnother (λ bytes. IsTrue (is_text bytes))
         → (bytes : List ℕ) → AnswersAreApart (λ bytes. IsTrue (is_text bytes)) bytes }

@@ -5,12 +5,12 @@ ghost use Rattle.text_lines.specs.declared.fault.Stop.TheVariants.{Memory};
 
 use std::alloc::{AllocError, AllocFailed};
 
-/// What is wrong with the bytes: they end too early, or there is a first byte too many.
+/// The first fault of the bytes: they end too early, or there is a first byte too many.
 #[derive(Clone, Copy)]
 pub enum Fault {
     /// The bytes end within a spelling.
     Short,
-    /// No spelling goes on with a certain byte: the number is that of the bytes from it to the end,
+    /// No spelling continues with a certain byte: the number is that of the bytes from it to the end,
     /// itself among them.
     Bad(usize),
 }

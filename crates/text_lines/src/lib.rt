@@ -1,7 +1,7 @@
 //! Reading and writing of line-based ASCII text.
 //!
 //! A reader takes a value from the front of some bytes, and says otherwise whether the bytes end
-//! too early or which byte is the first that no spelling goes on with. `Rattle.text_lines.specs`
+//! too early or which byte is the first that no spelling continues with. `Rattle.text_lines.specs`
 //! has, for each reader, a function on lists that it answers like, the combinators that make a
 //! grammar of such functions, and the law that ties a function to a spelling. The lemmas of
 //! `proofs/` carry that law through each combinator, so that a whole grammar has it.

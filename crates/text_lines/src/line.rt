@@ -1,4 +1,4 @@
-//! A line that is made in its own room, from its end to its beginning, and so with no copy of a number.
+//! A line that is made in its own room, from its end to its start, and so with no copy of a number.
 
 ghost use Rattle.std.specs.Prelude.{◌≡◌, ◌+◌, ◌<◌, ◌≤◌, [], ◌∷◌, ◌++◌, length};
 ghost use Rattle.std.specs.Fmt.{decimal};
@@ -6,7 +6,7 @@ ghost use Rattle.std.specs.Fmt.{decimal};
 use itoa::write_digits;
 use std::marker::Model;
 
-/// The most bytes of a line: enough for six numbers of 20 digits at most, with a byte behind each and two in front.
+/// The most bytes of a line: enough for six numbers of 20 digits at most, with a byte after each and two in front.
 const ROOM: usize = 128;
 
 /// The end of a line, as far as it is made: its bytes.
@@ -58,7 +58,7 @@ impl Line {
         self.start = write_digits(number, &mut self.bytes, self.start);
     }
 
-    /// What is made so far.
+    /// The bytes that are made so far.
     #[inline(always)]
     pub fn as_bytes(&self) -> &[u8]
         ensures { result.now ≡ self.now }

@@ -8,7 +8,7 @@ use crate::numbers::put_numbers;
 use crate::write::WriteFault;
 use std::io::Write;
 
-/// Writes so many numbers, the one at place `i`, from 0, as `number` answers it, with a comma between two of
+/// Writes `count` numbers, the one at place `i`, from 0, as `number` answers it, with a comma between two of
 /// them. It takes no memory.
 ///
 /// # Errors

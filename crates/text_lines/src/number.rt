@@ -1,11 +1,11 @@
-//! Canonical decimals: `0`, or digits of which the first is not 0.
+//! Canonical decimals: `0`, or digits that do not begin with 0.
 
 ghost use Rattle.std.specs.Prelude.{◌≡◌, ℕ, ◌+◌, ◌<◌, ◌≤◌, ◌^◌, true, false, length, drop, slice_index, IfOk, IfSome};
 ghost use Rattle.text_lines.specs.Reading.{Gives, number_at, positive_at, digits_at, is_digit};
 
 use crate::fault::{Fault, Stop};
 
-/// The rest of a number of which `first` was read, and what stands behind the byte that ends it.
+/// Reads the rest of a number that begins with `first`; returns it with the bytes after the byte that ends it.
 fn digits(first: u64, max: u64, stop: u8, bytes: &[u8]) -> Result<(u64, &[u8]), Stop>
     requires { (9 ≤ max) × (first ≤ max) }
     ensures gives { Gives (λ x. (x.0, x.1.now)) result (digits_at (max + 1) stop first bytes.now) }
@@ -20,7 +20,7 @@ fn digits(first: u64, max: u64, stop: u8, bytes: &[u8]) -> Result<(u64, &[u8]), 
             return Err(Stop::Fault(Fault::Bad(bytes.len() - i)));
         }
         let digit = (*b - b'0') as u64;
-        // The number would pass the limit; computed without passing it. Far below the limit one comparison tells.
+        // The number would pass the limit; computed without passing it. Far below the limit one comparison suffices.
         if max / 10 <= value && (max - digit) / 10 < value {
             return Err(Stop::Fault(Fault::Bad(bytes.len() - i)));
         }
@@ -71,7 +71,7 @@ fn eight_more(first: u64, bytes: &[u8]) -> Option<u64>
     Some(value)
 }
 
-/// The beginning of a number whose first digit was read, and the bytes behind it: of a long one nine digits.
+/// Reads the start of a number whose first digit was read, of a long one nine digits; returns it with the bytes after it.
 #[inline(always)]
 fn begin(first: u64, max: u64, stop: u8, bytes: &[u8]) -> (u64, &[u8])
     requires { (9 ≤ max) × (first ≤ 9) }
@@ -88,7 +88,7 @@ fn begin(first: u64, max: u64, stop: u8, bytes: &[u8]) -> (u64, &[u8])
     }
 }
 
-/// A number of at most `max`, and what stands behind the byte that ends it.
+/// Reads a number of at most `max`; returns it with the bytes after the byte that ends it.
 #[tactic(auto, unfolding(crate::specs::Reading::number_at))]
 fn number(bytes: &[u8], max: u64, stop: u8) -> Result<(u64, &[u8]), Stop>
     requires { 9 ≤ max }
@@ -105,12 +105,12 @@ fn number(bytes: &[u8], max: u64, stop: u8) -> Result<(u64, &[u8]), Stop>
     }
 }
 
-/// A canonical decimal below 2 to the power 32, and what stands behind the byte `stop` that ends it.
+/// Reads a canonical decimal below 2 to the power 32; returns it with the bytes after the byte `stop` that ends it.
 ///
 /// # Errors
 ///
-/// `Bad` at the byte with which no such number goes on: one that is neither a digit nor `stop`, a
-/// digit behind a leading 0, or the digit that passes the limit. `Short` where the bytes end first.
+/// `Bad` at the byte with which no such number continues: one that is neither a digit nor `stop`, a
+/// digit after a leading 0, or the digit that passes the limit. `Short` where the bytes end first.
 /// Takes no memory.
 pub fn number32(bytes: &[u8], stop: u8) -> Result<(u32, &[u8]), Stop>
     ensures { Gives (λ x. (x.0, x.1.now)) result (number_at (2 ^ 32) stop bytes.now) }
@@ -119,7 +119,7 @@ pub fn number32(bytes: &[u8], stop: u8) -> Result<(u32, &[u8]), Stop>
     Ok((value as u32, rest))
 }
 
-/// A canonical decimal below 2 to the power 64, and what stands behind the byte `stop` that ends it.
+/// Reads a canonical decimal below 2 to the power 64; returns it with the bytes after the byte `stop` that ends it.
 ///
 /// # Errors
 ///

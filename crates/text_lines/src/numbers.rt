@@ -1,4 +1,4 @@
-//! Numbers, one after the other: the one loop behind rows and lists.
+//! Numbers, one after the other: the one loop of rows and lists.
 
 ghost use Rattle.std.specs.Prelude.{◌≡◌, ◌<◌, ℕ, List, IfOk};
 ghost use Rattle.text_lines.specs.Spelling.{numbers_text, stop_text};
@@ -8,7 +8,7 @@ use crate::write::{WriteFault, put_all};
 use itoa::Buffer;
 use std::io::Write;
 
-/// What stands behind a number with so many behind it.
+/// The bytes after a number with this many after it.
 fn stop(left: usize, between: &'static [u8], behind: &'static [u8]) -> &'static [u8]
     ensures { result.now ≡ stop_text between.now behind.now left }
 {
@@ -18,8 +18,8 @@ fn stop(left: usize, between: &'static [u8], behind: &'static [u8]) -> &'static 
     }
 }
 
-/// Writes so many numbers, the one at place `i`, from 0, as `number` answers it: `between` stands between two of them,
-/// and `behind` behind the last. Where there is none it writes nothing. Where all is written each number was asked for.
+/// Writes `count` numbers, the one at place `i`, from 0, as `number` answers it, with `between` between two of them
+/// and `behind` after the last. Where there is none it writes nothing. Where all is written each number was asked for.
 /// It takes no memory.
 ///
 /// # Errors

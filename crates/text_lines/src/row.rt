@@ -13,7 +13,7 @@ use crate::write::WriteFault;
 use std::alloc::Global;
 use std::io::Write;
 
-/// The byte that ends a number with so many behind it on the line.
+/// The byte that ends a number with n after it on the line.
 fn stop_byte(left: usize) -> u8
     ensures { result ≡ stop_of left }
 {
@@ -23,8 +23,8 @@ fn stop_byte(left: usize) -> u8
     }
 }
 
-/// So many numbers below 2 to the power 32, one space between two of them and an LF behind the
-/// last, and what stands behind that LF. For `n` of 0 it reads nothing.
+/// Reads `n` numbers below 2 to the power 32, one space between two of them and an LF after the
+/// last; returns them with the bytes after that LF. For `n` of 0 it reads nothing.
 ///
 /// Room is asked for as the numbers are read, never for `n` of them at once.
 ///
@@ -46,7 +46,7 @@ pub fn row32(alloc: Global, n: u32, bytes: &[u8]) -> Result<(Vec<u32>, &[u8]), S
     Ok((found, rest))
 }
 
-/// Writes the numbers, one space between two of them and an LF behind the last; nothing where there
+/// Writes the numbers, one space between two of them and an LF after the last; nothing where there
 /// is none. It takes no memory. The second clause says what the type of the numbers keeps.
 ///
 /// # Errors

@@ -5,7 +5,7 @@ ghost use Rattle.text_lines.specs.Reading.{Gives, word_at};
 
 use crate::fault::{Fault, Stop};
 
-/// What stands behind the word, with which the bytes have to begin.
+/// Returns the bytes after the word, with which they have to begin.
 ///
 /// # Errors
 ///

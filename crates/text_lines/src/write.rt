@@ -18,8 +18,8 @@ pub struct WriteFault(());
 ///
 /// # Errors
 ///
-/// `WriteFault` at the first error or write of 0 bytes. The writer then holds a beginning of the
-/// bytes, but not all of them, behind what it held.
+/// `WriteFault` at the first error or write of 0 bytes. The writer then holds a prefix of the
+/// bytes, but not all of them, after what it held.
 pub fn put<W: Write>(out: &mut W, bytes: &[u8]) -> Result<(), WriteFault>
     ensures { Writes (W.contents out.old) (W.contents out.new) result bytes.now }
 {
@@ -38,8 +38,8 @@ pub fn put<W: Write>(out: &mut W, bytes: &[u8]) -> Result<(), WriteFault>
 ///
 /// # Errors
 ///
-/// `WriteFault` at the first error or write of 0 bytes. The writer then holds a beginning of the
-/// pieces put together, but not all of it, behind what it held.
+/// `WriteFault` at the first error or write of 0 bytes. The writer then holds a prefix of the
+/// pieces put together, but not all of it, after what it held.
 pub fn put_all<W: Write>(out: &mut W, pieces: &[&[u8]]) -> Result<(), WriteFault>
     ensures { Writes (W.contents out.old) (W.contents out.new) result
         (flat_map (λ p. p.now) pieces.now) }

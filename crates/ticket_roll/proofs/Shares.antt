@@ -1,4 +1,4 @@
--- What the logs of all seats hand out is what the history hands out.
+-- The tickets of all seats' logs are the tickets of the history.
 use Rattle.std.proofs.Common.{◌≡◌, ℕ, zero, suc, ◌+◌, ◌<◌, ◌≤◌, Bool, true, false, cond, List, [], ◌∷◌, map, All, Some, slice_get, slice_index_or, length, eqb, leb, refl, sym, ◌∙◌, ap, subst, arith}
 use Rattle.std.proofs.lemmas.List.Sums.{sum_by-cons}
 use Rattle.std.proofs.lemmas.Bool.Decides.{nat_tests}
@@ -11,10 +11,10 @@ use Rattle.ring_model.specs.declared.events.Event.{Event}
 use Rattle.ring_model.specs.declared.events.Entry.{Entry}
 use Rattle.ring_model.specs.declared.events.Entry.TheVariants as entry
 use Rattle.ring_model.proofs.QuietRuns.{bit_is}
-use Rattle.ring_shared.specs.declared.seats.Log.{Log}
+use Rattle.ring_shared.specs.Log.{Log}
 use Rattle.ring_shared.specs.Client.{Client}
 use Rattle.ring_shared.specs.Closing.{AreNumbered}
-use Rattle.ring_shared.specs.Holding.{AreOfSeats}
+use Rattle.ring_shared.specs.Seats.{AreOfSeats}
 use Rattle.ticket_roll.specs.Tickets.{roll, gives, hands_out, times_in, times_given, NoneTwice, JustThoseGone}
 use Rattle.ticket_roll.proofs.Draws.{nothing_more, times_by, times_by-cons, handed_out_once}
 
@@ -41,7 +41,7 @@ at_other s i x other = grind (arith, nat_tests)
 at_own : (s x : ℕ) → cond (eqb s s) x 0 ≡ x
 at_own s x = grind (arith, nat_tests)
 
--- what one number alone has is not met past it, and is met once up to it
+-- a ticket of only one number is not met past it, and is met once up to it
 sum_from-past : (s x k n : ℕ) → s < k → sum_from (λ i. cond (eqb s i) x 0) k n ≡ 0
 sum_from-past s x k zero past = refl
 sum_from-past s x k (suc n) past =
@@ -161,6 +161,6 @@ numbers_kept (x ∷ xs) (y ∷ ys) long same =
     let more = numbers_kept xs ys (omega arith) (λ i d lt. same (suc i) d (omega arith)) in
     rw (here, more) refl
 
--- what a call kept of its argument is kept of what stood there before
+-- a fact that a call kept of its argument is kept of the value there before
 pub through : (x y argument left : Client) → argument ≡ x → left ≡ y → left.number ≡ argument.number → y.number ≡ x.number
 through x y argument left is_x is_y same = sym (ap (λ (s : Client). s.number) is_y) ∙ same ∙ ap (λ (s : Client). s.number) is_x

@@ -7,7 +7,7 @@ use Rattle.ring_model.specs.declared.events.Reply.{Reply}
 use Rattle.ring_model.specs.declared.events.Reply.TheVariants.{Granted, NotPrivileged, Corrupted}
 use Rattle.ring_model.specs.declared.events.Entry.{Entry}
 use Rattle.ring_model.specs.declared.events.Entry.TheVariants as entry
-use Rattle.ring_shared.specs.declared.seats.Log.{Log}
+use Rattle.ring_shared.specs.Log.{Log}
 
 -- a roll has this many tickets, numbered from 1
 abbrev pub roll_size : ℕ

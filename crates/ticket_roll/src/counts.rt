@@ -1,4 +1,4 @@
-//! What the logs of a closed desk say of a ticket.
+//! Counts of a ticket in the logs of a closed desk.
 ghost use Rattle.std.specs.Prelude.{◌≡◌, ◌≤◌, ◌<◌, ◌^◌};
 ghost use Rattle.ticket_roll.specs.Tickets.{hands_out as hands_out_of, times_in as times_in_of, times_given as times_given_of};
 

@@ -23,7 +23,7 @@ const CLIENTS: u32 = 3;
 const SEATS: u32 = 4;
 
 /// How often a client asks all machines, where the roll does not end before. A client's round without a grant
-/// has another's grant or a fault in it, and there are fewer than 100 of these: so each is told the roll's end.
+/// has another's grant or a fault in it, and there are fewer than 100 of these: so each receives the roll's end.
 const ROUNDS: u32 = 200;
 
 /// How many faults are injected.
@@ -38,7 +38,7 @@ pub enum DeskError {
     /// A seat's log does not fit the ring's history.
     #[error("logs and history differ")]
     Mismatch,
-    /// There is no place for a seat to look at the ring from.
+    /// No place is left for a seat to look at the ring from.
     #[error("no reader place")]
     NoSeat,
     #[error("out of memory")]
@@ -69,7 +69,7 @@ fn refusal_of_close(reason: CloseReason) -> DeskError {
     }
 }
 
-/// Whether a client is told that the roll has no tickets left.
+/// Whether an answer says that the roll has no tickets left.
 fn is_end(receipt: Receipt) -> bool {
     matches!(
         receipt.event.reply,
@@ -80,7 +80,7 @@ fn is_end(receipt: Receipt) -> bool {
     )
 }
 
-/// Asks each machine in turn to pass; true where the roll's end was told.
+/// Asks each machine in turn to pass; true where the roll's end was answered.
 fn ask_all<N: Name, W: Wait>(
     rt: &W,
     ring: &Ring<N, Roll>,
@@ -98,7 +98,7 @@ fn ask_all<N: Name, W: Wait>(
     Ok(false)
 }
 
-/// A client: it draws until it is told the roll's end.
+/// A client: it draws until it receives the roll's end.
 fn draw<N: Name, W: Wait>(
     rt: &W,
     ring: &Ring<N, Roll>,
@@ -132,7 +132,7 @@ fn inject<N: Name, W: Wait>(
     Ok(())
 }
 
-/// What the thread of a seat does. A refusal is left in `refused`, where another may stand.
+/// The work of the thread of a seat. A refusal is left in `refused`, where another may be.
 fn serve<N: Name, W: Wait>(
     rt: &W,
     ring: &Ring<N, Roll>,
@@ -171,7 +171,7 @@ fn serve_all<N: Name + Send + Sync, W: Threads + Wait + Sync>(
     thread::for_each_mut(rt, seats, SEATS as usize, &one);
 }
 
-/// Closes the ring of a desk: its clauses alone say what the clients were given.
+/// Closes the ring of a desk: its clauses say by themselves which tickets the clients were given.
 fn close<N: Name, W: Wait>(
     rt: &W,
     alloc: Global,
@@ -220,7 +220,7 @@ fn run_named<N: Name + Send + Sync, W: Threads + Wait + Sync>(
     }
 }
 
-/// Keeps a desk over a whole roll, by a ring that starts with this state: three clients draw until each is told
+/// Keeps a desk over a whole roll, by a ring that starts with this state: three clients draw until each receives
 /// the roll's end, while faults are injected. It hands out the closed ring.
 ///
 /// # Errors

@@ -8,7 +8,7 @@ use std::marker::Model;
 /// How many tickets a roll has.
 pub const TICKETS: u64 = 60;
 
-/// What a pass is answered where no ticket is left.
+/// The answer to a pass where no ticket is left.
 pub const NO_TICKET: u64 = 0;
 
 /// A roll of 60 tickets, numbered from 1.

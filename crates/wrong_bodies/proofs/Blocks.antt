@@ -1,4 +1,4 @@
--- What a group's block tells of its seat, its order and its members.
+-- The seat, the order and the members of a group's block.
 use Rattle.std.proofs.Common.{◌≡◌, ℕ, ◌≤◌, Bool, true, false, List, [], ◌∷◌, ◌++◌, length, append_assoc, sym, ◌∙◌, ap, subst, arith}
 use Rattle.std.proofs.lemmas.List.{append_cancel_left}
 use Rattle.std.proofs.lemmas.Bool.{false≢true}
@@ -44,7 +44,7 @@ no_member m n o p l e = false≢true (ap is_member e)
 none_is_some : (e : Event) (es : List Event) → e ∷ es ≡ [] → ⊥
 none_is_some e es q = let l : length (e ∷ es) ≡ length {A = Event} [] = ap length q in omega arith
 
--- members tell their seat and their order
+-- members have their seat and their order
 members_tell : (seat other order another : ℕ) (ms ns : List ℕ) (es : List Event) → AreMembers seat order ms es → AreMembers other another ns es → 1 ≤ length ms →
     (other ≡ seat) × (another ≡ order)
 members_tell seat other order another [] ns es h k some = absurd (omega arith)
@@ -82,7 +82,7 @@ pub group_tells_the_length : {C : Type 0} (w : Works C) (old new : BookView C) (
 group_tells_the_length w old new seat order ms ns r s h k =
     sym (many_events w old new seat order ms h.moved) ∙ (ap length (same_events w old new seat seat order order ms ns h.moved k.moved) ∙ many_events w old new seat order ns k.moved)
 
--- the first member tells how many come behind it
+-- the first member has the number of those after it
 first_left : (seat order : ℕ) (ms ns : List ℕ) (es more : List Event) → AreMembers seat order ms es → length ms ≡ 1 → AreMembers seat order ns (es ++ more) → length ns ≡ 1
 first_left seat order [] ns es more h one k = absurd (omega arith)
 first_left seat order (m ∷ ms) ns [] more h one k = absurd h
@@ -91,7 +91,7 @@ first_left seat order (m ∷ ms) (n ∷ ns) (e ∷ es) more h one k =
     let same : length ms ≡ length ns = same_left m n order order (length ms) (length ns) (sym h.1 ∙ k.1) in
     omega arith
 
--- so a group of several is no group of one with another behind it
+-- so a group of several is not a group of one with another after it
 pub pieces_are_no_group : {C : Type 0} (w : Works C) (old mid new : BookView C) (seat order m : ℕ) (ns ms : List ℕ) (r s t : GroupReceipt) →
     IsGroupRecorded w old mid seat order (m ∷ []) r → IsGroupRecorded w mid new seat order ns s → IsGroupRecorded w old new seat order ms t → 2 ≤ length ms → ⊥
 pieces_are_no_group w old mid new seat order m ns ms r s t h k g several =

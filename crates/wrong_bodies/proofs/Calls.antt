@@ -1,4 +1,4 @@
--- What a recorded call tells is what the call determines.
+-- The record of a call is determined by the call.
 use Rattle.std.proofs.Common.{◌≡◌, ℕ, ◌+◌, true, false, slice_index, refl, ap, sym, ◌∙◌, [], ◌∷◌, length, arith, length-append}
 use Rattle.ring_model.specs.Ring.{is_privileged}
 use Rattle.ring_model.specs.History.{Works, reply}

@@ -1,4 +1,4 @@
--- What is told of start values that are refused.
+-- The faults of start values that are refused.
 use Rattle.std.proofs.Common.{◌≡◌, ℕ, List, inl, inr, arith}
 use Rattle.std.proofs.lemmas.Bool.{cases_lt}
 use Rattle.ring_state.specs.StateFault.{IsFirstOver}

@@ -7,3 +7,4 @@ pub mod Texts
 pub mod Moves
 pub mod Faults
 pub mod Checks
+pub mod Continued

@@ -1,4 +1,4 @@
--- What a log that fits cannot lack.
+-- The entries that a log that fits cannot lack.
 use Rattle.std.proofs.Common.{◌≡◌, ℕ, take, List, [], ◌∷◌, ◌++◌, length, refl, sym, ◌∙◌, ap, arith, length-append}
 use Rattle.ring_model.specs.History.{Works, State}
 use Rattle.ring_model.specs.Groups.{left_after}

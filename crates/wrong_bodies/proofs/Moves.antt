@@ -1,4 +1,4 @@
--- What a move and a write leave no room for.
+-- The answers that a move and a write rule out.
 use Rattle.std.proofs.Common.{◌≡◌, ℕ, zero, suc, ◌<◌, true, false, not, cond, List, length, get_or, sym, ◌∙◌, ap, inl, inr, eqb, arith, get_or-set_same}
 use Rattle.std.specs.Prelude.{slice_index}
 use Rattle.std.proofs.lemmas.Bool.{both_ways, eq-eqb, not_from_true}
@@ -31,6 +31,6 @@ fewer_do_not_do r t machines fewer m g one out h k =
     let moves : slice_index t.values m ≡ moved_value r m = k.values m able.0 ∙ ap (λ b. cond {A = ℕ} b (moved_value r m) (slice_index r.values m)) one in
     move_changes r m g able.0 able.1 (sym moves ∙ stays)
 
--- what is written is the value
+-- the written value is the given one
 pub one_value : (r : Ring) (i v u : ℕ) → i < length r.values → written r i v ≡ written r i u → v ≡ u
 one_value r i v u l e = sym (get_or-set_same r.values i v 0 l) ∙ (ap (λ (t : Ring). get_or t.values i 0) e ∙ get_or-set_same r.values i u 0 l)

@@ -1,4 +1,4 @@
--- What a row of repairs tells of its seat, its first pass and its end.
+-- The seat, the first pass and the end of a row of repairs.
 use Rattle.std.proofs.Common.{◌≡◌, ℕ, true, false, List, [], ◌∷◌, ◌++◌, append_assoc, refl, sym, ◌∙◌, ap, subst}
 use Rattle.std.proofs.lemmas.List.{append_cancel_left}
 use Rattle.std.proofs.lemmas.Bool.{both_ways}
@@ -27,7 +27,7 @@ repairs_tell_the_seat {C = C} w old new seat other p q h k unsettled settled =
     (λ none. both_ways (is_settled old.now.ring.values) unsettled
     (sym (ap (λ (s : State C). is_settled s.ring.values) (k.now ∙ ap (after w old.now) none)) ∙ settled))
 
--- repairs that begin with a recorded pass, and go on with others
+-- repairs that begin with a recorded pass, and continue with others
 begins : {C : Type 0} (w : Works C) (old mid new : BookView C) (seat : ℕ) (op : Op) (r : Receipt) (q p : List Event) → IsRecorded w old mid seat op r →
     IsRepairedBy w mid new seat q → IsRepairedBy w old new seat p → AreRepairs w old.now seat (r.event ∷ q)
 begins w old mid new seat op r q p made rest h =
@@ -71,7 +71,7 @@ last_is_open : {C : Type 0} (w : Works C) (a : State C) (seat : ℕ) (es : List 
 last_is_open w a seat [] e h = h.0
 last_is_open w a seat (d ∷ es) e h = last_is_open w (next w a d.op) seat es e h.5
 
--- so no pass behind them is one
+-- so no pass after them is one
 pub repairs_end : {C : Type 0} (w : Works C) (old mid new : BookView C) (seat : ℕ) (op : Op) (r : Receipt) (q p : List Event) → IsRepairedBy w old mid seat q →
     IsRecorded w mid new seat op r → IsRepairedBy w old new seat p → is_settled mid.now.ring.values ≡ true → ⊥
 repairs_end {C = C} w old mid new seat op r q p front made h settled =

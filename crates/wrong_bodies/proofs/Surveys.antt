@@ -1,4 +1,4 @@
--- What a survey and a count tell behind all events of a book.
+-- A survey and a count after all events of a book.
 use Rattle.std.proofs.Common.{◌≡◌, ℕ, ◌+◌, ◌≤◌, false, List, [], ◌∷◌, ◌++◌, length, ◌∙◌, ap, arith, length-append}
 use Rattle.std.specs.Prelude.{◌==◌}
 use Rattle.std.proofs.lemmas.Bool.{cond-true, eq-eqb}
@@ -18,7 +18,7 @@ use Rattle.ring_book.proofs.Growth.{survey_end}
 use Rattle.ring_book.proofs.Repairing.{rest_left}
 use Rattle.wrong_bodies.proofs.Calls.{corruption_is_told}
 
--- a survey tells the state now
+-- a survey has the state now
 pub survey_here : {C : Type 0} (w : Works C) (first : C) (b : BookView C) → IsBook w first b → survey_at w (opening b.start first) b.history (length b.history) ≡ record {
   position = length b.history;
   privileged = privileged_count b.now.ring.values;
@@ -47,7 +47,7 @@ open_rest w first b k unsettled =
     let some = rest_left w first b k unsettled in
     omega arith
 
--- a survey tells the calm of the history
+-- a survey has the calm of the history
 pub calm_here : {C : Type 0} (w : Works C) (a : State C) (h : List Event) → (survey_at w a h (length h)).calm ≡ calm h
 calm_here w a h = ap (λ (s : Survey). s.calm) (survey_end w a h)
 

@@ -1,4 +1,4 @@
--- What the one text of a value leaves no room for.
+-- The texts that the one text of a value rules out.
 use Rattle.std.proofs.Common.{◌≡◌, ℕ, ◌+◌, ◌<◌, List, [], length, Option, Some, None, Ok, Err, sym, ◌∙◌, ap, arith, length-append}
 use Rattle.std.specs.Prelude.{IsSome}
 use Rattle.std.proofs.lemmas.Bool.{false≢true}
@@ -30,7 +30,7 @@ one_value_is_written o n a b known f g h k = one_value a b f g (same_grown o n (
 pub one_value_is_read : (bytes : List ℕ) (a b : Saved) → IsRightRead bytes (Ok a) → IsRightRead bytes (Ok b) → content a ≡ content b
 one_value_is_read bytes a b h k = one_value (content a) (content b) h.0 k.0 (sym h.1 ∙ k.1)
 
--- what a fault leaves is not all
+-- the text after a fault is not all
 not_all : (o n : Option (List ℕ)) (x left : List ℕ) → IsSome o → 0 < length left → Wrote o n x left → Appends o n x → ⊥
 not_all o n x left known some h k =
     let front : x ≡ h.0 = same_grown o n x h.0 known k h.2 in

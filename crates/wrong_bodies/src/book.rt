@@ -116,7 +116,7 @@ pub fn answers_without_an_event<R: Resource + Drop>(
     })
 }
 
-/// The receipt tells where the event stands: this one tells another position.
+/// The receipt has the position of the event: this one has another.
 pub fn tells_another_position<R: Resource + Drop>(
     book: &mut Book<R>,
     seat: u32,
@@ -135,7 +135,7 @@ pub fn tells_another_position<R: Resource + Drop>(
     })
 }
 
-/// A machine that is not privileged is refused: this pass is told as granted.
+/// A machine that is not privileged is refused: this pass is reported as granted.
 #[tactic(auto, using(crate::proofs::Calls::refused_is_told))]
 pub fn tells_a_refused_pass_as_granted<R: Resource + Drop>(
     book: &mut Book<R>,
@@ -159,7 +159,7 @@ pub fn tells_a_refused_pass_as_granted<R: Resource + Drop>(
     ))
 }
 
-/// A privileged machine is granted its pass: this one is told as refused.
+/// A privileged machine is granted its pass: this one is reported as refused.
 #[tactic(auto, using(crate::proofs::Calls::granted_is_told))]
 pub fn tells_a_granted_pass_as_refused<R: Resource + Drop>(
     book: &mut Book<R>,
@@ -177,7 +177,7 @@ pub fn tells_a_granted_pass_as_refused<R: Resource + Drop>(
     Ok(replied(receipt, Reply::NotPrivileged))
 }
 
-/// A granted pass is told its number among the grants: this one another.
+/// A granted pass is answered with its number among the grants: this one another.
 #[tactic(auto, using(crate::proofs::Calls::one_reply))]
 pub fn tells_another_grant<R: Resource + Drop>(
     book: &mut Book<R>,
@@ -195,7 +195,7 @@ pub fn tells_another_grant<R: Resource + Drop>(
     Ok(replied(receipt, reply))
 }
 
-/// A granted pass is told what the work answered: this one is told another number.
+/// A granted pass is answered with the answer of the work: this one with another number.
 #[tactic(auto, using(crate::proofs::Calls::one_reply))]
 pub fn tells_another_result<R: Resource + Drop>(
     book: &mut Book<R>,
@@ -213,7 +213,7 @@ pub fn tells_another_result<R: Resource + Drop>(
     Ok(replied(receipt, reply))
 }
 
-/// A call that refuses changes nothing: this one refuses when its event stands already.
+/// A call that refuses changes nothing: this one refuses when its event is already recorded.
 pub fn refuses_behind_its_event<R: Resource + Drop>(
     book: &mut Book<R>,
     seat: u32,
@@ -258,7 +258,7 @@ pub fn is_full_one_event_early<R: Resource + Drop>(
     book.pass(seat, machine, order)
 }
 
-/// A full history is told as full: this one as want of memory.
+/// A full history is reported as full: this one as out of memory.
 pub fn tells_a_full_history_as_want_of_memory<R: Resource + Drop>(
     book: &mut Book<R>,
     seat: u32,
@@ -365,7 +365,7 @@ pub fn records_a_pass_for_a_corruption<R: Resource + Drop>(
     book.pass(seat, machine, value as u64)
 }
 
-/// After `reserve` there is room for so many events: this one takes none, where there is too little.
+/// After `reserve` there is room for that many events: this one takes none, where there is too little.
 pub fn reserves_nothing<R: Resource + Drop>(book: &mut Book<R>, more: u32) -> Result<(), BookError>
     requires short { book.old.room < more }
     ensures wrong { OnOk result (more ≤ book.new.room) → ⊥ }

@@ -12,7 +12,7 @@ ghost use Rattle.ring_check.specs.Members.{run_of, may_come};
 ghost use Rattle.ring_check.specs.Table.{event_of};
 
 use crate::numbers::another;
-use ring_check::{CheckError, Kind, Summary, check_saved, count_events, members_law};
+use ring_check::{CheckError, Kind, Summary, check_saved, count_events, members_as_defined};
 use ring_saved::{Saved, SavedEvent};
 use std::alloc::Global;
 
@@ -147,7 +147,7 @@ pub fn calls_a_wrong_count_legal(
     check_saved(alloc, corrected)
 }
 
-/// The granted passes of a block are counted: here all events that are no corruptions, where a pass was refused.
+/// The granted passes of a block are counted: here all events that are not corruptions, where a pass was refused.
 pub fn counts_refused_passes(events: &[SavedEvent]) -> u64
     requires some { granted_count (map event_of events.now)
         + corrupted_count (map event_of events.now)
@@ -164,14 +164,14 @@ pub fn counts_another_number_of_corruptions(events: &[SavedEvent]) -> u64
     another(count_events(events).corrupted)
 }
 
-/// The table's test says which event may come behind a history: a test that says otherwise of any event does not.
+/// The table's test says which event may come after a history: a test that says otherwise of any event does not.
 pub fn tests_groups_in_another_way()
     ensures wrong { (test : ℕ → List Event → Event → Bool) (n : ℕ) (h : List Event) (e : Event)
         → test n (run_of h) e ≢ may_come n (run_of h) e
         → ((test n (run_of h) e ≡ true → MayCome n (run_of h) e.seat e.op)
         × (MayCome n (run_of h) e.seat e.op → test n (run_of h) e ≡ true)) → ⊥ }
 {
-    members_law();
+    members_as_defined();
 }
 
 /// Another thing that can be wrong with a line.

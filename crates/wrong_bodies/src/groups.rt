@@ -111,7 +111,7 @@ pub fn passes_a_group_as_a_call<R: Resource + Drop>(
     })
 }
 
-/// The receipt tells the first position of the block: this one another.
+/// The receipt has the first position of the block: this one another.
 pub fn tells_another_first_position<R: Resource + Drop>(
     book: &mut Book<R>,
     seat: u32,
@@ -131,7 +131,7 @@ pub fn tells_another_first_position<R: Resource + Drop>(
     })
 }
 
-/// The receipt tells how many members the group has: this one says one less.
+/// The receipt has the number of the group's members: this one has one less.
 pub fn tells_one_member_less<R: Resource + Drop>(
     book: &mut Book<R>,
     seat: u32,
@@ -151,7 +151,7 @@ pub fn tells_one_member_less<R: Resource + Drop>(
     })
 }
 
-/// A group of all machines is refused: here one of them passes in its place, and that is told as granted.
+/// A group of all machines is refused: here one of them passes instead, and that is reported as granted.
 pub fn lets_the_whole_ring_pass<R: Resource + Drop>(
     book: &mut Book<R>,
     seat: u32,
@@ -168,7 +168,7 @@ pub fn lets_the_whole_ring_pass<R: Resource + Drop>(
     book.pass_group(seat, &[machine], order)
 }
 
-/// A group of all machines is told as that: here as one with a machine that is not privileged.
+/// A group of all machines is reported as that: here as one with a machine that is not privileged.
 pub fn tells_the_whole_ring_as_unprivileged<R: Resource + Drop>(
     book: &mut Book<R>,
     seat: u32,
@@ -188,7 +188,7 @@ pub fn tells_the_whole_ring_as_unprivileged<R: Resource + Drop>(
     Ok(receipt)
 }
 
-/// The least machine without privilege is told: here another, which is found not to be it.
+/// The least machine without privilege is reported: here another, which is found not to be it.
 #[tactic(auto, using(ring_book::proofs::GroupGrowth::without_one))]
 pub fn tells_another_machine_without_privilege<R: Resource + Drop>(
     book: &mut Book<R>,

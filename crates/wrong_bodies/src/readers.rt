@@ -1,4 +1,4 @@
-//! Wrong bodies of what a book tells.
+//! Wrong bodies of the readers of a book.
 
 ghost use Rattle.std.specs.Prelude.{◌≡◌, ◌≢◌, ◌<◌, ◌≤◌, false, length, IfOk};
 ghost use Rattle.ring_model.specs.Limits.{seat_limit};
@@ -30,7 +30,7 @@ pub fn drops_the_first_event<R: Resource + Drop>(book: &Book<R>) -> &[Event]
     &book.history()[1..]
 }
 
-/// The state is that behind all events: this one is that of the start, where the two differ.
+/// The state is that after all events: this one is that of the start, where the two differ.
 pub fn tells_the_start_as_the_state<R: Resource + Drop>(book: &Book<R>) -> &RingState
     requires apart { book.now.start ≢ book.now.now.ring }
     ensures wrong { result.now ≡ book.now.now.ring → ⊥ }
@@ -46,7 +46,7 @@ pub fn tells_the_state_as_the_start<R: Resource + Drop>(book: &Book<R>) -> &Ring
     book.state()
 }
 
-/// A survey tells the rest: this one tells 0 of a ring that is not settled.
+/// A survey has the rest: this one has 0 for a ring that is not settled.
 #[tactic(auto, using(crate::proofs::Surveys::open_rest))]
 pub fn surveys_no_rest<R: Resource + Drop>(book: &Book<R>) -> Survey
     requires unsettled { is_settled book.now.now.ring.values ≡ false }
@@ -60,7 +60,7 @@ pub fn surveys_no_rest<R: Resource + Drop>(book: &Book<R>) -> Survey
     }
 }
 
-/// A survey tells the rest now: this one that at the start, where the two differ.
+/// A survey has the rest now: this one that at the start, where the two differ.
 pub fn surveys_the_rest_at_the_start<R: Resource + Drop>(book: &Book<R>) -> Survey
     requires apart { rest book.now.start ≢ rest book.now.now.ring }
     ensures wrong { result
@@ -73,7 +73,7 @@ pub fn surveys_the_rest_at_the_start<R: Resource + Drop>(book: &Book<R>) -> Surv
     }
 }
 
-/// A survey tells the first privileged machine: this one tells machine 0, where it is another.
+/// A survey has the first privileged machine: this one has machine 0, where it is another.
 #[tactic(auto, using(crate::proofs::Surveys::survey_here))]
 pub fn surveys_machine_0_as_the_first<R: Resource + Drop>(book: &Book<R>) -> Survey
     requires apart { first_privileged book.now.now.ring.values ≢ 0 }
@@ -87,7 +87,7 @@ pub fn surveys_machine_0_as_the_first<R: Resource + Drop>(book: &Book<R>) -> Sur
     }
 }
 
-/// A survey tells how many machines are privileged: this one tells one of a ring that is not settled.
+/// A survey has the number of privileged machines: this one has 1 for a ring that is not settled.
 #[tactic(auto, using(crate::proofs::Surveys::survey_here))]
 pub fn surveys_one_privileged_machine<R: Resource + Drop>(book: &Book<R>) -> Survey
     requires unsettled { is_settled book.now.now.ring.values ≡ false }
@@ -101,7 +101,7 @@ pub fn surveys_one_privileged_machine<R: Resource + Drop>(book: &Book<R>) -> Sur
     }
 }
 
-/// A survey tells the calm: this one another.
+/// A survey has the calm: this one another.
 pub fn surveys_another_calm<R: Resource + Drop>(book: &Book<R>) -> Survey
     ensures wrong { result
         ≡ survey_at R.works (opening book.now.start R.first) book.now.history
@@ -114,7 +114,7 @@ pub fn surveys_another_calm<R: Resource + Drop>(book: &Book<R>) -> Survey
     }
 }
 
-/// A survey stands behind all events: this one tells that it stands before the first.
+/// The place of a survey is after all events: this one says that it is before the first.
 pub fn surveys_before_all_events<R: Resource + Drop>(book: &Book<R>) -> Survey
     requires some { 1 ≤ length book.now.history }
     ensures wrong { result
@@ -127,7 +127,7 @@ pub fn surveys_before_all_events<R: Resource + Drop>(book: &Book<R>) -> Survey
     }
 }
 
-/// A corruption ends the calm: here the calm before it is told behind it, where it is not 0.
+/// A corruption ends the calm: here the calm before it is returned after it, where it is not 0.
 pub fn keeps_the_calm_over_a_corruption<R: Resource + Drop>(
     book: &mut Book<R>,
     seat: u32,
@@ -204,7 +204,7 @@ pub fn counts_the_grants_of_another_machine<R: Resource + Drop>(
     book.grants().of(other)
 }
 
-/// The grants of the settled run alone are told: here all, where some stand before it.
+/// Only the grants of the settled run are returned: here all, where some are before it.
 pub fn counts_grants_before_the_settled_run<R: Resource + Drop>(book: &Book<R>, machine: u32) -> u64
     requires machine { machine < length book.now.start.values }
     requires apart { grants_of machine book.now.history

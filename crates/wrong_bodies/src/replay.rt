@@ -1,4 +1,4 @@
-//! Wrong bodies of what tells whether logs fit a history.
+//! Wrong bodies of the test whether logs fit a history.
 
 ghost use Rattle.std.specs.Prelude.{◌≡◌, ◌≤◌, ◌↔◌, ◌++◌, ◌∷◌, ◌≢◌, [], All, IsTrue, IfOk, take};
 ghost use Rattle.ring_model.specs.Limits.{event_limit};
@@ -25,7 +25,7 @@ pub fn answers_the_other_way<R: Resource + Drop>(
     Ok(!logs_fit(alloc, book, logs)?)
 }
 
-/// A log that does not fit is told: here all logs fit.
+/// A log that does not fit is found: here all logs fit.
 pub fn lets_all_logs_fit<R: Resource + Drop>(
     book: &Book<R>,
     logs: &[ClientLog],
@@ -40,7 +40,7 @@ pub fn lets_all_logs_fit<R: Resource + Drop>(
     Ok(true)
 }
 
-/// A mismatch is told only where a log does not fit: here of all logs.
+/// A mismatch is reported only where a log does not fit: here of all logs.
 pub fn lets_no_logs_fit<R: Resource + Drop>(
     book: &Book<R>,
     logs: &[ClientLog],
@@ -95,7 +95,7 @@ pub fn lets_a_call_be_lost<R: Resource + Drop>(
     logs_fit(alloc, book, whole)
 }
 
-/// No survey is right inside a block: here one fits that stands in one.
+/// No survey is right inside a block: here one fits that is in one.
 #[tactic(auto, using(crate::proofs::Logs::no_survey_is_inside))]
 pub fn lets_a_survey_inside_a_block_fit<R: Resource + Drop>(
     book: &Book<R>,
@@ -110,7 +110,7 @@ pub fn lets_a_survey_inside_a_block_fit<R: Resource + Drop>(
     Ok(true)
 }
 
-/// The calm behind a reply is counted: here another number.
+/// The calm after a reply is counted: here another number.
 pub fn counts_another_calm(calm: u64, reply: Reply) -> u64
     requires { calm ≤ event_limit }
     ensures wrong { result ≡ calm_after calm reply → ⊥ }
@@ -118,7 +118,7 @@ pub fn counts_another_calm(calm: u64, reply: Reply) -> u64
     another(calm_behind(calm, reply))
 }
 
-/// A corruption ends the calm: here it stays as behind a refused pass.
+/// A corruption ends the calm: here it stays as after a refused pass.
 pub fn keeps_the_calm(calm: u64, old: u32) -> u64
     requires few { calm ≤ event_limit }
     requires some { 1 ≤ calm }

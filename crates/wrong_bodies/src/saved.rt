@@ -15,7 +15,7 @@ use ring_saved::{
 use std::alloc::Global;
 use std::io::Write;
 
-/// What is written is the text of the value: here that of another, as of a history that is cut, of fewer surveys or of
+/// The written text is that of the value: here that of another, as of a history that is cut, of fewer surveys or of
 /// another start.
 pub fn writes_another_value<W: Write>(
     saved: &Saved,
@@ -35,7 +35,7 @@ pub fn writes_another_value<W: Write>(
     Ok(())
 }
 
-/// A fault of the writer is told just where there was one: here it is the other way.
+/// A fault of the writer is reported just where there was one: here it is the other way.
 pub fn tells_faults_the_other_way<W: Write>(
     saved: &Saved,
     out: &mut W,
@@ -108,7 +108,7 @@ pub fn reads_a_member_in_the_first_version(
     }
 }
 
-/// What is no text has no value: here it is read as some value.
+/// Bytes that are not a text have no value: here they are read as some value.
 pub fn reads_what_is_no_text(alloc: Global, bytes: &[u8], saved: Saved) -> Result<Saved, ReadError>
     requires none { IsText bytes.now → ⊥ }
     ensures wrong { IsRightRead bytes.now result → ⊥ }
@@ -119,7 +119,7 @@ pub fn reads_what_is_no_text(alloc: Global, bytes: &[u8], saved: Saved) -> Resul
     }
 }
 
-/// A text is not refused: here it is told as cut short.
+/// A text is not refused: here it is reported as cut short.
 pub fn tells_a_text_as_cut_short(alloc: Global, bytes: &[u8]) -> Result<Saved, ReadError>
     requires text { IsText bytes.now }
     ensures wrong { IsRightRead bytes.now result → ⊥ }
@@ -128,7 +128,7 @@ pub fn tells_a_text_as_cut_short(alloc: Global, bytes: &[u8]) -> Result<Saved, R
     Err(ReadError::Truncated)
 }
 
-/// A bad line is told: here the bytes are told as cut short.
+/// A bad line is reported: here the bytes are reported as cut short.
 #[tactic(auto, using(crate::proofs::Texts::no_bad_line_is_cut))]
 pub fn tells_a_bad_line_as_cut_short(
     alloc: Global,
@@ -144,7 +144,7 @@ pub fn tells_a_bad_line_as_cut_short(
     }
 }
 
-/// Bytes that are cut short are told as that: here as a bad line.
+/// Bytes that are cut short are reported as that: here as a bad line.
 #[tactic(auto, using(crate::proofs::Texts::no_cut_is_bad))]
 pub fn tells_what_is_cut_short_as_a_bad_line(
     alloc: Global,
@@ -159,7 +159,7 @@ pub fn tells_what_is_cut_short_as_a_bad_line(
     }
 }
 
-/// The first bad line is told: here another.
+/// The first bad line is reported: here another.
 #[tactic(auto, using(crate::proofs::Texts::one_bad_line))]
 pub fn tells_another_bad_line(alloc: Global, bytes: &[u8]) -> Result<Saved, ReadError>
     ensures wrong { IfErr result

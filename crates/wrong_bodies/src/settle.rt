@@ -1,4 +1,4 @@
-//! Wrong bodies of what tells how far a ring is from being settled, and of the group move.
+//! Wrong bodies of the measures of how far a ring is from being settled, and of the group move.
 
 ghost use Rattle.std.specs.Prelude.{◌≡◌, ◌≢◌, ◌<◌, ◌≤◌, true, false, length, slice_index};
 ghost use Rattle.ring_model.specs.Ring.{bound, is_settled, lead, rest};
@@ -25,14 +25,14 @@ pub fn settled_the_other_way(state: &RingState) -> bool
     !ring_settle::is_settled(state)
 }
 
-/// The lead is told: here another number.
+/// The lead is returned: here another number.
 pub fn leads_otherwise(state: &RingState) -> u32
     ensures wrong { result ≡ lead state.now → ⊥ }
 {
     another_narrow(ring_settle::lead(state))
 }
 
-/// The rest is told: here another number.
+/// The rest is returned: here another number.
 pub fn rests_otherwise(state: &RingState) -> u64
     ensures wrong { result ≡ rest state.now → ⊥ }
 {
@@ -75,7 +75,7 @@ pub fn moves_a_group_without_one(
     ring_settle::move_group(state, fewer);
 }
 
-/// The least number that is left out is told: here another.
+/// The least number that is left out is returned: here another.
 pub fn leaves_another_out(machines: &[u32]) -> u64
     ensures wrong { result ≡ least_left_out 0 machines.now → ⊥ }
 {

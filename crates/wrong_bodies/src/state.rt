@@ -69,7 +69,7 @@ pub fn takes_a_value_over_k(
     RingState::from_values(alloc, p, others)
 }
 
-/// The first value that is not below K is told: here another place.
+/// The first value that is not below K is returned: here another place.
 #[tactic(auto, using(crate::proofs::Faults::one_is_first))]
 pub fn tells_another_bad_value(
     alloc: Global,
@@ -130,21 +130,21 @@ pub fn moves_no_machine(state: &mut RingState, i: u32)
     let _ring = state.params();
 }
 
-/// The number of privileged machines is told: here another.
+/// The number of privileged machines is returned: here another.
 pub fn counts_another_number_of_privileged(state: &RingState) -> u32
     ensures wrong { result ≡ privileged_count state.now.values → ⊥ }
 {
     another_narrow(state.privileged())
 }
 
-/// The least privileged machine is told: here another.
+/// The least privileged machine is returned: here another.
 pub fn finds_another_first(state: &RingState) -> u32
     ensures wrong { result ≡ first_privileged state.now.values → ⊥ }
 {
     another_narrow(state.first())
 }
 
-/// The weight is told: here another.
+/// The weight is returned: here another.
 pub fn weighs_otherwise(state: &RingState) -> u64
     ensures wrong { result ≡ weight state.now.values → ⊥ }
 {

@@ -19,7 +19,7 @@ use Rattle.ring_commands.specs.declared.faults.ToolError.TheVariants as tool
 use Rattle.ring_commands.specs.CheckText.{legal_line}
 use Rattle.wrong_commands.proofs.Written.{one_value, not_twice}
 
--- what fits has its starts
+-- a value that fits has its starts
 starts : (version : ℕ) (bs : List Block) → AllByRecursion (BlockFits version) bs → All (λ (b : Block). length b.start ≡ b.n) bs
 starts version [] h = λ k d l. absurd (omega arith)
 starts version (b ∷ bs) h = All-cons (λ (b : Block). length b.start ≡ b.n) b bs h.0.start (starts version bs h.1)

@@ -5,3 +5,4 @@ pub mod Readings
 pub mod Makings
 pub mod Spoiled
 pub mod Unnoted
+pub mod Traced

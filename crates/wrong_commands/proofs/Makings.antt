@@ -1,16 +1,16 @@
--- What files hold where one was to be replaced.
+-- The content of files where one was to be replaced.
 use Rattle.std.proofs.Common.{◌≡◌, ◌∙◌, ap, sym, subst, refl, inl, inr}
-use Rattle.std.specs.Prelude.{ℕ, List, [], Option, None, Some, IsSome, Bool, false, ◌⊎◌}
+use Rattle.std.specs.Prelude.{ℕ, ◌≢◌, List, [], Option, None, Some, IsSome, Bool, false, ◌⊎◌}
 use Rattle.std.specs.Option.{unwrap_or}
 use Rattle.std.proofs.lemmas.Bool.{false≢true}
 use Rattle.disks.specs.Held.{Held, Starts, Replaces, bytes_of}
 use Rattle.ring_saved.specs.Content.{Content}
 use Rattle.ring_check.specs.declared.answers.Summary.{Summary}
 use Rattle.ring_commands.specs.Named.{IsHeld, IsNamed, IsApart}
-use Rattle.ring_commands.specs.Reading.{is_dash}
+use Rattle.ring_commands.specs.Reading.{names_stream}
 use Rattle.ring_commands.specs.Upgraded.{IsUpgradeOf}
 
--- where there is no upgrade, what is told is the other case
+-- where there is no upgrade, the report is the other case
 pub only_left : {A : Type 0} (word : List ℕ) (files mid : Option Held) (from left : Option (List ℕ)) → mid ≡ files →
     ((bytes : List ℕ) (c : Content) (sums : Summary) → IsNamed word files from left bytes → IsUpgradeOf bytes c sums → ⊥) →
     A ⊎ ((bytes : List ℕ) × (c : Content) × (sums : Summary) × IsNamed word mid from left bytes × IsUpgradeOf bytes c sums) → A
@@ -28,7 +28,7 @@ pub as_it_was : (was is : Option Held) (name bytes : List ℕ) → IsSome was �
 as_it_was was is name bytes known same not h = not (subst (λ (d : Option Held). IsHeld d name bytes) same (held_there was is name bytes known h))
 
 -- nor is it if another file was
-pub another_was : (was is : Option Held) (other name bytes : List ℕ) → IsSome was → is_dash other ≡ false → IsApart was other (Some name) → (IsHeld was name bytes → ⊥) →
+pub another_was : (was is : Option Held) (other name bytes : List ℕ) → IsSome was → names_stream other ≡ false → IsApart was other (Some name) → (IsHeld was name bytes → ⊥) →
     Replaces was is other (Some bytes) → Replaces was is name (Some bytes) → ⊥
 another_was None is other name bytes known named apart not done h = absurd (false≢true known)
 another_was (Some was) None other name bytes known named apart not done h = absurd h
@@ -46,3 +46,10 @@ emptied (Some was) mid put is name made known not starts same puts last back =
 pub one_file_holds : (files : Option Held) (name one other : List ℕ) → IsSome files → IsHeld files name one → IsHeld files name other → one ≡ other
 one_file_holds None name one other known h k = absurd (false≢true known)
 one_file_holds (Some held) name one other known h k = ap (λ (o : Option (List ℕ)). unwrap_or o []) (sym h ∙ k)
+
+-- a file that was replaced by one list of bytes was not replaced by another
+pub two_texts : (was is : Option Held) (name one other : List ℕ) → IsSome was → one ≢ other → Replaces was is name (Some one) → Replaces was is name (Some other) → ⊥
+two_texts None is name one other known apart h k = absurd (false≢true known)
+two_texts (Some was) None name one other known apart h k = absurd h
+two_texts (Some was) (Some is) name one other known apart h k =
+    apart (ap (λ (o : Option (List ℕ)). unwrap_or o []) (sym (h.here name refl) ∙ k.here name refl))

@@ -1,4 +1,4 @@
--- What was read is one list of bytes.
+-- The bytes that were read are one list.
 use Rattle.std.proofs.Common.{◌≡◌, ℕ, ◌+◌, List, [], length, Option, Some, None, ◌∙◌, ap, arith, length-append}
 use Rattle.std.specs.Prelude.{IsSome}
 use Rattle.std.proofs.lemmas.Bool.{false≢true}
@@ -22,7 +22,7 @@ one_limit limit other o n known h k =
     let b = k.1 in
     omega (arith, e, a, b)
 
--- what is over a limit is not empty
+-- an input over a limit is not empty
 pub not_empty : (limit : ℕ) (o n : Option (List ℕ)) (bytes : List ℕ) → IsSome o → IsOver limit o n → bytes ≡ [] → Consumes o n bytes → ⊥
 not_empty limit o n bytes known h none k =
     let e = one_length o n h.0 bytes known h.2 k in
@@ -30,7 +30,7 @@ not_empty limit o n bytes known h none k =
     let b : length bytes ≡ 0 = ap length none in
     omega (arith, e, a, b)
 
--- what is over a limit is not within it
+-- an input over a limit is not within it
 pub not_within : (limit : ℕ) (o n : Option (List ℕ)) → IsSome o → IsOver limit o n → IsWithin limit o n → ⊥
 not_within limit o n known h k =
     let e = one_length o n h.0 k.0 known h.2 k.2 in

@@ -5,7 +5,7 @@ use Rattle.std.specs.Io.KnownBytes.{Appends}
 use Rattle.ring_saved.specs.Content.{Content}
 use Rattle.ring_saved.specs.Spelling.{text}
 use Rattle.ring_farm.specs.declared.outcomes.Outcome.{Outcome}
-use Rattle.ring_farm.specs.declared.outcomes.RingOutcome.{RingOutcome}
+use Rattle.ring_farm.specs.RingOutcome.{RingOutcome}
 use Rattle.ring_text.specs.Report.{rings_from, farm_line}
 use Rattle.ring_commands.specs.Ran.{told}
 use Rattle.wrong_commands.proofs.Written.{not_more}
@@ -19,7 +19,7 @@ pub rings_some : (place : ℕ) (rings : List RingOutcome) → 1 ≤ length rings
 rings_some place [] some = omega (arith, some)
 rings_some place (r ∷ rs) some = omega arith
 
--- a list of which the last one is taken
+-- a list whose last element is taken
 pub one_less : {X : Type 0} (o : Option X) (was now : ℕ) → MatchOption o ((was ≡ 0) × (now ≡ 0)) (λ _. now + 1 ≡ was) → 1 ≤ was → now + 1 ≡ was
 one_less None was now h some = omega (arith, h.0, some)
 one_less (Some x) was now h some = h

@@ -18,7 +18,7 @@ as_many (r ∷ rs) (suc i) x d lt e = as_many rs i x d (omega arith) (ap (λ (bs
     rest [] = []
     rest (b ∷ bs) = bs
 
--- what was recovered, with one ring that has fewer or more events, is not recovered
+-- a recovered history, with one ring that has fewer or more events, is not recovered
 pub spoiled : (bytes : List ℕ) (version said : ℕ) (items : List SavedRing) (i : ℕ) (x y : SavedRing) → i < length items → y ≡ get_or items i y
     → IsRecovered bytes (record { version = version; rings = map block_of items; rings_said = said }) → IsRecovered bytes (record { version = version; rings = map block_of (set items i x); rings_said = said })
     → length x.events.items ≡ length y.events.items

@@ -1,19 +1,19 @@
 -- A line that is granted is noted.
-use Rattle.std.proofs.Common.{◌≡◌, ◌∙◌, ◌⊎◌, ℕ, ◌<◌, ◌≤◌, ltb, List, [], ◌∷◌, ◌++◌, length, get_or, Bool, true, false, cond, Option, None, Some, Result, Ok, Err, inl, inr, refl, sym, ap, subst, arith}
+use Rattle.std.proofs.Common.{◌≡◌, ◌∙◌, ◌⊎◌, ℕ, ◌<◌, ◌≤◌, ltb, List, [], ◌∷◌, ◌++◌, length, get_or, Bool, true, false, cond, Option, None, Some, inl, inr, refl, sym, ap, subst, arith}
 use Rattle.disks.specs.Held.{Held}
 use Rattle.ring_model.specs.declared.events.Event.{Event}
 use Rattle.ring_model.specs.declared.events.Op.TheVariants as op
-use Rattle.text_lines.specs.declared.fault.Fault.{Fault}
-use Rattle.text_lines.specs.Reading.{whole_at}
 use Rattle.text_lines.specs.Spelling.{spaced}
-use Rattle.ring_serve.specs.Calls.{Call, pass, group, corrupt, survey, glance, save, line_limit, call_at}
+use Rattle.ring_serve.specs.Commands.{Command, pass, group, corrupt, survey, glance, save, heard}
 use Rattle.ring_serve.specs.Standings.{Standing, event_now}
 use Rattle.ring_serve.specs.declared.answers.Answer.{Answer}
 use Rattle.ring_serve.specs.declared.answers.Answer.TheVariants as answer
 use Rattle.ring_serve.specs.declared.answers.Refusal.{Refusal}
 use Rattle.ring_serve.specs.declared.answers.Refusal.TheVariants as refusal
 use Rattle.ring_serve.specs.Answers.{answer_line}
-use Rattle.ring_serve.specs.Turns.{Turn, events, refused, unless, seat_refusal, pass_refusal, corrupt_refusal, group_refusal, turn_at, turn_among, read_turn, line_turn, IsTurnOfLine}
+use Rattle.ring_desk.specs.Refusals.{seat_refusal, pass_refusal, corrupt_refusal, group_refusal}
+use Rattle.ring_desk.specs.declared.errors.CallError.{CallError}
+use Rattle.ring_serve.specs.Turns.{Turn, events, refused, refusal_of, bounds_now, unless, turn_at, turn_among, heard_turn, IsTurnOfLine}
 use Rattle.ring_serve.specs.Notes.{notes_of}
 use Rattle.ring_serve.specs.Serving.{name_in, IsGiven, IsAnswered, Answers, ServesAll}
 
@@ -39,18 +39,18 @@ refused_noted s why number result e = absurd (no e)
     no : answer.Refused why ≡ answer.Granted number result → ⊥
     no p = cc
 
-unless_noted : {S : Type 0} (x : Option Refusal) (s : S) (turn : Turn S) → IsNoted turn → IsNoted (unless x s turn)
+unless_noted : {S : Type 0} (x : Option CallError) (s : S) (turn : Turn S) → IsNoted turn → IsNoted (unless x s turn)
 unless_noted None s turn h = h
-unless_noted (Some why) s turn h = refused_noted s why
+unless_noted (Some why) s turn h = refused_noted s (refusal_of why)
 
-turn_noted : (r : Standing) (call : Call) → IsNoted (turn_at r call)
-turn_noted r (pass ring seat machine order) = unless_noted (pass_refusal r seat machine) r _ (λ n x e. call_noted ring (event_now r seat (op.Pass machine order)))
-turn_noted r (corrupt ring seat machine value) = unless_noted (corrupt_refusal r seat machine value) r _ (λ n x e. call_noted ring (event_now r seat (op.Corrupt machine value)))
-turn_noted r (group ring seat order machines) = unless_noted (group_refusal r seat machines) r _ (λ n x e. absurd (no _ _ n x e))
+turn_noted : (r : Standing) (command : Command) → IsNoted (turn_at r command)
+turn_noted r (pass ring seat machine order) = unless_noted (pass_refusal (bounds_now r) seat machine) r _ (λ n x e. call_noted ring (event_now r seat (op.Pass machine order)))
+turn_noted r (corrupt ring seat machine value) = unless_noted (corrupt_refusal (bounds_now r) seat machine value) r _ (λ n x e. call_noted ring (event_now r seat (op.Corrupt machine value)))
+turn_noted r (group ring seat order machines) = unless_noted (group_refusal (bounds_now r) seat machines) r _ (λ n x e. absurd (no _ _ n x e))
   where
     no : (a b n x : ℕ) → answer.Block a b ≡ answer.Granted n x → ⊥
     no a b n x p = cc
-turn_noted r (survey ring seat) = unless_noted (seat_refusal r seat) r _ (λ n x e. absurd (no _ n x e))
+turn_noted r (survey ring seat) = unless_noted (seat_refusal (bounds_now r) seat) r _ (λ n x e. absurd (no _ n x e))
   where
     no : (s : _) (n x : ℕ) → answer.Survey s ≡ answer.Granted n x → ⊥
     no s n x p = cc
@@ -58,30 +58,25 @@ turn_noted r (glance ring) = λ n x e. absurd (no _ n x e)
   where
     no : (s : _) (n x : ℕ) → answer.Survey s ≡ answer.Granted n x → ⊥
     no s n x p = cc
-turn_noted r save = λ n x e. absurd (no n x e)
+turn_noted r (save name) = λ n x e. absurd (no n x e)
   where
     no : (n x : ℕ) → answer.Saved ≡ answer.Granted n x → ⊥
     no n x p = cc
 
-among_noted : (rings : List Standing) (call : Call) (x : Option Standing) → IsNoted (turn_among rings call x)
-among_noted rings call None = refused_noted rings refusal.NoRing
-among_noted rings call (Some r) = turn_noted r call
+among_noted : (rings : List Standing) (command : Command) (x : Option Standing) → IsNoted (turn_among rings command x)
+among_noted rings command None = refused_noted rings refusal.NoRing
+among_noted rings command (Some r) = turn_noted r command
 
-line_noted : (rings : List Standing) (line : List ℕ) → IsNoted (line_turn rings line)
-unfolding line_turn
-line_noted rings line = go (ltb line_limit (length line)) (whole_at call_at line)
-  where
-    go : (b : Bool) (x : Result (Option Call) Fault) → IsNoted (cond b (refused rings refusal.Syntax) (read_turn rings x))
-    go true x = refused_noted rings refusal.Syntax
-    go false (Ok (Some call)) = among_noted rings call _
-    go false (Ok None) = refused_noted rings refusal.NoOrder
-    go false (Err f) = refused_noted rings refusal.Syntax
+heard_noted : (rings : List Standing) (x : Option Command) → IsNoted (heard_turn rings x)
+heard_noted rings (Some command) = among_noted rings command _
+heard_noted rings None = refused_noted rings refusal.OrderTooLarge
 
 of_line : (rings : List Standing) (line : List ℕ) (turn : Turn (List Standing)) → IsTurnOfLine rings line turn → IsNoted turn
-of_line rings line turn (inl e) = subst (λ (t : Turn (List Standing)). IsNoted t) (sym e) (line_noted rings line)
+of_line rings line turn (inl (inl h)) = subst (λ (t : Turn (List Standing)). IsNoted t) (sym h.2) (heard_noted rings (heard h.0))
+of_line rings line turn (inl (inr h)) = subst (λ (t : Turn (List Standing)). IsNoted t) (sym h.1) (refused_noted rings refusal.Syntax)
 of_line rings line turn (inr e) = subst (λ (t : Turn (List Standing)). IsNoted t) (sym e) (refused_noted rings refusal.OutOfMemory)
 
--- ---- an answer that is told as granted is one
+-- ---- an answer that is reported as granted is one
 
 asked_granted : (was is : Option Held) (name : List ℕ) (rings : List Standing) (asked given : Answer) (n x : ℕ) → IsGiven was is name rings asked given → given ≡ answer.Granted n x → asked ≡ answer.Granted n x
 asked_granted was is name rings answer.Saved given n x (inl h) e = absurd (no (sym h.0 ∙ e))
@@ -113,7 +108,7 @@ granted_of (answer.Block a b) later e = let h : ◌≡◌ {A = ℕ} 98 103 = e i
 granted_of answer.Saved later e = let h : ◌≡◌ {A = ℕ} 115 103 = e in absurd (omega arith)
 granted_of (answer.Refused why) later e = let h : ◌≡◌ {A = ℕ} 114 103 = e in absurd (omega arith)
 
--- ---- where the first line's answer is told as granted, the journal gets something
+-- ---- where the first line's answer is reported as granted, the journal gets something
 
 first_noted : (old : List Standing) (was : Option Held) (lines : List (List ℕ)) (said noted : List ℕ) (new : List Standing) (is : Option Held) → Answers true old was lines said noted new is → head said ≡ 103 → 1 ≤ length noted
 first_noted old was [] said noted new is h e =
@@ -145,5 +140,5 @@ unnoted old new was is unread rest journal out y e some g h =
     let t = h.told in
     let said : out ≡ t.said = t.wrote in
     let many = first_noted old was t.answered.lines t.said t.noted new is t.answered.answers (subst (λ (x : List ℕ). head x ≡ 103) said (starts out y e some g)) in
-    let none = same_length journal t.noted t.journaled in
+    let none = same_length journal t.noted t.wrote_notes in
     absurd (omega arith)

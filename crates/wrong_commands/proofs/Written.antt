@@ -1,4 +1,4 @@
--- What stands behind what a writer held is one text, and a text has one value.
+-- The bytes after those that a writer held are one text, and a text has one value.
 use Rattle.std.proofs.Common.{◌≡◌, ℕ, ◌+◌, ◌<◌, List, [], ◌++◌, length, Option, Some, None, sym, ◌∙◌, ap, arith, length-append}
 use Rattle.std.specs.Prelude.{IsSome}
 use Rattle.std.proofs.lemmas.Bool.{false≢true}
@@ -23,7 +23,7 @@ one_value a b f g e = (spellings_are_apart text_reads a b [] f g (append-nil (te
 pub one_value_is_written : (o n : Option (List ℕ)) (a b : Content) → IsSome o → Fits a → Fits b → Appends o n (text a) → Appends o n (text b) → a ≡ b
 one_value_is_written o n a b known f g h k = one_value a b f g (one_text o n (text a) (text b) known h k)
 
--- what stands there is not the same with more before it
+-- the bytes there are not the same with more before them
 pub not_more : (o n : Option (List ℕ)) (more x : List ℕ) → IsSome o → 0 < length more → Appends o n x → Appends o n (more ++ x) → ⊥
 not_more o n more x known some h k =
     let long : length x ≡ length more + length x = ap length (one_text o n x (more ++ x) known h k) ∙ length-append more x in

@@ -1,4 +1,4 @@
-//! What the commands read, judge, print and save, each broken.
+//! The reading, judging, printing and saving of the commands, each broken.
 
 ghost use Rattle.std.specs.Prelude.{◌≡◌, ◌≢◌, ℕ, List, ◌<◌, ◌≤◌, ◌^◌, false, Some, IsSome, length, OnOk, IfOk, IfSome, IsErrOf};
 ghost use Rattle.std.specs.Io.KnownBytes.{Appends, Consumes};
@@ -16,7 +16,7 @@ ghost use Rattle.ring_commands.specs.Checked.{IsLegalSavedText, IsCheckRefusal};
 ghost use Rattle.ring_commands.specs.Faults.{status_of, end_status};
 ghost use Rattle.ring_commands.specs.Named.{IsHeld, IsApart};
 ghost use Rattle.ring_commands.specs.Ran.{told};
-ghost use Rattle.ring_commands.specs.Reading.{most_bytes, is_dash, IsAllOf, IsWithin, IsOver};
+ghost use Rattle.ring_commands.specs.Reading.{most_bytes, names_stream, IsAllOf, IsWithin, IsOver};
 
 use disks::Disk;
 use ring_check::{Kind, Summary};
@@ -48,7 +48,7 @@ pub fn bad_text_that_passes<W: Write>(
     }
 }
 
-/// A legal text has no bad line: one that passes is told as bad.
+/// A legal text has no bad line: one that passes is reported as bad.
 pub fn legal_text_that_is_told_as_bad<W: Write>(
     alloc: Global,
     bytes: &[u8],
@@ -98,7 +98,7 @@ pub fn sums_of_another_text<W: Write>(
     Ok(())
 }
 
-/// What is read of a file is all that its reader gives: the last byte is cut off.
+/// The bytes read of a file are all that its reader gives: the last byte is cut off.
 pub fn file_that_is_cut<R: Read>(alloc: Global, reader: &mut R, limit: u64) -> Option<Vec<u8>>
     requires known { IsSome (R.remaining reader.old) }
     ensures wrong { IfSome result
@@ -111,7 +111,7 @@ pub fn file_that_is_cut<R: Read>(alloc: Global, reader: &mut R, limit: u64) -> O
     Some(bytes)
 }
 
-/// A file is too large only with more bytes than the limit: one with just so many is refused.
+/// A file is too large only with more bytes than the limit: one with just that many is refused.
 pub fn file_at_the_limit_that_is_refused<R: Read>(
     alloc: Global,
     reader: &mut R,
@@ -125,9 +125,9 @@ pub fn file_at_the_limit_that_is_refused<R: Read>(
     read_limited(alloc, reader, limit - 1)
 }
 
-/// The dash alone stands for a standard stream: each other word does.
+/// Only the dash names a standard stream: each other word does.
 pub fn another_word_for_the_dash(word: &str) -> bool
-    ensures wrong { result ≡ is_dash word.now → ⊥ }
+    ensures wrong { result ≡ names_stream word.now → ⊥ }
 {
     !names_stream(word)
 }
@@ -183,7 +183,7 @@ pub fn whole_file_that_is_cut<R: Read>(alloc: Global, file: &str, reader: &mut R
     Some(bytes)
 }
 
-/// A file is too large only if a byte more than the limit was read: a read that failed is told as that.
+/// A file is too large only if a byte more than the limit was read: a read that failed is reported as that.
 pub fn failed_read_that_is_too_large<R: Read>(
     alloc: Global,
     reader: &mut R,
@@ -199,7 +199,7 @@ pub fn failed_read_that_is_too_large<R: Read>(
     Some(ReadFault::TooLarge)
 }
 
-/// A read failed only if no more than the limit was given until then: a file that is too large is told as that.
+/// A read failed only if no more than the limit was given until then: a file that is too large is reported as that.
 pub fn large_file_that_fails<R: Read>(
     alloc: Global,
     reader: &mut R,
@@ -229,7 +229,7 @@ pub fn output_that_is_stuck_and_ends_well<E: Write>(
     Some(finish(done, Ok(()), err))
 }
 
-/// A command is done once: a text is checked and told twice.
+/// A command is done once: a text is checked and reported twice.
 pub fn check_that_is_told_twice<W: Write>(
     alloc: Global,
     bytes: &[u8],

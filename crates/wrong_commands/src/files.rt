@@ -1,6 +1,6 @@
-//! What the commands leave in files, each broken.
+//! The files that the commands leave, each broken.
 
-ghost use Rattle.std.specs.Prelude.{◌≡◌, ◌≢◌, ℕ, List, Option, ◌<◌, ◌≤◌, ◌^◌, false, Some, IsSome, length, OnOk};
+ghost use Rattle.std.specs.Prelude.{◌≡◌, ◌≢◌, ℕ, List, Option, ◌<◌, ◌≤◌, ◌^◌, false, None, Some, IsSome, length, OnOk};
 ghost use Rattle.std.specs.Io.KnownBytes.{Appends};
 ghost use Rattle.disks.specs.Held.{Replaces};
 ghost use Rattle.ring_settings.specs.Limits.{ring_limit};
@@ -14,8 +14,9 @@ ghost use Rattle.ring_commands.specs.Handed.{IsHanded};
 ghost use Rattle.ring_commands.specs.Named.{IsHeld, IsApart};
 ghost use Rattle.ring_commands.specs.Pictured.{IsDrawing, IsPictureApart, picture_of};
 ghost use Rattle.ring_commands.specs.Ran.{told, history_file};
-ghost use Rattle.ring_commands.specs.Reading.{is_dash};
+ghost use Rattle.ring_commands.specs.Reading.{names_stream};
 ghost use Rattle.ring_commands.specs.Saved.{IsRunAnswer};
+ghost use Rattle.ring_commands.specs.Worlds.{world};
 
 use disks::Disk;
 use ring_commands::check::{check_bytes, write_sums};
@@ -29,7 +30,7 @@ use std::alloc::Global;
 use std::io::Write;
 use text_lines::WriteFault;
 
-/// The history of a farm holds the saved text of its outcome: the report alone is written, and the file stays as it was.
+/// The history of a farm holds the saved text of its outcome: only the report is written, and the file stays as it was.
 pub fn history_that_is_not_saved<D: Disk, W: Write>(
     outcome: &Outcome,
     _disk: &mut D,
@@ -61,7 +62,7 @@ pub fn history_in_another_file<'a, D: Disk, W: Write>(
     requires most { length outcome.now.rings.items ≤ ring_limit }
     requires few { entries_in outcome.now < 2 ^ 64 }
     requires known { IsSome (D.holds disk.old) }
-    requires named { is_dash other.now ≡ false }
+    requires named { names_stream other.now ≡ false }
     requires apart { IsApart (D.holds disk.old) other.now (Some _file.now) }
     requires others { IsHeld (D.holds disk.old) _file.now (text (saved_of outcome.now)) → ⊥ }
     ensures wrong { OnOk result (Replaces (D.holds disk.old) (D.holds disk.new) _file.now
@@ -71,7 +72,7 @@ pub fn history_in_another_file<'a, D: Disk, W: Write>(
     Ok(())
 }
 
-/// What is told of a farm is its outcome: another one is saved and told, which reads otherwise.
+/// The report on a farm is of its outcome: another one is saved and reported, which reads otherwise.
 pub fn outcome_that_is_anothers<'a, D: Disk, W: Write>(
     alloc: Global,
     disk: &mut D,
@@ -93,7 +94,7 @@ pub fn outcome_that_is_anothers<'a, D: Disk, W: Write>(
     Ok(())
 }
 
-/// A quiet run tells the last line alone, and each other the whole report: it is the other way.
+/// A quiet run writes only the last line, and each other the whole report: it is the other way.
 pub fn quiet_run_that_reports<'a, D: Disk, W: Write>(
     alloc: Global,
     disk: &mut D,
@@ -126,14 +127,15 @@ pub fn history_over_the_settings<'a, D: Disk, W: Write>(
     requires few { entries_in outcome.now < 2 ^ 64 }
     requires one { IsApart (D.holds disk.old) words.now.settings.now (history_file words.now) → ⊥ }
     ensures wrong { OnOk result ((was : Option (List ℕ)) (is : Option (List ℕ))
-        → IsRunAnswer words.now (D.holds disk.old) (D.holds disk.new) was is (W.contents out.old)
-        (W.contents out.new) → ⊥) }
+        → IsRunAnswer words.now
+        (world (D.holds disk.old) was (W.contents out.old) None)
+        (world (D.holds disk.new) is (W.contents out.new) None) → ⊥) }
 {
     save_and_report(alloc, disk, outcome, words.settings, words.quiet, out)?;
     Ok(())
 }
 
-/// What is judged is what the file holds: a constant is judged in its place.
+/// The judged bytes are those of the file: a constant is judged instead.
 pub fn check_of_a_constant<D: Disk, W: Write>(
     alloc: Global,
     _disk: &D,
@@ -143,12 +145,13 @@ pub fn check_of_a_constant<D: Disk, W: Write>(
     out: &mut W,
 ) -> Result<(), ToolError<'static>>
     requires known { IsSome (D.holds _disk.now) }
-    requires named { is_dash _words.now.file.now ≡ false }
+    requires named { names_stream _words.now.file.now ≡ false }
     requires held { IsHeld (D.holds _disk.now) _words.now.file.now _held.now }
     requires bad { (sums : Summary) → IsLegalSavedText _held.now sums → ⊥ }
     ensures wrong { OnOk result ((was : Option (List ℕ)) (is : Option (List ℕ))
-        → IsCheckAnswer _words.now (D.holds _disk.now) was is (W.contents out.old)
-        (W.contents out.new) → ⊥) }
+        → IsCheckAnswer _words.now
+        (world (D.holds _disk.now) was (W.contents out.old) None)
+        (world (D.holds _disk.now) is (W.contents out.new) None) → ⊥) }
 {
     check_bytes(alloc, constant, out)?;
     Ok(())
@@ -165,7 +168,7 @@ pub fn picture_over_the_history<'a, D: Disk, W: Write, E: Write>(
     err: &mut E,
 ) -> Result<(), ToolError<'a>>
     requires drawn { (bytes : List ℕ) × IsDrawing unread.now bytes drawing.now }
-    requires named { is_dash _words.now.picture.now ≡ false }
+    requires named { names_stream _words.now.picture.now ≡ false }
     requires one { IsApart (D.holds disk.old) _words.now.file.now (Some _words.now.picture.now)
         → ⊥ }
     ensures wrong { OnOk result (IsPictureApart _words.now (D.holds disk.old) → ⊥) }
@@ -174,7 +177,7 @@ pub fn picture_over_the_history<'a, D: Disk, W: Write, E: Write>(
     Ok(())
 }
 
-/// The picture is put in the place of its file: the line of the sums alone is printed.
+/// The picture replaces its file: only the line of the sums is printed.
 pub fn picture_for_nobody<D: Disk, W: Write, E: Write>(
     _disk: &mut D,
     drawing: &Drawing,
@@ -183,12 +186,13 @@ pub fn picture_for_nobody<D: Disk, W: Write, E: Write>(
     _err: &mut E,
 ) -> Result<(), WriteFault>
     requires known { IsSome (D.holds _disk.old) }
-    requires named { is_dash _words.now.picture.now ≡ false }
+    requires named { names_stream _words.now.picture.now ≡ false }
     requires others { IsHeld (D.holds _disk.old) _words.now.picture.now
         (picture_of _words.now drawing.now) → ⊥ }
     ensures wrong { OnOk result (IsHanded _words.now.picture.now (picture_of _words.now drawing.now)
-        (legal_line drawing.now.sums) (D.holds _disk.old) (D.holds _disk.new) (W.contents out.old)
-        (W.contents out.new) (E.contents _err.old) (E.contents _err.new) → ⊥) }
+        (legal_line drawing.now.sums)
+        (world (D.holds _disk.old) None (W.contents out.old) (E.contents _err.old))
+        (world (D.holds _disk.new) None (W.contents out.new) (E.contents _err.new)) → ⊥) }
 {
     write_sums(out, &drawing.sums)?;
     Ok(())

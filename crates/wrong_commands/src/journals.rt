@@ -4,7 +4,7 @@ ghost use Rattle.std.specs.Prelude.{◌≡◌, ◌≢◌, ◌+◌, ◌<◌, List
 ghost use Rattle.ring_saved.specs.Content.{content};
 ghost use Rattle.ring_journal.specs.Recovery.{IsRightRecovery};
 
-use ring_journal::{RecoverError, recovered};
+use ring_journal::{RecoverError, recover_journal};
 use ring_saved::{Saved, SavedEvent, SavedRing};
 use std::alloc::{AllocError, Global};
 
@@ -16,7 +16,7 @@ fn take_last(ring: &mut SavedRing)
     ring.events.pop();
 }
 
-/// Puts an event behind those of a ring.
+/// Puts an event after those of a ring.
 fn put_last(ring: &mut SavedRing, event: SavedEvent) -> Result<(), AllocError>
     ensures { OnOk result (vec_len ring.new.events ≡ vec_len ring.old.events + 1) }
 {
@@ -37,7 +37,7 @@ pub fn leaves_out_the_last_line(
         version,
         mut rings,
         rings_said,
-    } = match recovered(alloc, bytes) {
+    } = match recover_journal(alloc, bytes) {
         Ok(saved) => saved,
         Err(error) => return Err(error),
     };
@@ -68,7 +68,7 @@ pub fn keeps_half_a_group(
         version,
         mut rings,
         rings_said,
-    } = match recovered(alloc, bytes) {
+    } = match recover_journal(alloc, bytes) {
         Ok(saved) => saved,
         Err(error) => return Err(error),
     };

@@ -4,7 +4,7 @@ ghost use Rattle.std.specs.Prelude.{[], true, Some, IfSome};
 ghost use Rattle.ring_serve.specs.Serving.{ServesAll};
 
 use disks::Disk;
-use ring_serve::{Served, serve};
+use ring_serve::{Journal, Served, serve};
 use std::alloc::Global;
 use std::io::{Read, sink};
 
@@ -24,15 +24,11 @@ pub fn answers_before_the_journal<D: Disk, I: Read>(
         (record { journal = Some journal.new.items; out = Some out.items }) → ⊥) }
 {
     let mut out = Vec::new(alloc);
-    match serve(
-        alloc,
-        served,
-        disk,
-        Some(name),
-        input,
-        &mut sink(),
-        &mut out,
-    ) {
+    let mut kept = Some(Journal {
+        name,
+        writer: sink(),
+    });
+    match serve(alloc, served, disk, &mut kept, input, &mut out) {
         Ok(()) => {}
         Err(_) => return None,
     }

@@ -1,4 +1,4 @@
-//! What is written of a farm, each broken: a saved text, a report or a total with one thing wrong.
+//! The texts on a farm, each broken: a saved text, a report or a total with one thing wrong.
 
 ghost use Rattle.std.specs.Prelude.{◌≡◌, ◌≢◌, ◌<◌, ◌≤◌, ◌^◌, IsSome, length, IfOk};
 ghost use Rattle.text_lines.specs.Writing.{Writes};
@@ -63,7 +63,7 @@ pub fn text_that_is_written_twice<W: Write>(
     Ok(())
 }
 
-/// What a farm hands out is written in the latest version: the same is written in the first one.
+/// The outcome of a farm is written in the latest version: the same is written in the first one.
 pub fn text_in_the_first_version<W: Write>(
     outcome: &Outcome,
     saved: &Saved,
@@ -80,7 +80,7 @@ pub fn text_in_the_first_version<W: Write>(
     Ok(())
 }
 
-/// A report has the lines of each ring: the line of the farm alone is written.
+/// A report has the lines of each ring: only the line of the farm is written.
 pub fn report_without_its_rings<W: Write>(outcome: &Outcome, out: &mut W) -> Result<(), WriteFault>
     requires some { 1 ≤ length outcome.now.rings.items }
     requires most { length outcome.now.rings.items ≤ ring_limit }

@@ -1,4 +1,4 @@
--- What spoils a group's answer.
+-- Spoiled answers of a group.
 use Rattle.std.proofs.Common.{◌≡◌, ℕ, zero, suc, ◌+◌, ◌-◌, ◌<◌, ◌≤◌, List, [], ◌∷◌, ◌++◌, length, take, ap, sym, ◌∙◌, subst, arith, length-append}
 use Rattle.ring_model.specs.History.{Works, State}
 use Rattle.ring_model.specs.Groups.{Rises, AreMembers, IsHistory, move_order, left_of, left_after}
@@ -10,7 +10,8 @@ use Rattle.ring_model.proofs.Orders.{move_order_law}
 use Rattle.ring_model.proofs.Wholes.{members_length, left_rest, whole_left}
 use Rattle.ring_book.specs.declared.books.groups.GroupReceipt.{GroupReceipt}
 use Rattle.ring_shared.specs.Client.{Client, IsUnchanged}
-use Rattle.ring_shared.specs.Groups.{receipts_from, IsGroupLogged}
+use Rattle.ring_shared.specs.Groups.{IsGroupLogged}
+use Rattle.ring_shared.specs.Seats.{receipts_from}
 use Rattle.wrong_shared_bodies.proofs.Ends.{behind}
 
 -- the members of a block are of one order
@@ -22,7 +23,7 @@ one_order seat order other (m ∷ ms) (n ∷ ns) (e ∷ es) one some a b =
     let same : Member m order (length ms) ≡ Member n other (length ns) = sym a.1 ∙ b.1 in
     cc (same)
 
--- what a seat was told of a group says its order
+-- the receipts that a seat has of a group have its order
 pub order_told : (n : ℕ) (before after : Client) (order other : ℕ) (machines : List ℕ) (r : GroupReceipt) →
     IsGroupLogged n before after order machines r → IsGroupLogged n before after other machines r → order ≡ other
 order_told n before after order other machines r a b =
@@ -67,7 +68,7 @@ log_grown n before after order machines r a same =
     let logged : 1 ≤ length (receipts_from r.first a.events) = receipts_some r.first a.events some in
     omega (arith, ap (λ (x : List Entry). length x) a.logged, length-append before.log (receipts_from r.first a.events), ap (λ (x : List Entry). length x) same.log)
 
--- a front of a block that lacks a member leaves some
+-- a prefix of a block that lacks a member leaves some
 open_front : (seat order : ℕ) (ms : List ℕ) (es : List Event) (k : ℕ) → AreMembers seat order ms es → 1 ≤ k → k ≤ length ms → left_after (take k es) + k ≡ length ms
 open_front seat order [] es k m one le = absurd (omega arith)
 open_front seat order (i ∷ ms) [] k m one le = absurd m
@@ -79,7 +80,7 @@ open_front seat order (i ∷ j ∷ ms) (e ∷ d ∷ es) (suc (suc k)) m one le =
     let ih : left_after (take (suc k) (d ∷ es)) + suc k ≡ length (j ∷ ms) = open_front seat order (j ∷ ms) (d ∷ es) (suc k) m.2 (omega arith) (omega arith) in
     omega arith
 
--- a front of what was seen, behind which stands just one member, is no history
+-- a prefix of the seen events with just one member after it is not a history
 take_part : (past events : List Event) (k : ℕ) → take (length past + k) (past ++ events) ≡ past ++ take k events
 take_part [] events k = let n : 0 + k ≡ k = omega arith in ap (λ (i : ℕ). take i events) n
 take_part (e ∷ past) events k =

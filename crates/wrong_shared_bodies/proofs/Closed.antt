@@ -1,4 +1,4 @@
--- What spoils an opened or a closed ring.
+-- Spoiled outcomes of an opened or a closed ring.
 use Rattle.std.proofs.Common.{◌≡◌, ℕ, ◌+◌, ◌<◌, ◌≤◌, List, [], ◌∷◌, ◌++◌, length, Some, slice_get, slice_index_or, refl, ap, sym, ◌∙◌, subst, arith, length-append, eqb, eq-eqb, true}
 use Rattle.std.specs.Prelude.{All}
 use Rattle.std.proofs.lemmas.List.Elements.{filter-append}
@@ -13,8 +13,8 @@ use Rattle.ring_model.specs.declared.events.Receipt.{Receipt}
 use Rattle.ring_book.specs.BookView.{BookView, IsRecorded}
 use Rattle.ring_shared.specs.Client.{Client}
 use Rattle.ring_shared.specs.Closing.{HasLog, AreNumbered}
-use Rattle.ring_shared.specs.Holding.{AreOfSeats}
-use Rattle.ring_shared.specs.declared.seats.Log.{Log}
+use Rattle.ring_shared.specs.Seats.{AreOfSeats}
+use Rattle.ring_shared.specs.Log.{Log}
 use Rattle.wrong_shared_bodies.proofs.Ends.{at_end, last_of, before_last, behind_it}
 
 -- a book that made a call is another one
@@ -70,7 +70,7 @@ unused_seat w old new seat op r n h none all =
 one_call : (seat : ℕ) (e : Event) → e.seat ≡ seat → length (calls_of seat (e ∷ [])) ≡ 1
 one_call seat e same = let t : eqb e.seat seat ≡ true = eq-eqb e.seat seat same in rw t refl
 
--- a call more than the logs tell
+-- a call more than the logs have
 pub untold : (h : List Event) (e : Event) (logs : List Log) → 1 ≤ length logs → AreNumbered logs → e.seat ≡ 0 →
     All (λ (l : Log). length (calls_of l.seat h) ≡ length (receipts_of l.entries.items)) logs →
     All (λ (l : Log). length (calls_of l.seat (h ++ e ∷ [])) ≡ length (receipts_of l.entries.items)) logs → ⊥
@@ -82,7 +82,7 @@ untold h e (l ∷ logs) some numbered seat a b =
     let split : calls_of l.seat (h ++ e ∷ []) ≡ calls_of l.seat h ++ calls_of l.seat (e ∷ []) = filter-append (λ (x : Event). eqb x.seat l.seat) h (e ∷ []) in
     omega (arith, mine, more, ap (λ (x : List Event). length x) split, length-append (calls_of l.seat h) (calls_of l.seat (e ∷ [])), one_call l.seat e (seat ∙ sym none))
 
--- where each log fits, so does what each seat was told
+-- where each log fits, so does the log of each seat
 pub told_fits : {C : Type 0} (w : Works C) (a : State C) (h : List Event) (logs : List Log) (seats : List Client) → All (HasLog logs) seats →
     All (λ (l : Log). Fits w a h l.seat l.entries.items) logs → All (λ (s : Client). Fits w a h s.number s.log) seats
 told_fits w a h logs seats have fit k d lt =
@@ -95,7 +95,7 @@ told_fits w a h logs seats have fit k d lt =
     let numbered : Fits w a h (slice_index_or seats k d).number has.0.entries.items = subst (λ (i : ℕ). Fits w a h i has.0.entries.items) has.2.0 fits in
     subst (λ (x : List Entry). Fits w a h (slice_index_or seats k d).number x) has.2.1 numbered
 
--- a book that recorded one more call of seat 0 than its logs tell
+-- a book that recorded one more call of seat 0 than its logs have
 pub told_nobody : {C : Type 0} (w : Works C) (old new : BookView C) (op : Op) (r : Receipt) (logs : List Log) → IsRecorded w old new 0 op r → 1 ≤ length logs → AreNumbered logs →
     All (λ (l : Log). length (calls_of l.seat old.history) ≡ length (receipts_of l.entries.items)) logs →
     All (λ (l : Log). length (calls_of l.seat new.history) ≡ length (receipts_of l.entries.items)) logs → ⊥

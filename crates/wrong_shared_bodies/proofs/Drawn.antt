@@ -1,4 +1,4 @@
--- What spoils a drawn plan.
+-- Spoiled drawn plans.
 use Rattle.std.proofs.Common.{◌≡◌, ℕ, zero, suc, ◌-◌, ◌%◌, ◌==◌, ◌≤◌, List, [], ◌∷◌, length, slice_index, Bool, true, false, refl, ap, sym, ◌∙◌, arith, length-append}
 use Rattle.std.specs.Prelude.{if◌then◌else◌}
 use Rattle.rand_core.specs.Stream.{Stream}
@@ -36,7 +36,7 @@ words_apart sizes ws e =
     let one : corrupts (action_of_words Worker sizes ws) ≡ true = ap corrupts e in
     cc (none, one)
 
--- a worker's actions are no injector's
+-- a worker's actions are not an injector's
 pub roles_apart : (sizes : List Size) (m : ℕ) (s : Stream) → 1 ≤ m → drawn Injector sizes m s ≡ drawn Worker sizes m s → ⊥
 roles_apart sizes zero s some e = omega arith
 roles_apart sizes (suc m) s some e =

@@ -1,4 +1,4 @@
--- What stands at the end of a list, or at a front's end.
+-- The last element of a list, or of a prefix.
 use Rattle.std.proofs.Common.{◌≡◌, ℕ, ◌+◌, List, [], ◌∷◌, ◌++◌, length, Some, slice_get, refl, ap, sym, ◌∙◌, subst, arith, append_assoc, length-append}
 
 pub at_end : {A : Type 0} (front : List A) (x : A) (back : List A) → slice_get (front ++ x ∷ back) (length front) ≡ Some x
@@ -14,12 +14,12 @@ pub before_last : {A : Type 0} (xs front : List A) (x y : A) → xs ≡ (front +
 before_last {A} xs front x y e =
     subst (λ (l : List A). slice_get l (length front) ≡ Some x) (sym (e ∙ append_assoc front (x ∷ []) (y ∷ []))) (at_end front x (y ∷ []))
 
--- and the last behind it
+-- and the last after it
 pub behind_it : {A : Type 0} (xs front : List A) (x y : A) → xs ≡ (front ++ x ∷ []) ++ y ∷ [] → slice_get xs (length front + 1) ≡ Some y
 behind_it {A} xs front x y e =
     subst (λ (i : ℕ). slice_get xs i ≡ Some y) (length-append front (x ∷ [])) (last_of xs (front ++ x ∷ []) y e)
 
--- what two equal lists have behind fronts of one length
+-- the rests of two equal lists after prefixes of one length
 pub behind : {A : Type 0} (front back xs ys : List A) → length front ≡ length back → front ++ xs ≡ back ++ ys → xs ≡ ys
 behind [] [] xs ys n e = e
 behind [] (b ∷ back) xs ys n e = absurd (omega arith)

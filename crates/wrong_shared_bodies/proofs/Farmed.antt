@@ -1,4 +1,4 @@
--- What spoils the outcome of a farm.
+-- Spoiled outcomes of a farm.
 use Rattle.std.proofs.Common.{◌≡◌, ℕ, ◌+◌, ◌-◌, ◌<◌, ◌≤◌, List, [], ◌∷◌, ◌++◌, length, Some, slice_get, refl, ap, sym, ◌∙◌, arith, length-append, eqb, eq-eqb, true}
 use Rattle.std.proofs.lemmas.List.{map-append, length-map}
 use Rattle.std.proofs.lemmas.List.Elements.{filter-append}
@@ -14,8 +14,8 @@ use Rattle.ring_model.specs.declared.events.Entry.{Entry}
 use Rattle.ring_model.specs.declared.events.Entry.TheVariants as entry
 use Rattle.ring_settings.specs.Contents.{SettingsData, RingData, plan_of, ring_at}
 use Rattle.ring_settings.specs.declared.actions.Action.TheVariants as action
-use Rattle.ring_shared.specs.declared.seats.Log.{Log}
-use Rattle.ring_farm.specs.declared.outcomes.RingOutcome.{RingOutcome}
+use Rattle.ring_shared.specs.Log.{Log}
+use Rattle.ring_farm.specs.RingOutcome.{RingOutcome}
 use Rattle.ring_farm.specs.Headline.{IsFarmRing, IsFarmOf}
 use Rattle.ring_farm.specs.declared.outcomes.Outcome.{Outcome}
 use Rattle.ring_farm.specs.Plans.{action_of_op, action_of, actions_of, calls_read, planned}
@@ -72,7 +72,7 @@ ends_alike settings i d r s front l m xs ys q v a b p o x y =
     same_last (actions_of i xs) (actions_of i ys) (action_of i (entry.Survey v)) (action_of i (entry.Receipt q)) (sym mine ∙ (alike settings i d r s front l m a b p o ∙ yours)) in
     no_survey i q.event.op (sym last)
 
--- the last two logs stand in their order
+-- the last two logs are in their order
 pub logs_in_order : (settings : SettingsData) (i : ℕ) (d : RingData) (r s : RingOutcome) (front : List Log) (l m : Log) → IsFarmRing settings i d r → IsFarmRing settings i d s →
     r.logs.items ≡ (front ++ l ∷ []) ++ m ∷ [] → s.logs.items ≡ (front ++ m ∷ []) ++ l ∷ [] → ⊥
 logs_in_order settings i d r s front l m a b p q =
@@ -101,7 +101,7 @@ ring_there settings i lt =
     let none : RingData = record { size = record { n = 0; k = 0 }; start = [] } in
     slice_get-get_or settings.rings i none lt ∙ ap Some (sym (unwrap_or-slice_get settings.rings i none))
 
--- outcomes of which the last two are exchanged are those of rings that start alike
+-- outcomes with the last two exchanged are those of rings that start alike
 pub rings_swapped : (settings : SettingsData) (o u : Outcome) (front : List RingOutcome) (r s : RingOutcome) → IsFarmOf settings o → IsFarmOf settings u →
     o.rings.items ≡ (front ++ r ∷ []) ++ s ∷ [] → u.rings.items ≡ (front ++ s ∷ []) ++ r ∷ [] →
     (ring_at settings (length settings.rings - 2)).start ≡ (ring_at settings (length settings.rings - 1)).start

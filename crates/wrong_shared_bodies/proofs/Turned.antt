@@ -1,4 +1,4 @@
--- What two accounts of one turn share, and a grant in the middle of a wait.
+-- The common facts of two accounts of one turn, and a grant in the middle of a wait.
 use Rattle.std.proofs.Common.{◌≡◌, ℕ, zero, suc, ◌<◌, ◌≤◌, true, List, [], ◌∷◌, ◌++◌, take, refl, ap, sym, ◌∙◌, subst, arith}
 use Rattle.std.specs.Prelude.{Some, slice_get}
 use mathlib.Core.List.{IsPrefix}
@@ -28,13 +28,13 @@ first_position [] = 0
 first_position (entry.Survey s ∷ es) = s.position
 first_position (entry.Receipt r ∷ es) = 0
 
--- one log tells one place at which its client asked
+-- one log has one place at which its client asked
 pub one_place : {C : Type 0} (w : Works C) (a : State C) (before after : Client) (order : ℕ) (t u : Turn) → IsTurn w a before after order t → IsTurn w a before after order u →
     t.asked_at ≡ u.asked_at
 one_place w a before after order t u one other =
     ap first_position (behind before.log before.log _ _ refl (sym one.logged ∙ other.logged))
 
--- a granted pass that stands from one place on and before another is between them
+-- a granted pass that comes from one place on and before another is between them
 granted_between : (i p q k : ℕ) (h : List Event) (e : Event) → p ≤ k → k < q → slice_get h k ≡ Some e → is_grant_of i e.op e.reply ≡ true → 1 ≤ grants_of i (between h p q)
 granted_between i p zero k h e from to at is = absurd (omega arith)
 granted_between i p (suc q) k [] e from to at is = let within : k < 0 = slice_get_within [] k e at in absurd (omega arith)
@@ -50,7 +50,7 @@ granted_between i zero (suc q) (suc k) (x ∷ h) e from to at is =
 granted_between i (suc p) (suc q) zero (x ∷ h) e from to at is = absurd (omega arith)
 granted_between i (suc p) (suc q) (suc k) (x ∷ h) e from to at is = granted_between i p q k h e (omega arith) (omega arith) at is
 
--- what stands in a list stands in each that begins with it
+-- an element of a list is in each list that begins with it
 kept : (k : ℕ) (xs rest : List Event) (e : Event) → slice_get xs k ≡ Some e → slice_get (xs ++ rest) k ≡ Some e
 kept k [] rest e at = let within : k < 0 = slice_get_within [] k e at in absurd (omega arith)
 kept zero (x ∷ xs) rest e at = at

@@ -1,7 +1,7 @@
--- What a farm promises of its last ring.
+-- The promises of a farm on its last ring.
 use Rattle.std.specs.Prelude.{◌-◌, length}
 use Rattle.ring_settings.specs.Contents.{SettingsData, ring_at}
-use Rattle.ring_farm.specs.declared.outcomes.RingOutcome.{RingOutcome}
+use Rattle.ring_farm.specs.RingOutcome.{RingOutcome}
 use Rattle.ring_farm.specs.Headline.{IsFarmRing}
 
 -- the outcome has all that is promised of the last ring of the settings

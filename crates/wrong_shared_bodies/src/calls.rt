@@ -9,7 +9,7 @@ use ring_model::{Entry, Event, Op, Receipt, Reply};
 use ring_shared::{Name, Ring, Seat};
 use std::sync::Wait;
 
-/// A receipt tells the order of the pass that was asked for: the pass is made with another one.
+/// A receipt has the order of the pass that was asked for: the pass is made with another one.
 pub fn pass_with_another_order<N: Name, R: Resource + Drop, W: Wait>(
     ring: &Ring<N, R>,
     rt: &W,
@@ -26,7 +26,7 @@ pub fn pass_with_another_order<N: Name, R: Resource + Drop, W: Wait>(
     ring.pass(rt, seat, machine, other)
 }
 
-/// A receipt tells the machine that was to pass: another machine passes.
+/// A receipt has the machine that was to pass: another machine passes.
 pub fn pass_by_another_machine<N: Name, R: Resource + Drop, W: Wait>(
     ring: &Ring<N, R>,
     rt: &W,
@@ -110,7 +110,7 @@ pub fn pass_with_an_invented_reply<N: Name, R: Resource + Drop, W: Wait>(
     })
 }
 
-/// A receipt stands where the seat sees its event: the position is another one.
+/// A receipt has the position at which the seat sees its event: the position is another one.
 pub fn pass_at_another_position<N: Name, R: Resource + Drop, W: Wait>(
     ring: &Ring<N, R>,
     rt: &W,
@@ -147,7 +147,7 @@ pub fn pass_logged_with_another_position<N: Name, R: Resource + Drop, W: Wait>(
     })
 }
 
-/// A refused call has changed nothing: one that was made is told as refused.
+/// A refused call has changed nothing: one that was made is reported as refused.
 pub fn pass_refused_after_its_event<N: Name, R: Resource + Drop, W: Wait>(
     ring: &Ring<N, R>,
     rt: &W,
@@ -164,7 +164,7 @@ pub fn pass_refused_after_its_event<N: Name, R: Resource + Drop, W: Wait>(
     Some(Err(BookError::OutOfMemory))
 }
 
-/// What a seat sees after a call begins with all that it saw: the seat is changed for one that has seen nothing.
+/// The events that a seat sees after a call begin with all that it saw: the seat is changed for one that has seen nothing.
 pub fn pass_falls_back_to_a_shorter_list<N: Name, R: Resource + Drop, W: Wait>(
     ring: &Ring<N, R>,
     rt: &W,
@@ -201,7 +201,7 @@ pub fn corrupt_with_another_value<N: Name, R: Resource + Drop, W: Wait>(
     ring.corrupt(rt, seat, machine, other)
 }
 
-/// A corruption is told as a corruption: a pass is made in its place.
+/// A corruption is reported as a corruption: a pass is made instead.
 pub fn corrupt_that_passes<N: Name, R: Resource + Drop, W: Wait>(
     ring: &Ring<N, R>,
     rt: &W,

@@ -1,4 +1,4 @@
-//! Endings of a ring, each broken: what a closed ring, or one that was not closed well, hands out, with one thing wrong.
+//! Endings of a ring, each broken: the outcome of a closed ring, or of one that was not closed well, with one thing wrong.
 
 ghost use Rattle.std.specs.Prelude.{◌≡◌, ◌≢◌, ◌<◌, ◌≤◌, ◌↔◌, ℕ, List, [], All, Some, slice_get, map, eqb, length, vec_len, IfOk, IfErr, IfSome, MatchResult};
 ghost use Rattle.std.specs.List.{IsDistinct};
@@ -7,7 +7,7 @@ ghost use Rattle.ring_model.specs.History.{opening};
 ghost use Rattle.ring_model.specs.Logs.{Fits, calls_of, receipts_of};
 ghost use Rattle.ring_book.specs.BookView.{IsBook};
 ghost use Rattle.ring_shared.specs.Closing.{HasLog, AreNumbered};
-ghost use Rattle.ring_shared.specs.Holding.{AreOfSeats};
+ghost use Rattle.ring_shared.specs.Seats.{AreOfSeats};
 
 use ring_book::Resource;
 use ring_model::Entry;
@@ -15,7 +15,7 @@ use ring_shared::{CloseFault, CloseReason, Closed, Log, Name, Ring, Seat};
 use std::alloc::Global;
 use std::sync::Wait;
 
-/// The logs of a closed ring stand by the numbers of their seats: the last two are exchanged.
+/// The logs of a closed ring are in the order of the numbers of their seats: the last two are exchanged.
 pub fn logs_in_another_order<N: Name, R: Resource + Drop, W: Wait>(
     ring: Ring<N, R>,
     rt: &W,
@@ -88,7 +88,7 @@ pub fn log_that_is_not_handed_out<N: Name, R: Resource + Drop, W: Wait>(
     Ok(closed)
 }
 
-/// A log has all that its client was told: the receipt at the end of the last one is dropped.
+/// A log has all answers to its client: the receipt at the end of the last one is dropped.
 pub fn log_without_its_last_receipt<N: Name, R: Resource + Drop, W: Wait>(
     ring: Ring<N, R>,
     rt: &W,

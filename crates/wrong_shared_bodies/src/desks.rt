@@ -1,11 +1,12 @@
 //! Calls of a ring that is called by numbers, each broken: the real one with something wrong.
 
-ghost use Rattle.std.specs.Prelude.{◌≡◌, ◌≢◌, ◌+◌, ◌≤◌, ◌↔◌, [], ◌∷◌, length, map, IsSome, IfOk, IfSome, OnErr, IsErrOf};
+ghost use Rattle.std.specs.Prelude.{◌≡◌, ◌≢◌, ◌+◌, ◌≤◌, [], ◌∷◌, length, map, IsSome, IfOk, IfSome, OnErr};
 ghost use Rattle.ring_book.specs.BookView.{IsRecorded};
 ghost use Rattle.ring_book.specs.GroupView.{IsGroupRecorded};
 ghost use Rattle.ring_check.specs.Table.{event_of};
 ghost use Rattle.ring_model.specs.declared.events.Entry.TheVariants as entry;
 ghost use Rattle.ring_model.specs.declared.events.Op.TheVariants as op;
+ghost use Rattle.ring_desk.specs.Refusals.{IsDecided, bounds_of, pass_refusal};
 ghost use Rattle.ring_desk.specs.Rings.{told_more};
 ghost use Rattle.ring_desk.specs.Texts.{surveys_told, saved_alone};
 ghost use Rattle.ring_saved.specs.Spelling.{text};
@@ -35,7 +36,7 @@ pub fn pass_for_another_seat<R: Resource + Drop>(
     ring.pass(other, machine, order)
 }
 
-/// Each seat of the ring may call: the last one is told that there is no such seat.
+/// Each seat of the ring may call: the last one gets the answer that there is no such seat.
 pub fn no_seat_for_the_last_seat<R: Resource + Drop>(
     ring: &mut OneThreadRing<R>,
     seat: u32,
@@ -44,12 +45,28 @@ pub fn no_seat_for_the_last_seat<R: Resource + Drop>(
 ) -> Result<Receipt, CallError>
     requires last { seat + 1 ≡ length ring.old.clients }
     requires few { seat ≤ 9 }
-    ensures wrong { (IsErrOf result CallError.NoSeat ↔ length ring.old.clients ≤ seat) → ⊥ }
+    ensures wrong { IsDecided (pass_refusal (bounds_of ring.old) seat machine) result → ⊥ }
 {
     ring.pass(seat + 1, machine, order)
 }
 
-/// A refused call changes nothing: one that was recorded is told as refused.
+/// A full history is reported as such: it is reported as memory that ran out.
+pub fn full_history_told_as_want_of_memory<R: Resource + Drop>(
+    ring: &mut OneThreadRing<R>,
+    seat: u32,
+    machine: u32,
+    order: u64,
+) -> Option<Result<Receipt, CallError>>
+    ensures wrong { IfSome result
+        (λ answer. IsDecided (pass_refusal (bounds_of ring.old) seat machine) answer → ⊥) }
+{
+    match ring.pass(seat, machine, order) {
+        Err(CallError::HistoryFull) => Some(Err(CallError::OutOfMemory)),
+        _ => None,
+    }
+}
+
+/// A refused call changes nothing: one that was recorded is reported as refused.
 pub fn refused_pass_that_is_recorded<R: Resource + Drop>(
     ring: &mut OneThreadRing<R>,
     seat: u32,
@@ -83,7 +100,7 @@ pub fn group_recorded_machine_by_machine<R: Resource + Drop>(
     }
 }
 
-/// A ring of a saved text goes on where it ended: its grants so far are forgotten.
+/// A ring of a saved text resumes where it ended: its grants so far are forgotten.
 pub fn saved_ring_that_begins_anew(
     alloc: Global,
     saved: &SavedRing,
@@ -95,7 +112,7 @@ pub fn saved_ring_that_begins_anew(
     OneThreadRing::open(alloc, saved.n, saved.k, &saved.start, seats, Till::new())
 }
 
-/// A ring of a saved text tells the surveys of that text: it goes on with one that has none.
+/// A ring of a saved text has the surveys of that text: it resumes from one that has none.
 pub fn saved_ring_that_forgets_the_surveys(
     alloc: Global,
     saved: &SavedRing,
@@ -109,7 +126,7 @@ pub fn saved_ring_that_forgets_the_surveys(
     from_saved(alloc, without, seats)
 }
 
-/// What is saved is the ring's own history: another one's is written, which has another text.
+/// The saved history is the ring's own: another one's is written, which has another text.
 pub fn save_of_another_rings_history<W: Write>(
     ring: &OneThreadRing<Till>,
     other: &OneThreadRing<Till>,
@@ -124,7 +141,7 @@ pub fn save_of_another_rings_history<W: Write>(
     Ok(())
 }
 
-/// A survey stands in the log of its seat: it is answered, and kept nowhere.
+/// A survey is in the log of its seat: it is answered, and kept nowhere.
 pub fn survey_that_is_not_logged<R: Resource + Drop>(
     ring: &mut OneThreadRing<R>,
     seat: u32,

@@ -1,4 +1,4 @@
-//! Farms, each broken: what a run of the settings hands out, with one thing wrong.
+//! Farms, each broken: the outcome of a run of the settings, with one thing wrong.
 
 ghost use Rattle.std.specs.Prelude.{◌≡◌, ◌≢◌, ◌≤◌, ◌-◌, true, length, vec_len, IfOk, IfSome};
 ghost use Rattle.ring_settings.specs.Contents.{ring_at, plan_of};
@@ -31,7 +31,7 @@ fn last_ring<G: Gate + Sync, W: Threads + Wait + Sync>(
     outcome.rings.pop()
 }
 
-/// The outcomes of a farm stand in the order of its rings: the last two, which start otherwise, are exchanged.
+/// The outcomes of a farm are in the order of its rings: the last two, which start otherwise, are exchanged.
 pub fn rings_in_another_order<G: Gate + Sync, W: Threads + Wait + Sync>(
     rt: &W,
     alloc: Global,
@@ -88,7 +88,7 @@ pub fn event_that_no_plan_has<G: Gate + Sync, W: Threads + Wait + Sync>(
     Some(ring)
 }
 
-/// A client makes each action of its plan once: the last entry of the last log stands there twice.
+/// A client makes each action of its plan once: the last entry of the last log is there twice.
 pub fn action_that_is_made_twice<G: Gate + Sync, W: Threads + Wait + Sync>(
     rt: &W,
     alloc: Global,
@@ -127,7 +127,7 @@ pub fn action_that_is_left_out<G: Gate + Sync, W: Threads + Wait + Sync>(
     Some(ring)
 }
 
-/// A client's actions are made in the order of its plan: a call and the survey behind it are exchanged in the last log.
+/// A client's actions are made in the order of its plan: a call and the survey after it are exchanged in the last log.
 pub fn actions_in_another_order<G: Gate + Sync, W: Threads + Wait + Sync>(
     rt: &W,
     alloc: Global,

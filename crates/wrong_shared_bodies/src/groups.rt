@@ -73,7 +73,7 @@ pub fn group_without_one_receipt<N: Name, R: Resource + Drop, W: Wait>(
     })
 }
 
-/// A group's receipt tells where its block begins: it tells another place.
+/// A group's receipt has the place where its block begins: it has another.
 pub fn group_at_another_position<N: Name, R: Resource + Drop, W: Wait>(
     ring: &Ring<N, R>,
     rt: &W,
@@ -93,7 +93,7 @@ pub fn group_at_another_position<N: Name, R: Resource + Drop, W: Wait>(
     })
 }
 
-/// What a seat sees ends inside no block: a list that lacks the last member of a group is no history.
+/// The events that a seat sees end inside no block: a list that lacks the last member of a group is not a history.
 pub fn group_that_is_shown_in_pieces<N: Name, R: Resource + Drop, W: Wait>(
     ring: &Ring<N, R>,
     rt: &W,
@@ -129,7 +129,7 @@ pub fn group_refused_as_the_whole_ring<N: Name, R: Resource + Drop, W: Wait>(
     Err(GroupError::WholeRing)
 }
 
-/// A group of all machines is refused as the whole ring: it is told that the history is full.
+/// A group of all machines is refused as the whole ring: it is refused because the history is full.
 pub fn whole_ring_refused_as_full<N: Name, R: Resource + Drop, W: Wait>(
     ring: &Ring<N, R>,
     rt: &W,
@@ -147,7 +147,7 @@ pub fn whole_ring_refused_as_full<N: Name, R: Resource + Drop, W: Wait>(
     Err(GroupError::HistoryFull)
 }
 
-/// A refused group has changed nothing: one that has passed is told as refused.
+/// A refused group has changed nothing: one that has passed is reported as refused.
 pub fn group_refused_after_its_block<N: Name, R: Resource + Drop, W: Wait>(
     ring: &Ring<N, R>,
     rt: &W,

@@ -1,5 +1,5 @@
-//! Wrong bodies of what stands above the book: each calls a real function with something wrong, or spoils its answer, and its
-//! contract says that what it did does not meet the clause which the real one promises.
+//! Wrong bodies of the crates above the book: each calls a real function with something wrong, or spoils its answer, and its
+//! contract says that the result does not meet the clause that the real one promises.
 #![tactic(auto)]
 
 pub mod calls;

@@ -1,4 +1,4 @@
-//! Critical sections, each broken: what is done under the lock of a ring, with one thing wrong.
+//! Critical sections, each broken: the work under the lock of a ring, with one thing wrong.
 
 ghost use Rattle.std.specs.Prelude.{◌≡◌, ◌≢◌, ◌<◌, ◌≤◌, length, IfOk, IfSome};
 ghost use Rattle.ring_model.specs.Groups.{Rises};
@@ -60,7 +60,7 @@ pub fn call_that_is_made_twice<N: Name, R: Resource + Drop, W: Wait>(
     locked.pass(rt, seat, machine, order)
 }
 
-/// A refused call leaves the book as it was: one that was recorded is told as refused.
+/// A refused call leaves the book as it was: one that was recorded is reported as refused.
 pub fn call_refused_after_it_was_recorded<N: Name, R: Resource + Drop, W: Wait>(
     locked: &mut Locked<N, R>,
     rt: &W,
@@ -97,7 +97,7 @@ pub fn book_records_another_value<N: Name, R: Resource + Drop, W: Wait>(
     locked.corrupt(rt, seat, machine, other)
 }
 
-/// A group is recorded behind the whole history: its receipt tells another place.
+/// A group is recorded after the whole history: its receipt has another place.
 pub fn book_records_a_group_elsewhere<N: Name, R: Resource + Drop, W: Wait>(
     locked: &mut Locked<N, R>,
     rt: &W,

@@ -10,7 +10,7 @@ use ring_model::{Entry, Survey};
 use ring_shared::{Name, Ring, Seat};
 use std::alloc::AllocError;
 
-/// A glance answers for all that its seat has seen then: it is told for the opening state.
+/// A glance answers for all that its seat has seen then: it answers for the opening state.
 pub fn glance_at_the_opening_state<N: Name, R: Resource + Drop>(
     ring: &Ring<N, R>,
     seat: &mut Seat<N>,
@@ -26,7 +26,7 @@ pub fn glance_at_the_opening_state<N: Name, R: Resource + Drop>(
     }
 }
 
-/// A glance stands at the end of what its seat has seen: it is told at another position.
+/// The place of a glance is the end of the events that its seat has seen: it has another position.
 pub fn glance_at_another_position<N: Name, R: Resource + Drop>(
     ring: &Ring<N, R>,
     seat: &mut Seat<N>,
@@ -41,7 +41,7 @@ pub fn glance_at_another_position<N: Name, R: Resource + Drop>(
     }
 }
 
-/// A glance tells the first privileged machine: machine 0 is told, or machine 1 in its place.
+/// A glance has the first privileged machine: machine 0 is returned, or machine 1 instead of it.
 pub fn glance_at_another_first_machine<N: Name, R: Resource + Drop>(
     ring: &Ring<N, R>,
     seat: &mut Seat<N>,
@@ -66,7 +66,7 @@ pub fn glance_that_is_logged<N: Name, R: Resource + Drop>(
     ring.survey(seat)
 }
 
-/// What a seat sees begins with all that it saw: the seat is changed for one that has seen nothing.
+/// The events that a seat sees begin with all that it saw: the seat is changed for one that has seen nothing.
 pub fn glance_falls_back_to_a_shorter_list<N: Name, R: Resource + Drop>(
     ring: &Ring<N, R>,
     seat: &mut Seat<N>,
@@ -95,7 +95,7 @@ pub fn glance_under_another_number<N: Name, R: Resource + Drop>(
     glance
 }
 
-/// A survey tells the rest: rest 0 is told, or rest 1 in its place.
+/// A survey has the rest: rest 0 is returned, or rest 1 instead of it.
 pub fn survey_with_another_rest<N: Name, R: Resource + Drop>(
     ring: &Ring<N, R>,
     seat: &mut Seat<N>,

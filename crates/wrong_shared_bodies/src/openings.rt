@@ -1,4 +1,4 @@
-//! Openings of a ring, each broken: what a draft, an opened ring or a ring that was not opened hands out, with one thing wrong.
+//! Openings of a ring, each broken: the outcome of a draft, an opened ring or a ring that was not opened, with one thing wrong.
 
 ghost use Rattle.std.specs.Prelude.{◌≡◌, ◌≢◌, ◌<◌, ◌≤◌, [], map, eqb, IfOk, IfSome};
 ghost use Rattle.std.specs.List.{IsDistinct};

@@ -1,4 +1,4 @@
-//! What a seat answers of itself, each broken.
+//! The answers of a seat on itself, each broken.
 
 ghost use Rattle.std.specs.Prelude.{◌≡◌, ◌<◌, ◌≤◌, length, IsOk, IfOk, OnOk};
 ghost use Rattle.ring_shared.specs.Client.{IsUnchanged};

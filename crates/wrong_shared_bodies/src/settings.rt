@@ -15,7 +15,7 @@ use ring_settings::{Plan, Role, Settings, SettingsError, draw_plan, plans, read_
 use ring_state::Params;
 use std::alloc::{AllocError, Global};
 
-/// The plans stand in the order of the seats: the last one, which is another, stands first.
+/// The plans are in the order of the seats: the last one, which is another, comes first.
 pub fn plans_with_the_injector_first(
     alloc: Global,
     settings: &Settings,
@@ -108,7 +108,7 @@ pub fn settings_of_other_bytes(
     read_settings(alloc, other)
 }
 
-/// The first ring with a fault is told, by its place: another place is told.
+/// The first ring with a fault is reported, by its place: another place is reported.
 pub fn fault_of_another_ring(alloc: Global, bytes: &[u8]) -> Option<Result<Settings, SettingsError>>
     ensures wrong { IfSome result (λ answer.
         IfErr answer (λ e. (e ≢ SettingsError.OutOfMemory → settings_of bytes.now ≡ Err e) → ⊥)) }
@@ -122,7 +122,7 @@ pub fn fault_of_another_ring(alloc: Global, bytes: &[u8]) -> Option<Result<Setti
     }
 }
 
-/// The first entry of a script that is no action is told: another place is told.
+/// The first entry of a script that is not an action is reported: another place is reported.
 pub fn fault_of_another_entry(
     alloc: Global,
     bytes: &[u8],
@@ -139,7 +139,7 @@ pub fn fault_of_another_entry(
     }
 }
 
-/// Settings are refused only where something is wrong with them: others are told to be no JSON.
+/// Settings are refused only where something is wrong with them: others are refused as not JSON.
 pub fn settings_that_are_refused(
     alloc: Global,
     bytes: &[u8],
@@ -174,7 +174,7 @@ pub fn action_limit_one_too_far() -> u32
     ACTION_LIMIT + 1
 }
 
-/// A ring starts as the settings say of it: the start of another ring is told, which is another.
+/// A ring starts as the settings say of it: the start of another ring is returned, which is another.
 pub fn start_of_another_ring(settings: &Settings, ring: usize, other: usize) -> &[u32]
     requires other { other < length settings.now.rings }
     requires apart { (ring_at settings.now other).start ≢ (ring_at settings.now ring).start }

@@ -53,7 +53,7 @@ pub fn turn_that_was_not_granted<N: Name, R: Resource + Drop, W: Wait>(
     })
 }
 
-/// The place that is told is the one where the client asked: another one is told.
+/// The place that is returned is the one where the client asked: another one is returned.
 pub fn turn_from_another_place<N: Name, R: Resource + Drop, W: Wait>(
     turns: &Turns<N, R>,
     rt: &W,
@@ -71,7 +71,7 @@ pub fn turn_from_another_place<N: Name, R: Resource + Drop, W: Wait>(
     })
 }
 
-/// While a client waits its machine is granted nothing: it is told that it waited since an earlier turn of its own.
+/// While a client waits its machine is granted nothing: it gets the answer that it waited since an earlier turn of its own.
 pub fn wait_in_which_its_machine_was_granted<N: Name, R: Resource + Drop, W: Wait>(
     turns: &Turns<N, R>,
     rt: &W,

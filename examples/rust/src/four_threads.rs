@@ -9,7 +9,7 @@ const VALUES: u32 = 6;
 const THREADS: u32 = 4;
 const CALLS: u32 = 50_000;
 
-/// What one client does; how many of its calls were granted.
+/// The work of one client; returns how many of its calls were granted.
 fn serve(ring: &Mutex<Ring>, seat: u32) -> Result<u64, Refusal> {
     let mut granted = 0;
     for turn in 0..CALLS {

@@ -1,6 +1,6 @@
 //! Token rings that are proved, and the separate checker of their histories, as a safe crate over the C library.
 //!
-//! `include/wozgirt.h` tells what each call answers. A [`Ring`] is `Send`, and each call takes it by `&mut`, so threads
+//! `include/wozgirt.h` says what each call returns. A [`Ring`] is `Send`, and each call takes it by `&mut`, so threads
 //! share one as `Mutex<Ring>`.
 
 use std::ffi::c_void;
@@ -124,7 +124,7 @@ impl fmt::Display for NotLegal {
 
 impl std::error::Error for NotLegal {}
 
-/// What a call was answered: its place in the history, the grant's number, which is a fencing token, and the resource's
+/// The answer to a call: its place in the history, the grant's number, which is a fencing token, and the resource's
 /// answer, or the value that a fault wrote over.
 #[repr(C)]
 #[derive(Clone, Copy, Debug, Default, PartialEq, Eq)]
@@ -134,7 +134,7 @@ pub struct Answer {
     pub result: u64,
 }
 
-/// What a group was answered: the place of its first member, and how many it has.
+/// The answer to a group: the place of its first member, and how many it has.
 #[repr(C)]
 #[derive(Clone, Copy, Debug, Default, PartialEq, Eq)]
 pub struct Group {
@@ -143,7 +143,7 @@ pub struct Group {
     machine: u32,
 }
 
-/// What is to be seen of a ring.
+/// A survey of a ring.
 #[repr(C)]
 #[derive(Clone, Copy, Debug, Default, PartialEq, Eq)]
 pub struct Sight {
@@ -171,7 +171,7 @@ pub struct Ring {
     raw: raw::Ring,
 }
 
-// The library keeps nothing of a thread: what the pointer leads to is the ring's alone.
+// The library keeps nothing of a thread: the memory behind the pointer is only the ring's.
 unsafe impl Send for Ring {}
 
 fn told(code: u32) -> Result<(), Refusal> {
@@ -187,14 +187,14 @@ impl Ring {
         raw::Ring { at: std::ptr::null_mut::<c_void>() }
     }
 
-    /// Opens a ring of n machines and K values that starts so, with so many seats.
+    /// Opens a ring of n machines and K values that starts so, with `seats` seats.
     pub fn open(n: u32, k: u32, start: &[u32], seats: u32) -> Result<Ring, Refusal> {
         let mut raw = Ring::none();
         told(unsafe { raw::wozgirt_open(&mut raw, n, k, start.as_ptr(), start.len(), seats) })?;
         Ok(Ring { raw })
     }
 
-    /// Opens a ring that goes on where the one at this place of a saved text ended.
+    /// Opens a ring that resumes the one at this place of a saved text.
     pub fn from_saved(text: &[u8], place: u32, seats: u32) -> Result<Ring, Refusal> {
         let mut raw = Ring::none();
         told(unsafe { raw::wozgirt_open_saved(&mut raw, text.as_ptr(), text.len(), place, seats) })?;
@@ -221,14 +221,14 @@ impl Ring {
         }
     }
 
-    /// Writes a value into a machine, and answers what stood there.
+    /// Writes a value into a machine, and returns the old one.
     pub fn corrupt(&mut self, seat: u32, machine: u32, value: u32) -> Result<u64, Refusal> {
         let mut answer = Answer::default();
         told(unsafe { raw::wozgirt_corrupt(&mut self.raw, seat, machine, value, &mut answer) })?;
         Ok(answer.result)
     }
 
-    /// What is to be seen of the ring, which the seat's log keeps.
+    /// The survey of the ring, which the seat's log keeps.
     pub fn survey(&mut self, seat: u32) -> Result<Sight, Refusal> {
         let mut sight = Sight::default();
         told(unsafe { raw::wozgirt_survey(&mut self.raw, seat, &mut sight) })?;

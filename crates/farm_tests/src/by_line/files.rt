@@ -2,11 +2,11 @@
 
 use super::served;
 use disks::Disk;
-use ring_serve::serve;
+use ring_serve::{Journal, serve};
 use std::alloc::Global;
 use std::io::{self, Cursor, ErrorKind, sink};
 
-/// Files of which none can be finished.
+/// Files that can never be finished.
 #[derive(Drop)]
 pub(super) struct Stuck {
     pub(super) alloc: Global,
@@ -39,7 +39,7 @@ impl Disk for Stuck {
         Err(io::Error::from(ErrorKind::PermissionDenied))
     }
 
-    fn settle(&mut self, _grown: Vec<u8>, _name: &str) -> io::Result<()> {
+    fn close_synced(&mut self, _grown: Vec<u8>, _name: &str) -> io::Result<()> {
         Err(io::Error::from(ErrorKind::PermissionDenied))
     }
 }
@@ -51,13 +51,16 @@ fn a_file_that_cannot_be_finished_is_a_refusal(rt: HostRuntime) {
     let mut disk = Stuck { alloc };
     let mut input: &[u8] = b"pass 0 0 0 5\nsave x\npass 0 0 2 4\n";
     let mut out = Vec::new(alloc);
+    let mut journal = Some(Journal {
+        name: "j",
+        writer: sink(),
+    });
     let ended = serve(
         alloc,
         &mut served,
         &mut disk,
-        Some("j"),
+        &mut journal,
         &mut input,
-        &mut sink(),
         &mut out,
     );
     assert!(&rt; ended == Ok(()));

@@ -1,25 +1,39 @@
-//! What a journal has of the lines that were answered if it, the output or the input fails.
+//! The part of the answered lines that a journal has if it, the output or the input fails.
 
 use super::files::Stuck;
 use super::served;
 use super::streams::{Drops, Late, Narrow};
-use ring_serve::{ServeFault, serve};
+use ring_serve::{Journal, ServeFault, serve};
 use std::alloc::Global;
+use std::process::Abort;
 
 /// A grant, a glance that is not recorded, and a wait.
 const SHORT: &[u8] = b"pass 0 0 0 5\nglance 0\npass 0 0 0 1\n";
 
-/// What they are answered: the first two, and all.
+/// Their answers: the first two, and all.
 const SHORT_ANSWERS: &[u8] = b"granted 1 5\nsurvey 1 2 1 1 3\nwaits\n";
 
 const TWO_ANSWERS: &[u8] = b"granted 1 5\nsurvey 1 2 1 1 3\n";
 
-/// What the journal gets of them: 16 bytes of the grant, and 12 of the wait.
+/// The part of them that the journal gets: 16 bytes of the grant, and 12 of the wait.
 const SHORT_NOTES: &[u8] = b"0 p 0 0 5 g 1 5\n0 p 0 0 1 n\n";
 
 const FIRST_NOTE: usize = 16;
 
-/// A writer with room for so many bytes.
+/// A journal with this writer.
+fn kept<J>(writer: J) -> Option<Journal<'static, J>> {
+    Some(Journal { name: "j", writer })
+}
+
+/// The journal's writer.
+fn writer_of<J>(rt: &impl Abort, journal: Option<Journal<'static, J>>) -> J {
+    let Some(Journal { writer, .. }) = journal else {
+        panic!(rt; "a journal that is kept stays");
+    };
+    writer
+}
+
+/// A writer with room for n bytes.
 fn narrow(alloc: Global, room: usize) -> Narrow {
     Narrow {
         held: Vec::new(alloc),
@@ -45,18 +59,18 @@ fn no_answer_leaves_before_its_call_is_in_the_journal(rt: HostRuntime) {
             left: SHORT,
             fails: false,
         };
-        let mut journal = narrow(alloc, room);
+        let mut journal = kept(narrow(alloc, room));
         let mut out = Vec::new(alloc);
         let ended = serve(
             alloc,
             &mut served,
             &mut disk,
-            Some("j"),
-            &mut input,
             &mut journal,
+            &mut input,
             &mut out,
         );
         assert!(rt; ended == Err(ServeFault::Journal));
+        let journal = writer_of(&rt, journal);
         assert!(rt; journal.held.as_slice() == &SHORT_NOTES[..room]);
         let told: &[u8] = if room < FIRST_NOTE { b"" } else { TWO_ANSWERS };
         assert!(rt; out.as_slice() == told);
@@ -70,18 +84,18 @@ fn an_output_that_fails_leaves_the_journal_whole(rt: HostRuntime) {
         let mut served = served(&rt, alloc);
         let mut disk = Stuck { alloc };
         let mut input = SHORT;
-        let mut journal = Vec::new(alloc);
+        let mut journal = kept(Vec::new(alloc));
         let mut out = narrow(alloc, room);
         let ended = serve(
             alloc,
             &mut served,
             &mut disk,
-            Some("j"),
-            &mut input,
             &mut journal,
+            &mut input,
             &mut out,
         );
         assert!(rt; ended == Err(ServeFault::Write));
+        let journal = writer_of(&rt, journal);
         assert!(rt; out.held.as_slice() == &SHORT_ANSWERS[..room]);
         assert!(rt; journal.as_slice() == SHORT_NOTES);
     }
@@ -93,18 +107,18 @@ fn the_journal_is_flushed_before_an_answer_leaves(rt: HostRuntime) {
     let mut served = served(&rt, alloc);
     let mut disk = Stuck { alloc };
     let mut input = SHORT;
-    let mut journal = late(alloc);
+    let mut journal = kept(late(alloc));
     let mut out = narrow(alloc, 0);
     let ended = serve(
         alloc,
         &mut served,
         &mut disk,
-        Some("j"),
-        &mut input,
         &mut journal,
+        &mut input,
         &mut out,
     );
     assert!(rt; ended == Err(ServeFault::Write));
+    let journal = writer_of(&rt, journal);
     assert!(rt; journal.held.as_slice() == SHORT_NOTES);
     assert!(rt; journal.waits.is_empty());
 }
@@ -118,18 +132,18 @@ fn what_was_answered_leaves_before_more_is_read(rt: HostRuntime) {
         left: SHORT,
         fails: true,
     };
-    let mut journal = late(alloc);
+    let mut journal = kept(late(alloc));
     let mut out = late(alloc);
     let ended = serve(
         alloc,
         &mut served,
         &mut disk,
-        Some("j"),
-        &mut input,
         &mut journal,
+        &mut input,
         &mut out,
     );
     assert!(rt; ended == Err(ServeFault::Read));
+    let journal = writer_of(&rt, journal);
     assert!(rt; journal.held.as_slice() == SHORT_NOTES);
     assert!(rt; out.held.as_slice() == SHORT_ANSWERS);
 }

@@ -19,7 +19,7 @@ impl Read for Drops<'_> {
     }
 }
 
-/// Takes so many bytes, and fails at the next.
+/// Takes this many bytes, and fails at the next.
 #[derive(Drop)]
 pub(super) struct Narrow {
     pub(super) held: Vec<u8>,

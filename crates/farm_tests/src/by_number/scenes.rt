@@ -31,7 +31,7 @@ fn saves(rt: &impl Abort, alloc: Global, ring: &OneThreadRing<Till>, text: &[u8]
     assert!(rt; out.as_slice() == text);
 }
 
-/// What the ring hands out when it is closed.
+/// The outcome of the ring when it is closed.
 fn closed(rt: &impl Abort, alloc: Global, ring: OneThreadRing<Till>) -> RingOutcome {
     match ring.close(alloc) {
         Ok(run) => run,
@@ -39,7 +39,7 @@ fn closed(rt: &impl Abort, alloc: Global, ring: OneThreadRing<Till>) -> RingOutc
     }
 }
 
-/// What the client of a seat was told.
+/// The log of the client of a seat.
 fn log_of(rt: &impl Abort, alloc: Global, ring: &OneThreadRing<Till>, seat: u32) -> Vec<Entry> {
     match ring.log(alloc, seat) {
         Ok(log) => log,
@@ -47,7 +47,7 @@ fn log_of(rt: &impl Abort, alloc: Global, ring: &OneThreadRing<Till>, seat: u32)
     }
 }
 
-/// A ring that goes on where the first of this text ended.
+/// A ring that resumes where the first of this text ended.
 fn gone_on(rt: &impl Abort, alloc: Global, text: &[u8], seats: u32) -> OneThreadRing<Till> {
     let Ok(saved) = read_saved(alloc, text) else {
         panic!(rt; "the text is read");

@@ -12,7 +12,7 @@ const INTERLEAVED: &str =
 /// One call by each of ten workers, as a tally has it.
 const ONE_EACH: u64 = 18_300_341_342_965_825;
 
-/// What a tally counted: the calls on each of two rings, and those with a wrong number.
+/// The counts of a tally: the calls on each of two rings, and those with a wrong number.
 fn counts(gate: &Tally) -> (u64, u64, u64) {
     (
         gate.first.load(Ordering::SeqCst),
@@ -26,7 +26,7 @@ fn at(ring: u32, worker: u32, call: u32) -> Option<Arrival> {
     Some(Arrival { ring, worker, call })
 }
 
-// Worker w's calls stand in a word's six bits from 6w on: 64 for each call of worker 1.
+// Worker w's calls are in a word's six bits from 6w on: 64 for each call of worker 1.
 #[test]
 fn each_call_has_its_ring_its_worker_and_its_number(rt: HostRuntime) {
     let alloc = rt.alloc();
@@ -39,7 +39,7 @@ fn each_call_has_its_ring_its_worker_and_its_number(rt: HostRuntime) {
         (IDLE, None, ONE_EACH, 0, None),
         (IDLE, at(0, 9, 0), ONE_EACH, 0, shut),
         (INTERLEAVED, None, 3 + 5 * 64, 4 + 3 * 64, None),
-        // A worker that is shut out stops there alone: not on the other ring, and no other worker.
+        // A worker that is shut out stops only there: not on the other ring, and no other worker.
         (INTERLEAVED, at(1, 0, 1), 3 + 5 * 64, 2 + 3 * 64, shut),
         (INTERLEAVED, at(0, 1, 4), 3 + 5 * 64, 4 + 3 * 64, shut),
         (CROSSING, at(0, 0, 0), 1 + 2 * 64, 0, shut),

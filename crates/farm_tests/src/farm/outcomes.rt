@@ -1,4 +1,4 @@
-//! What a farm hands out.
+//! The outcomes of a farm.
 
 use super::gates::{Crossed, waiting};
 use super::{CROSSING, SCRIPTED, array_of, outcome, ran, settings_of};
@@ -88,7 +88,7 @@ fn arrivals_wait_for_each_other(rt: HostRuntime) {
     assert_eq!(rt; outcome.rings[0].book.history(), events.as_slice());
 }
 
-/// A farm of one ring makes so many events.
+/// A farm of one ring makes this many events.
 fn makes<W: Threads + Wait + Abort + Sync>(rt: &W, alloc: Global, text: &str, events: usize) {
     let outcome = outcome(rt, ran(rt, alloc, text, &Open), 1);
     assert_eq!(rt; outcome.rings[0].book.history().len(), events);
@@ -148,7 +148,7 @@ fn count(log: &[Entry]) -> (u64, u64) {
     (calls, surveys)
 }
 
-/// What a seat did on all rings: its calls and its surveys by its logs, and its calls by the books.
+/// The work of a seat on all rings: its calls and its surveys by its logs, and its calls by the books.
 fn made_by(rt: &impl Abort, outcome: &Outcome, seat: u32) -> (u64, u64, u64) {
     assert!(rt; seat <= 9);
     let mut made = (0u64, 0u64, 0u64);

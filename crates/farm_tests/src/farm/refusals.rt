@@ -67,7 +67,7 @@ fn each_ring_has_its_own_refusal(rt: HostRuntime) {
 }
 
 // Says more where any one request for memory is refused, as `bench/refused_memory.sh` has it: then one of two threads may
-// not have been started, and that is told in the place of what the other's seat met.
+// not have been started, and that is reported instead of the refusal that the other's seat met.
 #[test]
 fn want_of_memory_for_a_thread_is_told_before_a_seats_refusal(rt: HostRuntime) {
     let alloc = rt.alloc();

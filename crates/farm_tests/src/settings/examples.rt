@@ -1,4 +1,4 @@
-//! The settings files of the repository's `examples`, byte for byte, and what they hold.
+//! The settings files of the repository's `examples`, byte for byte, and their content.
 
 use super::{is_plan, settings_of};
 use ring_settings::{Action, plans};
@@ -40,7 +40,7 @@ const FAULTS: &str = r#"{
 }
 "#;
 
-/// `examples/script.json`: a worker and an injector that do as they are told.
+/// `examples/script.json`: a worker and an injector that follow their scripts.
 const SCRIPT: &str = r#"{
   "rings": [
     { "n": 3, "k": 3, "start": [0, 2, 0] }

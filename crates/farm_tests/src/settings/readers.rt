@@ -1,4 +1,4 @@
-//! What settings hold once they are read.
+//! The content of settings once they are read.
 
 use super::{SCRIPTED, has_first_ring, is_plan, settings_of};
 use ring_settings::{Action, Role, SeatSetting, plans};

@@ -1,4 +1,5 @@
-//! Refusals in words, and want of memory. What is refused, and which fault is told first, is in the script of `command_script`.
+//! Refusals in words, and out of memory. The refused settings, and which fault is reported first, are in the script of
+//! `command_script`.
 
 use super::SCRIPTED;
 use ring_settings::{Field, RingCause, SettingsError, plans, read_settings};
@@ -84,7 +85,7 @@ fn refusals_are_told_in_words(rt: HostRuntime) -> Result<(), Fail> {
     Ok(())
 }
 
-/// Where a request for memory is refused, by `rt try --test --fail-alloc`, nothing but want of memory is told.
+/// Where a request for memory is refused, by `rt try --test --fail-alloc`, nothing but out of memory is reported.
 #[test]
 fn want_of_memory_is_told_as_such(rt: HostRuntime) {
     let alloc = rt.alloc();

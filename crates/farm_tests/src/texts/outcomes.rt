@@ -1,4 +1,4 @@
-//! What a farm handed out, or books and logs made by hand, as texts and reports; and values written again.
+//! The outcome of a farm, or books and logs made by hand, as texts and reports; and values written again.
 
 use super::scenes::{Act, Scene, book_of, outcome_of};
 use super::worked::{
@@ -83,7 +83,7 @@ const SETTLED_AGAIN: Scene<'static> = Scene {
         (1, Act::Pass(2, 1)), // 1, 1, 1
         (1, Act::Corrupt(1, 2)), // 1, 2, 1: all privileged
         (1, Act::Survey),
-        (0, Act::Pass(2, 7)), // 1, 2, 2: machine 1 alone is privileged
+        (0, Act::Pass(2, 7)), // 1, 2, 2: only machine 1 is privileged
         (1, Act::Pass(1, 0)), // 1, 1, 2
         (0, Act::Pass(1, 0)), // not privileged
         (1, Act::Pass(2, 0)), // 1, 1, 1
@@ -125,7 +125,7 @@ fn outcomes_are_written(rt: HostRuntime) -> Result<(), Fail> {
     for (scenes, text) in written {
         let outcome = outcome_of(&rt, alloc, scenes)?;
         is_written(&rt, alloc, What::Outcome(&outcome), text);
-        // What was written reads back.
+        // The written text reads back.
         is_whole(&rt, alloc, What::Value(text), text);
     }
     Ok(())

@@ -4,7 +4,7 @@ use super::worked::{GROUP, LATER_PASSES, LATER_TWO_RINGS, PASSES, TWO_CLIENTS, T
 use ring_saved::{ReadError, Saved, SavedEvent, SavedRing, SavedSurvey, read_saved};
 use std::process::Abort;
 
-/// What is read of a ring.
+/// The part that is read of a ring.
 #[derive(Clone, Copy)]
 struct Block<'a> {
     /// The ring's place, its number of machines and its number of values.

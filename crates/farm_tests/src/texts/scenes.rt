@@ -7,7 +7,7 @@ use std::alloc::Global;
 use std::process::Abort;
 use std::test::Fail;
 
-/// What a client does.
+/// The act of a client.
 #[derive(Clone, Copy)]
 pub(super) enum Act {
     /// It passes at a machine, with an order.
@@ -45,7 +45,7 @@ pub(super) fn book_of(
     }
 }
 
-/// What the client of a seat finds in its log when the act is done.
+/// The entry in the log of the client of a seat when the act is done.
 fn done(
     rt: &impl Abort,
     book: &mut Book<Till>,
@@ -72,7 +72,7 @@ fn done(
     }
 }
 
-/// What is handed out of the ring at the end of the scene.
+/// The outcome of the ring at the end of the scene.
 fn played(rt: &impl Abort, alloc: Global, scene: Scene) -> Result<RingOutcome, Fail> {
     let mut book = book_of(rt, alloc, scene.k, scene.start)?;
     let mut first = Vec::new(alloc);
@@ -98,7 +98,7 @@ fn played(rt: &impl Abort, alloc: Global, scene: Scene) -> Result<RingOutcome, F
     Ok(RingOutcome { book, logs })
 }
 
-/// What is handed out of the rings of these scenes.
+/// The outcome of the rings of these scenes.
 pub(super) fn outcome_of(
     rt: &impl Abort,
     alloc: Global,

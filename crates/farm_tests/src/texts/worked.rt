@@ -21,7 +21,7 @@ pub(super) const LATER_TWO_RINGS: &[u8] =
 pub(super) const GROUP: &[u8] =
     b"ringfarm 2\nring 0 4 4\nstart 0 2 1 0\nm 0 1 2 2 1 2\nm 0 0 2 1 2 4\nm 0 3 2 0 3 6\nend 3\ns 0 3 3 0 3 9\ndone 1\n";
 
-/// The passes and the two rings in both versions, and the group, which the second version alone has.
+/// The passes and the two rings in both versions, and the group, which only the second version has.
 pub(super) const TEXTS: [&[u8]; 5] = [PASSES, TWO_RINGS, LATER_PASSES, LATER_TWO_RINGS, GROUP];
 
 /// Two rings of two clients: in the first client 1 comes first, and in the second client 0 looks
@@ -49,7 +49,7 @@ pub(super) const CORRUPTED_REPORT: &[u8] =
 pub(super) const WIDE_REPORT: &[u8] =
     b"ring 0 n 2 k 256 events 0 granted 0 refused 0 corrupted 0 surveys 0\nstates 255,10\nprivileged 1 first 1 calm 0 rest 0 bound 3\ngrants 0,0 settled 0,0\ntotal rings 1 events 0 granted 0 surveys 0\n";
 
-/// The report on a ring of which three machines passed at once, each of them granted.
+/// The report on a ring whose three machines passed at once, each of them granted.
 pub(super) const GROUP_REPORT: &[u8] =
     b"ring 0 n 4 k 4 events 3 granted 3 refused 0 corrupted 0 surveys 1\nstates 1,0,1,1\nprivileged 3 first 0 calm 3 rest 9 bound 18\ngrants 1,1,0,1 settled 0,0,0,0\ntotal rings 1 events 3 granted 3 surveys 1\n";
 

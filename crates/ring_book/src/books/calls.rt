@@ -10,8 +10,7 @@ ghost use Rattle.ring_book.specs.Repairs.{IsRepairedBy};
 use crate::books::Book;
 use crate::events::BookError;
 use crate::resources::Resource;
-use ring_model::{Event, Op, Receipt, Reply};
-use ring_settle::is_settled;
+use ring_model::{Op, Receipt};
 
 impl<R: Resource + Drop> Book<R> {
     /// A pass by `machine`, which is below n: if it is privileged it does the resource's work on `order` and
@@ -37,17 +36,7 @@ impl<R: Resource + Drop> Book<R> {
         ensures room { OnOk result (self.old.room ≤ self.new.room + 1) }
     {
         self.parts.events.reserve(1)?; // before the work
-        if self.parts.ring.is_privileged(machine) {
-            return Ok(self.parts.grant(seat, machine, order, None));
-        }
-        self.parts.tally.add_call(seat);
-        let event = Event {
-            seat,
-            op: Op::Pass { machine, order },
-            reply: Reply::NotPrivileged,
-        };
-        let position = self.parts.events.push(event);
-        Ok(Receipt { position, event })
+        Ok(self.parts.pass(seat, machine, order))
     }
 
     /// A fault: `value`, which is below K, is written into `machine`, which is below n. It is recorded as a
@@ -73,22 +62,11 @@ impl<R: Resource + Drop> Book<R> {
         ensures room { OnOk result (self.old.room ≤ self.new.room + 1) }
     {
         self.parts.events.reserve(1)?; // before the write
-        let old = self.parts.ring.write(machine, value);
-        self.parts
-            .tally
-            .add_corruption(is_settled(&self.parts.ring));
-        self.parts.tally.add_call(seat); // a corruption is a call too
-        let event = Event {
-            seat,
-            op: Op::Corrupt { machine, value },
-            reply: Reply::Corrupted { old },
-        };
-        let position = self.parts.events.push(event);
-        Ok(Receipt { position, event })
+        Ok(self.parts.corrupt(seat, machine, value))
     }
 
     /// Takes memory for `more` events, so that as many passes, corruptions and members of groups take none and are
-    /// not refused for want of room.
+    /// not refused for lack of room.
     ///
     /// # Errors
     ///

@@ -14,7 +14,7 @@ use crate::resources::Resource;
 use ring_state::RingState;
 use thiserror::Error;
 
-/// Where the block of a group stands in the history: its first position, and how many members it has.
+/// The place of the block of a group in the history: its first position, and how many members it has.
 #[derive(Clone, Copy, Debug, PartialEq, Eq)]
 pub struct GroupReceipt {
     pub first: u64,
@@ -39,8 +39,8 @@ impl<R: Resource + Drop> Book<R> {
     /// does the resource's work on `order`, and all move. Each is recorded as a member, a call of `seat`,
     /// which is below `SEAT_LIMIT`, in an order in which each of them could also have passed by itself.
     ///
-    /// With room for as many events as machines the call takes no memory, and is not refused for want of
-    /// memory or of places.
+    /// With room for as many events as machines the call takes no memory, and is never refused because
+    /// memory or places run out.
     ///
     /// # Errors
     ///

@@ -13,7 +13,7 @@ use crate::books::Book;
 use crate::grants::GrantBook;
 use crate::resources::Resource;
 use ring_model::{Event, Survey};
-use ring_settle::rest_of_counted;
+use ring_settle::survey_here;
 use ring_state::RingState;
 
 // No reader takes memory.
@@ -52,7 +52,7 @@ impl<R: Resource + Drop> Book<R> {
         self.parts.events.as_slice()
     }
 
-    /// What a reader learns of the ring behind all events.
+    /// The survey of the ring after all events.
     pub fn survey(&self) -> Survey
         ensures is { result
             ≡ survey_at R.works (opening self.now.start R.first) self.now.history
@@ -63,14 +63,8 @@ impl<R: Resource + Drop> Book<R> {
         ensures calm { bound (length self.now.start.values) ≤ result.calm
             → (result.privileged ≡ 1) × (result.rest ≡ 0) }
     {
-        let privileged = self.parts.ring.privileged();
-        Survey {
-            position: self.parts.events.as_slice().len() as u64,
-            privileged,
-            first: self.parts.ring.first(),
-            calm: self.parts.tally.calm(),
-            rest: rest_of_counted(&self.parts.ring, privileged),
-        }
+        let position = self.parts.events.as_slice().len() as u64;
+        survey_here(&self.parts.ring, position, self.parts.tally.calm())
     }
 
     /// The calm: how many passes were granted since the last corruption, or since the start if there was none.

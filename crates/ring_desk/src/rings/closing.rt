@@ -1,15 +1,14 @@
-//! The end of a ring over a till: what can be saved.
+//! The end of a ring over a till: the run that can be saved.
 ghost use Rattle.std.specs.Prelude.{◌≡◌, length, IfOk, IfErr};
-ghost use Rattle.ring_text.specs.Written.{IsRightRun};
+ghost use Rattle.ring_blocks.specs.Runs.{IsRightRun};
 ghost use Rattle.ring_desk.specs.Clients.{told_all, AllStandInOrder};
 ghost use Rattle.ring_desk.specs.Rings.{AreLogsOf};
 
 use crate::clients::Client;
 use crate::rings::OneThreadRing;
 use ring_book::Till;
-use ring_farm::RingOutcome;
+use ring_logs::{Log, RingOutcome};
 use ring_model::Event;
-use ring_shared::Log;
 use std::alloc::{AllocError, Global};
 
 /// The logs of the clients, in their order, where this is the history.
@@ -29,11 +28,11 @@ fn logs_of(alloc: Global, history: &[Event], clients: &[Client]) -> Result<Vec<L
 }
 
 impl OneThreadRing<Till> {
-    /// Closes the ring: its book, and the log of each client. Both can be saved, and what is saved is legal.
+    /// Closes the ring: its book, and the log of each client. Both can be saved, and the saved text is legal.
     ///
     /// # Errors
     ///
-    /// Want of memory alone; the ring is handed back as it was.
+    /// Only if memory runs out; the ring is handed back as it was.
     pub fn close(self, alloc: Global) -> Result<RingOutcome, OneThreadRing<Till>>
         ensures right { IfOk result (λ o. IsRightRun o) }
         ensures book { IfOk result (λ o. o.book ≡ self.book) }

@@ -7,7 +7,7 @@ use ring_model::{Entry, Receipt};
 use std::alloc::Global;
 use std::process::Abort;
 
-/// The receipt of a call by client 0 that stands at this position, and was granted so, or was not.
+/// The receipt of a call by client 0 that is at this position, and was granted so, or was not.
 macro_rules! told {
     ($position:expr, $op:expr, $reply:expr) => {
         Entry::Receipt(Receipt {
@@ -118,7 +118,7 @@ const BLOCK_LOGS: [(&[Entry], bool); 2] = [
     (&[ONE, TWO, seen!(2, 3, 1, 2, 10), THREE], false),
 ];
 
-/// Whether this log of client 0, and that of a client that was told nothing, fit the book's history. It is asked a
+/// Whether this log of client 0, and that of a client with an empty log, fit the book's history. It is asked a
 /// second time where there was no memory.
 fn fits<R: Resource + Drop>(
     rt: &impl Abort,

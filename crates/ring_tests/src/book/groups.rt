@@ -8,7 +8,7 @@ use crate::rings::has_values;
 use ring_book::{Event, GroupError, GroupReceipt, Op, Reply, Till};
 use std::process::Abort;
 
-/// A member of seat 0's group with order 2, behind which so many more come.
+/// A member of seat 0's group with order 2, with this many more after it.
 macro_rules! member {
     ($machine:expr, $left:expr, $number:expr, $amount:expr) => {
         Event {

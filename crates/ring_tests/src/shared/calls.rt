@@ -12,7 +12,7 @@ use std::alloc::Global;
 use std::process::Abort;
 use std::sync::Wait;
 
-/// What a seat asks.
+/// The call of a seat.
 #[derive(Clone, Copy)]
 pub(super) enum Act {
     Call(Op),
@@ -21,7 +21,7 @@ pub(super) enum Act {
     Glance,
 }
 
-/// One call: the seat's number, what it asks, and what it is told.
+/// One call: the seat's number, its request, and its answer.
 #[derive(Clone, Copy)]
 pub(super) struct Call {
     seat: u32,
@@ -56,7 +56,7 @@ pub(super) fn looked(seat: u32, told: Entry) -> Call {
     }
 }
 
-/// A request for so many bytes, and one for a byte more, stand round what takes no memory: `bench/refused_memory.sh`
+/// A request for this many bytes, and one for a byte more, enclose calls that take no memory: `bench/refused_memory.sh`
 /// refuses each request from the one to the other.
 const MARK: usize = 1_234_567;
 
@@ -68,7 +68,7 @@ fn memory_is_back(alloc: Global) {
     let _ = "x".repeat(alloc, MARK + 1);
 }
 
-/// Passes or corrupts by one of the first two machines; what the seat is told, or nothing where memory was refused.
+/// Passes or corrupts by one of the first two machines; returns the seat's answer, or nothing where memory was refused.
 fn recorded<N: Name, W: Wait + Abort>(
     rt: &W,
     ring: &Ring<N, Till>,
@@ -100,7 +100,7 @@ fn recorded<N: Name, W: Wait + Abort>(
     }
 }
 
-/// Does what the seat asks; what it is told, or nothing where memory was refused.
+/// Makes the seat's call; returns its answer, or nothing where memory was refused.
 pub(super) fn told_by<N: Name, W: Wait + Abort>(
     rt: &W,
     alloc: Global,
@@ -173,7 +173,7 @@ fn called_by<N: Name, W: Wait + Abort>(
     }
 }
 
-/// Makes these calls by the two seats, and compares what they are told.
+/// Makes these calls by the two seats, and compares their answers.
 pub(super) fn play<N: Name, W: Wait + Abort>(
     rt: &W,
     alloc: Global,
@@ -195,7 +195,7 @@ pub(super) fn play<N: Name, W: Wait + Abort>(
     (first, second)
 }
 
-/// Takes room for three entries more in the seat's log, and then for one, which is there: what the log has stays.
+/// Takes room for three entries more in the seat's log, and then for one, which is there: the log's entries stay.
 pub(super) fn with_room<N: Name>(rt: &impl Abort, seat: Seat<N>, scarce: bool) -> Seat<N>
     ensures { IsUnchanged seat result }
 {
@@ -230,12 +230,12 @@ pub(super) fn glanced<N: Name, R: Resource + Drop>(
     seat
 }
 
-/// Whether a seat's log holds what it was told at this call.
+/// Whether a seat's log holds the answer to this call.
 fn is_logged(call: &Call, seat: u32) -> bool {
     call.seat == seat && !matches!(call.act, Act::Glance)
 }
 
-/// A log holds what this seat was told at its calls, and no more.
+/// A log holds the answers to this seat's calls, and no more.
 pub(super) fn is_told(rt: &impl Abort, log: &[Entry], seat: u32, calls: &[Call]) {
     let mut at = 0usize;
     for call in calls {
@@ -257,7 +257,7 @@ fn is_booked(rt: &impl Abort, alloc: Global, book: &Book<Till>, events: &[Event]
     assert_eq!(rt; Entry::Survey(survey), want);
 }
 
-/// What a ring of two seats hands out at its end.
+/// The outcome of a ring of two seats at its end.
 fn closed_well(rt: &impl Abort, closed: &Closed<Till>, calls: &[Call]) {
     assert_eq!(rt; closed.logs.len(), 2);
     assert_eq!(rt; closed.logs[0].seat, 0);
@@ -266,7 +266,7 @@ fn closed_well(rt: &impl Abort, closed: &Closed<Till>, calls: &[Call]) {
     is_told(rt, closed.logs[1].entries.as_slice(), 1, calls);
 }
 
-/// What comes back where there was no memory to close a ring whose second seat was given first.
+/// The parts that come back where there was no memory to close a ring whose second seat was given first.
 fn handed_back<N: Name>(rt: &impl Abort, fault: &CloseFault<N, Till>, calls: &[Call]) {
     assert_eq!(rt; fault.reason, CloseReason::OutOfMemory);
     assert_eq!(rt; fault.seats.len(), 2);
@@ -275,7 +275,7 @@ fn handed_back<N: Name>(rt: &impl Abort, fault: &CloseFault<N, Till>, calls: &[C
     is_told(rt, fault.seats[1].log(), 0, calls);
 }
 
-/// What is left behind all calls.
+/// The state after all calls.
 #[derive(Clone, Copy)]
 pub(super) struct End<'a> {
     pub(super) calls: &'a [Call],

@@ -114,7 +114,7 @@ fn events_in_turn() -> [Event; 6] {
     ]
 }
 
-/// What the two seats are told: the group's members, looks behind it, a pass, members, and looks.
+/// The answers of the two seats: the group's members, looks after it, a pass, members, and looks.
 fn told_in_turn(events: [Event; 6]) -> [Call; 13] {
     let behind_group = seen(3, 3, 0, 3, 9);
     let behind_both = seen(6, 2, 2, 6, 3);
@@ -175,7 +175,7 @@ const GROUPS: u32 = 2_000;
 /// How often another looks meanwhile.
 const LOOKS: usize = 4_000;
 
-/// Passes the first two machines at once, again and again: a corruption of the last machine behind each group has them be
+/// Passes the first two machines at once, again and again: a corruption of the last machine after each group makes them
 /// privileged again, whatever machine 2 does.
 fn pass_groups<N: Name, W: Wait + Abort>(rt: &W, ring: &Ring<N, Till>, seat: Seat<N>) -> Seat<N>
     requires machines { length N.start.values ≡ 4 }
@@ -197,7 +197,7 @@ fn pass_groups<N: Name, W: Wait + Abort>(rt: &W, ring: &Ring<N, Till>, seat: Sea
     seat
 }
 
-/// Passes by machine 2, and looks behind each pass; the positions of the looks.
+/// Passes by machine 2, and looks after each pass; the positions of the looks.
 fn pass_and_look<N: Name, W: Wait + Abort>(
     rt: &W,
     ring: &Ring<N, Till>,
@@ -308,7 +308,7 @@ fn pass_at_once<N: Name + Send + Sync, W: Threads + Wait + Abort + Sync>(
     }
 }
 
-/// What is done with the ring.
+/// The use of the ring.
 #[derive(Clone, Copy)]
 enum Script {
     PassInTurn { scarce: bool },

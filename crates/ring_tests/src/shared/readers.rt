@@ -20,7 +20,7 @@ const PASSES: u32 = 100_000;
 /// Where the history ends.
 const END: u64 = 200_000;
 
-/// What the seats do.
+/// The work of the seats.
 #[derive(Clone, Copy)]
 enum Part {
     /// The first two pass, and the others look until they see the end.
@@ -39,7 +39,7 @@ fn pass<N: Name, W: Wait + Abort>(rt: &W, ring: &Ring<N, Till>, seat: &mut Seat<
     }
 }
 
-/// Looks until the end is seen. What is seen never goes back.
+/// Looks until the end is seen. The seen state never goes back.
 fn look<N: Name>(rt: &impl Abort, ring: &Ring<N, Till>, seat: &mut Seat<N>)
     ensures { seat.new.number ≡ seat.old.number }
 {
@@ -55,7 +55,7 @@ fn look<N: Name>(rt: &impl Abort, ring: &Ring<N, Till>, seat: &mut Seat<N>)
     }
 }
 
-/// What one seat does on its thread.
+/// The work of one seat on its thread.
 fn serve<N: Name, W: Wait + Abort>(rt: &W, ring: &Ring<N, Till>, seat: &mut Seat<N>, part: Part)
     requires { 2 ≤ length N.start.values }
     ensures { seat.new.number ≡ seat.old.number }

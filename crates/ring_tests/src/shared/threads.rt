@@ -10,7 +10,7 @@ use std::sync::Wait;
 use std::thread;
 use std::thread::{Promise, PromisedHandle, Scope, Threads};
 
-/// What a thread promises: to hand back the seat of this number.
+/// The promise of a thread: to hand back the seat of this number.
 #[derive(Drop)]
 pub(super) struct HandsBack {
     pub(super) number: u32,

@@ -36,7 +36,7 @@ fn waits_for(word: &AtomicU64, bit: u64) -> bool {
     false
 }
 
-/// A resource whose work says that it has begun, and waits until one who looks was answered.
+/// A resource whose work says that it has begun, and waits until a reader was answered.
 #[derive(Drop)]
 struct Watched<'a> {
     word: &'a AtomicU64,

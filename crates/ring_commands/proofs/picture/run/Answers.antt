@@ -14,10 +14,10 @@ pub returns-in-Ok-clause-ok : goal.returns-in-Ok-clause-ok
 returns-in-Ok-clause-ok g c =
     let named = subst (λ t. IsNamed c.args.words.now.file.now (g.D.Disk.holds c.args.disk.now) (g.I.Read.remaining c.args.input.now) (g.I.Read.remaining c.read_named.new.input) t)
     (sym c.as_slice.ensures.value) c.in_ok-bytes.ensures.ok in
-    (_, c.in_ok-drawing.drawing, named, c.in_ok-drawing.ensures.ok, c.in-Ok.ensures.apart, c.in-Ok.ensures.ok)
+    (_, c.in_ok-drawing.drawing, named, c.in_ok-drawing.ensures.ok, c.in-Ok.ensures.apart, record { to_file = c.in-Ok.ensures.ok.to_file; to_output = c.in-Ok.ensures.ok.to_output })
 
 pub returns-clause-err : goal.returns-clause-err
 returns-clause-err g c =
     let named = subst (λ t. IsNamed c.args.words.now.file.now (g.D.Disk.holds c.args.disk.now) (g.I.Read.remaining c.args.input.now) (g.I.Read.remaining c.read_named.new.input) t)
     (sym c.as_slice.ensures.value) c.in_ok-bytes.ensures.ok in
-    inr (inr (_, named, inr (c.in_ok-drawing.drawing, c.in_ok-drawing.ensures.ok, c.in-Err.ensures.err)))
+    inr (inr (_, named, inr (c.in_ok-drawing.drawing, c.in_ok-drawing.ensures.ok, record { to_file = c.in-Err.ensures.err.to_file; to_output = c.in-Err.ensures.err.to_output })))

@@ -7,7 +7,7 @@ use Rattle.ring_commands.specs.StepText.{end_lines}
 use Rattle.ring_commands.proofs.StepLemmas.{wrote_none, wrote_piece, wrote_cut, wrote_last}
 use Rattle.ring_commands.proofs.step.write_end.Goals as goal
 
--- what stands behind the values
+-- the text after the values
 counts : List ℕ → List ℕ
 counts values = codes "\nprivileged " ++ (decimal (privileged_count values) ++ (codes " first " ++ (decimal (first_privileged values) ++ codes "\n")))
 

@@ -15,10 +15,10 @@ pub returns-in-Ok-clause-ok : goal.returns-in-Ok-clause-ok
 returns-in-Ok-clause-ok g c =
     let named = subst (λ t. IsNamed c.args.words.now.file.now (g.D.Disk.holds c.args.disk.now) (g.I.Read.remaining c.args.input.now) (g.I.Read.remaining c.read_named.new.input) t)
     (sym c.as_slice.ensures.value) c.in_ok-bytes.ensures.ok in
-    (_, content c.in_ok-value.value.0, c.in_ok-value.value.1, named, c.in_ok-value.ensures.ok, c.in-Ok.ensures.ok)
+    (_, content c.in_ok-value.value.0, c.in_ok-value.value.1, named, c.in_ok-value.ensures.ok, record { to_file = c.in-Ok.ensures.ok.to_file; to_output = c.in-Ok.ensures.ok.to_output })
 
 pub returns-clause-err : goal.returns-clause-err
 returns-clause-err g c =
     let named = subst (λ t. IsNamed c.args.words.now.file.now (g.D.Disk.holds c.args.disk.now) (g.I.Read.remaining c.args.input.now) (g.I.Read.remaining c.read_named.new.input) t)
     (sym c.as_slice.ensures.value) c.in_ok-bytes.ensures.ok in
-    inr (_, named, inr (content c.in_ok-value.value.0, c.in_ok-value.value.1, c.in_ok-value.ensures.ok, c.in-Err.ensures.err))
+    inr (_, named, inr (content c.in_ok-value.value.0, c.in_ok-value.value.1, c.in_ok-value.ensures.ok, record { to_file = c.in-Err.ensures.err.to_file; to_output = c.in-Err.ensures.err.to_output }))

@@ -9,7 +9,7 @@ use Rattle.ring_commands.proofs.upgrade.upgraded.Goals as goal
 pub returns-clause-ok : goal.returns-clause-ok
 returns-clause-ok c =
     let ok = c.in_ok-saved.ensures.ok in
-    let law = c.upgrade_law.ensures (content c.in_ok-saved.saved) ok.2 in
+    let law = c.upgrade_is_legal.ensures (content c.in_ok-saved.saved) ok.2 in
     let is : content c.upgrade.result ≡ upgraded (content c.in_ok-saved.saved) = c.upgrade.ensures in
     let of : content c.upgrade.result ≡ upgraded ok.0.content = is ∙ ap upgraded (sym ok.1) in
     record {

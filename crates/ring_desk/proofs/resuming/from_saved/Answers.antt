@@ -1,12 +1,36 @@
-use Rattle.std.proofs.Common.{List, ℕ, subst}
-use Rattle.ring_model.specs.Ring.{ring_with}
-use Rattle.ring_book.specs.BookView.{IsFresh}
+use Rattle.std.proofs.Common.{◌≡◌, ℕ, ◌∙◌, All, List, map, ap, sym, subst}
+use Rattle.std.proofs.lemmas.Bool.{both_ways}
+use Rattle.ring_model.specs.Ring.{Ring, ring_with}
+use Rattle.ring_model.specs.Resources.{till}
+use Rattle.ring_model.specs.History.{opening}
+use Rattle.ring_model.specs.Logs.{IsSurvey}
+use Rattle.ring_model.specs.declared.events.Event.{Event}
+use Rattle.ring_saved.specs.declared.saved.SavedEvent.{SavedEvent}
+use Rattle.ring_saved.specs.declared.saved.SavedSurvey.{SavedSurvey}
+use Rattle.ring_saved.specs.Content.{block_of}
+use Rattle.ring_check.specs.Table.{event_of}
+use Rattle.ring_check.specs.Meaning.{survey_of}
+use Rattle.ring_desk.proofs.Resumed.{told_kept, right_surveys}
 use Rattle.ring_desk.proofs.resuming.from_saved.Goals as goal
 
-pub returns-in-Err-follow-clause-legal : goal.returns-in-Err-follow-clause-legal
-returns-in-Err-follow-clause-legal c = λ can.
-    c.in-Err-follow.ensures.legal c.args.seats can (record {
-      ring = c.in-Ok.ensures.ring;
-      fresh = subst (λ (xs : List ℕ). IsFresh (ring_with c.args.saved.now.k xs) 0 c.in-Ok.ring.book) c.deref.ensures.value c.in-Ok.ensures.fresh.0;
-      clients = c.in-Ok.ensures.fresh.1;
-    })
+pub with_clients-requires : goal.with_clients-requires
+with_clients-requires c =
+    let book = c.in-Ok-book_of.book in
+    told_kept book c.in-Ok-clients_of.clients.items c.args.seats c.args.saved.now.surveys.items c.in-Ok.ensures.sizes.0.1 c.in-Ok-book_of.ensures.book c.in-Ok-book_of.ensures.seats
+    c.in-Ok-clients_of.ensures.seated (c.in-Ok-clients_of.ensures.told ∙ c.deref-3.ensures.value)
+    (subst (λ (u : List SavedSurvey). All (IsSurvey till (opening book.start 0) book.history) (map survey_of u)) c.deref-4.ensures.value (c.in-Ok-true.ensures.0 c.in-Ok-true.field-0-test))
+
+pub returns-in-Ok-false-clause-legal : goal.returns-in-Ok-false-clause-legal
+returns-in-Ok-false-clause-legal c = λ can.
+    let book = c.in-Ok-book_of.book in
+    let saved = c.args.saved.now in
+    let start : book.start ≡ ring_with saved.k saved.start.items =
+    c.in-Ok-book_of.ensures.start ∙ (c.in-Ok.ensures.ok ∙ ap (λ (xs : List ℕ). ring_with saved.k xs) c.deref.ensures.value) in
+    let told : book.history ≡ map event_of saved.events.items = c.in-Ok-book_of.ensures.history ∙ ap (λ (es : List SavedEvent). map event_of es) c.deref-2.ensures.value in
+    let right = right_surveys c.args.seats (block_of saved) can in
+    let lines = map survey_of saved.surveys.items in
+    let here : All (IsSurvey till (opening book.start 0) book.history) lines =
+    subst (λ (r : Ring). All (IsSurvey till (opening r 0) book.history) lines) (sym start)
+    (subst (λ (h : List Event). All (IsSurvey till (opening (ring_with saved.k saved.start.items) 0) h) lines) (sym told) right) in
+    both_ways c.in-Ok-false.field-0 c.in-Ok-false.field-0-test
+    (c.in-Ok-false.ensures.1 (subst (λ (u : List SavedSurvey). All (IsSurvey till (opening book.start 0) book.history) (map survey_of u)) (sym c.deref-4.ensures.value) here))

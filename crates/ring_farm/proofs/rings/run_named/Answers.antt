@@ -1,6 +1,6 @@
 use Rattle.std.proofs.Common.{◌≡◌, ℕ, length, sym, subst, arith}
 use Rattle.ring_model.specs.Ring.{Ring}
-use Rattle.ring_shared.specs.Holding.{AreOfSeats}
+use Rattle.ring_logs.specs.Seats.{AreOfSeats}
 use Rattle.ring_shared.specs.Opening.{AreFresh}
 use Rattle.ring_farm.specs.Runs.{IsRun}
 use Rattle.ring_farm.proofs.Pairing.{logged_of, distinct_of, still_all_fresh}

@@ -1,12 +1,12 @@
 use Rattle.std.proofs.Common.{◌≡◌, ◌++◌, length}
 use Rattle.std.specs.List.{flat_map, AllByRecursion}
-use Rattle.ring_journal.specs.Spelling.{recorded_line, RecordedFits}
+use Rattle.ring_journal.specs.Spelling.{journal_line, JournalLineFits}
 use Rattle.ring_journal.proofs.read.calls.Given as goal
 
 abbrev pub invariant-loop-found : goal.invariant-loop-found
 invariant-loop-found l =
-    AllByRecursion (RecordedFits l.version l.rings) l.found.items
-    × (l.bytes ≡ flat_map recorded_line l.found.items ++ l.rest)
+    AllByRecursion (JournalLineFits l.version l.rings) l.found.items
+    × (l.bytes ≡ flat_map journal_line l.found.items ++ l.rest)
 
 abbrev pub decreases-loop-found : goal.decreases-loop-found
 decreases-loop-found l = length l.rest

@@ -1,6 +1,6 @@
 use Rattle.std.proofs.Common.{◌≡◌, ℕ, ◌+◌, List, take, length, Some, sym, subst, arith}
 use Rattle.std.proofs.lemmas.List.{take_all}
-use Rattle.ring_journal.specs.declared.calls.Recorded.{Recorded}
+use Rattle.ring_journal.specs.declared.calls.JournalLine.{JournalLine}
 use Rattle.ring_journal.specs.Told.{told}
 use Rattle.ring_journal.specs.Judging.{IsFaultOf}
 use Rattle.ring_journal.proofs.recover.wrong_call.Goals as goal
@@ -8,7 +8,7 @@ use Rattle.ring_journal.proofs.recover.wrong_call.Goals as goal
 pub loop-wrong-init : goal.loop-wrong-init
 loop-wrong-init c =
     let calls = c.args.calls.now in
-    (c.requires.some, omega arith, λ b r e. ((λ h. absurd (omega (arith, h))), subst (λ (xs : List Recorded). IsFaultOf (told b xs) (Some c.args.kind)) (sym (take_all (length calls) calls (omega arith))) (c.requires.wrong b r e)))
+    (c.requires.some, omega arith, λ b r e. ((λ h. absurd (omega (arith, h))), subst (λ (xs : List JournalLine). IsFaultOf (told b xs) (Some c.args.kind)) (sym (take_all (length calls) calls (omega arith))) (c.requires.wrong b r e)))
 
 pub loop-wrong-preserved-in-None : goal.loop-wrong-preserved-in-None
 loop-wrong-preserved-in-None c =

@@ -4,7 +4,7 @@ use Rattle.ring_model.specs.Logs.{IsSurvey}
 use Rattle.ring_model.specs.declared.events.Survey.{Survey}
 use Rattle.ring_logs.proofs.judge.are_right.Given as goal
 
--- the surveys so far are right, and no other stands before the place of the replay
+-- the surveys so far are right, and no other is before the place of the replay
 abbrev pub invariant-loop-survey : goal.invariant-loop-survey
 invariant-loop-survey g l = record {
   same_book : l.replay.book.now ≡ l.book;

@@ -1,5 +1,4 @@
-use Rattle.ring_serve.specs.Calls.{seen}
-use Rattle.ring_serve.proofs.Placing.{long_line, bad_line, order_line, call_line}
+use Rattle.ring_serve.proofs.Lines.{long_line, bad_line, order_line, command_turn}
 use Rattle.ring_serve.proofs.served.answer_line.Goals as goal
 
 pub returns-then-line-gt-LINE_LIMIT : goal.returns-then-line-gt-LINE_LIMIT
@@ -8,7 +7,7 @@ returns-then-line-gt-LINE_LIMIT c = long_line c.args.served.now c.args.line.now 
 pub returns-in-Ok-Some : goal.returns-in-Ok-Some
 returns-in-Ok-Some c =
     let read = rw c.in-Ok-Some.field-0-is at c.in-Ok-Some.ensures in
-    call_line c.args.served.now c.make.new.self c.args.line.now (seen c.in-Ok-Some.call) c.ring_of.result c.make.result c.if-line-gt-LINE_LIMIT.false read c.ring_of.ensures c.make.ensures
+    command_turn c.args.served.now c.make.new.self c.args.line.now c.in-Ok-Some.command c.ring_of.result c.make.result c.if-line-gt-LINE_LIMIT.false read c.ring_of.ensures c.make.ensures
 
 pub returns-in-Ok-None : goal.returns-in-Ok-None
 returns-in-Ok-None c =
@@ -18,4 +17,4 @@ returns-in-Ok-None c =
 pub returns-in-Err-Fault : goal.returns-in-Err-Fault
 returns-in-Err-Fault c =
     let read = rw c.in-Err-Fault.field-0-is at c.in-Err-Fault.ensures in
-    bad_line c.args.served.now c.args.line.now c.no_call-in-Err-Fault.result _ c.no_call-in-Err-Fault.ensures c.if-line-gt-LINE_LIMIT.false read
+    bad_line c.args.served.now c.args.line.now c.no_call-in-Err-Fault.result c.no_call-in-Err-Fault.ensures read

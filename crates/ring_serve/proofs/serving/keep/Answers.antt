@@ -1,6 +1,6 @@
 use Rattle.std.proofs.Common.{◌≡◌, ◌<◌, ◌≤◌, [], ◌∷◌, ◌++◌, length, ◌∙◌, arith}
 use Rattle.std.proofs.lemmas.Grind.{common_steps}
-use Rattle.ring_serve.specs.Calls.{line_limit}
+use Rattle.ring_serve.specs.Commands.{line_limit}
 use Rattle.ring_serve.proofs.LongLines.{kept_byte, dropped_byte}
 use Rattle.ring_serve.proofs.serving.keep.Goals as goal
 

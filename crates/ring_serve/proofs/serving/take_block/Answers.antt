@@ -9,17 +9,17 @@ pub returns-in-Err : goal.returns-in-Err
 returns-in-Err g c = λ old was before after bytes h.
     let i = c.loop-byte.byte-index in
     let block = c.args.block.now in
-    subst (λ (bs : List ℕ). Stops (is_some c.args.keeping) old was before after bs c.take_byte.new.served (g.D.Disk.holds c.take_byte.new.disk)) (block_rest bytes block i c.loop-byte-test.true)
+    subst (λ (bs : List ℕ). Stops (is_some c.args.journal) old was before after bs c.take_byte.new.served (g.D.Disk.holds c.take_byte.new.disk)) (block_rest bytes block i c.loop-byte-test.true)
     (stops_more (drop (i + 1) block) (c.in-Err.ensures old was before after (bytes ++ take i block) (c.loop-byte.invariant old was before after bytes h)))
 
 pub loop-byte-preserved : goal.loop-byte-preserved
 loop-byte-preserved g c = λ old was before after bytes h.
     let i = c.loop-byte.byte-index in
     let block = c.args.block.now in
-    subst (λ (bs : List ℕ). GoesOn (is_some c.args.keeping) old was before after bs c.take_byte.new.served (g.D.Disk.holds c.take_byte.new.disk) c.take_byte.new.line.items c.take_byte.new.pending) (block_more bytes block i c.loop-byte-test.true)
+    subst (λ (bs : List ℕ). GoesOn (is_some c.args.journal) old was before after bs c.take_byte.new.served (g.D.Disk.holds c.take_byte.new.disk) c.take_byte.new.line.items c.take_byte.new.pending) (block_more bytes block i c.loop-byte-test.true)
     (c.in-Ok.ensures old was before after (bytes ++ take i block) (c.loop-byte.invariant old was before after bytes h))
 
 pub returns : goal.returns
 returns g c = λ old was before after bytes h.
-    subst (λ (bs : List ℕ). GoesOn (is_some c.args.keeping) old was before after bs c.loop-byte.served (g.D.Disk.holds c.loop-byte.disk) c.loop-byte.line.items c.loop-byte.pending) (ap (λ (x : List ℕ). bytes ++ x) (take_all c.loop-byte.byte-index c.args.block.now c.loop-byte-test.false))
+    subst (λ (bs : List ℕ). GoesOn (is_some c.args.journal) old was before after bs c.loop-byte.served (g.D.Disk.holds c.loop-byte.disk) c.loop-byte.line.items c.loop-byte.pending) (ap (λ (x : List ℕ). bytes ++ x) (take_all c.loop-byte.byte-index c.args.block.now c.loop-byte-test.false))
     (c.loop-byte.invariant old was before after bytes h)

@@ -7,5 +7,5 @@ use Rattle.ring_serve.proofs.serving.take_block.Given as goal
 
 abbrev pub invariant-loop-byte : goal.invariant-loop-byte
 invariant-loop-byte g l =
-    (old : List Standing) (was : Option Held) (before after : Written) (bytes : List ℕ) → GoesOn (is_some l.fn.keeping) old was before after bytes l.initial.served (g.D.Disk.holds l.initial.disk) l.initial.line.items l.initial.pending →
-    GoesOn (is_some l.fn.keeping) old was before after (bytes ++ take l.byte-index l.block) l.served (g.D.Disk.holds l.disk) l.line.items l.pending
+    (old : List Standing) (was : Option Held) (before after : Written) (bytes : List ℕ) → GoesOn (is_some l.fn.journal) old was before after bytes l.initial.served (g.D.Disk.holds l.initial.disk) l.initial.line.items l.initial.pending →
+    GoesOn (is_some l.fn.journal) old was before after (bytes ++ take l.byte-index l.block) l.served (g.D.Disk.holds l.disk) l.line.items l.pending

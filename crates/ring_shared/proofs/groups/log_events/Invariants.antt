@@ -1,5 +1,5 @@
 use Rattle.std.proofs.Common.{◌≡◌, ◌+◌, ◌++◌, length, drop, vec_capacity, ◌≤◌}
-use Rattle.ring_shared.specs.Groups.{receipts_from}
+use Rattle.ring_logs.specs.Seats.{receipts_from}
 use Rattle.ring_shared.proofs.groups.log_events.Given as goal
 
 abbrev pub invariant-loop-event : goal.invariant-loop-event

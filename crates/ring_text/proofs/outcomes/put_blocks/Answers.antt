@@ -1,5 +1,5 @@
 use Rattle.ring_saved.proofs.Passing.{below_more, below_fault, below_all}
-use Rattle.ring_text.proofs.SavedParts.{blocks_spelled}
+use Rattle.ring_text.proofs.Blocks.{blocks_spelled}
 use Rattle.ring_text.proofs.outcomes.put_blocks.Goals as goal
 
 pub returns-in-Err-clause-written : goal.returns-in-Err-clause-written

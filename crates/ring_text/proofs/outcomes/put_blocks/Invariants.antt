@@ -1,5 +1,5 @@
 use Rattle.ring_saved.proofs.Passing.{WroteBelow}
-use Rattle.ring_text.proofs.SavedParts.{blocks_text, BlocksFit}
+use Rattle.ring_text.proofs.Blocks.{blocks_text, BlocksFit}
 use Rattle.ring_text.proofs.outcomes.put_blocks.Given as goal
 
 abbrev pub invariant-loop-place : goal.invariant-loop-place

@@ -2,10 +2,10 @@ use Rattle.std.proofs.Common.{◌≡◌, ◌+◌, ◌<◌, ◌≤◌, ◌++◌, 
 use Rattle.std.proofs.lemmas.List.{take_all}
 use Rattle.text_lines.specs.Writing.{Wrote}
 use Rattle.text_lines.proofs.Writing.{wrote_piece, wrote_fault, writes_left, writes_same}
-use Rattle.ring_farm.specs.declared.outcomes.RingOutcome.{RingOutcome}
+use Rattle.ring_logs.specs.declared.outcomes.RingOutcome.{RingOutcome}
 use Rattle.ring_text.specs.declared.counts.Counts.{Counts}
-use Rattle.ring_text.specs.declared.counts.Totals.{Totals}
-use Rattle.ring_text.specs.Report.{entries_of, counts_of, totals_of, total_line, ring_lines, rings_from, report}
+use Rattle.ring_blocks.specs.declared.counts.Totals.{Totals}
+use Rattle.ring_text.specs.Report.{entries_of, counts_of, total_line, ring_lines, rings_from, report, totals_of}
 use Rattle.ring_text.proofs.Sums.{ring_surveys_within, totals_next}
 use Rattle.ring_text.proofs.RingLines.{rings_next, rings_end}
 use Rattle.ring_text.proofs.report.write_report.Goals as goal
@@ -16,7 +16,7 @@ add-requires-clause-surveys g c =
     let same : rings ≡ c.args.outcome.now.rings.items = c.deref-ring-items.ensures.value in
     let within = ring_surveys_within rings c.loop-place.place c.ring-item.result c.loop-place-test.true in
     let so_far = ap (λ (t : Totals). t.surveys) (c.loop-place.invariant.totals ∙ ap (λ (rs : List RingOutcome). totals_of (take c.loop-place.place rs)) (sym same)) in
-    let counted = ap (λ (x : Counts). x.surveys) c.counted-counts.ensures.is in
+    let counted = ap (λ (x : Counts). x.surveys) c.counts_of-counts.ensures.is in
     let here = ap (λ (r : RingOutcome). (counts_of r).surveys) c.ring-item.is in
     let all = ap (λ (rs : List RingOutcome). sum_by (λ (r : RingOutcome). entries_of r.logs.items) rs) same in
     omega (arith, within, so_far, counted, here, all, c.requires.few)
@@ -43,14 +43,14 @@ loop-place-preserved g c =
     let lines = writes_same _ _ (Ok c.in-Ok.field-0) _ _ (ap (ring_lines c.loop-place.place) item) c.in-Ok.ensures in
     let left : Wrote (g.W.Write.contents c.args.out.now) (g.W.Write.contents c.loop-place.out) (report c.args.outcome.now) (ring_lines c.loop-place.place (get_or rings c.loop-place.place c.ring-item.result) ++ (rings_from (c.loop-place.place + 1) (drop (c.loop-place.place + 1) rings) ++ behind)) =
     subst (λ (t : List ℕ). Wrote (g.W.Write.contents c.args.out.now) (g.W.Write.contents c.loop-place.out) (report c.args.outcome.now) t) (rings_next rings c.loop-place.place behind c.ring-item.result lt) c.loop-place.invariant.written in
-    let counted : c.counted-counts.result ≡ counts_of (get_or rings c.loop-place.place c.ring-item.result) = c.counted-counts.ensures.is ∙ ap counts_of item in
+    let counted : c.counts_of-counts.result ≡ counts_of (get_or rings c.loop-place.place c.ring-item.result) = c.counts_of-counts.ensures.is ∙ ap counts_of item in
     let events = ap (λ (t : Totals). t.events) c.add.ensures in
     let granted = ap (λ (t : Totals). t.granted) c.add.ensures in
     record {
       written = wrote_piece _ _ _ (report c.args.outcome.now) _ (rings_from (c.loop-place.place + 1) (drop (c.loop-place.place + 1) rings) ++ behind) left lines;
-      totals = c.add.ensures ∙ totals_next rings c.loop-place.place c.ring-item.result lt c.loop-place.totals c.counted-counts.result c.loop-place.invariant.totals counted;
-      few = omega (arith, events, c.loop-place.invariant.few, c.counted-counts.ensures.few);
-      granted = omega (arith, events, granted, c.loop-place.invariant.granted, c.counted-counts.ensures.granted);
+      totals = c.add.ensures ∙ totals_next rings c.loop-place.place c.ring-item.result lt c.loop-place.totals c.counts_of-counts.result c.loop-place.invariant.totals counted;
+      few = omega (arith, events, c.loop-place.invariant.few, c.counts_of-counts.ensures.few);
+      granted = omega (arith, events, granted, c.loop-place.invariant.granted, c.counts_of-counts.ensures.granted);
     }
 
 pub returns : goal.returns

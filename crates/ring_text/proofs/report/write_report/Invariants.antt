@@ -1,7 +1,7 @@
 use Rattle.std.proofs.Common.{◌≡◌, ◌*◌, ◌≤◌, ◌++◌, length, take, drop}
 use Rattle.text_lines.specs.Writing.{Wrote}
 use Rattle.ring_model.specs.Limits.{event_limit}
-use Rattle.ring_text.specs.Report.{totals_of, total_line, rings_from, report}
+use Rattle.ring_text.specs.Report.{total_line, rings_from, report, totals_of}
 use Rattle.ring_text.proofs.report.write_report.Given as goal
 
 abbrev pub invariant-loop-place : goal.invariant-loop-place

@@ -9,11 +9,9 @@ returns-clause-is g c =
     rw (
       ← c.self.view_is,
       survey_end g.R.Resource.works (opening c.self.inside.parts.start g.R.Resource.first) c.self.inside.parts.events.list,
+      c.survey_here.ensures,
       c.as_slice.ensures.is,
-      c.privileged-privileged.ensures.is,
-      c.first.ensures.is,
       c.calm.ensures,
-      c.rest_of_counted.ensures.is,
       c.self.invariant.book.current,
       c.self.invariant.tally.calm,
     ) refl
@@ -26,4 +24,4 @@ returns-clause-progress g c = rw (← c.self.view_is) (book_progress _ _ _ c.sel
 
 pub returns-clause-calm : goal.returns-clause-calm
 returns-clause-calm g c =
-    rw (← c.self.view_is, c.calm.ensures, c.privileged-privileged.ensures.is, c.rest_of_counted.ensures.is, c.self.invariant.tally.calm) (calm_settles _ _ _ c.self.invariant.book)
+    rw (← c.self.view_is, c.survey_here.ensures, c.calm.ensures, c.self.invariant.tally.calm) (calm_settles _ _ _ c.self.invariant.book)

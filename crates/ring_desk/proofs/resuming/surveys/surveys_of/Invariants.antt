@@ -1,6 +1,6 @@
-use Rattle.std.proofs.Common.{◌≡◌, ◌++◌, drop}
-use Rattle.ring_desk.specs.Texts.{surveys_kept}
+use Rattle.std.proofs.Common.{◌≡◌, ◌++◌, drop, map}
+use Rattle.ring_check.specs.Meaning.{survey_of}
 use Rattle.ring_desk.proofs.resuming.surveys.surveys_of.Given as goal
 
-abbrev pub invariant-loop-client : goal.invariant-loop-client
-invariant-loop-client l = l.told.items ++ surveys_kept (drop l.client-index l.clients) ≡ surveys_kept l.clients
+abbrev pub invariant-loop-line : goal.invariant-loop-line
+invariant-loop-line l = l.surveys.items ++ map survey_of (drop l.line-index l.lines) ≡ map survey_of l.lines

@@ -1,6 +1,6 @@
 use Rattle.std.proofs.Common.{List, take, subst, sym, arith}
 use Rattle.std.proofs.lemmas.List.{map_more}
-use Rattle.ring_logs.specs.Told.{Told}
+use Rattle.ring_logs.specs.LogView.{LogView}
 use Rattle.ring_desk.specs.Clients.{told_of, told_all}
 use Rattle.ring_desk.specs.Rings.{AreLogsOf}
 use Rattle.ring_desk.proofs.Closing.{AreLogsOf-push}
@@ -16,6 +16,6 @@ loop-client-preserved c =
     record {
       count = let n = p.len in let m = i.count in omega (arith, n, m);
       room = let n = p.capacity in let m = i.room in omega (arith, n, m);
-      logs_of = subst (λ (ts : List Told). AreLogsOf ts c.push_reserved.new.self.items) (sym (map_more (told_of h) cs c.loop-client.client-index client c.loop-client-test.true))
+      logs_of = subst (λ (ts : List LogView). AreLogsOf ts c.push_reserved.new.self.items) (sym (map_more (told_of h) cs c.loop-client.client-index client c.loop-client-test.true))
           (rw (← c.client-item.is) (rw p.items (AreLogsOf-push (told_all h (take c.loop-client.client-index cs)) c.loop-client.logs.items (told_of h client) _ i.logs_of (c.number.ensures.is, c.in_ok-entries.ensures))));
     }

@@ -4,7 +4,7 @@ use Rattle.ring_model.specs.declared.events.Event.{Event}
 use Rattle.ring_model.specs.declared.events.Entry.TheVariants as entry
 use Rattle.ring_shared.specs.Client.{Client}
 use Rattle.ring_shared.specs.Folds.{IsWritten}
-use Rattle.ring_shared.specs.Holding.{AreOfSeats}
+use Rattle.ring_logs.specs.Seats.{AreOfSeats}
 use Rattle.ring_shared.proofs.Held.{held_more}
 use Rattle.ring_shared.proofs.Stepped.{stepped_one}
 use Rattle.ring_shared.proofs.locked.Locked.call.Goals as goal

@@ -2,8 +2,7 @@ use Rattle.std.proofs.Common.{List, ◌++◌, subst, ap, ◌∙◌, sym, drop, a
 use mathlib.Core.List.{IsPrefix}
 use Rattle.ring_model.specs.declared.events.Event.{Event}
 use Rattle.ring_shared.specs.Client.{Client}
-use Rattle.ring_shared.specs.Groups.{receipts_from}
-use Rattle.ring_shared.specs.Holding.{AreOfSeats}
+use Rattle.ring_logs.specs.Seats.{receipts_from, AreOfSeats}
 use Rattle.ring_shared.proofs.GroupLogs.{group_receipts, group_held, group_grown, group_longer, group_logged, held_size}
 use Rattle.ring_shared.proofs.locked.Locked.pass_group.Goals as goal
 

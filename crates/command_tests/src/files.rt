@@ -1,0 +1,6 @@
+//! Files in memory, and the system's files in a folder of their own.
+
+mod grown;
+mod memory;
+mod replacing;
+mod system;

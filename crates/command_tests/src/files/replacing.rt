@@ -1,0 +1,79 @@
+//! A file that is replaced by one that is written as a whole.
+
+use crate::files::memory::{bytes_of, no_files, put};
+use crate::files::system::{expect_bytes, expect_count, folder_of, within};
+use disks::{Contents, ContentsFault, Disk, ReplaceFault, SystemDisk, replace};
+use std::io::Write;
+use std::process::Abort;
+use std::test::Fail;
+
+/// Two lines, or the fault that comes after the first.
+#[derive(Drop, Clone, Copy)]
+struct Lines {
+    fault: Option<ContentsFault>,
+}
+
+impl Contents for Lines {
+    ghost use Rattle.std.specs.Prelude.{◌++◌, codes};
+
+    ghost bytes = { λ _. codes "one\n" ++ codes "two\n" };
+
+    fn write_to<W: Write>(&self, out: &mut W) -> Result<(), ContentsFault> {
+        let Ok(()) = out.write_all(b"one\n") else {
+            return Err(ContentsFault::Write);
+        };
+        match self.fault {
+            Some(fault) => Err(fault),
+            None => match out.write_all(b"two\n") {
+                Ok(()) => Ok(()),
+                Err(_) => Err(ContentsFault::Write),
+            },
+        }
+    }
+}
+
+/// The two lines, with no fault or with each.
+const WHOLE: Lines = Lines { fault: None };
+
+const BROKEN: Lines = Lines {
+    fault: Some(ContentsFault::Write),
+};
+
+const STARVED: Lines = Lines {
+    fault: Some(ContentsFault::OutOfMemory),
+};
+
+#[test]
+fn a_file_in_memory_is_replaced_as_a_whole(rt: HostRuntime) -> Result<(), Fail> {
+    let mut disk = no_files(rt.alloc());
+    put(&mut disk, "a", b"old")?;
+    put(&mut disk, "b", b"other")?;
+    for (lines, fault) in [
+        (BROKEN, ReplaceFault::Write),
+        (STARVED, ReplaceFault::OutOfMemory),
+    ] {
+        let answer = replace(rt.alloc(), &mut disk, "a", &lines);
+        assert!(rt; answer == Err(fault));
+        assert!(rt; bytes_of(rt.alloc(), &disk, "a")?.as_slice() == b"old".as_slice());
+    }
+    assert!(rt; replace(rt.alloc(), &mut disk, "a", &WHOLE) == Ok(()));
+    assert!(rt; bytes_of(rt.alloc(), &disk, "a")?.as_slice() == b"one\ntwo\n".as_slice());
+    assert!(rt; bytes_of(rt.alloc(), &disk, "b")?.as_slice() == b"other".as_slice());
+    Ok(())
+}
+
+#[test]
+fn a_file_of_the_system_is_replaced_as_a_whole(rt: HostRuntime) -> Result<(), Fail> {
+    let folder = folder_of(&rt, "replaced")?;
+    let name = within(&rt, &folder, "a")?;
+    let mut disk = SystemDisk { files: &rt };
+    assert!(rt; replace(rt.alloc(), &mut disk, &name, &WHOLE) == Ok(()));
+    expect_bytes(&rt, &name, b"one\ntwo\n")?;
+    put(&mut disk, &name, b"old")?;
+    assert!(rt; replace(rt.alloc(), &mut disk, &name, &BROKEN) == Err(ReplaceFault::Write));
+    expect_bytes(&rt, &name, b"old")?;
+    let within = within(&rt, &name, "b")?;
+    assert!(rt; replace(rt.alloc(), &mut disk, &within, &WHOLE) == Err(ReplaceFault::Make));
+    expect_count(&rt, &folder, 1)?;
+    Ok(())
+}

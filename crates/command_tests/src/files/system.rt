@@ -1,0 +1,304 @@
+//! The system's files.
+
+use crate::files::memory::{bytes_of, put};
+use disks::{Disk, SystemDisk};
+use std::fs::{self, File};
+use std::io::{self, ErrorKind, Write};
+use std::os::unix::fs::{MetadataExt, PermissionsExt, symlink};
+use std::process::{self, Abort};
+use std::rt::Files;
+use std::test::Fail;
+
+/// A new folder of this process. Each test gives its own another name.
+pub fn folder_of(rt: &HostRuntime, name: &str) -> io::Result<String> {
+    let folder = std::env::temp_dir(rt)?;
+    let folder = folder.as_path().to_string_lossy();
+    let number = process::id(rt.process());
+    let own = format!(in rt.alloc(); "{folder}/disks-{number}-{name}")?;
+    fs::create_dir(rt, own.as_str())?;
+    Ok(own)
+}
+
+/// The name of a file in a folder.
+pub fn within<R: AllocGlobal>(rt: &R, folder: &str, name: &str) -> io::Result<String> {
+    Ok(format!(in rt.alloc(); "{folder}/{name}")?)
+}
+
+/// Compares what the file of this name holds, by the system's own call.
+pub fn expect_bytes<R: Abort + AllocGlobal + Files>(
+    rt: &R,
+    name: &str,
+    bytes: &[u8],
+) -> io::Result<()> {
+    let held = fs::read(rt, name)?;
+    assert!(rt; held.as_slice() == bytes, "at {name}");
+    Ok(())
+}
+
+/// Compares how many files a folder has, and takes it away.
+pub fn expect_count<R: Abort + AllocGlobal + Files + Clone>(
+    rt: &R,
+    folder: &str,
+    want: usize,
+) -> io::Result<()> {
+    let count = fs::read_dir(rt, folder)?.count();
+    assert_eq!(rt; count, want);
+    fs::remove_dir_all(rt, folder)
+}
+
+/// Makes a file in a folder by the system's own call.
+fn write_in<R: AllocGlobal + Files>(
+    rt: &R,
+    folder: &str,
+    name: &str,
+    text: &str,
+) -> io::Result<()> {
+    fs::write(rt, within(rt, folder, name)?.as_str(), text)
+}
+
+/// Makes a link in a folder that leads to this name.
+fn link_in<R: AllocGlobal + Files>(rt: &R, folder: &str, name: &str, to: &str) -> io::Result<()> {
+    symlink(rt, to, within(rt, folder, name)?.as_str())
+}
+
+/// Compares what a file of a folder holds; `None` is a file that is not there.
+fn expect<R: Abort + AllocGlobal + Files>(
+    rt: &R,
+    folder: &str,
+    name: &str,
+    text: Option<&str>,
+) -> io::Result<()> {
+    let name = within(rt, folder, name)?;
+    match text {
+        Some(text) => expect_bytes(rt, &name, text.as_bytes()),
+        None => {
+            assert!(rt; !fs::exists(rt, name.as_str())?, "at {name}");
+            Ok(())
+        }
+    }
+}
+
+/// The content of files, by their names in a folder.
+type Held<'a> = &'a [(&'a str, Option<&'a str>)];
+
+/// Compares what these files of a folder hold.
+fn expect_all<R: Abort + AllocGlobal + Files>(rt: &R, folder: &str, files: Held) -> io::Result<()> {
+    for (name, text) in files {
+        expect(rt, folder, name, *text)?;
+    }
+    Ok(())
+}
+
+/// A file that is made in a folder, and put in its place or let go.
+#[derive(Clone, Copy)]
+struct Scene<'a> {
+    folder: &'a str,
+    /// The files before.
+    old: Option<(&'a str, &'a str)>,
+    made: (&'a str, &'a str),
+    finished: bool,
+    /// The content of files while the new one is written, and of all in the end.
+    during: Held<'a>,
+    after: Held<'a>,
+}
+
+const SCENES: [Scene; 4] = [
+    // a file is made beside, and put in its place
+    Scene {
+        folder: "made",
+        old: None,
+        made: ("a", "one"),
+        finished: true,
+        during: &[("a", None), ("a.part", Some("one"))],
+        after: &[("a", Some("one"))],
+    },
+    // an old file is whole until it is replaced
+    Scene {
+        folder: "replaced",
+        old: Some(("a", "old")),
+        made: ("a", "new text"),
+        finished: true,
+        during: &[("a", Some("old"))],
+        after: &[("a", Some("new text"))],
+    },
+    // a new file that is let go is removed
+    Scene {
+        folder: "dropped",
+        old: Some(("a", "old")),
+        made: ("a", "new"),
+        finished: false,
+        during: &[("a", Some("old"))],
+        after: &[("a", Some("old"))],
+    },
+    // a part that is there is left
+    Scene {
+        folder: "parts",
+        old: Some(("a.part", "anothers")),
+        made: ("a", "one"),
+        finished: true,
+        during: &[("a.part1", Some("one"))],
+        after: &[("a.part", Some("anothers")), ("a", Some("one"))],
+    },
+];
+
+/// Makes the scene's file, and looks at its folder before it is finished.
+fn make_watched<R: Abort + AllocGlobal + Files<File = File>>(
+    rt: &R,
+    folder: &str,
+    scene: Scene,
+) -> io::Result<()> {
+    let name = within(rt, folder, scene.made.0)?;
+    let mut disk = SystemDisk { files: rt };
+    let mut made = disk.make(&name)?;
+    made.write_all(scene.made.1.as_bytes())?;
+    expect_all(rt, folder, scene.during)?;
+    if scene.finished {
+        disk.finish(made, &name)
+    } else {
+        Ok(())
+    }
+}
+
+/// Plays a scene in its folder, which is empty.
+fn play<R: Abort + AllocGlobal + Files<File = File> + Clone>(
+    rt: &R,
+    folder: &str,
+    scene: Scene,
+) -> io::Result<()> {
+    if let Some((name, text)) = scene.old {
+        write_in(rt, folder, name, text)?;
+    }
+    make_watched(rt, folder, scene)?;
+    expect_all(rt, folder, scene.after)?;
+    expect_count(rt, folder, scene.after.len())
+}
+
+#[test]
+fn a_new_file_is_made_beside_and_put_in_its_place(rt: HostRuntime) -> Result<(), Fail> {
+    for scene in SCENES {
+        let folder = folder_of(&rt, scene.folder)?;
+        play(&rt, &folder, scene)?;
+    }
+    Ok(())
+}
+
+/// Puts bytes into a file of a folder, and compares them with what the disk then reads.
+fn put_in<R: Abort + AllocGlobal + Files<File = File>>(
+    rt: &R,
+    folder: &str,
+    name: &str,
+    bytes: &[u8],
+) -> io::Result<()> {
+    let name = within(rt, folder, name)?;
+    let mut disk = SystemDisk { files: rt };
+    put(&mut disk, &name, bytes)?;
+    let held = bytes_of(rt.alloc(), &disk, &name)?;
+    assert!(rt; held.as_slice() == bytes);
+    Ok(())
+}
+
+#[test]
+fn the_mode_of_a_file_is_kept(rt: HostRuntime) -> Result<(), Fail> {
+    let folder = folder_of(&rt, "modes")?;
+    let name = within(&rt, &folder, "a")?;
+    fs::write(&rt, name.as_str(), "old")?;
+    fs::set_permissions(&rt, name.as_str(), fs::Permissions::from_mode(0o640))?;
+    put_in(&rt, &folder, "a", b"new text")?;
+    assert_eq!(rt; fs::metadata(&rt, name.as_str())?.mode() & 0o777, 0o640);
+    expect_count(&rt, &folder, 1)?;
+    Ok(())
+}
+
+#[test]
+fn a_new_file_goes_to_no_other_name(rt: HostRuntime) -> Result<(), Fail> {
+    let folder = folder_of(&rt, "others")?;
+    let name = within(&rt, &folder, "a")?;
+    let other = within(&rt, &folder, "b")?;
+    let mut disk = SystemDisk { files: &rt };
+    let mut made = disk.make(&name)?;
+    made.write_all(b"one")?;
+    let Err(fault) = disk.finish(made, &other) else {
+        panic!(rt; "put");
+    };
+    assert!(rt; fault.kind() == ErrorKind::InvalidInput);
+    expect_count(&rt, &folder, 0)?;
+    Ok(())
+}
+
+#[test]
+fn what_a_link_leads_to_is_replaced(rt: HostRuntime) -> Result<(), Fail> {
+    let folder = folder_of(&rt, "links")?;
+    write_in(&rt, &folder, "a", "old")?;
+    link_in(&rt, &folder, "b", "a")?;
+    put_in(&rt, &folder, "b", b"new")?;
+    expect(&rt, &folder, "a", Some("new"))?;
+    let link = within(&rt, &folder, "b")?;
+    assert!(rt; fs::symlink_metadata(&rt, link.as_str())?.is_symlink());
+    expect_count(&rt, &folder, 2)?;
+    Ok(())
+}
+
+/// A file with three names, and another.
+fn make_names<R: AllocGlobal + Files>(rt: &R, folder: &str) -> io::Result<()> {
+    write_in(rt, folder, "a", "one")?;
+    write_in(rt, folder, "b", "one")?;
+    link_in(rt, folder, "link", "a")?;
+    let name = within(rt, folder, "a")?;
+    fs::hard_link(rt, name.as_str(), within(rt, folder, "hard")?.as_str())
+}
+
+/// Whether two names in a folder are of one file.
+fn is_one_file<R: AllocGlobal + Files<File = File>>(
+    rt: &R,
+    folder: &str,
+    one: &str,
+    other: &str,
+) -> io::Result<bool> {
+    let disk = SystemDisk { files: rt };
+    let one = within(rt, folder, one)?;
+    let other = within(rt, folder, other)?;
+    disk.is_one_file(&one, &other)
+}
+
+#[test]
+fn names_of_one_file_are_known(rt: HostRuntime) -> Result<(), Fail> {
+    let folder = folder_of(&rt, "names")?;
+    make_names(&rt, &folder)?;
+    for (other, want) in [
+        ("a", true),
+        ("./a", true),
+        ("link", true),
+        ("hard", true),
+        ("b", false),
+        ("missing", false),
+    ] {
+        assert!(rt;
+            is_one_file(&rt, &folder, "a", other)? == want,
+            "at {other}"
+        );
+    }
+    assert!(rt; is_one_file(&rt, &folder, "missing", "a").is_err());
+    expect_count(&rt, &folder, 4)?;
+    Ok(())
+}
+
+#[test]
+fn what_cannot_be_made_is_refused(rt: HostRuntime) -> Result<(), Fail> {
+    let folder = folder_of(&rt, "refused")?;
+    let missing = within(&rt, &folder, "missing/a")?;
+    let mut disk = SystemDisk { files: &rt };
+    assert!(rt; disk.open(&missing).is_err());
+    assert!(rt; disk.make(&missing).is_err());
+    assert!(rt; disk.make(&folder).is_err());
+    expect_count(&rt, &folder, 0)?;
+    Ok(())
+}
+
+#[test]
+fn a_device_is_written_as_it_stands(rt: HostRuntime) -> Result<(), Fail> {
+    let mut disk = SystemDisk { files: &rt };
+    put(&mut disk, "/dev/null", b"one")?;
+    assert!(rt; !fs::metadata(&rt, "/dev/null")?.is_file());
+    assert!(rt; !fs::exists(&rt, "/dev/null.part")?);
+    Ok(())
+}

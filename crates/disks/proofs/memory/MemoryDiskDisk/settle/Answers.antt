@@ -1,7 +1,0 @@
-use Rattle.std.proofs.Common.{refl}
-use Rattle.disks.proofs.Finding.{pushed}
-use Rattle.disks.proofs.memory.MemoryDiskDisk.settle.Goals as goal
-
-pub returns-clause-settled : goal.returns-clause-settled
-returns-clause-settled c =
-    rw c.in_ok-push.ensures.items (pushed c.args.self.now.entries.items _ c.args.name.now c.args.grown.items c.in_ok-name.ensures.ok refl)

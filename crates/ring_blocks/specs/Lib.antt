@@ -1,0 +1,4 @@
+pub mod SavedOf
+pub mod Runs
+pub mod Journals
+pub mod Counts

@@ -1,0 +1,205 @@
+-- The value that is read of a spelling, where numbers are heard otherwise than they are spelled.
+use Rattle.std.proofs.Common.{◌≡◌, ◌≢◌, ℕ, zero, suc, ◌+◌, ◌/◌, ◌%◌, ◌<◌, ◌≤◌, Bool, true, false, cond, eqb, List, [], ◌∷◌, ◌++◌, length, map, Option, Some, None, Result, Ok, Err, refl, sym, ap, subst, ◌∙◌, append_assoc, arith, inl, inr}
+use Rattle.std.specs.List.{AllByRecursion}
+use Rattle.std.proofs.lemmas.Bool.{eqb-true, eqb-false, ne_eqb}
+use Rattle.std.proofs.lemmas.List.{append-nil}
+use Rattle.text_lines.specs.declared.fault.Fault.{Fault}
+use Rattle.text_lines.specs.declared.fault.Fault.TheVariants.{Short, Bad}
+use Rattle.text_lines.specs.Reading.{Reader, ◌>>=◌, word_at, after_at, then_at, as_at, stop_of}
+use Rattle.text_lines.proofs.Basics.{bind_ok, chosen, ok_is, same_eqb}
+use Rattle.ring_serve.specs.Numbers.{number_text, ended, row, in_64_bits, named, decimal_at, order_at, place_at, places_at}
+use Rattle.ring_serve.specs.Readers.{gaps, machines_at, end_of_line, name_at}
+use Rattle.ring_serve.proofs.Numerals.{by_digits, decimal_takes, decimal_again}
+
+-- The reader takes just the spellings of what fits, whatever follows, and says what is heard of it.
+pub record Hears {A B : Type 0} (hear : A → B) (Fits : A → Type 0) (spell : A → List ℕ) (at : Reader B) : Type 0 where
+  pub takes : (bytes : List ℕ) (b : B) (rest : List ℕ) → at bytes ≡ Ok (b, rest) → (a : A) × Fits a × (hear a ≡ b) × (bytes ≡ spell a ++ rest)
+  pub again : (a : A) (rest : List ℕ) → Fits a → at (spell a ++ rest) ≡ Ok (hear a, rest)
+
+abbrev pub Any : ℕ → Type 0
+Any n = Unit {0}
+
+-- ---- one after the other, and after a word
+
+module _ {A B C D : Type 0} {h : A → B} {F : A → Type 0} {s : A → List ℕ} {at : Reader B} {k : C → D} {G : C → Type 0} {t : C → List ℕ} {also : Reader D}
+    (first : Hears h F s at) (second : Hears k G t also) where
+  both_end : (bytes : List ℕ) (x : B) (u : List ℕ) (y : D) (v : List ℕ) (p : B × D) (rest : List ℕ) → at bytes ≡ Ok (x, u) → also u ≡ Ok (y, v) → ◌≡◌ {A = (B × D) × List ℕ} ((x, y), v) (p, rest)
+      → (a : A × C) × (F a.0 × G a.1) × ((h a.0, k a.1) ≡ p) × (bytes ≡ (s a.0 ++ t a.1) ++ rest)
+  both_end bytes x u y v p rest e f same =
+      let a = first.takes bytes x u e in
+      let c = second.takes u y v f in
+      let heard : ◌≡◌ {A = B × D} (h a.0, k c.0) (x, y) = λ i. (a.2 i, c.2 i) in
+      let whole : bytes ≡ (s a.0 ++ t c.0) ++ v = a.3 ∙ ap (λ (w : List ℕ). s a.0 ++ w) c.3 ∙ sym (append_assoc (s a.0) (t c.0) v) in
+      let value : ◌≡◌ {A = B × D} (x, y) p = ap (λ (z : (B × D) × List ℕ). z.0) {x = ((x, y), v)} {y = (p, rest)} same in
+      let behind : v ≡ rest = ap (λ (z : (B × D) × List ℕ). z.1) {x = ((x, y), v)} {y = (p, rest)} same in
+      ((a.0, c.0), (a.1, c.1), heard ∙ value, subst (λ (w : List ℕ). bytes ≡ (s a.0 ++ t c.0) ++ w) behind whole)
+
+  both_takes : (bytes : List ℕ) (p : B × D) (rest : List ℕ) → then_at at (λ _. also) bytes ≡ Ok (p, rest) → (a : A × C) × (F a.0 × G a.1) × ((h a.0, k a.1) ≡ p) × (bytes ≡ (s a.0 ++ t a.1) ++ rest)
+  both_takes bytes p rest e =
+      let x = bind_ok (at bytes) (λ x. also x.1 >>= λ y. Ok ((x.0, y.0), y.1)) (p, rest) e in
+      let y = bind_ok (also x.0.1) (λ y. Ok ((x.0.0, y.0), y.1)) (p, rest) x.2 in
+      both_end bytes x.0.0 x.0.1 y.0.0 y.0.1 p rest x.1 y.1 (ok_is ((x.0.0, y.0.0), y.0.1) (p, rest) y.2)
+
+  both_again : (a : A × C) (rest : List ℕ) → F a.0 × G a.1 → then_at at (λ _. also) ((s a.0 ++ t a.1) ++ rest) ≡ Ok ((h a.0, k a.1), rest)
+  both_again a rest f =
+      let one = first.again a.0 (t a.1 ++ rest) f.0 in
+      let two = second.again a.1 rest f.1 in
+      ap (then_at at (λ _. also)) (append_assoc (s a.0) (t a.1) rest) ∙ rw (one, two) refl
+
+  pub both_hear : Hears (λ (a : A × C). (h a.0, k a.1)) (λ a. F a.0 × G a.1) (λ a. s a.0 ++ t a.1) (then_at at (λ _. also))
+  both_hear = record { takes = both_takes; again = both_again }
+
+word_is : (word bytes rest : List ℕ) → word_at word bytes ≡ Ok rest → bytes ≡ word ++ rest
+unfolding word_at
+word_is [] bytes rest e = ok_is bytes rest e
+word_is (c ∷ cs) [] rest e = absurd cc
+word_is (c ∷ cs) (b ∷ bs) rest e =
+    elim (chosen (eqb b c) (word_at cs bs) (Err (Bad (suc (length bs)))) (Ok rest) e) [
+      | inl h ↦ λ i. eqb-true b c h.0 i ∷ word_is cs bs rest h.1 i
+      | inr h ↦ absurd cc
+    ]
+
+pub word_takes : {B : Type 0} (word : List ℕ) (at : Reader B) (bytes : List ℕ) (y : B × List ℕ) → after_at word at bytes ≡ Ok y → (u : List ℕ) × (bytes ≡ word ++ u) × (at u ≡ Ok y)
+word_takes word at bytes y e = let x = bind_ok (word_at word bytes) at y e in (x.0, word_is word bytes x.0 x.1, x.2)
+
+pub word_again : {B : Type 0} (word : List ℕ) (at : Reader B) (u : List ℕ) → after_at word at (word ++ u) ≡ at u
+unfolding word_at
+word_again [] at u = refl
+word_again (c ∷ cs) at u = rw (same_eqb c) (word_again cs at u)
+
+-- ---- numbers
+
+stop_small : (k : ℕ) → stop_of k < 48
+stop_small zero = omega arith
+stop_small (suc k) = omega arith
+
+number_end : {B : Type 0} (hear : ℕ → B) (stop : ℕ) → stop < 48 → (bytes : List ℕ) (n : ℕ) (u : List ℕ) (b : B) (rest : List ℕ) → decimal_at stop bytes ≡ Ok (n, u) → ◌≡◌ {A = B × List ℕ} (hear n, u) (b, rest)
+    → (n : ℕ) × Unit {0} × (hear n ≡ b) × (bytes ≡ (number_text n ++ stop ∷ []) ++ rest)
+number_end {B} hear stop apart bytes n u b rest e same =
+    let value : hear n ≡ b = ap (λ (z : B × List ℕ). z.0) {x = (hear n, u)} {y = (b, rest)} same in
+    let behind : u ≡ rest = ap (λ (z : B × List ℕ). z.1) {x = (hear n, u)} {y = (b, rest)} same in
+    (n, tt, value, subst (λ (w : List ℕ). bytes ≡ (number_text n ++ stop ∷ []) ++ w) behind (decimal_takes stop apart bytes n u e))
+
+number_hears : {B : Type 0} (hear : ℕ → B) (stop : ℕ) → stop < 48 → Hears hear Any (λ n. number_text n ++ stop ∷ []) (as_at hear (decimal_at stop))
+number_hears {B} hear stop apart = record { takes = takes; again = again }
+  where
+    takes : (bytes : List ℕ) (b : B) (rest : List ℕ) → as_at hear (decimal_at stop) bytes ≡ Ok (b, rest) → (n : ℕ) × Unit {0} × (hear n ≡ b) × (bytes ≡ (number_text n ++ stop ∷ []) ++ rest)
+    takes bytes b rest e =
+        let x = bind_ok (decimal_at stop bytes) (λ x. Ok (hear x.0, x.1)) (b, rest) e in
+        number_end hear stop apart bytes x.0.0 x.0.1 b rest x.1 (ok_is (hear x.0.0, x.0.1) (b, rest) x.2)
+
+    again : (n : ℕ) (rest : List ℕ) → Unit {0} → as_at hear (decimal_at stop) ((number_text n ++ stop ∷ []) ++ rest) ≡ Ok (hear n, rest)
+    again n rest f = rw (decimal_again stop apart n rest) refl
+
+pub place_hears : (stop : ℕ) → stop < 48 → Hears named Any (λ n. number_text n ++ stop ∷ []) (place_at stop)
+unfolding place_at
+place_hears stop apart = number_hears named stop apart
+
+pub order_hears : (stop : ℕ) → stop < 48 → Hears in_64_bits Any (λ n. number_text n ++ stop ∷ []) (order_at stop)
+unfolding order_at
+order_hears stop apart = number_hears in_64_bits stop apart
+
+-- ---- a line of them
+
+row_step : (k x : ℕ) (xs : List ℕ) → length xs ≡ k → row (x ∷ xs) ≡ (number_text x ++ stop_of k ∷ []) ++ row xs
+row_step zero x [] e = sym (append-nil (ended x))
+row_step zero x (y ∷ ys) e = absurd cc
+row_step (suc k) x [] e = absurd cc
+row_step (suc k) x (y ∷ ys) e = refl
+
+places_next : (k : ℕ) (bytes : List ℕ) (m : ℕ) (u ms v xs : List ℕ) → place_at (stop_of k) bytes ≡ Ok (m, u) → length xs ≡ k → map named xs ≡ ms → u ≡ row xs ++ v
+    → (ys : List ℕ) × (length ys ≡ suc k) × (map named ys ≡ m ∷ ms) × (bytes ≡ row ys ++ v)
+places_next k bytes m u ms v xs e many heard behind =
+    let n = (place_hears (stop_of k) (stop_small k)).takes bytes m u e in
+    let one : List ℕ = number_text n.0 ++ stop_of k ∷ [] in
+    let whole : bytes ≡ one ++ (row xs ++ v) = n.3 ∙ ap (λ (w : List ℕ). one ++ w) behind in
+    let line : row (n.0 ∷ xs) ++ v ≡ one ++ (row xs ++ v) = ap (λ (w : List ℕ). w ++ v) (row_step k n.0 xs many) ∙ append_assoc one (row xs) v in
+    (n.0 ∷ xs, ap suc many, (λ i. n.2 i ∷ heard i), whole ∙ sym line)
+
+places_take : (k : ℕ) (bytes ms rest : List ℕ) → places_at k bytes ≡ Ok (ms, rest) → (xs : List ℕ) × (length xs ≡ k) × (map named xs ≡ ms) × (bytes ≡ row xs ++ rest)
+unfolding places_at
+places_take zero bytes ms rest e =
+    let same : ◌≡◌ {A = List ℕ × List ℕ} ([], bytes) (ms, rest) = ok_is ([], bytes) (ms, rest) e in
+    ([], refl, ap (λ (z : List ℕ × List ℕ). z.0) same, ap (λ (z : List ℕ × List ℕ). z.1) same)
+places_take (suc k) bytes ms rest e =
+    let x = bind_ok (place_at (stop_of k) bytes) (λ x. places_at k x.1 >>= λ y. Ok (x.0 ∷ y.0, y.1)) (ms, rest) e in
+    let y = bind_ok (places_at k x.0.1) (λ y. Ok (x.0.0 ∷ y.0, y.1)) (ms, rest) x.2 in
+    let ns = places_take k x.0.1 y.0.0 y.0.1 y.1 in
+    subst (λ (z : List ℕ × List ℕ). (xs : List ℕ) × (length xs ≡ suc k) × (map named xs ≡ z.0) × (bytes ≡ row xs ++ z.1)) (ok_is (x.0.0 ∷ y.0.0, y.0.1) (ms, rest) y.2)
+    (places_next k bytes x.0.0 x.0.1 y.0.0 y.0.1 ns.0 x.1 ns.1 ns.2 ns.3)
+
+places_again : (xs rest : List ℕ) → places_at (length xs) (row xs ++ rest) ≡ Ok (map named xs, rest)
+unfolding places_at
+places_again [] rest = refl
+places_again (x ∷ xs) rest =
+    let stop : ℕ = stop_of (length xs) in
+    let one = (place_hears (stop_of (length xs)) (stop_small (length xs))).again x (row xs ++ rest) tt in
+    ap (places_at (suc (length xs))) (ap (λ (u : List ℕ). u ++ rest) (row_step (length xs) x xs refl) ∙ append_assoc (number_text x ++ stop_of (length xs) ∷ []) (row xs) rest)
+    ∙ rw (one, places_again xs rest) refl
+
+-- a number has no space and no LF
+gaps_number : (n : ℕ) (u : List ℕ) → gaps (number_text n ++ u) ≡ gaps u
+unfolding gaps
+gaps_number n = by_digits (λ m ds. (u : List ℕ) → gaps (ds ++ u) ≡ gaps u) one more n
+  where
+    digit : (d : ℕ) (u : List ℕ) → 48 ≤ d → gaps (d ∷ u) ≡ gaps u
+    digit d u le = rw (ne_eqb d 10 (λ e. omega (arith, e, le)), ne_eqb d 32 (λ e. omega (arith, e, le))) refl
+
+    one : (m : ℕ) → m < 10 → (u : List ℕ) → gaps ((48 + m) ∷ u) ≡ gaps u
+    one m lt u = digit (48 + m) u (omega arith)
+
+    more : (m : ℕ) (ds : List ℕ) → 10 ≤ m → ((u : List ℕ) → gaps (ds ++ u) ≡ gaps u) → (u : List ℕ) → gaps ((ds ++ (48 + m % 10) ∷ []) ++ u) ≡ gaps u
+    more m ds ge ih u = ap gaps (append_assoc ds ((48 + m % 10) ∷ []) u) ∙ (ih ((48 + m % 10) ∷ u) ∙ digit (48 + m % 10) u (omega arith))
+
+gaps_row : (x : ℕ) (xs rest : List ℕ) → gaps (row (x ∷ xs) ++ rest) ≡ length xs
+unfolding gaps
+gaps_row x [] rest = ap gaps (append_assoc (number_text x) (10 ∷ []) rest) ∙ gaps_number x (10 ∷ rest)
+gaps_row x (y ∷ ys) rest =
+    ap gaps (append_assoc (number_text x ++ 32 ∷ []) (row (y ∷ ys)) rest ∙ append_assoc (number_text x) (32 ∷ []) (row (y ∷ ys) ++ rest))
+    ∙ (gaps_number x (32 ∷ (row (y ∷ ys) ++ rest)) ∙ (ap (λ (g : ℕ). g + 1) (gaps_row y ys rest) ∙ omega arith))
+
+pub machines_hear : Hears (λ xs. map named xs) (λ xs. 0 < length xs) row machines_at
+unfolding machines_at
+machines_hear = record { takes = takes; again = again }
+  where
+    takes : (bytes ms rest : List ℕ) → places_at (gaps bytes + 1) bytes ≡ Ok (ms, rest) → (xs : List ℕ) × (0 < length xs) × (map named xs ≡ ms) × (bytes ≡ row xs ++ rest)
+    takes bytes ms rest e = let p = places_take (gaps bytes + 1) bytes ms rest e in let many = p.1 in (p.0, omega (arith, many), p.2, p.3)
+
+    again : (xs rest : List ℕ) → 0 < length xs → places_at (gaps (row xs ++ rest) + 1) (row xs ++ rest) ≡ Ok (map named xs, rest)
+    again [] rest some = absurd (omega (arith, some))
+    again (x ∷ xs) rest some =
+        let many : gaps (row (x ∷ xs) ++ rest) + 1 ≡ length (x ∷ xs) = ap (λ (g : ℕ). g + 1) (gaps_row x xs rest) ∙ omega arith in
+        ap (λ (k : ℕ). places_at k (row (x ∷ xs) ++ rest)) many ∙ places_again (x ∷ xs) rest
+
+-- ---- a name
+
+abbrev pub IsNameText : List ℕ → Type 0
+IsNameText name = AllByRecursion (λ b. b ≢ 10) name
+
+end_takes : (bytes rest : List ℕ) → end_of_line bytes ≡ Ok rest → (name : List ℕ) × IsNameText name × (bytes ≡ (name ++ 10 ∷ []) ++ rest)
+unfolding end_of_line
+end_takes [] rest e = absurd cc
+end_takes (b ∷ bs) rest e =
+    elim (chosen (eqb b 10) (Ok bs) (end_of_line bs) (Ok rest) e) [
+      | inl h ↦ ([], tt, λ i. eqb-true b 10 h.0 i ∷ ok_is bs rest h.1 i)
+      | inr h ↦ let r = end_takes bs rest h.1 in (b ∷ r.0, (eqb-false b 10 h.0, r.1), ap (λ (u : List ℕ). b ∷ u) r.2)
+    ]
+
+end_again : (name rest : List ℕ) → IsNameText name → end_of_line ((name ++ 10 ∷ []) ++ rest) ≡ Ok rest
+unfolding end_of_line
+end_again [] rest f = refl
+end_again (b ∷ bs) rest f = rw (ne_eqb b 10 f.0) (end_again bs rest f.1)
+
+pub name_takes : (bytes rest : List ℕ) → name_at bytes ≡ Ok rest → (name : List ℕ) × ((0 < length name) × IsNameText name) × (bytes ≡ (name ++ 10 ∷ []) ++ rest)
+unfolding name_at
+name_takes [] rest e = absurd cc
+name_takes (b ∷ bs) rest e =
+    elim (chosen (eqb b 10) (Err (Bad (length bs + 1))) (end_of_line bs) (Ok rest) e) [
+      | inl h ↦ absurd cc
+      | inr h ↦ let r = end_takes bs rest h.1 in (b ∷ r.0, (omega arith, (eqb-false b 10 h.0, r.1)), ap (λ (u : List ℕ). b ∷ u) r.2)
+    ]
+
+pub name_again : (name rest : List ℕ) → (0 < length name) × IsNameText name → name_at ((name ++ 10 ∷ []) ++ rest) ≡ Ok rest
+unfolding name_at
+name_again [] rest f = absurd (omega (arith, f.0))
+name_again (b ∷ bs) rest f = rw (ne_eqb b 10 f.1.0) (end_again bs rest f.1.1)
