@@ -2,8 +2,8 @@ pub mod Buffers
 pub mod Drawings
 pub mod Entries
 pub mod FirstFaults
+pub mod JournalStarts
 pub mod ListTexts
-pub mod NamedFiles
 pub mod Recoveries
 pub mod ServeRefusals
 pub mod StepLemmas

@@ -6,17 +6,17 @@ use Rattle.ring_saved.specs.Spelling.{text}
 use Rattle.ring_check.specs.Lines.{lines}
 use Rattle.ring_check.proofs.SavedLines.{lines_some}
 use Rattle.ring_journal.specs.Spelling.{first_line, head_text, journal_line, journal_text}
-use Rattle.ring_journal.specs.Told.{told}
+use Rattle.ring_journal.specs.ContentAfter.{content_after}
 use Rattle.ring_journal.specs.Recovery.{IsRecovered}
-use Rattle.ring_journal.proofs.Countings.{told_lines}
+use Rattle.ring_journal.proofs.Countings.{lines_after}
 use Rattle.ring_journal.proofs.Heads.{calls_within}
 
 pub recovered_lines : (bytes : List ℕ) (c : Content) → IsRecovered bytes c → length (lines c) + 1 ≤ length bytes
 recovered_lines bytes c r =
     let began = r.journal.began in
     let calls = r.journal.calls in
-    let few = told_lines began calls in
-    let same : length (lines c) ≡ length (lines (told began calls)) = ap (λ (s : Content). length (lines s)) r.told in
+    let few = lines_after began calls in
+    let same : length (lines c) ≡ length (lines (content_after began calls)) = ap (λ (s : Content). length (lines s)) r.is in
     let some = lines_some began in
     let head = length-append first_line (text began) in
     let behind = length-append (head_text began) (flat_map journal_line calls) in

@@ -41,9 +41,9 @@ IsFarmRefusal bytes e =
     (fault : SettingsError) × (settings_of bytes ≡ Err fault) × (e ≡ fault_of_settings fault)
 
 -- the report of an outcome, or only the last line of it
-abbrev pub told : Bool → Outcome → List ℕ
-told false o = report o
-told true o = farm_line o
+abbrev pub report_text : Bool → Outcome → List ℕ
+report_text false o = report o
+report_text true o = farm_line o
 
 -- whether the word that was given for the history, if any, means standard output
 abbrev pub is_printed : Option (List ℕ) → Bool
@@ -52,10 +52,10 @@ is_printed (Some word) = names_stream word
 
 -- The output of `run` for an outcome: its saved text where the history goes to standard output, and
 -- else the report of it.
-abbrev pub printed : RunWords → Outcome → List ℕ
-printed words o =
+abbrev pub output_text : RunWords → Outcome → List ℕ
+output_text words o =
     cond (is_printed (option_map (λ word. word.now) words.history)) (text (saved_of o))
-    (told words.quiet o)
+    (report_text words.quiet o)
 
 -- the file of this name cannot be made or written, or there is no memory
 abbrev pub IsSaveRefusal : List ℕ → ToolError → Type 0
@@ -96,8 +96,8 @@ IsFarmNamedRefusal words files was is e =
 abbrev pub IsOutcomeRefusal : RunWords → Outcome → Option Held → Option Held → Option (List ℕ)
     → Option (List ℕ) → ToolError → Type 0
 IsOutcomeRefusal words o before after old new e =
-    IsHandOutRefusal (history_file words) (text (saved_of o)) (printed words o) before after old new
-    e
+    IsHandOutRefusal (history_file words) (text (saved_of o)) (output_text words o) before after old
+    new e
 
 -- Which refusals `run` may meet: those of the farm whose settings its word names, and those of the
 -- outcome of such a farm.

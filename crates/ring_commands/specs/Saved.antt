@@ -12,7 +12,7 @@ use Rattle.ring_saved.specs.Spelling.{text}
 use Rattle.ring_check.specs.Legal.{IsLegalText, summary_of}
 use Rattle.ring_commands.specs.Checked.{IsLegalSavedText}
 use Rattle.ring_commands.specs.Named.{IsStored}
-use Rattle.ring_commands.specs.Ran.{printed, history_file, IsFarmNamed}
+use Rattle.ring_commands.specs.Ran.{output_text, history_file, IsFarmNamed}
 use Rattle.ring_commands.specs.Worlds.{World}
 use Rattle.ring_requests.specs.declared.requests.RunWords.{RunWords}
 
@@ -36,5 +36,5 @@ IsRunAnswer words was is =
     (outcome : Outcome)
     × IsFarmNamed words was.files was.input is.input outcome
     × IsStored (history_file words) was.files is.files (text (saved_of outcome))
-    × Appends was.out is.out (printed words outcome)
+    × Appends was.out is.out (output_text words outcome)
     × (IsSome words.history → IsSavedLegal outcome)

@@ -1,5 +1,5 @@
 -- The answer of `serve`.
-use Rattle.std.specs.Prelude.{◌≡◌, ℕ, ◌⊎◌, List, [], length, codes, Bool, true, false, Option, None, Some, Err}
+use Rattle.std.specs.Prelude.{◌≡◌, ℕ, ◌≤◌, ◌<◌, ◌^◌, ◌⊎◌, List, [], length, codes, Bool, true, false, Option, None, Some, Err}
 use Rattle.std.specs.Option.{option_map, is_some}
 use Rattle.std.specs.Io.KnownBytes.{Appends}
 use Rattle.disks.specs.Held.{Held, Grows, Replaces}
@@ -14,7 +14,7 @@ use Rattle.ring_serve.specs.Standings.{Standing}
 use Rattle.ring_serve.specs.Saved.{content_of}
 use Rattle.ring_serve.specs.declared.starting.StartError.TheVariants as start
 use Rattle.ring_serve.specs.Starting.{AreResumed, IsStartFault}
-use Rattle.ring_serve.specs.Totals.{totals_of}
+use Rattle.ring_serve.specs.Totals.{totals_of, AreTooLarge}
 use Rattle.ring_serve.specs.Serving.{ServesAll, ServesSome}
 use Rattle.ring_commands.specs.Checked.{IsLegalSavedText, IsSavedTextRefusal}
 use Rattle.ring_commands.specs.Named.{IsHeld, IsFileRefusal}
@@ -28,6 +28,10 @@ use Rattle.ring_commands.specs.declared.faults.ToolError.TheVariants as tool
 -- the name of the journal's file, if one is kept
 abbrev pub journal_of : ServeWords → Option (List ℕ)
 journal_of words = option_map (λ name. name.now) words.journal
+
+-- a saved text can have this number of rings, and a journal can begin with them
+abbrev pub CanBegin : ℕ → Type 0
+CanBegin rings = (1 ≤ rings) × (rings < 2 ^ 32)
 
 -- the value is that of the legal saved text that the file of this name held
 pub record IsHistory (files : Option Held) (name : List ℕ) (saved : Saved) : Type 0 where
@@ -204,10 +208,12 @@ IsRefusedFrom files (Some name) saved was is old new e =
     × IsNoted files name saved from
     × IsUnfinished (Some name) from.rings.items was is old new e)
 
--- All lines were served, and what adds up over the rings is not told: it is too large, and nothing
--- is told; or standard error failed, and got a prefix of the line.
+-- All lines were served, and what adds up over the rings is not told: there are 2^32 rings or more,
+-- or one of the sums has more than 64 bits, and nothing is told; or standard error failed, and got
+-- a prefix of the line.
 abbrev pub IsUntold : List Standing → Option (List ℕ) → Option (List ℕ) → ToolError → Type 0
-IsUntold end early late tool.TotalsTooLarge = late ≡ early
+IsUntold end early late tool.TotalsTooLarge =
+    (late ≡ early) × ((2 ^ 32 ≤ length end) ⊎ AreTooLarge (totals_of end))
 IsUntold end early late tool.Write =
     AppendsFront early late (total_line (length end) (totals_of end))
 IsUntold end early late _ = ⊥

@@ -1,5 +1,5 @@
 -- The answer of `upgrade`.
-use Rattle.std.specs.Prelude.{◌≡◌, ℕ, List, Option, ◌⊎◌}
+use Rattle.std.specs.Prelude.{◌≡◌, ℕ, List, ◌⊎◌}
 use Rattle.ring_saved.specs.Content.{Content, upgraded}
 use Rattle.ring_saved.specs.Spelling.{Fits, text}
 use Rattle.ring_check.specs.declared.answers.Summary.{Summary}

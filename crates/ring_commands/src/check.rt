@@ -23,7 +23,7 @@ use std::io::{Read, Write};
 use text_lines::{WriteFault, put_all};
 
 /// The line of a legal text: its sums.
-pub fn write_sums<W: Write>(out: &mut W, sums: &Summary) -> Result<(), WriteFault>
+pub fn tell_sums<W: Write>(out: &mut W, sums: &Summary) -> Result<(), WriteFault>
     ensures { Writes (W.contents out.old) (W.contents out.new) result (legal_line sums.now) }
 {
     let mut buffers = (
@@ -92,7 +92,7 @@ pub fn check_bytes<W: Write>(
     ensures nothing { IfErr result (λ e. e ≢ ToolError.Write → out.new ≡ out.old) }
 {
     let (_saved, sums) = legal_saved(alloc, bytes)?;
-    write_sums(out, &sums)?;
+    tell_sums(out, &sums)?;
     Ok(())
 }
 

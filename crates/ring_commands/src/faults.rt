@@ -117,7 +117,7 @@ impl ToolError<'_> {
     }
 
     /// Writes the line of a refusal of words or settings, which has values, or of another with values.
-    fn put_asked<W: fmt::Write>(&self, f: &mut fmt::Formatter<W>) -> fmt::Result {
+    fn put_words_refusal<W: fmt::Write>(&self, f: &mut fmt::Formatter<W>) -> fmt::Result {
         match self {
             ToolError::Value(place) => write!(f, "start value {place} is not below k"),
             ToolError::Choice(place) => write!(f, "choice {place} is not below n"),
@@ -132,12 +132,12 @@ impl ToolError<'_> {
                 "seat {seat}, action {place}: not an action"
             ),
             ToolError::Syntax(line) => write!(f, "line {line}: syntax"),
-            _ => self.put_met(f),
+            _ => self.put_file_refusal(f),
         }
     }
 
     /// Writes the line of a refusal of a file or a saved text, which has values.
-    fn put_met<W: fmt::Write>(&self, f: &mut fmt::Formatter<W>) -> fmt::Result {
+    fn put_file_refusal<W: fmt::Write>(&self, f: &mut fmt::Formatter<W>) -> fmt::Result {
         match self {
             ToolError::Bad(line, kind) => write!(f, "line {line}: {kind}"),
             ToolError::Read(name) => write!(f, "cannot read {name}"),
@@ -182,7 +182,7 @@ impl fmt::Display for ToolError<'_> {
     fn fmt<W: fmt::Write>(&self, f: &mut fmt::Formatter<W>) -> fmt::Result {
         match self.fixed_line() {
             Some(line) => f.write_str(line),
-            None => self.put_asked(f),
+            None => self.put_words_refusal(f),
         }
     }
 }

@@ -13,7 +13,7 @@ ghost use Rattle.ring_commands.specs.Ran.{IsSaveRefusal};
 ghost use Rattle.ring_commands.specs.Reading.{names_stream};
 ghost use Rattle.ring_commands.specs.Worlds.{world};
 
-use crate::check::write_sums;
+use crate::check::tell_sums;
 use crate::faults::ToolError;
 use crate::reading::names_stream;
 use disks::{Contents, ContentsFault, Disk, ReplaceFault, replace};
@@ -61,7 +61,7 @@ pub(crate) fn save_fault(fault: ReplaceFault, file: &str) -> ToolError<'_>
 /// # Errors
 ///
 /// `Save` with the name where it cannot be made, written or put there, and `OutOfMemory`. Every file is as it was then.
-fn put_value<'a, D: Disk>(
+fn save_value<'a, D: Disk>(
     alloc: Global,
     disk: &mut D,
     saved: &Saved,
@@ -83,8 +83,8 @@ fn put_value<'a, D: Disk>(
 ///
 /// # Errors
 ///
-/// Those of [`put_value`]: nothing is written then. `Write` where the writer fails, when the file is in its place.
-fn put_and_tell<'a, D: Disk, W: Write>(
+/// Those of [`save_value`]: nothing is written then. `Write` where the writer fails, when the file is in its place.
+fn save_and_tell<'a, D: Disk, W: Write>(
     alloc: Global,
     disk: &mut D,
     value: &(Saved, Summary),
@@ -102,8 +102,8 @@ fn put_and_tell<'a, D: Disk, W: Write>(
     ensures kept { IfErr result (λ e. e ≢ ToolError.Write → D.holds disk.new ≡ D.holds disk.old) }
     ensures nothing { IfErr result (λ e. e ≢ ToolError.Write → out.new ≡ out.old) }
 {
-    put_value(alloc, disk, &value.0, file)?;
-    write_sums(out, &value.1)?;
+    save_value(alloc, disk, &value.0, file)?;
+    tell_sums(out, &value.1)?;
     Ok(())
 }
 
@@ -130,7 +130,7 @@ fn print_and_tell<W: Write, E: Write>(
     let Ok(()) = out.flush() else {
         return Err(ToolError::Write);
     };
-    write_sums(err, &value.1)?;
+    tell_sums(err, &value.1)?;
     Ok(())
 }
 
@@ -138,7 +138,7 @@ fn print_and_tell<W: Write, E: Write>(
 ///
 /// # Errors
 ///
-/// Those of [`put_and_tell`] or [`print_and_tell`].
+/// Those of [`save_and_tell`] or [`print_and_tell`].
 pub(crate) fn hand_over<'a, D: Disk, W: Write, E: Write>(
     alloc: Global,
     disk: &mut D,
@@ -163,6 +163,6 @@ pub(crate) fn hand_over<'a, D: Disk, W: Write, E: Write>(
     if names_stream(word) {
         print_and_tell(value, out, err)
     } else {
-        put_and_tell(alloc, disk, value, word, out)
+        save_and_tell(alloc, disk, value, word, out)
     }
 }

@@ -13,7 +13,7 @@ ghost use Rattle.ring_commands.specs.Reading.{names_stream};
 ghost use Rattle.ring_commands.specs.Written.{AppendsFront};
 ghost use Rattle.ring_commands.specs.Worlds.{world};
 
-use crate::check::{legal_saved, write_sums};
+use crate::check::{legal_saved, tell_sums};
 use crate::faults::ToolError;
 use crate::handing::save_fault;
 use crate::reading::{keep_apart, names_stream, read_named};
@@ -142,7 +142,7 @@ impl Contents for PictureText<'_, '_> {
 ///
 /// `SameFile` where it is; `Save` with the picture's name where it cannot be made, written or put there; `OutOfMemory`. Every
 /// file is as it was then.
-fn put_drawing<'a, D: Disk>(
+fn save_drawing<'a, D: Disk>(
     alloc: Global,
     disk: &mut D,
     drawing: &Drawing,
@@ -175,7 +175,7 @@ fn put_drawing<'a, D: Disk>(
 ///
 /// Those of the file: every file is as it was then, and nothing is written to `out`. `Write` where that writer fails, when the file
 /// is in its place: the bytes written to it until then are a prefix of the line.
-fn draw_and_tell<'a, D: Disk, W: Write>(
+fn save_and_tell<'a, D: Disk, W: Write>(
     alloc: Global,
     disk: &mut D,
     drawing: &Drawing,
@@ -196,8 +196,8 @@ fn draw_and_tell<'a, D: Disk, W: Write>(
     ensures kept { IfErr result (λ e. e ≢ ToolError.Write → D.holds disk.new ≡ D.holds disk.old) }
     ensures nothing { IfErr result (λ e. e ≢ ToolError.Write → out.new ≡ out.old) }
 {
-    put_drawing(alloc, disk, drawing, words)?;
-    write_sums(out, &drawing.sums)?;
+    save_drawing(alloc, disk, drawing, words)?;
+    tell_sums(out, &drawing.sums)?;
     Ok(())
 }
 
@@ -231,7 +231,7 @@ fn print_and_tell<W: Write, E: Write>(
     let Ok(()) = out.flush() else {
         return Err(ToolError::Write);
     };
-    write_sums(err, &drawing.sums)?;
+    tell_sums(err, &drawing.sums)?;
     Ok(())
 }
 
@@ -240,7 +240,7 @@ fn print_and_tell<W: Write, E: Write>(
 ///
 /// # Errors
 ///
-/// Those of [`draw_and_tell`] or [`print_and_tell`].
+/// Those of [`save_and_tell`] or [`print_and_tell`].
 pub fn hand_over<'a, D: Disk, W: Write, E: Write>(
     alloc: Global,
     disk: &mut D,
@@ -266,7 +266,7 @@ pub fn hand_over<'a, D: Disk, W: Write, E: Write>(
     if names_stream(words.picture) {
         print_and_tell(alloc, drawing, words, out, err)
     } else {
-        draw_and_tell(alloc, disk, drawing, words, out)
+        save_and_tell(alloc, disk, drawing, words, out)
     }
 }
 

@@ -27,7 +27,7 @@ use std::io::{Read, Write};
 /// # Errors
 ///
 /// The refusal of `recover_journal` for bytes of which nothing is recovered, and `OutOfMemory`.
-fn recovered_with_sums(alloc: Global, bytes: &[u8]) -> Result<(Saved, Summary), ToolError<'static>>
+fn recover_with_sums(alloc: Global, bytes: &[u8]) -> Result<(Saved, Summary), ToolError<'static>>
     ensures ok { IfOk result (λ x. IsRecovered bytes.now (content x.0)) }
     ensures sums { IfOk result (λ x. x.1 ≡ summary_of (content x.0)) }
     ensures saved { IfOk result (λ x. CanBeSaved (content x.0)) }
@@ -95,7 +95,7 @@ pub fn run<'a, D: Disk, I: Read, W: Write, E: Write>(
 {
     let bytes = read_named(alloc, disk, words.file, input)?;
     keep_word_apart(disk, words.file, words.new)?;
-    let value = recovered_with_sums(alloc, bytes.as_slice())?;
+    let value = recover_with_sums(alloc, bytes.as_slice())?;
     match hand_over(alloc, disk, &value, words.new, out, err) {
         Ok(()) => Ok(()),
         Err(fault) => Err(fault),

@@ -11,7 +11,7 @@ ghost use Rattle.text_lines.specs.Writing.{Writes};
 ghost use Rattle.disks.specs.Held.{Replaces};
 ghost use Rattle.ring_commands.specs.Handed.{IsHandOutRefusal};
 ghost use Rattle.ring_commands.specs.Named.{IsApart, IsApartRefusal, IsStored};
-ghost use Rattle.ring_commands.specs.Ran.{told, printed, history_file, IsFarmOn, IsFarmRefusal, IsFarmNamed, IsFarmNamedRefusal, IsSaveRefusal, IsOutcomeRefusal, IsRunRefusal};
+ghost use Rattle.ring_commands.specs.Ran.{report_text, output_text, history_file, IsFarmOn, IsFarmRefusal, IsFarmNamed, IsFarmNamedRefusal, IsSaveRefusal, IsOutcomeRefusal, IsRunRefusal};
 ghost use Rattle.ring_commands.specs.Reading.{names_stream};
 ghost use Rattle.ring_commands.specs.Saved.{IsLegalOfFarm, IsRunAnswer};
 ghost use Rattle.ring_commands.specs.Worlds.{world};
@@ -96,7 +96,7 @@ fn farm_of_words<'a, R: Threads + Wait + Sync, D: Disk, I: Read>(
 }
 
 /// Writes the saved text of an outcome.
-fn save<W: Write>(outcome: &Outcome, out: &mut W) -> Result<(), WriteFault>
+fn write_legal_outcome<W: Write>(outcome: &Outcome, out: &mut W) -> Result<(), WriteFault>
     requires some { 1 ≤ length outcome.now.rings.items }
     requires most { length outcome.now.rings.items ≤ ring_limit }
     ensures written { Writes (W.contents out.old) (W.contents out.new) result
@@ -131,7 +131,7 @@ impl Contents for OutcomeText<'_> {
     ghost known = { λ s. IsLegalOfFarm s.outcome.now };
 
     fn write_to<W: Write>(&self, out: &mut W) -> Result<(), ContentsFault> {
-        match save(self.outcome, out) {
+        match write_legal_outcome(self.outcome, out) {
             Ok(()) => Ok(()),
             Err(_) => Err(ContentsFault::Write),
         }
@@ -143,7 +143,7 @@ impl Contents for OutcomeText<'_> {
 /// # Errors
 ///
 /// `Save` with the name where it cannot be made, written or put there, and `OutOfMemory`. Every file is as it was then.
-fn put_outcome<'a, D: Disk>(
+fn save_outcome<'a, D: Disk>(
     alloc: Global,
     disk: &mut D,
     outcome: &Outcome,
@@ -167,7 +167,8 @@ fn put_outcome<'a, D: Disk>(
 fn tell_outcome<W: Write>(outcome: &Outcome, quiet: bool, out: &mut W) -> Result<(), WriteFault>
     requires most { length outcome.now.rings.items ≤ ring_limit }
     requires few { entries_in outcome.now < 2 ^ 64 }
-    ensures { Writes (W.contents out.old) (W.contents out.new) result (told quiet outcome.now) }
+    ensures { Writes (W.contents out.old) (W.contents out.new) result
+        (report_text quiet outcome.now) }
 {
     if quiet {
         write_total(outcome, out)
@@ -199,14 +200,15 @@ pub fn save_and_report<'a, D: Disk, W: Write>(
         (Some (text (saved_of outcome.now)))) }
     ensures legal { OnOk result (IsLegalOfFarm outcome.now) }
     ensures told { OnOk result
-        (Appends (W.contents out.old) (W.contents out.new) (told quiet outcome.now)) }
+        (Appends (W.contents out.old) (W.contents out.new) (report_text quiet outcome.now)) }
     ensures err { IfErr result (λ e.
-        IsHandOutRefusal (Some file.now) (text (saved_of outcome.now)) (told quiet outcome.now)
-        (D.holds disk.old) (D.holds disk.new) (W.contents out.old) (W.contents out.new) e) }
+        IsHandOutRefusal (Some file.now) (text (saved_of outcome.now))
+        (report_text quiet outcome.now) (D.holds disk.old) (D.holds disk.new)
+        (W.contents out.old) (W.contents out.new) e) }
     ensures kept { IfErr result (λ e. e ≢ ToolError.Write → D.holds disk.new ≡ D.holds disk.old) }
     ensures nothing { IfErr result (λ e. e ≢ ToolError.Write → out.new ≡ out.old) }
 {
-    put_outcome(alloc, disk, outcome, file)?;
+    save_outcome(alloc, disk, outcome, file)?;
     tell_outcome(outcome, quiet, out)?;
     Ok(())
 }
@@ -231,7 +233,7 @@ fn hand_out<'a, D: Disk, W: Write>(
         (D.holds disk.new) (text (saved_of outcome.now))) }
     ensures legal { OnOk result (IsSome words.now.history → IsLegalOfFarm outcome.now) }
     ensures told { OnOk result
-        (Appends (W.contents out.old) (W.contents out.new) (printed words.now outcome.now)) }
+        (Appends (W.contents out.old) (W.contents out.new) (output_text words.now outcome.now)) }
     ensures err { IfErr result (λ e. IsOutcomeRefusal words.now outcome.now (D.holds disk.old)
         (D.holds disk.new) (W.contents out.old) (W.contents out.new) e) }
     ensures kept { IfErr result (λ e. e ≢ ToolError.Write → D.holds disk.new ≡ D.holds disk.old) }
@@ -242,7 +244,7 @@ fn hand_out<'a, D: Disk, W: Write>(
         return Ok(());
     };
     if names_stream(file) {
-        save(outcome, out)?;
+        write_legal_outcome(outcome, out)?;
         return Ok(());
     }
     match save_and_report(alloc, disk, outcome, file, words.quiet, out) {

@@ -1,10 +1,10 @@
 //! `serve`: rings that resume from a saved text, driven by the lines of standard input.
 
-ghost use Rattle.std.specs.Prelude.{◌≡◌, ℕ, List, None, Some, Option, true, false, OnOk, IfOk, IfErr, IfSome, length, ◌⊎◌, ◌≤◌, ◌<◌, ◌^◌};
+ghost use Rattle.std.specs.Prelude.{◌≡◌, List, None, Some, Option, true, false, OnOk, IfOk, IfErr, length, ◌⊎◌, ◌≤◌, ◌<◌, ◌^◌};
 ghost use Rattle.std.specs.Option.{option_map};
 ghost use Rattle.std.specs.Io.KnownBytes.{Appends};
 ghost use Rattle.text_lines.specs.Writing.{Writes};
-ghost use Rattle.disks.specs.Held.{Held, Grows, Replaces};
+ghost use Rattle.disks.specs.Held.{Grows, Replaces};
 ghost use Rattle.ring_saved.specs.declared.saved.Saved.{Saved};
 ghost use Rattle.ring_journal.specs.Spelling.{head_text};
 ghost use Rattle.ring_serve.specs.Standings.{Standing};
@@ -13,7 +13,7 @@ ghost use Rattle.ring_serve.specs.Starting.{AreResumed};
 ghost use Rattle.ring_serve.specs.Totals.{totals_of};
 ghost use Rattle.ring_text.specs.Report.{total_line};
 ghost use Rattle.ring_commands.specs.Ran.{IsSaveRefusal};
-ghost use Rattle.ring_commands.specs.Served.{IsHistory, IsNoted, IsServedPlain, IsServedOn, IsServedNoted, IsServedFrom, IsServeAnswer, journal_of, IsUnserved, IsHistoryRefusal, IsUnopenedJournal, IsUnkept, IsJournalRefusal, IsStartRefusal, IsServingFault, IsServedPart, IsUnfinished, IsRefusedFrom, IsUntold, IsServeRefusal};
+ghost use Rattle.ring_commands.specs.Served.{CanBegin, IsHistory, IsNoted, IsServedPlain, IsServedOn, IsServedNoted, IsServedFrom, IsServeAnswer, journal_of, IsUnserved, IsHistoryRefusal, IsUnopenedJournal, IsUnkept, IsJournalRefusal, IsStartRefusal, IsServingFault, IsServedPart, IsUnfinished, IsRefusedFrom, IsUntold, IsServeRefusal};
 ghost use Rattle.ring_commands.specs.Worlds.{world};
 
 use crate::check::legal_saved;
@@ -24,7 +24,7 @@ use disks::{Contents, ContentsFault, Disk, replace};
 use ring_journal::{put_first_line, recover_journal};
 use ring_requests::ServeWords;
 use ring_saved::Saved;
-use ring_serve::{Journal, ServeFault, Served, StartError, put_rings, serve};
+use ring_serve::{Journal, ServeFault, Served, StartError, serve, write_rings};
 use ring_text::put_total_line;
 use std::alloc::Global;
 use std::io::{ErrorKind, Read, Sink, Write};
@@ -35,7 +35,7 @@ use text_lines::WriteFault;
 /// # Errors
 ///
 /// `Full` if one of them has too many events, and `OutOfMemory`.
-fn started(alloc: Global, saved: &Saved) -> Result<Served, ToolError<'static>>
+fn resume_rings(alloc: Global, saved: &Saved) -> Result<Served, ToolError<'static>>
     ensures ok { IfOk result (λ served. AreResumed served saved.now.rings.items) }
     ensures err { IfErr result (λ e. IsStartRefusal saved.now.rings.items e) }
 {
@@ -47,7 +47,7 @@ fn started(alloc: Global, saved: &Saved) -> Result<Served, ToolError<'static>>
 }
 
 /// Returns the refusal for a fault while lines were served.
-fn told<'a>(fault: ServeFault, journal: Option<&'a str>) -> ToolError<'a>
+fn serving_refusal<'a>(fault: ServeFault, journal: Option<&'a str>) -> ToolError<'a>
     ensures { IsServingFault (option_map (λ name. name.now) journal.entry) result }
 {
     match (fault, journal) {
@@ -63,6 +63,7 @@ fn told<'a>(fault: ServeFault, journal: Option<&'a str>) -> ToolError<'a>
 /// The value of the legal saved text that the file of this name holds.
 fn history<'a, D: Disk>(alloc: Global, disk: &D, name: &'a str) -> Result<Saved, ToolError<'a>>
     ensures ok { IfOk result (λ saved. IsHistory (D.holds disk.now) name.now saved) }
+    ensures rings { IfOk result (λ saved. CanBegin (length saved.rings.items)) }
     ensures err { IfErr result (λ e. IsHistoryRefusal (D.holds disk.now) name.now e) }
 {
     let bytes = match read_file(alloc, disk, name) {
@@ -76,13 +77,15 @@ fn history<'a, D: Disk>(alloc: Global, disk: &D, name: &'a str) -> Result<Saved,
 }
 
 /// Returns the value that is recovered of the journal of this name, if that records something; else the given one.
-fn noted<'a, D: Disk>(
+fn value_to_resume<'a, D: Disk>(
     alloc: Global,
     disk: &D,
     name: &'a str,
     saved: Saved,
 ) -> Result<Saved, ToolError<'a>>
+    requires rings { CanBegin (length saved.rings.items) }
     ensures ok { IfOk result (λ now. IsNoted (D.holds disk.now) name.now saved now) }
+    ensures rings { IfOk result (λ now. CanBegin (length now.rings.items)) }
     ensures err { IfErr result (λ e. IsJournalRefusal (D.holds disk.now) name.now e) }
 {
     let bytes = match read_file(alloc, disk, name) {
@@ -99,7 +102,11 @@ fn noted<'a, D: Disk>(
 }
 
 /// Opens the journal's file to write at its end.
-fn opened<'a, D: Disk>(disk: &mut D, name: &'a str, synced: bool) -> Result<D::Grown, ToolError<'a>>
+fn open_journal<'a, D: Disk>(
+    disk: &mut D,
+    name: &'a str,
+    synced: bool,
+) -> Result<D::Grown, ToolError<'a>>
     ensures ok { IfOk result (λ grown. Grows (D.holds disk.old) name.now (D.Grown.contents grown)) }
     ensures kept { D.holds disk.new ≡ D.holds disk.old }
     ensures err { IfErr result (λ e. IsUnopenedJournal name.now e) }
@@ -121,7 +128,7 @@ fn put_head<W: Write>(out: &mut W, served: &Served) -> Result<(), WriteFault>
         (head_text (content_of served.now)) }
 {
     match put_first_line(out) {
-        Ok(()) => put_rings(out, served),
+        Ok(()) => write_rings(out, served),
         Err(fault) => Err(fault),
     }
 }
@@ -150,20 +157,17 @@ impl Contents for Beginning<'_> {
 }
 
 /// Replaces the file of this name by one with the start of a journal of these rings.
-fn put_beginning<'a, D: Disk>(
+fn save_beginning<'a, D: Disk>(
     alloc: Global,
     disk: &mut D,
     served: &Served,
     name: &'a str,
 ) -> Result<(), ToolError<'a>>
+    requires rings { CanBegin (length served.now) }
     ensures ok { OnOk result (Replaces (D.holds disk.old) (D.holds disk.new) name.now
         (Some (head_text (content_of served.now)))) }
     ensures err { IfErr result (λ e. IsSaveRefusal name.now e) }
 {
-    let count = served.count();
-    if count == 0 || count > u32::MAX as usize {
-        return Err(ToolError::Save(name));
-    }
     match replace(alloc, disk, name, &Beginning { served }) {
         Ok(()) => Ok(()),
         Err(fault) => Err(save_fault(fault, name)),
@@ -205,12 +209,12 @@ fn serve_plain<D: Disk, I: Read, W: Write>(
     let mut journal: Option<Journal<'_, Sink>> = None;
     match serve(alloc, served, disk, &mut journal, input, out) {
         Ok(()) => Ok(()),
-        Err(fault) => Err(told(fault, None)),
+        Err(fault) => Err(serving_refusal(fault, None)),
     }
 }
 
 /// Serves with a journal in the file of this name, which has been begun.
-fn serve_noted<'a, D: Disk, I: Read, W: Write>(
+fn serve_with_journal<'a, D: Disk, I: Read, W: Write>(
     alloc: Global,
     disk: &mut D,
     served: &mut Served,
@@ -232,10 +236,10 @@ fn serve_noted<'a, D: Disk, I: Read, W: Write>(
     });
     match serve(alloc, served, disk, &mut kept, input, out) {
         Ok(()) => {}
-        Err(fault) => return Err(told(fault, Some(name))),
+        Err(fault) => return Err(serving_refusal(fault, Some(name))),
     }
     let Some(Journal { writer, .. }) = kept else {
-        return Err(ToolError::Save(name));
+        unreachable!()
     };
     match disk.close_synced(writer, name) {
         Ok(()) => Ok(()),
@@ -251,13 +255,14 @@ fn begin_journal<'a, D: Disk>(
     name: &'a str,
     synced: bool,
 ) -> Result<D::Grown, ToolError<'a>>
+    requires rings { CanBegin (length served.now) }
     ensures ok { IfOk result (λ grown. Replaces (D.holds disk.old) (D.holds disk.new) name.now
         (Some (head_text (content_of served.now)))
         × Grows (D.holds disk.new) name.now (D.Grown.contents grown)) }
     ensures err { IfErr result (λ e. IsUnkept name.now e) }
 {
-    put_beginning(alloc, disk, served, name)?;
-    match opened(disk, name, synced) {
+    save_beginning(alloc, disk, served, name)?;
+    match open_journal(disk, name, synced) {
         Ok(grown) => Ok(grown),
         Err(fault) => Err(fault),
     }
@@ -278,7 +283,7 @@ fn run_plain<D: Disk, I: Read, W: Write>(
     ensures err { IfErr result (λ e. IsUnfinished None saved.now.rings.items (I.remaining input.old)
         (I.remaining input.new) (W.contents out.old) (W.contents out.new) e) }
 {
-    let mut served = match started(alloc, saved) {
+    let mut served = match resume_rings(alloc, saved) {
         Ok(served) => served,
         Err(fault) => return Err(fault),
     };
@@ -289,7 +294,7 @@ fn run_plain<D: Disk, I: Read, W: Write>(
 }
 
 /// The rings that are served with a journal in the file of this name, which is locked, when all lines have been.
-fn run_noted<'a, D: Disk, I: Read, W: Write>(
+fn run_with_locked_journal<'a, D: Disk, I: Read, W: Write>(
     alloc: Global,
     disk: &mut D,
     saved: &Saved,
@@ -298,6 +303,7 @@ fn run_noted<'a, D: Disk, I: Read, W: Write>(
     input: &mut I,
     out: &mut W,
 ) -> Result<Served, ToolError<'a>>
+    requires rings { CanBegin (length saved.now.rings.items) }
     ensures ok { IfOk result (λ end. (start : List Standing)
         × AreResumed start saved.now.rings.items
         × IsServedNoted name.now start end (D.holds disk.old) (D.holds disk.new)
@@ -309,7 +315,7 @@ fn run_noted<'a, D: Disk, I: Read, W: Write>(
         ⊎ IsUnfinished (Some name.now) saved.now.rings.items (I.remaining input.old)
         (I.remaining input.new) (W.contents out.old) (W.contents out.new) e) }
 {
-    let mut served = match started(alloc, saved) {
+    let mut served = match resume_rings(alloc, saved) {
         Ok(served) => served,
         Err(fault) => return Err(fault),
     };
@@ -317,14 +323,14 @@ fn run_noted<'a, D: Disk, I: Read, W: Write>(
         Ok(journal) => journal,
         Err(fault) => return Err(fault),
     };
-    match serve_noted(alloc, disk, &mut served, name, journal, input, out) {
+    match serve_with_journal(alloc, disk, &mut served, name, journal, input, out) {
         Ok(()) => Ok(served),
         Err(fault) => Err(fault),
     }
 }
 
 /// The rings that are served with a journal, when all lines have been. Its file is locked from before it is read.
-fn run_journaled<'a, D: Disk, I: Read, W: Write>(
+fn run_with_journal<'a, D: Disk, I: Read, W: Write>(
     alloc: Global,
     disk: &mut D,
     saved: Saved,
@@ -333,6 +339,7 @@ fn run_journaled<'a, D: Disk, I: Read, W: Write>(
     input: &mut I,
     out: &mut W,
 ) -> Result<Served, ToolError<'a>>
+    requires rings { CanBegin (length saved.rings.items) }
     ensures ok { IfOk result (λ end. (from : Saved)
         × IsNoted (D.holds disk.old) name.now saved from
         × (start : List Standing)
@@ -343,15 +350,15 @@ fn run_journaled<'a, D: Disk, I: Read, W: Write>(
         IsRefusedFrom (D.holds disk.old) (Some name.now) saved (I.remaining input.old)
         (I.remaining input.new) (W.contents out.old) (W.contents out.new) e) }
 {
-    let lock = match opened(disk, name, false) {
+    let lock = match open_journal(disk, name, false) {
         Ok(lock) => lock,
         Err(fault) => return Err(fault),
     };
-    let saved = match noted(alloc, disk, name, saved) {
+    let saved = match value_to_resume(alloc, disk, name, saved) {
         Ok(saved) => saved,
         Err(fault) => return Err(fault),
     };
-    let end = run_noted(alloc, disk, &saved, name, synced, input, out);
+    let end = run_with_locked_journal(alloc, disk, &saved, name, synced, input, out);
     drop(lock);
     end
 }
@@ -365,6 +372,7 @@ fn run_on<'a, D: Disk, I: Read, W: Write>(
     input: &mut I,
     out: &mut W,
 ) -> Result<Served, ToolError<'a>>
+    requires rings { CanBegin (length saved.rings.items) }
     ensures ok { IfOk result (λ end.
         IsServedFrom words.now saved end (D.holds disk.old) (D.holds disk.new)
         (I.remaining input.old) (I.remaining input.new) (W.contents out.old) (W.contents out.new)) }
@@ -377,7 +385,7 @@ fn run_on<'a, D: Disk, I: Read, W: Write>(
             Ok(end) => Ok(end),
             Err(fault) => Err(fault),
         },
-        Some(name) => match run_journaled(alloc, disk, saved, name, words.synced, input, out) {
+        Some(name) => match run_with_journal(alloc, disk, saved, name, words.synced, input, out) {
             Ok(end) => Ok(end),
             Err(fault) => Err(fault),
         },

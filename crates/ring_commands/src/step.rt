@@ -1,6 +1,6 @@
 //! `step`: a ring on one thread, from given values, by given choices.
 
-ghost use Rattle.std.specs.Prelude.{◌≡◌, ◌≤◌, [], length, nat_le, position, IsSome, OnOk, OnErr, IfOk, IfErr};
+ghost use Rattle.std.specs.Prelude.{◌≡◌, ◌≤◌, length, nat_le, position, IsSome, OnOk, OnErr, IfOk, IfErr};
 ghost use Rattle.std.specs.Option.{option_map};
 ghost use Rattle.std.specs.Io.KnownBytes.{Appends};
 ghost use Rattle.ring_model.specs.Ring.{ring_with};
@@ -24,7 +24,7 @@ use std::io::Write;
 use text_lines::{WriteFault, put, put_all, put_list};
 
 /// The line of a granted pass: the machine, and the number of the grant.
-fn write_granted<W: Write>(out: &mut W, machine: u32, number: u64) -> Result<(), WriteFault>
+fn put_granted<W: Write>(out: &mut W, machine: u32, number: u64) -> Result<(), WriteFault>
     ensures { Writes (W.contents out.old) (W.contents out.new) result
         (granted_line machine number) }
 {
@@ -42,7 +42,7 @@ fn write_granted<W: Write>(out: &mut W, machine: u32, number: u64) -> Result<(),
 }
 
 /// The line of a pass that found no privilege.
-fn write_refused<W: Write>(out: &mut W, machine: u32) -> Result<(), WriteFault>
+fn put_refused<W: Write>(out: &mut W, machine: u32) -> Result<(), WriteFault>
     ensures { Writes (W.contents out.old) (W.contents out.new) result (refused_line machine) }
 {
     let mut digits = Buffer::new();
@@ -53,17 +53,17 @@ fn write_refused<W: Write>(out: &mut W, machine: u32) -> Result<(), WriteFault>
 }
 
 /// The line of one pass: the machine, and what the ring answered it.
-fn write_reply<W: Write>(out: &mut W, machine: u32, reply: Reply) -> Result<(), WriteFault>
+fn put_reply<W: Write>(out: &mut W, machine: u32, reply: Reply) -> Result<(), WriteFault>
     ensures { Writes (W.contents out.old) (W.contents out.new) result (reply_line machine reply) }
 {
     match reply {
-        Reply::Granted { number, .. } => write_granted(out, machine, number),
-        Reply::NotPrivileged | Reply::Corrupted { .. } => write_refused(out, machine),
+        Reply::Granted { number, .. } => put_granted(out, machine, number),
+        Reply::NotPrivileged | Reply::Corrupted { .. } => put_refused(out, machine),
     }
 }
 
 /// The values of the ring, with a comma between each two.
-fn write_values<W: Write>(out: &mut W, state: &RingState) -> Result<(), WriteFault>
+fn put_values<W: Write>(out: &mut W, state: &RingState) -> Result<(), WriteFault>
     ensures { Writes (W.contents out.old) (W.contents out.new) result (list_text state.now.values) }
 {
     let n = state.params().n();
@@ -71,11 +71,11 @@ fn write_values<W: Write>(out: &mut W, state: &RingState) -> Result<(), WriteFau
 }
 
 /// The two lines of the last state.
-fn write_end<W: Write>(out: &mut W, state: &RingState) -> Result<(), WriteFault>
+fn put_end<W: Write>(out: &mut W, state: &RingState) -> Result<(), WriteFault>
     ensures { Writes (W.contents out.old) (W.contents out.new) result (end_lines state.now.values) }
 {
     put(out, b"states ")?;
-    write_values(out, state)?;
+    put_values(out, state)?;
     let mut count = Buffer::new();
     let mut first = Buffer::new();
     put_all(
@@ -170,9 +170,9 @@ pub fn step_lines<W: Write>(
     let mut book = book_of(alloc, n, k, states, choices)?;
     for choice in choices {
         let receipt = book.pass(0, *choice, 0)?;
-        write_reply(out, *choice, receipt.event.reply)?;
+        put_reply(out, *choice, receipt.event.reply)?;
     }
-    write_end(out, book.state())?;
+    put_end(out, book.state())?;
     Ok(())
 }
 

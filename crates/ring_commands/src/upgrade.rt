@@ -26,7 +26,7 @@ use std::io::{Read, Write};
 /// # Errors
 ///
 /// The refusals of `check` for a text that is not legal, and `OutOfMemory`.
-fn upgraded(alloc: Global, bytes: &[u8]) -> Result<(Saved, Summary), ToolError<'static>>
+fn upgrade_with_sums(alloc: Global, bytes: &[u8]) -> Result<(Saved, Summary), ToolError<'static>>
     ensures ok { IfOk result (λ x. IsUpgradeOf bytes.now (content x.0) x.1) }
     ensures saved { IfOk result (λ x. CanBeSaved (content x.0)) }
     ensures err { IfErr result (λ e. IsSavedTextRefusal bytes.now e) }
@@ -75,7 +75,7 @@ pub fn run<'a, D: Disk, I: Read, W: Write, E: Write>(
         × IsUpgradeOf bytes c sums) }
 {
     let bytes = read_named(alloc, disk, words.file, input)?;
-    let value = upgraded(alloc, bytes.as_slice())?;
+    let value = upgrade_with_sums(alloc, bytes.as_slice())?;
     match hand_over(alloc, disk, &value, words.new, out, err) {
         Ok(()) => Ok(()),
         Err(fault) => Err(fault),

@@ -8,7 +8,6 @@ use Rattle.ring_model.specs.Resources.{till}
 use Rattle.ring_model.specs.History.{opening}
 use Rattle.ring_model.specs.declared.events.Survey.{Survey}
 use Rattle.ring_logs.specs.LogView.{LogView}
-use Rattle.ring_saved.specs.declared.saved.SavedSurvey.{SavedSurvey}
 use Rattle.ring_saved.specs.Content.{Block}
 use Rattle.ring_saved.specs.Versions.{latest_version}
 use Rattle.ring_saved.specs.Spelling.{survey_line, block_text, SurveyFits, BlockFits, Fits}

@@ -30,8 +30,8 @@ pub record RingView (C : Type 0) : Type 0 where
   pub clients : List LogView
 
 -- the client has its place as its number, and its log fits the history
-pub record IsClient {C : Type 0} (w : Works C) (first : C) (b : BookView C) (place : ℕ) (c : LogView) :
-    Type 0 where
+pub record IsClient {C : Type 0} (w : Works C) (first : C) (b : BookView C) (place : ℕ)
+    (c : LogView) : Type 0 where
   pub number : c.number ≡ place
   pub fits : Fits w (opening b.start first) b.history place c.log
 

@@ -1,15 +1,14 @@
 //! A ring with its clients, called by numbers.
-ghost use Rattle.std.specs.Prelude.{◌≡◌, ◌≢◌, ℕ, ◌<◌, ◌≤◌, ◌+◌, ◌↔◌, ◌∷◌, [], length, drop, slice_index_or, IsTrue, IfOk, IfErr, OnOk, OnErr, IsErrOf};
+ghost use Rattle.std.specs.Prelude.{◌≡◌, ◌<◌, ◌≤◌, ◌+◌, ◌↔◌, ◌∷◌, [], length, drop, slice_index_or, IsTrue, IfOk, IfErr, OnOk, OnErr};
 ghost use Rattle.ring_model.specs.History.{opening};
 ghost use Rattle.ring_model.specs.HistoryLaws.{Settlement};
-ghost use Rattle.ring_model.specs.Limits.{event_limit, seat_limit};
-ghost use Rattle.ring_model.specs.GroupLaws.{CanMove};
+ghost use Rattle.ring_model.specs.Limits.{seat_limit};
 ghost use Rattle.ring_model.specs.Surveys.{survey_at};
 ghost use Rattle.ring_model.specs.declared.events.Op.TheVariants as op;
 ghost use Rattle.ring_state.specs.Sizes.{IsSize};
 ghost use Rattle.ring_book.specs.BookView.{IsFresh, IsRecorded};
 ghost use Rattle.ring_model.specs.Groups.{Rises};
-ghost use Rattle.ring_book.specs.GroupView.{IsGroupRecorded, IsLeastWithout};
+ghost use Rattle.ring_book.specs.GroupView.{IsGroupRecorded};
 ghost use Rattle.ring_logs.specs.Seats.{receipts_from};
 ghost use Rattle.ring_desk.specs.Clients.{told_all, with_survey_at, AreNew};
 ghost use Rattle.ring_desk.specs.Texts.{surveys_told, surveys_kept};

@@ -1,12 +1,10 @@
 //! The saved text of a ring over a till. Writing it takes no memory.
-ghost use Rattle.std.specs.Prelude.{◌≡◌, IfOk, map};
+ghost use Rattle.std.specs.Prelude.{IfOk, map};
 ghost use Rattle.std.specs.List.{flat_map, AllByRecursion};
 ghost use Rattle.text_lines.specs.Writing.{Writes};
-ghost use Rattle.ring_model.specs.Resources.{till};
 ghost use Rattle.ring_saved.specs.Versions.{latest_version};
 ghost use Rattle.ring_saved.specs.Spelling.{survey_line, block_text, text, SurveyFits, BlockFits, Fits};
 ghost use Rattle.ring_check.specs.Legal.{IsLegalText};
-ghost use Rattle.ring_desk.specs.Rings.{IsOneThreadRing};
 ghost use Rattle.ring_blocks.specs.SavedOf.{saved_survey};
 ghost use Rattle.ring_desk.specs.Texts.{saved_block, saved_alone, IsTextOf};
 
@@ -22,10 +20,11 @@ use std::io::Write;
 use text_lines::WriteFault;
 
 /// Writes a line for each of these surveys of a seat.
-fn put_told<W: Write>(out: &mut W, seat: u32, surveys: &[Survey]) -> Result<(), WriteFault>
+fn put_survey_lines<W: Write>(out: &mut W, seat: u32, surveys: &[Survey]) -> Result<(), WriteFault>
     ensures written { Writes (W.contents out.old) (W.contents out.new) result
         (flat_map survey_line (map (saved_survey seat) surveys.now)) }
-    ensures fits { IfOk result (λ _. AllByRecursion SurveyFits (map (saved_survey seat) surveys.now)) }
+    ensures fits { IfOk result
+        (λ _. AllByRecursion SurveyFits (map (saved_survey seat) surveys.now)) }
 {
     for survey in surveys {
         match put_survey_line(out, saved_survey(seat, *survey)) {
@@ -42,7 +41,7 @@ impl SurveyLog for Client {
     ghost surveys = { client_surveys };
 
     fn put_surveys<W: Write>(&self, out: &mut W) -> Result<(), WriteFault> {
-        put_told(out, self.number(), self.surveys())
+        put_survey_lines(out, self.number(), self.surveys())
     }
 }
 

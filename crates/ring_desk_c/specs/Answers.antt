@@ -1,11 +1,9 @@
 -- The answers of calls on the ring that C holds: the clauses of a ring that is called by numbers,
 -- over either resource (this project's own).
-use Rattle.std.specs.Prelude.{◌≡◌, ◌≢◌, ℕ, ◌+◌, ◌<◌, ◌≤◌, ◌↔◌, List, [], ◌∷◌, length, drop, Result, Ok, Err, IfOk, OnErr, IsErrOf}
+use Rattle.std.specs.Prelude.{◌≡◌, ℕ, List, [], ◌∷◌, length, drop, Result, Ok, Err, IfOk, OnErr}
 use Rattle.ring_model.specs.Resources.{till}
 use Rattle.ring_model.specs.History.{Works, opening}
 use Rattle.ring_model.specs.HistoryLaws.{Settlement}
-use Rattle.ring_model.specs.GroupLaws.{CanMove}
-use Rattle.ring_model.specs.Limits.{event_limit}
 use Rattle.ring_model.specs.Surveys.{survey_at}
 use Rattle.ring_model.specs.declared.events.Event.{Event}
 use Rattle.ring_model.specs.declared.events.Op.TheVariants as op
@@ -13,7 +11,7 @@ use Rattle.ring_model.specs.declared.events.Receipt.{Receipt}
 use Rattle.ring_model.specs.declared.events.Survey.{Survey}
 use Rattle.ring_model.specs.declared.events.Entry.TheVariants as entry
 use Rattle.ring_book.specs.BookView.{IsRecorded}
-use Rattle.ring_book.specs.GroupView.{IsGroupRecorded, IsLeastWithout}
+use Rattle.ring_book.specs.GroupView.{IsGroupRecorded}
 use Rattle.ring_book.specs.IdleWorks.{idle}
 use Rattle.ring_book.specs.declared.books.groups.GroupReceipt.{GroupReceipt}
 use Rattle.ring_logs.specs.Seats.{receipts_from}
@@ -21,7 +19,6 @@ use Rattle.ring_desk.specs.Rings.{RingView, IsOneThreadRing, told_more}
 use Rattle.ring_desk.specs.Refusals.{IsDecided, bounds_of, seat_refusal, pass_refusal, corrupt_refusal, group_refusal}
 use Rattle.ring_desk.specs.Texts.{IsTextOf}
 use Rattle.ring_desk.specs.declared.errors.CallError.{CallError}
-use Rattle.ring_desk.specs.declared.errors.CallError.TheVariants as call
 use Rattle.std_alloc.specs.declared.vec.Vec.{Vec}
 use Rattle.std.specs.declared.alloc.Global.{Global}
 use Rattle.ring_desk_c.specs.declared.kept.Kept.{Kept}

@@ -2,4 +2,4 @@ pub mod Answers
 pub mod Codes
 pub mod Held
 pub mod Opened
-pub mod Told
+pub mod Reports

@@ -1,7 +1,7 @@
 //! The answers to C.
 
 ghost use Rattle.std.specs.Prelude.{◌≡◌};
-ghost use Rattle.ring_desk_c.specs.Told.{IsTold, IsReplyTold, IsGroupTold, IsSightTold, IsSaveTold, IsTextTold, IsCheckTold, line_of};
+ghost use Rattle.ring_desk_c.specs.Reports.{IsCallReport, IsReplyReport, IsGroupReport, IsSightReport, IsSaveReport, IsTextReport, IsCheckReport, line_of};
 
 use crate::codes::{NO_MEMORY, TOO_SMALL, call_code, kind_code, text_code};
 use crate::kept::TextError;
@@ -55,8 +55,8 @@ pub struct Sums {
 }
 
 /// A reply at a position.
-fn reply_told(position: u64, reply: Reply, out: &mut Answer) -> u32
-    ensures { IsReplyTold position reply result out.new }
+fn report_reply(position: u64, reply: Reply, out: &mut Answer) -> u32
+    ensures { IsReplyReport position reply result out.new }
 {
     match reply {
         Reply::Granted { number, result } => {
@@ -87,18 +87,18 @@ fn reply_told(position: u64, reply: Reply, out: &mut Answer) -> u32
 }
 
 /// The answer of a call.
-pub(crate) fn told(answer: Result<Receipt, CallError>, out: &mut Answer) -> u32
-    ensures { IsTold answer result out.old out.new }
+pub(crate) fn report_call(answer: Result<Receipt, CallError>, out: &mut Answer) -> u32
+    ensures { IsCallReport answer result out.old out.new }
 {
     match answer {
-        Ok(receipt) => reply_told(receipt.position, receipt.event.reply, out),
+        Ok(receipt) => report_reply(receipt.position, receipt.event.reply, out),
         Err(error) => call_code(error),
     }
 }
 
 /// The answer of a group.
-pub(crate) fn group_told(answer: Result<GroupReceipt, CallError>, out: &mut Group) -> u32
-    ensures { IsGroupTold answer result out.old out.new }
+pub(crate) fn report_group(answer: Result<GroupReceipt, CallError>, out: &mut Group) -> u32
+    ensures { IsGroupReport answer result out.old out.new }
 {
     match answer {
         Ok(receipt) => {
@@ -122,8 +122,8 @@ pub(crate) fn group_told(answer: Result<GroupReceipt, CallError>, out: &mut Grou
 }
 
 /// The answer of a survey.
-pub(crate) fn sight_told(answer: Result<Survey, CallError>, out: &mut Sight) -> u32
-    ensures { IsSightTold answer result out.old out.new }
+pub(crate) fn report_sight(answer: Result<Survey, CallError>, out: &mut Sight) -> u32
+    ensures { IsSightReport answer result out.old out.new }
 {
     match answer {
         Ok(survey) => {
@@ -141,8 +141,8 @@ pub(crate) fn sight_told(answer: Result<Survey, CallError>, out: &mut Sight) -> 
 }
 
 /// A text's size, and its bytes if there is room for them.
-fn text_told(text: &[u8], out: &mut [u8], size: &mut u64) -> u32
-    ensures { IsTextTold text.now result out.old out.new size.new }
+fn report_text(text: &[u8], out: &mut [u8], size: &mut u64) -> u32
+    ensures { IsTextReport text.now result out.old out.new size.new }
 {
     *size = text.len() as u64;
     if text.len() > out.len() {
@@ -153,18 +153,18 @@ fn text_told(text: &[u8], out: &mut [u8], size: &mut u64) -> u32
 }
 
 /// The answer of a save.
-pub(crate) fn save_told(answer: Result<Vec<u8>, TextError>, out: &mut [u8], size: &mut u64) -> u32
-    ensures { IsSaveTold answer result out.old out.new size.old size.new }
+pub(crate) fn report_save(answer: Result<Vec<u8>, TextError>, out: &mut [u8], size: &mut u64) -> u32
+    ensures { IsSaveReport answer result out.old out.new size.old size.new }
 {
     match answer {
-        Ok(text) => text_told(text.as_slice(), out, size),
+        Ok(text) => report_text(text.as_slice(), out, size),
         Err(error) => text_code(error),
     }
 }
 
 /// No sums, with a line.
 pub(crate) fn no_sums(line: u64) -> Sums
-    ensures { result ≡ Rattle.ring_desk_c.specs.Told.no_sums line }
+    ensures { result ≡ Rattle.ring_desk_c.specs.Reports.no_sums line }
 {
     Sums {
         events: 0,
@@ -188,8 +188,8 @@ pub(crate) fn line_of(error: ReadError) -> u64
 }
 
 /// The answer of the checker.
-pub(crate) fn check_told(answer: Result<Summary, CheckError>, out: &mut Sums) -> u32
-    ensures { IsCheckTold answer result out.new }
+pub(crate) fn report_check(answer: Result<Summary, CheckError>, out: &mut Sums) -> u32
+    ensures { IsCheckReport answer result out.new }
 {
     match answer {
         Ok(sums) => {

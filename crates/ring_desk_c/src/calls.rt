@@ -6,9 +6,9 @@ ghost use Rattle.ring_model.specs.declared.events.Survey.{Survey};
 ghost use Rattle.ring_book.specs.declared.books.groups.GroupReceipt.{GroupReceipt};
 ghost use Rattle.ring_desk.specs.declared.errors.CallError.{CallError};
 ghost use Rattle.ring_desk_c.specs.Answers.{IsPassAnswer, IsCorruptAnswer, IsGroupAnswer, IsSurveyAnswer, IsGlance, history_of};
-ghost use Rattle.ring_desk_c.specs.Told.{IsTold, IsGroupTold, IsSightTold, sight_of};
+ghost use Rattle.ring_desk_c.specs.Reports.{IsCallReport, IsGroupReport, IsSightReport, sight_of};
 
-use crate::answers::{Answer, Group, Sight, group_told, sight_told, told};
+use crate::answers::{Answer, Group, Sight, report_call, report_group, report_sight};
 use crate::handle::{Handle, hold, loosen};
 use crate::kept;
 use crate::loose::Loose;
@@ -18,7 +18,7 @@ use ring_desk::CallError;
 use ring_model::{Receipt, Survey};
 
 /// A pass of a ring that C holds.
-fn passed(handle: Handle, call: (u32, u32, u64)) -> (Handle, Result<Receipt, CallError>)
+fn pass_by_handle(handle: Handle, call: (u32, u32, u64)) -> (Handle, Result<Receipt, CallError>)
     requires { handle.full ≡ true }
     ensures full { result.0.full ≡ true }
     ensures is { IsPassAnswer handle.value result.0.value call.0 call.1 call.2 result.1 }
@@ -39,16 +39,16 @@ pub extern "C" fn wozgirt_pass(
 ) -> u32
     requires { ring.old.full ≡ true }
     ensures full { ring.new.full ≡ true }
-    ensures told { (answer : Result Receipt CallError)
+    ensures reported { (answer : Result Receipt CallError)
         × IsPassAnswer ring.old.value ring.new.value seat machine order answer
-        × IsTold answer result out.old out.new }
+        × IsCallReport answer result out.old out.new }
 {
-    let answer = replace_with(ring, (seat, machine, order), passed);
-    told(answer, out)
+    let answer = replace_with(ring, (seat, machine, order), pass_by_handle);
+    report_call(answer, out)
 }
 
 /// A fault of a ring that C holds.
-fn corrupted(handle: Handle, call: (u32, u32, u32)) -> (Handle, Result<Receipt, CallError>)
+fn corrupt_by_handle(handle: Handle, call: (u32, u32, u32)) -> (Handle, Result<Receipt, CallError>)
     requires { handle.full ≡ true }
     ensures full { result.0.full ≡ true }
     ensures is { IsCorruptAnswer handle.value result.0.value call.0 call.1 call.2 result.1 }
@@ -69,16 +69,16 @@ pub extern "C" fn wozgirt_corrupt(
 ) -> u32
     requires { ring.old.full ≡ true }
     ensures full { ring.new.full ≡ true }
-    ensures told { (answer : Result Receipt CallError)
+    ensures reported { (answer : Result Receipt CallError)
         × IsCorruptAnswer ring.old.value ring.new.value seat machine value answer
-        × IsTold answer result out.old out.new }
+        × IsCallReport answer result out.old out.new }
 {
-    let answer = replace_with(ring, (seat, machine, value), corrupted);
-    told(answer, out)
+    let answer = replace_with(ring, (seat, machine, value), corrupt_by_handle);
+    report_call(answer, out)
 }
 
 /// A group pass of a ring that C holds.
-fn grouped(
+fn pass_group_by_handle(
     handle: Handle,
     seat: u32,
     machines: &[u32],
@@ -104,18 +104,18 @@ pub extern "C" fn wozgirt_pass_group(
 ) -> u32
     requires { ring.old.full ≡ true }
     ensures full { ring.new.full ≡ true }
-    ensures told { (answer : Result GroupReceipt CallError)
+    ensures reported { (answer : Result GroupReceipt CallError)
         × IsGroupAnswer ring.old.value ring.new.value seat machines.now order answer
-        × IsGroupTold answer result out.old out.new }
+        × IsGroupReport answer result out.old out.new }
 {
     let answer = replace_with(ring, (), |handle, _call| {
-        grouped(handle, seat, machines, order)
+        pass_group_by_handle(handle, seat, machines, order)
     });
-    group_told(answer, out)
+    report_group(answer, out)
 }
 
 /// A survey of a ring that C holds.
-fn surveyed(handle: Handle, seat: u32) -> (Handle, Result<Survey, CallError>)
+fn survey_by_handle(handle: Handle, seat: u32) -> (Handle, Result<Survey, CallError>)
     requires { handle.full ≡ true }
     ensures full { result.0.full ≡ true }
     ensures is { IsSurveyAnswer handle.value result.0.value seat result.1 }
@@ -130,16 +130,16 @@ fn surveyed(handle: Handle, seat: u32) -> (Handle, Result<Survey, CallError>)
 pub extern "C" fn wozgirt_survey(ring: &mut Handle, seat: u32, out: &mut Sight) -> u32
     requires { ring.old.full ≡ true }
     ensures full { ring.new.full ≡ true }
-    ensures told { (answer : Result Survey CallError)
+    ensures reported { (answer : Result Survey CallError)
         × IsSurveyAnswer ring.old.value ring.new.value seat answer
-        × IsSightTold answer result out.old out.new }
+        × IsSightReport answer result out.old out.new }
 {
-    let answer = replace_with(ring, seat, surveyed);
-    sight_told(answer, out)
+    let answer = replace_with(ring, seat, survey_by_handle);
+    report_sight(answer, out)
 }
 
 /// A glance at a ring that C holds.
-fn glanced(handle: Handle, _call: ()) -> (Handle, Survey)
+fn glance_by_handle(handle: Handle, _call: ()) -> (Handle, Survey)
     requires { handle.full ≡ true }
     ensures full { result.0.full ≡ true }
     ensures same { result.0.value ≡ handle.value }
@@ -156,17 +156,17 @@ pub extern "C" fn wozgirt_glance(ring: &mut Handle, out: &mut Sight) -> u32
     requires { ring.old.full ≡ true }
     ensures full { ring.new.full ≡ true }
     ensures same { ring.new.value ≡ ring.old.value }
-    ensures told { (survey : Survey)
+    ensures reported { (survey : Survey)
         × IsGlance ring.old.value survey
         × (result ≡ 0)
         × (out.new ≡ sight_of survey) }
 {
-    let survey = replace_with(ring, (), glanced);
-    sight_told(Ok(survey), out)
+    let survey = replace_with(ring, (), glance_by_handle);
+    report_sight(Ok(survey), out)
 }
 
 /// How long the history of a ring that C holds is.
-fn measured(handle: Handle, _call: ()) -> (Handle, u64)
+fn length_by_handle(handle: Handle, _call: ()) -> (Handle, u64)
     requires { handle.full ≡ true }
     ensures full { result.0.full ≡ true }
     ensures same { result.0.value ≡ handle.value }
@@ -185,7 +185,7 @@ pub extern "C" fn wozgirt_history_length(ring: &mut Handle) -> u64
     ensures same { ring.new.value ≡ ring.old.value }
     ensures is { result ≡ length (history_of ring.old.value) }
 {
-    replace_with(ring, (), measured)
+    replace_with(ring, (), length_by_handle)
 }
 
 /// Frees what C holds.

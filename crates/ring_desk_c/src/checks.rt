@@ -1,9 +1,9 @@
 //! The separate checker for C. It holds nothing between two calls, so any threads may call it at once.
 
 ghost use Rattle.std.specs.Prelude.{◌≡◌};
-ghost use Rattle.ring_desk_c.specs.Told.{IsVerdict};
+ghost use Rattle.ring_desk_c.specs.Reports.{IsVerdict};
 
-use crate::answers::{Sums, check_told, line_of, no_sums};
+use crate::answers::{Sums, line_of, no_sums, report_check};
 use crate::codes::read_code;
 use ring_check::check_saved;
 use ring_saved::read_saved;
@@ -15,7 +15,7 @@ pub extern "C" fn wozgirt_check(alloc: Global, bytes: &[u8], out: &mut Sums) -> 
     ensures { IsVerdict bytes.now result out.new }
 {
     match read_saved(alloc, bytes) {
-        Ok(saved) => check_told(check_saved(alloc, &saved), out),
+        Ok(saved) => report_check(check_saved(alloc, &saved), out),
         Err(error) => {
             *out = no_sums(line_of(error));
             read_code(error)

@@ -15,7 +15,7 @@ use ring_saved::read_saved;
 use std::alloc::Global;
 
 /// Puts a ring into a handle, whatever that held.
-fn boxed(handle: Handle, given: (Kept, Global)) -> (Handle, u32)
+fn fill_handle(handle: Handle, given: (Kept, Global)) -> (Handle, u32)
     ensures ok { result.1 ≡ 0 → (result.0.full ≡ true) × (result.0.value ≡ given.0) }
     ensures err { result.1 ≢ 0 → (result.1 ≡ no_memory) × (result.0 ≡ handle) }
 {
@@ -41,7 +41,7 @@ pub extern "C" fn wozgirt_open(
     ensures same { result ≢ 0 → ring.new ≡ ring.old }
 {
     match OneThreadRing::open(alloc, n, k, start, seats, Till::new()) {
-        Ok(opened) => replace_with(ring, (Kept::Till(opened), alloc), boxed),
+        Ok(opened) => replace_with(ring, (Kept::Till(opened), alloc), fill_handle),
         Err(error) => open_code(error),
     }
 }
@@ -62,13 +62,18 @@ pub extern "C" fn wozgirt_open_idle(
     ensures same { result ≢ 0 → ring.new ≡ ring.old }
 {
     match OneThreadRing::open(alloc, n, k, start, seats, Idle) {
-        Ok(opened) => replace_with(ring, (Kept::Idle(opened), alloc), boxed),
+        Ok(opened) => replace_with(ring, (Kept::Idle(opened), alloc), fill_handle),
         Err(error) => open_code(error),
     }
 }
 
 /// A ring that resumes the one at this place of a saved text, or the code of why not.
-fn resumed(alloc: Global, bytes: &[u8], place: u32, seats: u32) -> Result<OneThreadRing<Till>, u32>
+fn resume_ring(
+    alloc: Global,
+    bytes: &[u8],
+    place: u32,
+    seats: u32,
+) -> Result<OneThreadRing<Till>, u32>
     ensures ok { IfOk result (λ d. IsResumedFrom bytes.now place seats d) }
     ensures err { IfErr result (λ code. (code ≢ 0) × IsResumeRefused bytes.now place seats code) }
 {
@@ -100,8 +105,8 @@ pub extern "C" fn wozgirt_open_saved(
     ensures err { result ≢ 0 → IsResumeRefused bytes.now place seats result }
     ensures same { result ≢ 0 → ring.new ≡ ring.old }
 {
-    match resumed(alloc, bytes, place, seats) {
-        Ok(opened) => replace_with(ring, (Kept::Till(opened), alloc), boxed),
+    match resume_ring(alloc, bytes, place, seats) {
+        Ok(opened) => replace_with(ring, (Kept::Till(opened), alloc), fill_handle),
         Err(code) => code,
     }
 }

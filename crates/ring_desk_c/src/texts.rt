@@ -4,10 +4,10 @@ ghost use Rattle.std.specs.Prelude.{◌≡◌, ℕ, true, Result};
 ghost use Rattle.std_alloc.specs.declared.vec.Vec.{Vec};
 ghost use Rattle.std.specs.declared.alloc.Global.{Global};
 ghost use Rattle.ring_desk_c.specs.Answers.{IsTextAnswer};
-ghost use Rattle.ring_desk_c.specs.Told.{IsSaveTold};
+ghost use Rattle.ring_desk_c.specs.Reports.{IsSaveReport};
 ghost use Rattle.ring_desk_c.specs.declared.kept.TextError.{TextError};
 
-use crate::answers::save_told;
+use crate::answers::report_save;
 use crate::handle::{Handle, hold, loosen};
 use crate::kept::{TextError, text};
 use crate::loose::Loose;
@@ -15,7 +15,7 @@ use core::mem::replace_with;
 use std::alloc::Global;
 
 /// The text of a ring that C holds.
-fn saved(handle: Handle, alloc: Global) -> (Handle, Result<Vec<u8>, TextError>)
+fn text_by_handle(handle: Handle, alloc: Global) -> (Handle, Result<Vec<u8>, TextError>)
     requires { handle.full ≡ true }
     ensures full { result.0.full ≡ true }
     ensures same { result.0.value ≡ handle.value }
@@ -38,10 +38,10 @@ pub extern "C" fn wozgirt_save(
     requires { ring.old.full ≡ true }
     ensures full { ring.new.full ≡ true }
     ensures same { ring.new.value ≡ ring.old.value }
-    ensures told { (answer : Result (Vec ℕ Global) TextError)
+    ensures reported { (answer : Result (Vec ℕ Global) TextError)
         × IsTextAnswer ring.old.value answer
-        × IsSaveTold answer result out.old out.new size.old size.new }
+        × IsSaveReport answer result out.old out.new size.old size.new }
 {
-    let answer = replace_with(ring, alloc, saved);
-    save_told(answer, out, size)
+    let answer = replace_with(ring, alloc, text_by_handle);
+    report_save(answer, out, size)
 }

@@ -9,7 +9,7 @@ use Rattle.ring_check.proofs.BlockLines.{lines_long}
 use Rattle.ring_journal.specs.declared.calls.Call.{Call}
 use Rattle.ring_journal.specs.declared.calls.Call.TheVariants.{Event, Survey}
 use Rattle.ring_journal.specs.declared.calls.JournalLine.{JournalLine}
-use Rattle.ring_journal.specs.Told.{are_open, whole, with_call, with_call_at, with_calls, in_order, told}
+use Rattle.ring_journal.specs.ContentAfter.{are_open, whole, with_call, with_call_at, with_calls, in_order, content_after}
 use Rattle.ring_journal.proofs.Seatings.{length-by_seats}
 
 abbrev count : List Block → ℕ
@@ -74,10 +74,10 @@ whole_few : (calls : List JournalLine) → length (whole calls) ≤ length calls
 whole_few [] = omega arith
 whole_few (r ∷ rs) = let e = either_few (are_open (r ∷ rs)) r (whole rs) (length rs) (whole_few rs) in omega arith
 
-pub told_lines : (began : Content) (calls : List JournalLine) → length (lines (told began calls)) ≤ length (lines began) + length calls
-told_lines began calls =
+pub lines_after : (began : Content) (calls : List JournalLine) → length (lines (content_after began calls)) ≤ length (lines began) + length calls
+lines_after began calls =
     let before = lines_long began in
-    let after = lines_long (told began calls) in
+    let after = lines_long (content_after began calls) in
     let same = all_ordered (with_calls began.rings (whole calls)) in
     let few = calls_few began.rings (whole calls) in
     let some = whole_few calls in

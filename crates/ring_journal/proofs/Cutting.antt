@@ -27,7 +27,7 @@ use Rattle.ring_journal.specs.declared.errors.RecoverError.{RecoverError}
 use Rattle.ring_journal.specs.declared.errors.RecoverError.TheVariants.{Truncated, Syntax, Bad, OutOfMemory}
 use Rattle.ring_journal.specs.Spelling.{Journal, head_text, journal_text, call_line, journal_line, CallFits, JournalLineFits}
 use Rattle.ring_journal.specs.Reading.{BeginsNone, head_at}
-use Rattle.ring_journal.specs.Told.{told}
+use Rattle.ring_journal.specs.ContentAfter.{content_after}
 use Rattle.ring_journal.specs.Recovery.{has_line_end, IsJournalThen, IsRecovered, IsNoBeginning, IsNoCall, IsBadBeginning, IsBadCall, IsRightRecovery}
 use Rattle.ring_journal.specs.Beginnings.{IsRightJournal, up_to, IsOwnHistory, IsAnswerOfBeginning}
 use Rattle.ring_journal.proofs.Fronts.{ring_read}
@@ -184,7 +184,7 @@ module _ (j : Journal) (bytes more : List ℕ) (right : IsRightJournal j) (cut :
   own_history : (c : Content) → IsRecovered bytes c → IsOwnHistory j bytes c
   own_history c r =
       let m = matched r.journal r.tail r.lines in
-      record { front = r.journal.calls; back = m.back; parts = m.parts; told = r.told ∙ ap (λ (b : Content). told b r.journal.calls) m.same; holds = holds_all r.journal r.tail r.lines }
+      record { front = r.journal.calls; back = m.back; parts = m.parts; is = r.is ∙ ap (λ (b : Content). content_after b r.journal.calls) m.same; holds = holds_all r.journal r.tail r.lines }
 
   head_within : length (head_text j.began) ≤ length bytes → bytes ≡ head_text j.began ++ drop (length (head_text j.began)) bytes
   head_within le = split bytes more (head_text j.began) (lines_of j.calls) cut le
@@ -243,7 +243,7 @@ module _ (j : Journal) (bytes more : List ℕ) (right : IsRightJournal j) (cut :
       let n = b.call + 1 in
       let front = take n b.journal.calls in
       let parts : j.calls ≡ front ++ (drop n b.journal.calls ++ m.back) = m.parts ∙ ap (λ (rs : List JournalLine). rs ++ m.back) (sym (take-append-drop n b.journal.calls)) ∙ append_assoc front (drop n b.journal.calls) m.back in
-      not_both (told j.began front) b.wrong.said kind (right.legal front (drop n b.journal.calls ++ m.back) parts) (subst (λ (c : Content). IsRightCheck (told c front) (Err (check.Bad b.wrong.said kind))) m.same b.wrong.bad)
+      not_both (content_after j.began front) b.wrong.said kind (right.legal front (drop n b.journal.calls ++ m.back) parts) (subst (λ (c : Content). IsRightCheck (content_after c front) (Err (check.Bad b.wrong.said kind))) m.same b.wrong.bad)
 
 pub beginnings_recovered : (j : Journal) (bytes more : List ℕ) (answer : Result Saved RecoverError) → IsRightJournal j → bytes ++ more ≡ journal_text j → IsRightRecovery bytes answer → IsAnswerOfBeginning j bytes answer
 beginnings_recovered j bytes more (Ok saved) right cut a = own_history j bytes more right cut (content saved) a
@@ -265,8 +265,8 @@ same_calls version rings (x ∷ xs) (y ∷ ys) t u f g n m e =
     let p = line_same version rings x y (lines_of xs ++ t) (lines_of ys ++ u) f.0 g.0 (sym (append_assoc (journal_line x) (lines_of xs) t) ∙ e ∙ append_assoc (journal_line y) (lines_of ys) u) in
     ap (λ (z : JournalLine). z ∷ xs) p.0 ∙ ap (λ (zs : List JournalLine). y ∷ zs) (same_calls version rings xs ys t u f.1 g.1 n m p.1)
 
-same_told : (a b : Content) (xs ys : List JournalLine) → a ≡ b → xs ≡ ys → told a xs ≡ told b ys
-same_told a b xs ys e f = ap (λ (c : Content). told c xs) e ∙ ap (told b) f
+same_after : (a b : Content) (xs ys : List JournalLine) → a ≡ b → xs ≡ ys → content_after a xs ≡ content_after b ys
+same_after a b xs ys e f = ap (λ (c : Content). content_after c xs) e ∙ ap (content_after b) f
 
 pub one_recovered : (bytes : List ℕ) (c d : Content) → IsRecovered bytes c → IsRecovered bytes d → c ≡ d
 one_recovered bytes c d r s =
@@ -277,4 +277,4 @@ one_recovered bytes c d r s =
     let fit : FitIn k.began j.calls = subst (λ (x : Content). FitIn x j.calls) p.0 r.lines.fits.calls in
     let none : NoneIn k.began r.tail = subst (λ (x : Content). NoneIn x r.tail) p.0 r.lines.behind in
     let q = same_calls k.began.version (length k.began.rings) j.calls k.calls r.tail s.tail fit s.lines.fits.calls none s.lines.behind p.1 in
-    r.told ∙ same_told j.began k.began j.calls k.calls p.0 q ∙ sym s.told
+    r.is ∙ same_after j.began k.began j.calls k.calls p.0 q ∙ sym s.is

@@ -4,7 +4,7 @@ use Rattle.std.specs.Prelude.{◌&&◌}
 use Rattle.std.proofs.lemmas.List.{take_more}
 use Rattle.std.proofs.lemmas.List.Folds.{list_all-append}
 use Rattle.ring_journal.specs.declared.calls.JournalLine.{JournalLine}
-use Rattle.ring_journal.specs.Told.{is_open, are_open, whole}
+use Rattle.ring_journal.specs.ContentAfter.{is_open, are_open, whole}
 
 last_open : (a b : Bool) → b ≡ true → (a && (b && true)) ≡ a
 last_open true b e = rw e refl

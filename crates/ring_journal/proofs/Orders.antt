@@ -11,7 +11,7 @@ use Rattle.ring_check.specs.declared.answers.CheckError.TheVariants as check
 use Rattle.ring_check.specs.Legal.{IsLegalText, IsRightCheck}
 use Rattle.ring_check.specs.Meaning.{AreOnward, AreInOrder, AreRightBlocks, IsRightText}
 use Rattle.ring_journal.specs.declared.calls.JournalLine.{JournalLine}
-use Rattle.ring_journal.specs.Told.{is_of, by_seats, in_order, told}
+use Rattle.ring_journal.specs.ContentAfter.{is_of, by_seats, in_order, content_after}
 
 -- the seats do not fall, from this one on
 abbrev Rise : ℕ → List SavedSurvey → Type 0
@@ -86,8 +86,8 @@ blocks_stay version place (b ∷ bs) r =
     ∙ ap (λ (xs : List Block). b ∷ xs) (blocks_stay version (place + 1) bs r.1)
 
 -- with no call a journal records its start
-pub told_nothing : (began : Content) → IsRightText began → told began [] ≡ began
-told_nothing began r = ap (λ (bs : List Block). record began { rings = bs }) (blocks_stay began.version 0 began.rings r.blocks)
+pub nothing_after : (began : Content) → IsRightText began → content_after began [] ≡ began
+nothing_after began r = ap (λ (bs : List Block). record began { rings = bs }) (blocks_stay began.version 0 began.rings r.blocks)
 
 -- ---- a legal text has no bad line
 
@@ -99,6 +99,6 @@ pub not_both : (c : Content) (line : ℕ) (kind : Kind) → IsLegalText c → Is
 not_both c line kind good bad = subst IsSome (sym bad.6 ∙ good bad.0 bad.1 bad.2 bad.3) tt
 
 -- so where the recorded history has one, there are calls
-pub calls_there : (began : Content) (calls : List JournalLine) (line : ℕ) (kind : Kind) → IsRightText began → IsLegalText began → IsRightCheck (told began calls) (Err (check.Bad line kind)) → 0 < length calls
-calls_there began [] line kind right legal bad = absurd (not_both began line kind legal (subst (λ (c : Content). IsRightCheck c (Err (check.Bad line kind))) (told_nothing began right) bad))
+pub calls_there : (began : Content) (calls : List JournalLine) (line : ℕ) (kind : Kind) → IsRightText began → IsLegalText began → IsRightCheck (content_after began calls) (Err (check.Bad line kind)) → 0 < length calls
+calls_there began [] line kind right legal bad = absurd (not_both began line kind legal (subst (λ (c : Content). IsRightCheck c (Err (check.Bad line kind))) (nothing_after began right) bad))
 calls_there began (r ∷ rs) line kind right legal bad = omega arith

@@ -6,7 +6,7 @@ use Rattle.ring_saved.specs.declared.saved.SavedRing.{SavedRing}
 use Rattle.ring_saved.specs.Content.{Block, block_of}
 use Rattle.ring_journal.specs.declared.calls.Call.{Call}
 use Rattle.ring_journal.specs.declared.calls.JournalLine.{JournalLine}
-use Rattle.ring_journal.specs.Told.{with_call, with_call_at, with_calls, in_order}
+use Rattle.ring_journal.specs.ContentAfter.{with_call, with_call_at, with_calls, in_order}
 
 pub placed : (rings : List SavedRing) (i : ℕ) (x d : SavedRing) (call : Call) → i < length rings → block_of x ≡ with_call (block_of (get_or rings i d)) call → map block_of (set rings i x) ≡ with_call_at (map block_of rings) i call
 placed [] i x d call lt e = absurd (omega arith)

@@ -11,7 +11,7 @@ use Rattle.ring_journal.specs.declared.calls.Call.{Call}
 use Rattle.ring_journal.specs.declared.calls.Call.TheVariants.{Event, Survey}
 use Rattle.ring_journal.specs.declared.calls.JournalLine.{JournalLine}
 use Rattle.ring_journal.specs.Spelling.{CallFits, JournalLineFits}
-use Rattle.ring_journal.specs.Told.{are_open, whole, with_call, with_call_at, with_calls, in_order, told}
+use Rattle.ring_journal.specs.ContentAfter.{are_open, whole, with_call, with_call_at, with_calls, in_order, content_after}
 use Rattle.ring_journal.specs.Recovery.{IsRecovered}
 use Rattle.ring_journal.specs.Beginnings.{CanBeSaved}
 
@@ -71,22 +71,22 @@ whole_fits : (P : JournalLine → Type 0) (rs : List JournalLine) → AllByRecur
 whole_fits P [] f = tt
 whole_fits P (r ∷ rs) f = either_fits P (are_open (r ∷ rs)) r (whole rs) f.0 (whole_fits P rs f.1)
 
-told_has_none : (began : Content) (calls : List JournalLine) → began.version ≡ first_version → Fits began → AllByRecursion (JournalLineFits began.version (length began.rings)) calls → HasNoMember (told began calls)
-told_has_none began calls e fits f =
+has_none_after : (began : Content) (calls : List JournalLine) → began.version ≡ first_version → Fits began → AllByRecursion (JournalLineFits began.version (length began.rings)) calls → HasNoMember (content_after began calls)
+has_none_after began calls e fits f =
     let blocks = subst (λ (v : ℕ). AllByRecursion (BlockFits v) began.rings) e fits.rings in
     let fit = subst (λ (v : ℕ). AllByRecursion (JournalLineFits v (length began.rings)) calls) e f in
     still_ordered (with_calls began.rings (whole calls)) (still_all (length began.rings) began.rings (whole calls) (whole_fits (JournalLineFits first_version (length began.rings)) calls fit) (no_blocks began.rings blocks))
 
-told_saved : (began : Content) (calls : List JournalLine) → Fits began → AllByRecursion (JournalLineFits began.version (length began.rings)) calls → CanBeSaved (told began calls)
-told_saved began calls fits f = record {
+saved_after : (began : Content) (calls : List JournalLine) → Fits began → AllByRecursion (JournalLineFits began.version (length began.rings)) calls → CanBeSaved (content_after began calls)
+saved_after began calls fits f = record {
   some =
       let some = fits.some in
       let same = as_many began.rings (whole calls) in
       let ordered = length-map (with_calls began.rings (whole calls)) in_order in
       omega arith;
   version = fits.version;
-  members = λ e. told_has_none began calls e fits f;
+  members = λ e. has_none_after began calls e fits f;
 }
 
 pub can_be_saved : (bytes : List ℕ) (c : Content) → IsRecovered bytes c → CanBeSaved c
-can_be_saved bytes c r = subst CanBeSaved (sym r.told) (told_saved r.journal.began r.journal.calls r.lines.fits.began r.lines.fits.calls)
+can_be_saved bytes c r = subst CanBeSaved (sym r.is) (saved_after r.journal.began r.journal.calls r.lines.fits.began r.lines.fits.calls)

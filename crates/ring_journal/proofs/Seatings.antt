@@ -4,7 +4,7 @@ use Rattle.std.specs.Prelude.{not}
 use Rattle.std.specs.List.{filter}
 use Rattle.std.proofs.lemmas.List.Filters.{length-filter_both}
 use Rattle.ring_saved.specs.declared.saved.SavedSurvey.{SavedSurvey}
-use Rattle.ring_journal.specs.Told.{is_of, by_seats}
+use Rattle.ring_journal.specs.ContentAfter.{is_of, by_seats}
 
 -- nothing is lost
 pub length-by_seats : (left seat : ℕ) (ss : List SavedSurvey) → length (by_seats seat left ss) ≡ length ss

@@ -9,7 +9,7 @@ use Rattle.ring_journal.specs.declared.calls.JournalLine.{JournalLine}
 use Rattle.ring_journal.specs.declared.errors.RecoverError.{RecoverError}
 use Rattle.ring_journal.specs.declared.errors.RecoverError.TheVariants.{Truncated, Syntax, Bad, OutOfMemory}
 use Rattle.ring_journal.specs.Spelling.{Journal, JournalFits, head_text, journal_text}
-use Rattle.ring_journal.specs.Told.{told}
+use Rattle.ring_journal.specs.ContentAfter.{content_after}
 use Rattle.ring_journal.specs.Recovery.{IsRecovered, IsRightRecovery}
 
 -- a journal is right if its start is legal, and the recorded history was legal at each
@@ -18,7 +18,7 @@ pub record IsRightJournal (j : Journal) : Type 0 where
   pub fits : JournalFits j
   pub began : IsLegalText j.began
   pub legal : (front back : List JournalLine) → j.calls ≡ front ++ back
-      → IsLegalText (told j.began front)
+      → IsLegalText (content_after j.began front)
 
 -- the journal with only its first calls
 abbrev pub up_to : Journal → List JournalLine → Journal
@@ -30,7 +30,7 @@ pub record IsOwnHistory (j : Journal) (bytes : List ℕ) (c : Content) : Type 0 
   pub front : List JournalLine
   pub back : List JournalLine
   pub parts : j.calls ≡ front ++ back
-  pub told : c ≡ told j.began front
+  pub is : c ≡ content_after j.began front
   pub holds : (calls others : List JournalLine) (rest : List ℕ) → j.calls ≡ calls ++ others
       → bytes ≡ journal_text (up_to j calls) ++ rest → length calls ≤ length front
 

@@ -15,7 +15,7 @@ use Rattle.ring_journal.specs.declared.calls.JournalLine.{JournalLine}
 use Rattle.ring_journal.specs.declared.errors.RecoverError.{RecoverError}
 use Rattle.ring_journal.specs.declared.errors.RecoverError.TheVariants.{Truncated, Syntax, OutOfMemory}
 use Rattle.ring_journal.specs.Reading.{head_at}
-use Rattle.ring_journal.specs.Told.{told}
+use Rattle.ring_journal.specs.ContentAfter.{content_after}
 use Rattle.ring_journal.specs.Recovery.{IsRightRecovery}
 
 -- a reader's refusal by its name here
@@ -34,8 +34,8 @@ IsBegun view bytes (Err e) = IsRightRecovery bytes (Err e)
 -- the value is the recorded history, and legal; or the answer is that of a check of it
 abbrev pub IsJudged : Content → List JournalLine → Result Saved CheckError → Type 0
 IsJudged began calls (Ok saved) =
-    (content saved ≡ told began calls) × IsLegalText (told began calls)
-IsJudged began calls (Err e) = IsRightCheck (told began calls) (Err e)
+    (content saved ≡ content_after began calls) × IsLegalText (content_after began calls)
+IsJudged began calls (Err e) = IsRightCheck (content_after began calls) (Err e)
 
 -- there is no fault, or a check reports one of this kind
 abbrev pub IsFaultOf : Content → Option Kind → Type 0

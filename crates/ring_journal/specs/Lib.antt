@@ -1,6 +1,6 @@
 pub mod Spelling
 pub mod Reading
-pub mod Told
+pub mod ContentAfter
 pub mod Recovery
 pub mod Judging
 pub mod Beginnings

@@ -13,7 +13,7 @@ use Rattle.ring_journal.specs.declared.errors.RecoverError.{RecoverError}
 use Rattle.ring_journal.specs.declared.errors.RecoverError.TheVariants.{Truncated, Syntax, Bad, OutOfMemory}
 use Rattle.ring_journal.specs.Spelling.{Journal, JournalFits, JournalLineFits, journal_text, head_text, journal_line}
 use Rattle.ring_journal.specs.Reading.{BeginsNone}
-use Rattle.ring_journal.specs.Told.{told}
+use Rattle.ring_journal.specs.ContentAfter.{content_after}
 
 -- whether a line ends in the bytes
 abbrev pub has_line_end : List ℕ → Bool
@@ -38,7 +38,7 @@ pub record IsRecovered (bytes : List ℕ) (c : Content) : Type 0 where
   pub lines : IsJournalThen bytes journal tail
   pub unended : has_line_end tail ≡ false
   pub began : IsLegalText journal.began
-  pub told : c ≡ told journal.began journal.calls
+  pub is : c ≡ content_after journal.began journal.calls
   pub legal : IsLegalText c
 
 -- no journal's start is at the front of the bytes, and up to this line, the first, they
@@ -68,12 +68,12 @@ pub record IsBadBeginning (bytes : List ℕ) (line : ℕ) (kind : Kind) : Type 0
 
 -- the calls before this one record a legal history, and with it they record one that has a fault of
 -- this kind
-pub record IsWrongCall (began : Content) (calls : List JournalLine) (call : ℕ) (kind : Kind) : Type 0
-  where
-    pub within : call < length calls
-    pub before : 0 < call → IsLegalText (told began (take call calls))
-    pub said : ℕ
-    pub bad : IsRightCheck (told began (take (call + 1) calls)) (Err (check.Bad said kind))
+pub record IsWrongCall (began : Content) (calls : List JournalLine) (call : ℕ) (kind : Kind) :
+    Type 0 where
+  pub within : call < length calls
+  pub before : 0 < call → IsLegalText (content_after began (take call calls))
+  pub said : ℕ
+  pub bad : IsRightCheck (content_after began (take (call + 1) calls)) (Err (check.Bad said kind))
 
 -- the journal's start is legal, and this line is of such a call
 pub record IsBadCall (bytes : List ℕ) (line : ℕ) (kind : Kind) : Type 0 where

@@ -5,7 +5,7 @@ ghost use Rattle.std.specs.List.{All, filter};
 ghost use Rattle.ring_model.specs.Limits.{seat_limit};
 ghost use Rattle.ring_saved.specs.Content.{block_of, content};
 ghost use Rattle.ring_journal.specs.declared.calls.JournalLine.{JournalLine};
-ghost use Rattle.ring_journal.specs.Told.{is_open, whole, with_call, with_calls, is_of, by_seats, in_order, told};
+ghost use Rattle.ring_journal.specs.ContentAfter.{is_open, whole, with_call, with_calls, is_of, by_seats, in_order, content_after};
 
 use crate::calls::{Call, JournalLine};
 use ring_model::limits::SEAT_LIMIT;
@@ -151,7 +151,7 @@ pub(crate) fn history(
     calls: &[JournalLine],
 ) -> Result<Saved, AllocError>
     requires { All (λ (r : JournalLine). r.ring < vec_len began.rings) calls.now }
-    ensures { IfOk result (λ saved. content saved ≡ told (content began) calls.now) }
+    ensures { IfOk result (λ saved. content saved ≡ content_after (content began) calls.now) }
 {
     let Saved {
         version,

@@ -114,7 +114,8 @@ pub(crate) fn calls(
 ) -> Result<(Vec<JournalLine>, &[u8]), NoRoom>
     ensures fit { IfOk result (λ x. AllByRecursion (JournalLineFits version rings) x.0.items) }
     ensures spelled { IfOk result (λ x. bytes.now ≡ flat_map journal_line x.0.items ++ x.1.now) }
-    ensures all { IfOk result (λ x. BeginsNone (JournalLineFits version rings) journal_line x.1.now) }
+    ensures all { IfOk result
+        (λ x. BeginsNone (JournalLineFits version rings) journal_line x.1.now) }
 {
     let mut found = Vec::new(alloc);
     let mut rest = bytes;

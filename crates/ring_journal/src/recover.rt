@@ -6,7 +6,7 @@ ghost use Rattle.ring_saved.specs.Content.{Content, content};
 ghost use Rattle.ring_check.specs.Lines.{lines};
 ghost use Rattle.ring_journal.specs.declared.calls.JournalLine.{JournalLine};
 ghost use Rattle.ring_journal.specs.Reading.{head_at};
-ghost use Rattle.ring_journal.specs.Told.{told};
+ghost use Rattle.ring_journal.specs.ContentAfter.{content_after};
 ghost use Rattle.ring_journal.specs.Recovery.{IsWrongCall, IsRightRecovery};
 ghost use Rattle.ring_journal.specs.Judging.{refused_as, IsBegun, IsJudged, IsFaultOf, AreCallsOf};
 
@@ -68,7 +68,7 @@ fn legal_history(alloc: Global, began: Saved, calls: &[JournalLine]) -> Result<S
 fn fault_of(alloc: Global, bytes: &[u8], calls: &[JournalLine]) -> Result<Option<Kind>, NoRoom>
     requires { AreCallsOf bytes.now calls.now }
     ensures { IfOk result (λ fault. (began : Content) (rest : List ℕ)
-        → head_at bytes.now ≡ Ok (began, rest) → IsFaultOf (told began calls.now) fault) }
+        → head_at bytes.now ≡ Ok (began, rest) → IsFaultOf (content_after began calls.now) fault) }
 {
     let Ok((began, _)) = head(alloc, bytes) else {
         return Err(NoRoom);
@@ -92,7 +92,7 @@ fn wrong_call(
     requires calls { AreCallsOf bytes.now calls.now }
     requires some { 0 < length calls.now }
     requires wrong { (began : Content) (rest : List ℕ) → head_at bytes.now ≡ Ok (began, rest)
-        → IsFaultOf (told began calls.now) (Some kind) }
+        → IsFaultOf (content_after began calls.now) (Some kind) }
     ensures { IfOk result (λ x. (began : Content) (rest : List ℕ)
         → head_at bytes.now ≡ Ok (began, rest) → IsWrongCall began calls.now x.0 x.1) }
 {

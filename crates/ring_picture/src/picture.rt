@@ -105,7 +105,7 @@ fn put_lower<W: Write>(
 }
 
 /// The picture, from its rows and from the values at its first column on.
-fn put_picture<W: Write>(
+fn write_from_rows<W: Write>(
     out: &mut W,
     ring: &SavedRing,
     from: usize,
@@ -172,7 +172,7 @@ pub fn write_picture<W: Write>(
     let Ok(rows) = walk(alloc, ring, from, count + 1, &mut gauge) else {
         return Err(PictureFault::OutOfMemory);
     };
-    match put_picture(out, ring, from, count, &rows, &base, &mut gauge) {
+    match write_from_rows(out, ring, from, count, &rows, &base, &mut gauge) {
         Ok(()) => Ok(()),
         Err(_) => Err(PictureFault::Write),
     }

@@ -1,16 +1,20 @@
--- How many surveys clients were given, by those that they keep.
-use Rattle.std.proofs.Common.{◌≡◌, ℕ, ◌+◌, cond, List, [], ◌∷◌, length, length-append, refl, sym, ◌∙◌, ap, arith}
+-- How many surveys clients were given, by those that they keep; and sums that are too large.
+use Rattle.std.proofs.Common.{◌≡◌, ℕ, ◌+◌, ◌<◌, ◌≤◌, cond, List, [], ◌∷◌, length, length-append, get_or, take, map, refl, sym, ◌∙◌, ap, subst, inl, inr, arith}
 use Rattle.std.specs.List.{sum_by}
-use Rattle.std.proofs.lemmas.List.{length-map}
-use Rattle.std.proofs.lemmas.List.Sums.{sum_by-cons}
+use Rattle.std.proofs.lemmas.List.{length-map, take-map, get_or-map}
+use Rattle.std.proofs.lemmas.List.Sums.{sum_by-cons, sum_by_more_le}
+use Rattle.ring_model.specs.Surveys.{granted_count}
 use Rattle.ring_model.specs.declared.events.Entry.{Entry}
 use Rattle.ring_model.specs.declared.events.Entry.TheVariants as entry
 use Rattle.ring_logs.specs.LogView.{LogView}
+use Rattle.ring_blocks.specs.declared.counts.Totals.{Totals}
 use Rattle.ring_blocks.specs.SavedOf.{saved_survey, entry_surveys}
 use Rattle.ring_blocks.specs.Counts.{is_survey, survey_count}
 use Rattle.ring_desk.specs.Clients.{ClientView}
 use Rattle.ring_desk.specs.Texts.{surveys_told, client_surveys, surveys_kept}
-use Rattle.ring_serve.specs.Totals.{surveys_among}
+use Rattle.ring_desk.specs.Rings.{RingView}
+use Rattle.ring_serve.specs.Standings.{Standing, standing_of}
+use Rattle.ring_serve.specs.Totals.{surveys_among, with_ring, totals_of, AreTooLarge}
 
 abbrev pub kept_count : List ClientView → ℕ
 kept_count cs = sum_by (λ (c : ClientView). length c.surveys) cs
@@ -44,3 +48,39 @@ told (t ∷ ts) =
 -- as many surveys are kept as were given
 pub as_many_kept : (cs : List ClientView) (ts : List LogView) → surveys_kept cs ≡ surveys_told ts → kept_count cs ≡ surveys_among ts
 as_many_kept cs ts same = sym (kept cs) ∙ (ap length same ∙ told ts)
+
+-- with one client's surveys more than those of the clients before it there are no more than of all
+pub many_kept : (most : ℕ) (cs : List ClientView) (ts : List LogView) (i all : ℕ) (d : ClientView) → surveys_kept cs ≡ surveys_told ts → i < length cs → all ≡ kept_count (take i cs) → d ≡ get_or cs i d → (all + length d.surveys < most → ⊥) → most ≤ surveys_among ts
+many_kept most cs ts i all d same below is here many =
+    let sum : kept_count cs ≡ surveys_among ts = as_many_kept cs ts same in
+    let part : kept_count (take i cs) + length (get_or cs i d).surveys ≤ kept_count cs = sum_by_more_le (λ (c : ClientView). length c.surveys) cs i d below in
+    let size : length d.surveys ≡ length (get_or cs i d).surveys = ap (λ (c : ClientView). length c.surveys) here in
+    let most_at : most ≤ all + length d.surveys = omega (arith, many) in
+    omega (arith, sum, part, size, is, most_at)
+
+part : (f : Standing → ℕ) (rings : List (RingView ℕ)) (i : ℕ) (d : RingView ℕ) → i < length rings → sum_by f (map standing_of (take i rings)) + f (standing_of (get_or rings i d)) ≤ sum_by f (map standing_of rings)
+part f rings i d below =
+    let size : length (map standing_of rings) ≡ length rings = length-map rings standing_of in
+    let within : i < length (map standing_of rings) = omega (arith, size, below) in
+    let first : take i (map standing_of rings) ≡ map standing_of (take i rings) = take-map standing_of i rings in
+    let here : get_or (map standing_of rings) i (standing_of d) ≡ standing_of (get_or rings i d) = get_or-map standing_of rings i d (standing_of d) below in
+    let less : sum_by f (take i (map standing_of rings)) + f (get_or (map standing_of rings) i (standing_of d)) ≤ sum_by f (map standing_of rings) = sum_by_more_le f (map standing_of rings) i (standing_of d) within in
+    let same : sum_by f (take i (map standing_of rings)) + f (get_or (map standing_of rings) i (standing_of d)) ≡ sum_by f (map standing_of (take i rings)) + f (standing_of (get_or rings i d)) = λ j. sum_by f (first j) + f (here j) in
+    omega (arith, less, same)
+
+too_large_at : (rings : List (RingView ℕ)) (i : ℕ) (d : RingView ℕ) → i < length rings → AreTooLarge (with_ring (totals_of (map standing_of (take i rings))) (standing_of (get_or rings i d))) → AreTooLarge (totals_of (map standing_of rings))
+too_large_at rings i d below (inl many) =
+    let less = part (λ (r : Standing). length r.history) rings i d below in
+    inl (omega (arith, less, many))
+too_large_at rings i d below (inr (inl many)) =
+    let less = part (λ (r : Standing). granted_count r.history) rings i d below in
+    inr (inl (omega (arith, less, many)))
+too_large_at rings i d below (inr (inr many)) =
+    let less = part (λ (r : Standing). surveys_among r.clients) rings i d below in
+    inr (inr (omega (arith, less, many)))
+
+-- sums that are too large with one ring more are too large with all
+pub too_large_with : (rings : List (RingView ℕ)) (i : ℕ) (all : Totals) (d : RingView ℕ) → i < length rings → all ≡ totals_of (map standing_of (take i rings)) → d ≡ get_or rings i d → AreTooLarge (with_ring all (standing_of d)) → AreTooLarge (totals_of (map standing_of rings))
+too_large_with rings i all d below is here many =
+    too_large_at rings i d below
+    (subst (λ (x : Totals). AreTooLarge (with_ring x (standing_of (get_or rings i d)))) is (subst (λ (r : RingView ℕ). AreTooLarge (with_ring all (standing_of r))) here many))

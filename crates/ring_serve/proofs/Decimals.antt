@@ -68,11 +68,11 @@ rest_of (Err f) = []
 
 pub place_read : (stop : ℕ) (bytes rest : List ℕ) (number : Option ℕ) (is : ℕ) → order_at stop bytes ≡ Ok (number, rest) → ((n : ℕ) → number ≡ in_64_bits n → is ≡ min n 4294967295) → place_at stop bytes ≡ Ok (is, rest)
 unfolding order_at place_at
-place_read stop bytes rest number is h named = go (decimal_at stop bytes) h
+place_read stop bytes rest number is h named_as = go (decimal_at stop bytes) h
   where
     go : (d : Result (ℕ × List ℕ) Fault) → as_order d ≡ Ok (number, rest) → as_place d ≡ Ok (is, rest)
     go (Ok x) e =
-        let one : is ≡ min x.0 4294967295 = named x.0 (sym (ap number_of e)) in
+        let one : is ≡ min x.0 4294967295 = named_as x.0 (sym (ap number_of e)) in
         λ j. Ok (sym one j, ap rest_of e j)
     go (Err f) e = absurd cc
 

@@ -1,15 +1,12 @@
 -- The block that a group's call determines.
-use Rattle.std.proofs.Common.{◌≡◌, ℕ, suc, ◌+◌, ◌≤◌, Bool, true, false, ◌&&◌, ◌||◌, eqb, ltb, leb, List, [], ◌∷◌, length, Some, None, refl, sym, ap, subst, ◌∙◌, ◌⊎◌, inl, inr, arith}
-use Rattle.std.proofs.lemmas.Bool.{false≢true, eqb-true, eq-eqb, leb-true, ltb-true, le-leb, lt-ltb}
-use Rattle.ring_model.specs.Ring.{is_privileged}
+use Rattle.std.proofs.Common.{◌≡◌, ℕ, List, [], ◌∷◌, length, ap, subst, ◌∙◌}
 use Rattle.ring_model.specs.History.{Works, State, next, reply, IsLegal}
-use Rattle.ring_model.specs.Groups.{has, Rises, AreMembers}
-use Rattle.ring_model.specs.GroupLaws.{AreAllPrivileged, block_of}
+use Rattle.ring_model.specs.Groups.{AreMembers}
+use Rattle.ring_model.specs.GroupLaws.{block_of}
 use Rattle.ring_model.specs.declared.events.Op.{Op}
 use Rattle.ring_model.specs.declared.events.Op.TheVariants as op
 use Rattle.ring_model.specs.declared.events.Event.{Event}
 use Rattle.ring_model.proofs.Histories.{StepOf-reply}
-use Rattle.ring_book.specs.GroupView.{IsLeastWithout}
 
 pub members_block : {C : Type 0} (w : Works C) (a : State C) (seat order : ℕ) (ms : List ℕ) (es : List Event) → AreMembers seat order ms es → IsLegal w a es → es ≡ block_of w a seat order ms
 members_block w a seat order [] es m l = m

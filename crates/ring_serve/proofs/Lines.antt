@@ -1,9 +1,9 @@
 -- The turn of a line.
-use Rattle.std.proofs.Common.{◌≡◌, ℕ, ◌<◌, ◌≤◌, List, [], length, Option, Some, None, Result, Ok, Err, sym, ap, ◌∙◌, inl, inr, arith, ◌⊎◌}
+use Rattle.std.proofs.Common.{◌≡◌, ℕ, ◌<◌, ◌≤◌, List, length, Option, Some, None, Ok, sym, ap, ◌∙◌, inl, inr, arith, ◌⊎◌}
 use Rattle.ring_serve.specs.declared.commands.Command.{Command as Read}
-use Rattle.ring_serve.specs.Commands.{Command, IsLineOf, IsReadAs, heard, seen, ring_of, line_limit}
+use Rattle.ring_serve.specs.Commands.{Command, IsLineOf, IsReadAs, seen, ring_of, line_limit}
 use Rattle.ring_serve.specs.Standings.{Standing}
-use Rattle.ring_serve.specs.Turns.{Turn, refused, turn_of, heard_turn, IsCommand, IsRightTurn, IsTurnOfLine, IsTurn, turn_seen_among}
+use Rattle.ring_serve.specs.Turns.{Turn, refused, heard_turn, IsRightTurn, IsTurnOfLine, IsTurn, turn_seen_among}
 use Rattle.ring_serve.specs.declared.answers.Answer.TheVariants as answer
 use Rattle.ring_serve.specs.declared.served.LineAnswer.{LineAnswer}
 use Rattle.ring_serve.specs.declared.answers.Refusal.{Refusal}

@@ -10,7 +10,7 @@ use Rattle.ring_model.specs.Resources.{till}
 use Rattle.ring_desk.specs.Rings.{RingView, IsOneThreadRing}
 use Rattle.ring_serve.specs.Commands.{Command, ring_of}
 use Rattle.ring_serve.specs.Standings.{Standing, standing_of, AreRight}
-use Rattle.ring_serve.specs.Turns.{Turn, events, refused, placed, turn_among, recorded_seen, recorded_among, turn_seen, turn_seen_among, history_of, IsTurnAt, IsTurn}
+use Rattle.ring_serve.specs.Turns.{Turn, events, placed, turn_among, recorded_seen, recorded_among, turn_seen, turn_seen_among, history_of, IsTurnAt, IsTurn}
 use Rattle.ring_serve.specs.declared.answers.Answer.TheVariants as answer
 use Rattle.ring_serve.specs.declared.answers.Refusal.TheVariants as refusal
 use Rattle.ring_serve.specs.declared.turns.CallAnswer.{CallAnswer}

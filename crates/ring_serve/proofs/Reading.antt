@@ -1,15 +1,14 @@
 -- A line reads as a command exactly if it is that command's line.
-use Rattle.std.proofs.Common.{◌≡◌, ◌≢◌, ℕ, ◌+◌, ◌<◌, Bool, true, false, cond, eqb, List, [], ◌∷◌, ◌++◌, length, map, Option, Some, None, Result, Ok, Err, refl, sym, ap, subst, ◌∙◌, append_assoc, arith, inl, inr}
+use Rattle.std.proofs.Common.{◌≡◌, ℕ, ◌<◌, eqb, List, [], ◌∷◌, ◌++◌, length, Option, Some, Result, Ok, Err, refl, sym, ap, ◌∙◌, append_assoc, arith, inl, inr}
 use Rattle.std.specs.Prelude.{codes}
 use Rattle.std.specs.Option.{option_map}
 use Rattle.std.proofs.lemmas.List.{append-nil}
 use Rattle.text_lines.specs.declared.fault.Fault.{Fault}
-use Rattle.text_lines.specs.declared.fault.Fault.TheVariants.{Short, Bad}
 use Rattle.text_lines.specs.declared.fault.Stop.{Stop}
 use Rattle.text_lines.specs.declared.fault.Stop.TheVariants as stops
 use Rattle.text_lines.specs.Reading.{Reader, ◌>>=◌, Gives, word_at, after_at, as_at, or_at, none_at, end_at, whole_at}
 use Rattle.text_lines.proofs.Basics.{bind_ok, chosen, ok_is}
-use Rattle.ring_serve.specs.Numbers.{spaced, ended, in_64_bits, named, order_at, place_at}
+use Rattle.ring_serve.specs.Numbers.{spaced, ended, in_64_bits, in_32_bits, order_at, place_at}
 use Rattle.ring_serve.specs.Commands.{Command, pass, group, corrupt, survey, glance, save, command_line, HasLine, IsLineOf, heard, seen, IsReadAs}
 use Rattle.ring_serve.specs.declared.commands.Command.{Command as Read}
 use Rattle.ring_serve.specs.Readers.{pass_of, pass_at, group_of, group_at, corrupt_of, corrupt_at, survey_of, survey_at, glance_of, glance_at, name_at, save_at, g_at, s_at, command_at}
@@ -41,10 +40,10 @@ module _ {A B : Type 0} {hear : A → B} {F : A → Type 0} {s : A → List ℕ}
 
 -- ---- the kinds
 
-spaced_hears : Hears named Any spaced (place_at 32)
+spaced_hears : Hears in_32_bits Any spaced (place_at 32)
 spaced_hears = place_hears 32 (omega arith)
 
-ended_hears : Hears named Any ended (place_at 10)
+ended_hears : Hears in_32_bits Any ended (place_at 10)
 ended_hears = place_hears 10 (omega arith)
 
 order_spaced : Hears in_64_bits Any spaced (order_at 32)

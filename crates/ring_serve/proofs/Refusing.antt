@@ -1,13 +1,9 @@
 -- The turn of a call that a ring refuses, and of a group that it lets pass.
-use Rattle.std.proofs.Common.{◌≡◌, ◌≢◌, ℕ, ◌+◌, ◌<◌, ◌≤◌, Bool, true, false, cond, not, ◌&&◌, ◌==◌, nat_le, nat_lt, List, [], ◌∷◌, ◌++◌, length, drop, Option, Some, None, Ok, Err, refl, sym, ap, ◌∙◌, ◌⊎◌, inl, inr, arith}
-use Rattle.std.proofs.lemmas.Bool.{false≢true, ltb-true, le-leb, lt-leb, lt-ltb, le-ltb, eq-eqb, ne_eqb, cases_lt, cases_eq}
+use Rattle.std.proofs.Common.{◌≡◌, ℕ, List, [], ◌∷◌, ◌++◌, length, drop, Option, Some, None, sym, ap, ◌∙◌, ◌⊎◌, inl, inr}
 use Rattle.std.proofs.lemmas.List.{drop_at}
-use Rattle.ring_model.specs.Limits.{event_limit}
 use Rattle.ring_model.specs.History.{State}
-use Rattle.ring_model.specs.GroupLaws.{CanMove, AreAllPrivileged}
 use Rattle.ring_model.specs.Resources.{till}
 use Rattle.ring_model.specs.declared.events.Event.{Event}
-use Rattle.ring_book.specs.GroupView.{IsLeastWithout}
 use Rattle.ring_desk.specs.Rings.{RingView, IsOneThreadRing}
 use Rattle.ring_book.specs.GroupView.{IsGroupRecorded}
 use Rattle.ring_book.specs.declared.books.groups.GroupReceipt.{GroupReceipt}
@@ -22,7 +18,6 @@ use Rattle.ring_desk.specs.Refusals.{Bounds, bounds_of, group_refusal}
 use Rattle.ring_desk.specs.declared.errors.CallError.{CallError}
 use Rattle.ring_desk.specs.declared.errors.CallError.TheVariants as call
 use Rattle.ring_serve.specs.Turns.{Turn, refused, refusal_of, unless, bounds_now, grouped, turn_seen, IsTurnAt, events}
-use Rattle.ring_serve.specs.declared.answers.Refusal.{Refusal}
 use Rattle.ring_serve.specs.declared.answers.Refusal.TheVariants as refusal
 use Rattle.ring_serve.proofs.Making.{state_is, group_leaves}
 

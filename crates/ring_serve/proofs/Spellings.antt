@@ -1,13 +1,12 @@
 -- The value that is read of a spelling, where numbers are heard otherwise than they are spelled.
-use Rattle.std.proofs.Common.{◌≡◌, ◌≢◌, ℕ, zero, suc, ◌+◌, ◌/◌, ◌%◌, ◌<◌, ◌≤◌, Bool, true, false, cond, eqb, List, [], ◌∷◌, ◌++◌, length, map, Option, Some, None, Result, Ok, Err, refl, sym, ap, subst, ◌∙◌, append_assoc, arith, inl, inr}
+use Rattle.std.proofs.Common.{◌≡◌, ◌≢◌, ℕ, zero, suc, ◌+◌, ◌%◌, ◌<◌, ◌≤◌, eqb, List, [], ◌∷◌, ◌++◌, length, map, Ok, Err, refl, sym, ap, subst, ◌∙◌, append_assoc, arith, inl, inr}
 use Rattle.std.specs.List.{AllByRecursion}
 use Rattle.std.proofs.lemmas.Bool.{eqb-true, eqb-false, ne_eqb}
 use Rattle.std.proofs.lemmas.List.{append-nil}
-use Rattle.text_lines.specs.declared.fault.Fault.{Fault}
-use Rattle.text_lines.specs.declared.fault.Fault.TheVariants.{Short, Bad}
+use Rattle.text_lines.specs.declared.fault.Fault.TheVariants.{Bad}
 use Rattle.text_lines.specs.Reading.{Reader, ◌>>=◌, word_at, after_at, then_at, as_at, stop_of}
 use Rattle.text_lines.proofs.Basics.{bind_ok, chosen, ok_is, same_eqb}
-use Rattle.ring_serve.specs.Numbers.{number_text, ended, row, in_64_bits, named, decimal_at, order_at, place_at, places_at}
+use Rattle.ring_serve.specs.Numbers.{number_text, ended, row, in_64_bits, in_32_bits, decimal_at, order_at, place_at, places_at}
 use Rattle.ring_serve.specs.Readers.{gaps, machines_at, end_of_line, name_at}
 use Rattle.ring_serve.proofs.Numerals.{by_digits, decimal_takes, decimal_again}
 
@@ -91,9 +90,9 @@ number_hears {B} hear stop apart = record { takes = takes; again = again }
     again : (n : ℕ) (rest : List ℕ) → Unit {0} → as_at hear (decimal_at stop) ((number_text n ++ stop ∷ []) ++ rest) ≡ Ok (hear n, rest)
     again n rest f = rw (decimal_again stop apart n rest) refl
 
-pub place_hears : (stop : ℕ) → stop < 48 → Hears named Any (λ n. number_text n ++ stop ∷ []) (place_at stop)
+pub place_hears : (stop : ℕ) → stop < 48 → Hears in_32_bits Any (λ n. number_text n ++ stop ∷ []) (place_at stop)
 unfolding place_at
-place_hears stop apart = number_hears named stop apart
+place_hears stop apart = number_hears in_32_bits stop apart
 
 pub order_hears : (stop : ℕ) → stop < 48 → Hears in_64_bits Any (λ n. number_text n ++ stop ∷ []) (order_at stop)
 unfolding order_at
@@ -107,8 +106,8 @@ row_step zero x (y ∷ ys) e = absurd cc
 row_step (suc k) x [] e = absurd cc
 row_step (suc k) x (y ∷ ys) e = refl
 
-places_next : (k : ℕ) (bytes : List ℕ) (m : ℕ) (u ms v xs : List ℕ) → place_at (stop_of k) bytes ≡ Ok (m, u) → length xs ≡ k → map named xs ≡ ms → u ≡ row xs ++ v
-    → (ys : List ℕ) × (length ys ≡ suc k) × (map named ys ≡ m ∷ ms) × (bytes ≡ row ys ++ v)
+places_next : (k : ℕ) (bytes : List ℕ) (m : ℕ) (u ms v xs : List ℕ) → place_at (stop_of k) bytes ≡ Ok (m, u) → length xs ≡ k → map in_32_bits xs ≡ ms → u ≡ row xs ++ v
+    → (ys : List ℕ) × (length ys ≡ suc k) × (map in_32_bits ys ≡ m ∷ ms) × (bytes ≡ row ys ++ v)
 places_next k bytes m u ms v xs e many heard behind =
     let n = (place_hears (stop_of k) (stop_small k)).takes bytes m u e in
     let one : List ℕ = number_text n.0 ++ stop_of k ∷ [] in
@@ -116,7 +115,7 @@ places_next k bytes m u ms v xs e many heard behind =
     let line : row (n.0 ∷ xs) ++ v ≡ one ++ (row xs ++ v) = ap (λ (w : List ℕ). w ++ v) (row_step k n.0 xs many) ∙ append_assoc one (row xs) v in
     (n.0 ∷ xs, ap suc many, (λ i. n.2 i ∷ heard i), whole ∙ sym line)
 
-places_take : (k : ℕ) (bytes ms rest : List ℕ) → places_at k bytes ≡ Ok (ms, rest) → (xs : List ℕ) × (length xs ≡ k) × (map named xs ≡ ms) × (bytes ≡ row xs ++ rest)
+places_take : (k : ℕ) (bytes ms rest : List ℕ) → places_at k bytes ≡ Ok (ms, rest) → (xs : List ℕ) × (length xs ≡ k) × (map in_32_bits xs ≡ ms) × (bytes ≡ row xs ++ rest)
 unfolding places_at
 places_take zero bytes ms rest e =
     let same : ◌≡◌ {A = List ℕ × List ℕ} ([], bytes) (ms, rest) = ok_is ([], bytes) (ms, rest) e in
@@ -125,10 +124,10 @@ places_take (suc k) bytes ms rest e =
     let x = bind_ok (place_at (stop_of k) bytes) (λ x. places_at k x.1 >>= λ y. Ok (x.0 ∷ y.0, y.1)) (ms, rest) e in
     let y = bind_ok (places_at k x.0.1) (λ y. Ok (x.0.0 ∷ y.0, y.1)) (ms, rest) x.2 in
     let ns = places_take k x.0.1 y.0.0 y.0.1 y.1 in
-    subst (λ (z : List ℕ × List ℕ). (xs : List ℕ) × (length xs ≡ suc k) × (map named xs ≡ z.0) × (bytes ≡ row xs ++ z.1)) (ok_is (x.0.0 ∷ y.0.0, y.0.1) (ms, rest) y.2)
+    subst (λ (z : List ℕ × List ℕ). (xs : List ℕ) × (length xs ≡ suc k) × (map in_32_bits xs ≡ z.0) × (bytes ≡ row xs ++ z.1)) (ok_is (x.0.0 ∷ y.0.0, y.0.1) (ms, rest) y.2)
     (places_next k bytes x.0.0 x.0.1 y.0.0 y.0.1 ns.0 x.1 ns.1 ns.2 ns.3)
 
-places_again : (xs rest : List ℕ) → places_at (length xs) (row xs ++ rest) ≡ Ok (map named xs, rest)
+places_again : (xs rest : List ℕ) → places_at (length xs) (row xs ++ rest) ≡ Ok (map in_32_bits xs, rest)
 unfolding places_at
 places_again [] rest = refl
 places_again (x ∷ xs) rest =
@@ -158,14 +157,14 @@ gaps_row x (y ∷ ys) rest =
     ap gaps (append_assoc (number_text x ++ 32 ∷ []) (row (y ∷ ys)) rest ∙ append_assoc (number_text x) (32 ∷ []) (row (y ∷ ys) ++ rest))
     ∙ (gaps_number x (32 ∷ (row (y ∷ ys) ++ rest)) ∙ (ap (λ (g : ℕ). g + 1) (gaps_row y ys rest) ∙ omega arith))
 
-pub machines_hear : Hears (λ xs. map named xs) (λ xs. 0 < length xs) row machines_at
+pub machines_hear : Hears (λ xs. map in_32_bits xs) (λ xs. 0 < length xs) row machines_at
 unfolding machines_at
 machines_hear = record { takes = takes; again = again }
   where
-    takes : (bytes ms rest : List ℕ) → places_at (gaps bytes + 1) bytes ≡ Ok (ms, rest) → (xs : List ℕ) × (0 < length xs) × (map named xs ≡ ms) × (bytes ≡ row xs ++ rest)
+    takes : (bytes ms rest : List ℕ) → places_at (gaps bytes + 1) bytes ≡ Ok (ms, rest) → (xs : List ℕ) × (0 < length xs) × (map in_32_bits xs ≡ ms) × (bytes ≡ row xs ++ rest)
     takes bytes ms rest e = let p = places_take (gaps bytes + 1) bytes ms rest e in let many = p.1 in (p.0, omega (arith, many), p.2, p.3)
 
-    again : (xs rest : List ℕ) → 0 < length xs → places_at (gaps (row xs ++ rest) + 1) (row xs ++ rest) ≡ Ok (map named xs, rest)
+    again : (xs rest : List ℕ) → 0 < length xs → places_at (gaps (row xs ++ rest) + 1) (row xs ++ rest) ≡ Ok (map in_32_bits xs, rest)
     again [] rest some = absurd (omega (arith, some))
     again (x ∷ xs) rest some =
         let many : gaps (row (x ∷ xs) ++ rest) + 1 ≡ length (x ∷ xs) = ap (λ (g : ℕ). g + 1) (gaps_row x xs rest) ∙ omega arith in

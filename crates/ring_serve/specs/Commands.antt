@@ -1,10 +1,10 @@
 -- The commands, and the lines that they are (this project's own).
-use Rattle.std.specs.Prelude.{◌≡◌, ◌≢◌, ℕ, ◌+◌, ◌<◌, ◌^◌, map, min, nat_lt, if◌then◌else◌, List, [], ◌∷◌, ◌++◌, length, codes, Option, Some, None, Result, Ok, Err}
+use Rattle.std.specs.Prelude.{◌≡◌, ◌≢◌, ℕ, ◌<◌, map, List, [], ◌∷◌, ◌++◌, length, codes, Option, Some, Result, Ok, Err}
 use Rattle.std.specs.Option.{option_map}
 use Rattle.std.specs.List.{AllByRecursion}
 use Rattle.text_lines.specs.declared.fault.Stop.{Stop}
 use Rattle.text_lines.specs.declared.fault.Stop.TheVariants as stops
-use Rattle.ring_serve.specs.Numbers.{spaced, ended, row, in_64_bits, named}
+use Rattle.ring_serve.specs.Numbers.{spaced, ended, row, in_64_bits, in_32_bits}
 use Rattle.ring_serve.specs.declared.commands.Command.{Command as Read}
 use Rattle.ring_serve.specs.declared.commands.Command.TheVariants as reads
 
@@ -48,13 +48,13 @@ IsLineOf command line = HasLine command × (line ≡ command_line command)
 -- rings, seats, machines and values. The name of a save is not theirs.
 abbrev pub heard : Command → Option Command
 heard (pass ring seat machine order) =
-    option_map (λ n. pass (named ring) (named seat) (named machine) n) (in_64_bits order)
+    option_map (λ n. pass (in_32_bits ring) (in_32_bits seat) (in_32_bits machine) n) (in_64_bits order)
 heard (group ring seat order machines) =
-    option_map (λ n. group (named ring) (named seat) n (map named machines)) (in_64_bits order)
+    option_map (λ n. group (in_32_bits ring) (in_32_bits seat) n (map in_32_bits machines)) (in_64_bits order)
 heard (corrupt ring seat machine value) =
-    Some (corrupt (named ring) (named seat) (named machine) (named value))
-heard (survey ring seat) = Some (survey (named ring) (named seat))
-heard (glance ring) = Some (glance (named ring))
+    Some (corrupt (in_32_bits ring) (in_32_bits seat) (in_32_bits machine) (in_32_bits value))
+heard (survey ring seat) = Some (survey (in_32_bits ring) (in_32_bits seat))
+heard (glance ring) = Some (glance (in_32_bits ring))
 heard (save name) = Some (save [])
 
 -- a command that was read

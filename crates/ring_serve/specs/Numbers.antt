@@ -33,8 +33,8 @@ in_64_bits n = if nat_lt n (2 ^ 64) then Some n else None
 
 -- the number of a ring, a seat or a machine, or a value: the greatest of 32 bits is read for all
 -- that are greater, and none of these has it
-abbrev pub named : ℕ → ℕ
-named n = min n 4294967295
+abbrev pub in_32_bits : ℕ → ℕ
+in_32_bits n = min n 4294967295
 
 -- ---- the readers as functions on lists
 
@@ -61,7 +61,7 @@ order_at stop = as_at in_64_bits (decimal_at stop)
 
 -- the number of a ring, a seat or a machine, or a value
 unfoldable pub place_at : ℕ → Reader ℕ
-place_at stop = as_at named (decimal_at stop)
+place_at stop = as_at in_32_bits (decimal_at stop)
 
 -- n of them on one line
 unfoldable pub places_at : ℕ → Reader (List ℕ)

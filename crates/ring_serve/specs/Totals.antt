@@ -1,5 +1,5 @@
 -- The sums over rings that are served (this project's own).
-use Rattle.std.specs.Prelude.{ℕ, List, length}
+use Rattle.std.specs.Prelude.{ℕ, ◌+◌, ◌^◌, ◌≤◌, List, length, ◌⊎◌}
 use Rattle.std.specs.List.{sum_by}
 use Rattle.ring_model.specs.Surveys.{granted_count}
 use Rattle.ring_logs.specs.LogView.{LogView}
@@ -18,3 +18,15 @@ totals_of rs = record {
   granted = sum_by (λ (r : Standing). granted_count r.history) rs;
   surveys = sum_by (λ (r : Standing). surveys_among r.clients) rs;
 }
+
+-- these sums with one ring more
+abbrev pub with_ring : Totals → Standing → Totals
+with_ring all r = record {
+  events = all.events + length r.history;
+  granted = all.granted + granted_count r.history;
+  surveys = all.surveys + surveys_among r.clients;
+}
+
+-- one of these sums has more than 64 bits
+abbrev pub AreTooLarge : Totals → Type 0
+AreTooLarge all = (2 ^ 64 ≤ all.events) ⊎ ((2 ^ 64 ≤ all.granted) ⊎ (2 ^ 64 ≤ all.surveys))

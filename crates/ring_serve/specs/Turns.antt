@@ -1,5 +1,5 @@
 -- How each command is answered, at each state of the rings (this project's own).
-use Rattle.std.specs.Prelude.{◌≡◌, ℕ, suc, ◌+◌, ◌≤◌, List, [], ◌∷◌, length, drop, slice_get, slice_set, Bool, true, not, ◌&&◌, ◌==◌, nat_lt, nat_le, find, if◌then◌else◌, Option, Some, None, ◌⊎◌}
+use Rattle.std.specs.Prelude.{◌≡◌, ℕ, ◌≤◌, List, [], ◌∷◌, length, drop, slice_get, slice_set, Option, Some, None, ◌⊎◌}
 use Rattle.ring_model.specs.History.{reply}
 use Rattle.ring_model.specs.Resources.{till}
 use Rattle.ring_model.specs.declared.events.Op.{Op}

@@ -1,6 +1,6 @@
 //! The answers, as lines.
 
-ghost use Rattle.std.specs.Prelude.{◌≡◌, ◌≤◌, ◌+◌, ◌++◌, codes, length};
+ghost use Rattle.std.specs.Prelude.{◌≡◌, ◌≤◌, ◌+◌, ◌++◌, length};
 ghost use Rattle.text_lines.specs.Spelling.{spaced, ended};
 ghost use Rattle.ring_serve.specs.declared.answers.Answer.TheVariants as answer;
 ghost use Rattle.ring_serve.specs.Answers.{answer_line};
@@ -65,7 +65,7 @@ fn put_word(line: &mut Line, word: &[u8])
 }
 
 /// The line of this one word, which has its LF.
-fn only(word: &[u8]) -> Line
+fn word_line(word: &[u8]) -> Line
     requires { length word.now ≤ 128 }
     ensures { result ≡ word.now }
 {
@@ -124,18 +124,18 @@ fn refusal_line(why: Refusal) -> Line
     ensures { result ≡ answer_line (answer.Refused why) }
 {
     match why {
-        Refusal::Syntax => only(b"refused syntax\n"),
-        Refusal::OrderTooLarge => only(b"refused order\n"),
-        Refusal::NoRing => only(b"refused ring\n"),
-        Refusal::NoSeat => only(b"refused seat\n"),
-        Refusal::NoMachine => only(b"refused machine\n"),
-        Refusal::NoValue => only(b"refused value\n"),
-        Refusal::NotRising => only(b"refused group\n"),
-        Refusal::WholeRing => only(b"refused whole\n"),
+        Refusal::Syntax => word_line(b"refused syntax\n"),
+        Refusal::OrderTooLarge => word_line(b"refused order\n"),
+        Refusal::NoRing => word_line(b"refused ring\n"),
+        Refusal::NoSeat => word_line(b"refused seat\n"),
+        Refusal::NoMachine => word_line(b"refused machine\n"),
+        Refusal::NoValue => word_line(b"refused value\n"),
+        Refusal::NotRising => word_line(b"refused group\n"),
+        Refusal::WholeRing => word_line(b"refused whole\n"),
         Refusal::NotPrivileged(machine) => with_number(b"refused privileged ", machine as u64),
-        Refusal::HistoryFull => only(b"refused full\n"),
-        Refusal::OutOfMemory => only(b"refused memory\n"),
-        Refusal::File => only(b"refused file\n"),
+        Refusal::HistoryFull => word_line(b"refused full\n"),
+        Refusal::OutOfMemory => word_line(b"refused memory\n"),
+        Refusal::File => word_line(b"refused file\n"),
     }
 }
 
@@ -146,11 +146,11 @@ impl Answer {
     {
         match *self {
             Answer::Granted { number, result } => with_numbers(b"granted ", number, result),
-            Answer::Waits => only(b"waits\n"),
+            Answer::Waits => word_line(b"waits\n"),
             Answer::Corrupted { old } => with_number(b"corrupted ", old as u64),
             Answer::Survey(survey) => survey_line(survey),
             Answer::Block { first, count } => with_numbers(b"block ", first, count as u64),
-            Answer::Saved => only(b"saved\n"),
+            Answer::Saved => word_line(b"saved\n"),
             Answer::Refused(why) => refusal_line(why),
         }
     }

@@ -3,6 +3,7 @@
 
 mod answers;
 mod commands;
+mod laws;
 mod numbers;
 mod saving;
 mod served;
@@ -13,8 +14,9 @@ mod turns;
 
 pub use answers::{Answer, Refusal};
 pub use commands::{Command, LINE_LIMIT, read_command};
-pub use saving::{put_rings, save_rings};
-pub use served::{LineAnswer, Served, answer_line, one_turn_is_right};
+pub use laws::{journals_are_right, one_turn_is_right};
+pub use saving::{save_rings, write_rings};
+pub use served::{LineAnswer, Served, answer_line};
 pub use serving::{Journal, Pending, ServeFault, serve};
 pub use starting::StartError;
 pub use turns::{CallAnswer, Trace};

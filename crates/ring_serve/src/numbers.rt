@@ -2,7 +2,7 @@
 
 ghost use Rattle.std.specs.Prelude.{◌≡◌, ◌≤◌, ◌<◌, ◌+◌, ◌-◌, ◌*◌, ◌&&◌, ℕ, true, false, nat_lt, IfSome, IsNone};
 ghost use Rattle.text_lines.specs.Reading.{Gives, as_at, is_digit, stop_of};
-ghost use Rattle.ring_serve.specs.Numbers.{digits_at, in_64_bits, named, order_at, place_at, places_at};
+ghost use Rattle.ring_serve.specs.Numbers.{digits_at, in_64_bits, in_32_bits, order_at, place_at, places_at};
 
 use std::alloc::Global;
 use text_lines::{Fault, Stop};
@@ -19,7 +19,7 @@ fn with_digit(number: Option<u64>, digit: u8) -> Option<u64>
 }
 
 /// The number with the byte after it, if it continues so: no digit follows a leading 0.
-fn grown(number: Option<u64>, b: u8) -> Option<Option<u64>>
+fn with_byte(number: Option<u64>, b: u8) -> Option<Option<u64>>
     ensures more { (n : ℕ) → number ≡ in_64_bits n
         → IfSome result
         (λ more. ((nat_lt 0 n && is_digit b) ≡ true) × (more ≡ in_64_bits (n * 10 + (b - 48)))) }
@@ -43,7 +43,7 @@ fn digits(first: u64, stop: u8, bytes: &[u8]) -> Result<(Option<u64>, &[u8]), St
         if *b == stop {
             return Ok((number, &bytes[i + 1..]));
         }
-        let Some(more) = grown(number, *b) else {
+        let Some(more) = with_byte(number, *b) else {
             return Err(Stop::Fault(Fault::Bad(bytes.len() - i)));
         };
         number = more;
@@ -65,8 +65,8 @@ pub(crate) fn decimal(bytes: &[u8], stop: u8) -> Result<(Option<u64>, &[u8]), St
 }
 
 /// The number of 32 bits that stands for a number.
-fn named(number: Option<u64>) -> u32
-    ensures { (n : ℕ) → number ≡ in_64_bits n → result ≡ named n }
+fn in_32_bits(number: Option<u64>) -> u32
+    ensures { (n : ℕ) → number ≡ in_64_bits n → result ≡ in_32_bits n }
 {
     match number {
         Some(n) if n < u32::MAX as u64 => n as u32,
@@ -79,7 +79,7 @@ pub(crate) fn place(bytes: &[u8], stop: u8) -> Result<(u32, &[u8]), Stop>
     ensures { Gives (λ x. (x.0, x.1.now)) result (place_at stop bytes.now) }
 {
     let (number, rest) = decimal(bytes, stop)?;
-    Ok((named(number), rest))
+    Ok((in_32_bits(number), rest))
 }
 
 /// Returns the byte that ends a number with n more after it on the line.

@@ -1,24 +1,23 @@
 //! The saved text of all rings that are served. Writing it takes no memory.
 
-ghost use Rattle.std.specs.Prelude.{◌≡◌, ◌≤◌, ◌<◌, ◌^◌, IfOk, IfSome, IsTrue, IsFalse, length, map, Some};
+ghost use Rattle.std.specs.Prelude.{◌≡◌, ◌≤◌, ◌<◌, ◌^◌, IfOk, IsTrue, IsFalse, length, map, Some};
 ghost use Rattle.std.specs.List.{flat_map, AllByRecursion};
-ghost use Rattle.std.specs.Io.KnownBytes.{Appends};
 ghost use Rattle.text_lines.specs.Writing.{Writes};
 ghost use Rattle.disks.specs.Held.{Replaces};
 ghost use Rattle.ring_saved.specs.Versions.{latest_version};
 ghost use Rattle.ring_saved.specs.Spelling.{block_text, text, BlockFits, Fits};
 ghost use Rattle.ring_check.specs.Legal.{IsLegalText};
-ghost use Rattle.ring_serve.specs.Standings.{standing_of, AreRight};
+ghost use Rattle.ring_serve.specs.Standings.{standing_of};
 ghost use Rattle.ring_serve.specs.Saved.{blocks_from, content_of};
 
 use crate::served::Served;
-use disks::Disk;
+use disks::{Contents, ContentsFault, Disk, replace};
 use ring_book::Till;
 use ring_desk::{OneThreadRing, put_ring};
 use ring_saved::LATEST_VERSION;
 use ring_saved::put_lines::{put_done_line, put_first_line};
 use std::alloc::Global;
-use std::io::{BufWriter, Write};
+use std::io::Write;
 use text_lines::WriteFault;
 
 /// Writes the blocks of the rings, each with its place from 0.
@@ -39,7 +38,7 @@ fn put_blocks<W: Write>(out: &mut W, rings: &[OneThreadRing<Till>]) -> Result<()
 }
 
 /// Writes the saved text of these rings, at least one.
-fn put_all_rings<W: Write>(out: &mut W, rings: &[OneThreadRing<Till>]) -> Result<(), WriteFault>
+fn write_text<W: Write>(out: &mut W, rings: &[OneThreadRing<Till>]) -> Result<(), WriteFault>
     requires some { 1 ≤ length rings.now }
     requires most { length rings.now < 2 ^ 32 }
     ensures written { Writes (W.contents out.old) (W.contents out.new) result
@@ -58,7 +57,7 @@ fn put_all_rings<W: Write>(out: &mut W, rings: &[OneThreadRing<Till>]) -> Result
 /// # Errors
 ///
 /// `WriteFault` at the first error of the writer: it holds a prefix of the text then.
-pub fn put_rings<W: Write>(out: &mut W, served: &Served) -> Result<(), WriteFault>
+pub fn write_rings<W: Write>(out: &mut W, served: &Served) -> Result<(), WriteFault>
     requires some { 1 ≤ length served.now }
     requires most { length served.now < 2 ^ 32 }
     ensures written { Writes (W.contents out.old) (W.contents out.new) result
@@ -66,29 +65,33 @@ pub fn put_rings<W: Write>(out: &mut W, served: &Served) -> Result<(), WriteFaul
     ensures fits { IfOk result (λ _. Fits (content_of served.now)) }
     ensures legal { IsLegalText (content_of served.now) }
 {
-    put_all_rings(out, served.rings())
+    write_text(out, served.rings())
 }
 
-/// Writes the saved text of all rings by this writer, through a buffer that is flushed whole, and hands the writer back.
-fn save_by<W: Write + Drop>(alloc: Global, served: &Served, out: W) -> Option<W>
-    requires some { 1 ≤ length served.now }
-    requires most { length served.now < 2 ^ 32 }
-    ensures { IfSome result
-        (λ after. Appends (W.contents out) (W.contents after) (text (content_of served.now))) }
-{
-    let Ok(mut buffer) = BufWriter::new(alloc, out) else {
-        return None;
-    };
-    let Ok(()) = put_rings(&mut buffer, served) else {
-        return None;
-    };
-    let Ok(mut after) = buffer.into_inner() else {
-        return None;
-    };
-    let Ok(()) = after.flush() else {
-        return None;
-    };
-    Some(after)
+/// The saved text of all rings, which a file is to hold.
+#[derive(Drop)]
+struct RingsText<'a> {
+    served: &'a Served,
+}
+
+impl Contents for RingsText<'_> {
+    ghost use Rattle.std.specs.Prelude.{◌≤◌, ◌<◌, ◌^◌, length};
+    ghost use Rattle.ring_saved.specs.Spelling.{text};
+    ghost use Rattle.ring_check.specs.Legal.{IsLegalText};
+    ghost use Rattle.ring_serve.specs.Saved.{content_of};
+
+    ghost ready = { λ s. (1 ≤ length s.served.now) × (length s.served.now < 2 ^ 32) };
+
+    ghost bytes = { λ s. text (content_of s.served.now) };
+
+    ghost known = { λ s. IsLegalText (content_of s.served.now) };
+
+    fn write_to<W: Write>(&self, out: &mut W) -> Result<(), ContentsFault> {
+        match write_rings(out, self.served) {
+            Ok(()) => Ok(()),
+            Err(_) => Err(ContentsFault::Write),
+        }
+    }
 }
 
 /// Replaces the file of this name by one with the saved text of all rings, and says whether it did. If not, no
@@ -100,15 +103,9 @@ pub fn save_rings<D: Disk>(alloc: Global, disk: &mut D, served: &Served, name: &
     ensures kept { IsFalse result → D.holds disk.new ≡ D.holds disk.old }
     ensures legal { IsTrue result → IsLegalText (content_of served.now) }
 {
-    let count = served.rings().len();
+    let count = served.count();
     if count == 0 || count > u32::MAX as usize {
         return false;
     }
-    let Ok(made) = disk.make(name) else {
-        return false;
-    };
-    let Some(after) = save_by(alloc, served, made) else {
-        return false;
-    };
-    disk.finish(after, name).is_ok()
+    replace(alloc, disk, name, &RingsText { served }).is_ok()
 }

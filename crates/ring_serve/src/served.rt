@@ -7,11 +7,11 @@ ghost use Rattle.ring_serve.specs.Commands.{seen, ring_of};
 ghost use Rattle.ring_model.specs.Resources.{till};
 ghost use Rattle.ring_desk.specs.Rings.{IsOneThreadRing};
 ghost use Rattle.ring_serve.specs.Standings.{standing_of, AreRight};
-ghost use Rattle.ring_serve.specs.Turns.{IsTurn, IsTurnOfLine, OneTurnIsRight, turn_seen_among, history_of};
+ghost use Rattle.ring_serve.specs.Turns.{IsTurn, IsTurnOfLine, turn_seen_among, history_of};
 
 use crate::answers::Refusal;
 use crate::commands::{Command, LINE_LIMIT, read_command};
-use crate::turns::{CallAnswer, make, refused};
+use crate::turns::{CallAnswer, make, refusal_answer};
 use ring_book::Till;
 use ring_desk::OneThreadRing;
 use ring_model::Event;
@@ -66,7 +66,7 @@ fn make_among(rings: &mut Vec<OneThreadRing<Till>>, command: &Command) -> CallAn
 {
     let at = ring_of(command) as usize;
     if at >= rings.len() {
-        return refused(Refusal::NoRing);
+        return refusal_answer(Refusal::NoRing);
     }
     make(&mut rings[at], command)
 }
@@ -185,11 +185,6 @@ fn no_call(why: Refusal) -> LineAnswer
 {
     LineAnswer {
         ring: 0,
-        call: refused(why),
+        call: refusal_answer(why),
     }
 }
-
-/// A line has one turn, memory aside.
-pub fn one_turn_is_right()
-    ensures { OneTurnIsRight }
-{}

@@ -3,7 +3,7 @@
 //! The answers to the lines of a block, and their part for the journal, are kept until the block has been read. Then the
 //! journal gets its part, and is flushed; only after that do the answers leave.
 
-ghost use Rattle.std.specs.Prelude.{◌≡◌, ◌≢◌, ℕ, List, Option, Bool, [], ◌∷◌, ◌++◌, OnOk, OnErr, IfErr, MatchResult, Some, is_some, cond, IsTrue};
+ghost use Rattle.std.specs.Prelude.{◌≡◌, ◌≢◌, ℕ, List, Option, Bool, [], ◌∷◌, ◌++◌, OnOk, OnErr, IfErr, Some, is_some, cond, IsTrue};
 ghost use Rattle.disks.specs.Held.{Held};
 ghost use Rattle.std.specs.Io.KnownBytes.{Appends};
 ghost use Rattle.text_lines.specs.Writing.{Writes, Wrote};
@@ -69,7 +69,7 @@ pub struct Pending {
 }
 
 /// Writes the lines of a turn's record.
-fn note<J: Write>(served: &Served, turn: LineAnswer, notes: &mut J) -> Result<(), WriteFault>
+fn put_trace<J: Write>(served: &Served, turn: LineAnswer, notes: &mut J) -> Result<(), WriteFault>
     ensures { Writes (J.contents notes.old) (J.contents notes.new) result
         (notes_of (recorded_among turn.ring served.now turn.call.trace)) }
 {
@@ -161,7 +161,7 @@ fn add_pending(
     if !noting {
         return Ok(());
     }
-    match note(served, turn, &mut pending.notes) {
+    match put_trace(served, turn, &mut pending.notes) {
         Ok(()) => Ok(()),
         Err(_) => Err(AllocError),
     }
@@ -280,7 +280,7 @@ fn put_notes<J: Write>(journal: &mut Option<Journal<'_, J>>, bytes: &[u8]) -> bo
 }
 
 /// Writes the pending bytes: the journal's part first.
-fn commit<J: Write, W: Write>(
+fn put_pending<J: Write, W: Write>(
     pending: &mut Pending,
     journal: &mut Option<Journal<'_, J>>,
     out: &mut W,
@@ -365,7 +365,7 @@ pub fn serve<D: Disk, I: Read, J: Write, W: Write>(
             Ok(()) => {}
             Err(AllocError) => return Err(ServeFault::OutOfMemory),
         }
-        match commit(&mut pending, journal, out) {
+        match put_pending(&mut pending, journal, out) {
             Ok(()) => {}
             Err(fault) => return Err(fault),
         }

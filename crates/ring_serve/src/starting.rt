@@ -1,6 +1,6 @@
 //! Rings that resume where saved ones ended.
 
-ghost use Rattle.std.specs.Prelude.{◌≡◌, ◌<◌, length, IfOk, IfErr};
+ghost use Rattle.std.specs.Prelude.{◌<◌, IfOk, IfErr};
 ghost use Rattle.ring_serve.specs.Starting.{AreResumed, IsStartFault};
 
 use crate::served::Served;

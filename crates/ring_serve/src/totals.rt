@@ -1,18 +1,18 @@
 //! The sums over rings that are served.
 
-ghost use Rattle.std.specs.Prelude.{◌≡◌, ◌+◌, IfSome, length, map};
-ghost use Rattle.ring_model.specs.Surveys.{granted_count};
+ghost use Rattle.std.specs.Prelude.{◌≡◌, ◌≤◌, ◌^◌, IfSome, IsNone, map};
 ghost use Rattle.ring_serve.specs.Standings.{standing_of};
-ghost use Rattle.ring_serve.specs.Totals.{surveys_among, totals_of};
+ghost use Rattle.ring_serve.specs.Totals.{surveys_among, with_ring, totals_of, AreTooLarge};
 
 use crate::served::Served;
 use ring_blocks::{Totals, granted};
 use ring_book::Till;
 use ring_desk::OneThreadRing;
 
-/// How many surveys the clients of a ring were given.
+/// How many surveys the clients of a ring were given; none if they are 2 to the power 64 or more.
 fn surveys_of(ring: &OneThreadRing<Till>) -> Option<u64>
-    ensures { IfSome result (λ count. count ≡ surveys_among ring.now.clients) }
+    ensures some { IfSome result (λ count. count ≡ surveys_among ring.now.clients) }
+    ensures none { IsNone result → 2 ^ 64 ≤ surveys_among ring.now.clients }
 {
     let clients = ring.clients();
     let mut all: u64 = 0;
@@ -22,14 +22,10 @@ fn surveys_of(ring: &OneThreadRing<Till>) -> Option<u64>
     Some(all)
 }
 
-/// The sums over rings, with one ring more.
+/// The sums over rings, with one ring more; none if one of them has more than 64 bits.
 fn with_ring(all: Totals, ring: &OneThreadRing<Till>) -> Option<Totals>
-    ensures { IfSome result (λ totals. totals
-        ≡ record {
-          events = all.events + length ring.now.book.history;
-          granted = all.granted + granted_count ring.now.book.history;
-          surveys = all.surveys + surveys_among ring.now.clients;
-        }) }
+    ensures some { IfSome result (λ totals. totals ≡ with_ring all (standing_of ring.now)) }
+    ensures none { IsNone result → AreTooLarge (with_ring all (standing_of ring.now)) }
 {
     let history = ring.history();
     Some(Totals {
@@ -39,9 +35,10 @@ fn with_ring(all: Totals, ring: &OneThreadRing<Till>) -> Option<Totals>
     })
 }
 
-/// The sums over rings.
-fn added_up(rings: &[OneThreadRing<Till>]) -> Option<Totals>
-    ensures { IfSome result (λ totals. totals ≡ totals_of (map standing_of rings.now)) }
+/// The sums over rings; none if one of them has more than 64 bits.
+fn totals_of(rings: &[OneThreadRing<Till>]) -> Option<Totals>
+    ensures some { IfSome result (λ totals. totals ≡ totals_of (map standing_of rings.now)) }
+    ensures none { IsNone result → AreTooLarge (totals_of (map standing_of rings.now)) }
 {
     let mut all = Totals {
         events: 0,
@@ -57,8 +54,9 @@ fn added_up(rings: &[OneThreadRing<Till>]) -> Option<Totals>
 impl Served {
     /// The events, the granted passes and the surveys of all rings; none if one of these numbers has more than 64 bits.
     pub fn totals(&self) -> Option<Totals>
-        ensures { IfSome result (λ totals. totals ≡ totals_of self.now) }
+        ensures some { IfSome result (λ totals. totals ≡ totals_of self.now) }
+        ensures none { IsNone result → AreTooLarge (totals_of self.now) }
     {
-        added_up(self.rings())
+        totals_of(self.rings())
     }
 }

@@ -30,8 +30,8 @@ pub struct CallAnswer {
     pub trace: Trace,
 }
 
-/// A call that was refused.
-pub(crate) fn refused(why: Refusal) -> CallAnswer
+/// The answer to a call that is refused.
+pub(crate) fn refusal_answer(why: Refusal) -> CallAnswer
     ensures { result ≡ record { answer = Answer.Refused why; trace = Trace.Nothing } }
 {
     CallAnswer {
@@ -81,7 +81,7 @@ fn make_pass(ring: &mut OneThreadRing<Till>, seat: u32, machine: u32, order: u64
             answer: answer_of(receipt.event.reply),
             trace: Trace::Events(from),
         },
-        Err(error) => refused(refusal_of(error)),
+        Err(error) => refusal_answer(refusal_of(error)),
     }
 }
 
@@ -99,7 +99,7 @@ fn make_fault(ring: &mut OneThreadRing<Till>, seat: u32, machine: u32, value: u3
             answer: answer_of(receipt.event.reply),
             trace: Trace::Events(from),
         },
-        Err(error) => refused(refusal_of(error)),
+        Err(error) => refusal_answer(refusal_of(error)),
     }
 }
 
@@ -120,7 +120,7 @@ fn make_group(ring: &mut OneThreadRing<Till>, seat: u32, order: u64, machines: &
             },
             trace: Trace::Events(from),
         },
-        Err(error) => refused(refusal_of(error)),
+        Err(error) => refusal_answer(refusal_of(error)),
     }
 }
 
@@ -137,7 +137,7 @@ fn make_survey(ring: &mut OneThreadRing<Till>, seat: u32) -> CallAnswer
             answer: Answer::Survey(survey),
             trace: Trace::Survey { seat, survey },
         },
-        Err(error) => refused(refusal_of(error)),
+        Err(error) => refusal_answer(refusal_of(error)),
     }
 }
 

@@ -7,7 +7,7 @@ use Rattle.ring_saved.specs.Spelling.{text}
 use Rattle.ring_farm.specs.declared.outcomes.Outcome.{Outcome}
 use Rattle.ring_farm.specs.RingOutcome.{RingOutcome}
 use Rattle.ring_text.specs.Report.{rings_from, farm_line}
-use Rattle.ring_commands.specs.Ran.{told}
+use Rattle.ring_commands.specs.Ran.{report_text}
 use Rattle.wrong_commands.proofs.Written.{not_more}
 
 -- a saved text begins with its name
@@ -25,6 +25,6 @@ one_less None was now h some = omega (arith, h.0, some)
 one_less (Some x) was now h some = h
 
 -- a whole report and its last line are apart
-pub told_apart : (old new : Option (List ℕ)) (quiet : Bool) (o : Outcome) → IsSome old → 1 ≤ length o.rings.items → Appends old new (told (not quiet) o) → Appends old new (told quiet o) → ⊥
-told_apart old new false o known some h k = not_more old new (rings_from 0 o.rings.items) (farm_line o) known (rings_some 0 o.rings.items some) h k
-told_apart old new true o known some h k = not_more old new (rings_from 0 o.rings.items) (farm_line o) known (rings_some 0 o.rings.items some) k h
+pub reports_apart : (old new : Option (List ℕ)) (quiet : Bool) (o : Outcome) → IsSome old → 1 ≤ length o.rings.items → Appends old new (report_text (not quiet) o) → Appends old new (report_text quiet o) → ⊥
+reports_apart old new false o known some h k = not_more old new (rings_from 0 o.rings.items) (farm_line o) known (rings_some 0 o.rings.items some) h k
+reports_apart old new true o known some h k = not_more old new (rings_from 0 o.rings.items) (farm_line o) known (rings_some 0 o.rings.items some) k h

@@ -15,12 +15,12 @@ ghost use Rattle.ring_commands.specs.CheckText.{legal_line};
 ghost use Rattle.ring_commands.specs.Checked.{IsLegalSavedText, IsCheckRefusal};
 ghost use Rattle.ring_commands.specs.Faults.{status_of, end_status};
 ghost use Rattle.ring_commands.specs.Named.{IsHeld, IsApart};
-ghost use Rattle.ring_commands.specs.Ran.{told};
+ghost use Rattle.ring_commands.specs.Ran.{report_text};
 ghost use Rattle.ring_commands.specs.Reading.{most_bytes, names_stream, IsAllOf, IsWithin, IsOver};
 
 use disks::Disk;
 use ring_check::{Kind, Summary};
-use ring_commands::check::{check_bytes, legal_saved, write_sums};
+use ring_commands::check::{check_bytes, legal_saved, tell_sums};
 use ring_commands::endings::{finish, tell};
 use ring_commands::faults::ToolError;
 use ring_commands::reading::{ReadFault, names_stream, read_limited, read_whole};
@@ -94,7 +94,7 @@ pub fn sums_of_another_text<W: Write>(
     ensures wrong { IfOk result
         (λ _. Writes (W.contents out.old) (W.contents out.new) result (legal_line sums.now) → ⊥) }
 {
-    write_sums(out, other)?;
+    tell_sums(out, other)?;
     Ok(())
 }
 

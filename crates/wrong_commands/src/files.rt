@@ -13,13 +13,13 @@ ghost use Rattle.ring_commands.specs.Checked.{IsLegalSavedText, IsCheckAnswer};
 ghost use Rattle.ring_commands.specs.Handed.{IsHanded};
 ghost use Rattle.ring_commands.specs.Named.{IsHeld, IsApart};
 ghost use Rattle.ring_commands.specs.Pictured.{IsDrawing, IsPictureApart, picture_of};
-ghost use Rattle.ring_commands.specs.Ran.{told, history_file};
+ghost use Rattle.ring_commands.specs.Ran.{report_text, history_file};
 ghost use Rattle.ring_commands.specs.Reading.{names_stream};
 ghost use Rattle.ring_commands.specs.Saved.{IsRunAnswer};
 ghost use Rattle.ring_commands.specs.Worlds.{world};
 
 use disks::Disk;
-use ring_commands::check::{check_bytes, write_sums};
+use ring_commands::check::{check_bytes, tell_sums};
 use ring_commands::faults::ToolError;
 use ring_commands::picture::{Drawing, hand_over};
 use ring_commands::run::save_and_report;
@@ -86,9 +86,9 @@ pub fn outcome_that_is_anothers<'a, D: Disk, W: Write>(
     requires most { length other.now.rings.items ≤ ring_limit }
     requires few { entries_in other.now < 2 ^ 64 }
     requires known { IsSome (W.contents out.old) }
-    requires apart { told quiet other.now ≢ told quiet outcome.now }
+    requires apart { report_text quiet other.now ≢ report_text quiet outcome.now }
     ensures wrong { OnOk result
-        (Appends (W.contents out.old) (W.contents out.new) (told quiet outcome.now) → ⊥) }
+        (Appends (W.contents out.old) (W.contents out.new) (report_text quiet outcome.now) → ⊥) }
 {
     save_and_report(alloc, disk, other, file, quiet, out)?;
     Ok(())
@@ -108,7 +108,7 @@ pub fn quiet_run_that_reports<'a, D: Disk, W: Write>(
     requires few { entries_in outcome.now < 2 ^ 64 }
     requires known { IsSome (W.contents out.old) }
     ensures wrong { OnOk result
-        (Appends (W.contents out.old) (W.contents out.new) (told quiet outcome.now) → ⊥) }
+        (Appends (W.contents out.old) (W.contents out.new) (report_text quiet outcome.now) → ⊥) }
 {
     save_and_report(alloc, disk, outcome, file, !quiet, out)?;
     Ok(())
@@ -194,6 +194,6 @@ pub fn picture_for_nobody<D: Disk, W: Write, E: Write>(
         (world (D.holds _disk.old) None (W.contents out.old) (E.contents _err.old))
         (world (D.holds _disk.new) None (W.contents out.new) (E.contents _err.new)) → ⊥) }
 {
-    write_sums(out, &drawing.sums)?;
+    tell_sums(out, &drawing.sums)?;
     Ok(())
 }

@@ -1,5 +1,5 @@
 //! The survey lines of a saved ring.
-ghost use Rattle.std.specs.Prelude.{◌≡◌, ◌<◌, ◌≤◌, map, length, All, IfOk, IfErr};
+ghost use Rattle.std.specs.Prelude.{◌≡◌, ◌<◌, ◌≤◌, map, All, IfOk, IfErr};
 ghost use Rattle.ring_model.specs.Limits.{seat_limit};
 ghost use Rattle.ring_check.specs.Meaning.{survey_of, AreInOrder, AreOnward};
 ghost use Rattle.ring_desk.specs.Texts.{surveys_kept};

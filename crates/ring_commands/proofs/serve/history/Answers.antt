@@ -7,6 +7,7 @@ use Rattle.ring_check.specs.Legal.{IsLegalText}
 use Rattle.ring_commands.specs.Checked.{IsLegalSavedText}
 use Rattle.ring_commands.specs.Named.{IsHeld}
 use Rattle.ring_commands.specs.Served.{IsHistory}
+use Rattle.ring_commands.proofs.JournalStarts.{text_begins}
 use Rattle.ring_commands.proofs.serve.history.Goals as goal
 
 is_history : (files : Option Held) (name bytes now : List ℕ) (sums : Summary) (saved : Saved) → IsHeld files name bytes → now ≡ bytes →
@@ -19,3 +20,7 @@ is_history files name bytes now sums saved held e ok =
 pub returns-in-Ok-legal_saved-clause-ok : goal.returns-in-Ok-legal_saved-clause-ok
 returns-in-Ok-legal_saved-clause-ok g c =
     is_history (g.D.Disk.holds c.args.disk.now) c.args.name.now c.in-Ok.bytes.items c.as_slice.result.now c.in-Ok-legal_saved.field-0-1 c.in-Ok-legal_saved.saved c.in-Ok.ensures.ok c.as_slice.ensures.value c.in-Ok-legal_saved.ensures.ok
+
+pub returns-in-Ok-legal_saved-clause-rings : goal.returns-in-Ok-legal_saved-clause-rings
+returns-in-Ok-legal_saved-clause-rings g c =
+    text_begins c.as_slice.result.now c.in-Ok-legal_saved.field-0-1 c.in-Ok-legal_saved.saved c.in-Ok-legal_saved.ensures.ok

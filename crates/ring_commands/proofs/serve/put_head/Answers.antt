@@ -6,7 +6,7 @@ use Rattle.ring_commands.proofs.serve.put_head.Goals as goal
 
 pub returns-in-Ok : goal.returns-in-Ok
 returns-in-Ok g c =
-    writes_then (g.W.Write.contents c.args.out.now) (g.W.Write.contents c.put_first_line.new.out) (g.W.Write.contents c.put_rings.new.out) c.put_rings.result first_line (text (content_of c.args.served.now)) c.in-Ok.ensures c.put_rings.ensures.written
+    writes_then (g.W.Write.contents c.args.out.now) (g.W.Write.contents c.put_first_line.new.out) (g.W.Write.contents c.write_rings.new.out) c.write_rings.result first_line (text (content_of c.args.served.now)) c.in-Ok.ensures c.write_rings.ensures.written
 
 pub returns-in-Err : goal.returns-in-Err
 returns-in-Err g c = writes_err (g.W.Write.contents c.args.out.now) (g.W.Write.contents c.put_first_line.new.out) c.in-Err.fault first_line (text (content_of c.args.served.now)) c.in-Err.ensures

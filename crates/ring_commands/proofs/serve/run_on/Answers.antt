@@ -35,10 +35,10 @@ returns-in-Ok-clause-ok g c =
     plain c.args.words.now c.args.saved c.in-Ok.end (g.D.Disk.holds c.args.disk.now) (g.D.Disk.holds c.run_plain.new.disk) (g.I.Read.remaining c.args.input.now) (g.I.Read.remaining c.run_plain.new.input) (g.W.Write.contents c.args.out.now) (g.W.Write.contents c.run_plain.new.out)
     (ap (λ (j : Option _). option_map (λ name. name.now) j) c.in-None.is) c.in-Ok.ensures.ok
 
-pub returns-in-Ok-run_journaled-clause-ok : goal.returns-in-Ok-run_journaled-clause-ok
-returns-in-Ok-run_journaled-clause-ok g c =
-    noted c.args.words.now c.args.saved c.in-Some.name.now c.in-Ok-run_journaled.end (g.D.Disk.holds c.args.disk.now) (g.D.Disk.holds c.run_journaled.new.disk) (g.I.Read.remaining c.args.input.now) (g.I.Read.remaining c.run_journaled.new.input) (g.W.Write.contents c.args.out.now) (g.W.Write.contents c.run_journaled.new.out)
-    (ap (λ (j : Option _). option_map (λ name. name.now) j) c.in-Some.is) c.in-Ok-run_journaled.ensures.ok
+pub returns-in-Ok-run_with_journal-clause-ok : goal.returns-in-Ok-run_with_journal-clause-ok
+returns-in-Ok-run_with_journal-clause-ok g c =
+    noted c.args.words.now c.args.saved c.in-Some.name.now c.in-Ok-run_with_journal.end (g.D.Disk.holds c.args.disk.now) (g.D.Disk.holds c.run_with_journal.new.disk) (g.I.Read.remaining c.args.input.now) (g.I.Read.remaining c.run_with_journal.new.input) (g.W.Write.contents c.args.out.now) (g.W.Write.contents c.run_with_journal.new.out)
+    (ap (λ (j : Option _). option_map (λ name. name.now) j) c.in-Some.is) c.in-Ok-run_with_journal.ensures.ok
 
 refused : (words : ServeWords) (journal : Option (List ℕ)) (saved : Saved) (files : Option Held) (was is old new : Option (List ℕ)) (e : ToolError) → journal_of words ≡ journal →
     IsRefusedFrom files journal saved was is old new e → IsRefusedFrom files (journal_of words) saved was is old new e
@@ -51,5 +51,5 @@ returns-in-None-clause-err g c =
 
 pub returns-clause-err : goal.returns-clause-err
 returns-clause-err g c =
-    refused c.args.words.now (Some c.in-Some.name.now) c.args.saved (g.D.Disk.holds c.args.disk.now) (g.I.Read.remaining c.args.input.now) (g.I.Read.remaining c.run_journaled.new.input) (g.W.Write.contents c.args.out.now) (g.W.Write.contents c.run_journaled.new.out)
-    c.in-Err-run_journaled.fault (ap (λ (j : Option _). option_map (λ name. name.now) j) c.in-Some.is) c.in-Err-run_journaled.ensures.err
+    refused c.args.words.now (Some c.in-Some.name.now) c.args.saved (g.D.Disk.holds c.args.disk.now) (g.I.Read.remaining c.args.input.now) (g.I.Read.remaining c.run_with_journal.new.input) (g.W.Write.contents c.args.out.now) (g.W.Write.contents c.run_with_journal.new.out)
+    c.in-Err-run_with_journal.fault (ap (λ (j : Option _). option_map (λ name. name.now) j) c.in-Some.is) c.in-Err-run_with_journal.ensures.err

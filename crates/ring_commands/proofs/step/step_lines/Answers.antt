@@ -36,12 +36,12 @@ returns-in_err-receipt-clause-front g c =
     let left = drop c.loop-choice.choice-index c.args.choices.now in
     rw p.1 (lines_from c.loop-choice.book.now left, lines-some c.loop-choice.book.now left, c.loop-choice.invariant.written)
 
-pub returns-in_err-write_reply-clause-front : goal.returns-in_err-write_reply-clause-front
-returns-in_err-write_reply-clause-front g c =
-    let p = err_from_is_err_and c.from_residual-in_err-write_reply.result c.from_residual-in_err-write_reply.ensures.1 in
+pub returns-in_err-put_reply-clause-front : goal.returns-in_err-put_reply-clause-front
+returns-in_err-put_reply-clause-front g c =
+    let p = err_from_is_err_and c.from_residual-in_err-put_reply.result c.from_residual-in_err-put_reply.ensures.1 in
     let next = lines-step c.loop-choice.book.now c.pass.new.self.now c.in_ok-receipt.receipt.event c.args.choices.now c.loop-choice.choice-index c.loop-choice-test.true
     c.in_ok-receipt.ensures.ok.step c.in_ok-receipt.ensures.ok.of_call in
-    rw p.1 (wrote_cut _ _ _ c.in_err-write_reply.field-0.0 _ _ _ _ next c.loop-choice.invariant.written c.in_err-write_reply.ensures)
+    rw p.1 (wrote_cut _ _ _ c.in_err-put_reply.field-0.0 _ _ _ _ next c.loop-choice.invariant.written c.in_err-put_reply.ensures)
 
 pub loop-choice-preserved : goal.loop-choice-preserved
 loop-choice-preserved g c =
@@ -49,21 +49,21 @@ loop-choice-preserved g c =
     c.in_ok-receipt.ensures.ok.step c.in_ok-receipt.ensures.ok.of_call in
     let started : length c.pass.new.self.start.values ≡ c.args.n = ap (λ (r : Ring). length r.values) c.in_ok-receipt.ensures.ok.same_start ∙ c.loop-choice.invariant.started in
     record {
-      written = wrote_piece _ _ _ _ _ _ _ next c.loop-choice.invariant.written c.in_ok-write_reply.ensures;
+      written = wrote_piece _ _ _ _ _ _ _ next c.loop-choice.invariant.written c.in_ok-put_reply.ensures;
       started = started;
       size = ap (λ (s : Size). s.n) c.in_ok-receipt.ensures.book.same_size ∙ started;
       recorded = rw (c.in_ok-receipt.ensures.ok.grown, length-append) (omega (arith, c.loop-choice.invariant.recorded));
     }
 
-pub returns-in_err-write_end-clause-front : goal.returns-in_err-write_end-clause-front
-returns-in_err-write_end-clause-front g c =
-    let p = err_from_is_err_and c.from_residual-in_err-write_end.result c.from_residual-in_err-write_end.ensures.1 in
+pub returns-in_err-put_end-clause-front : goal.returns-in_err-put_end-clause-front
+returns-in_err-put_end-clause-front g c =
+    let p = err_from_is_err_and c.from_residual-in_err-put_end.result c.from_residual-in_err-put_end.ensures.1 in
     let none : drop c.loop-choice.choice-index c.args.choices.now ≡ [] = drop_all c.loop-choice.choice-index c.args.choices.now (omega (arith, c.loop-choice-test.false)) in
     let last : lines_from c.loop-choice.book.now (drop c.loop-choice.choice-index c.args.choices.now) ≡ end_lines c.state.result.now.values = rw (none, c.state.ensures.is) refl in
-    rw p.1 (wrote_last _ _ _ (Err c.in_err-write_end.field-0.0) _ _ _ last c.loop-choice.invariant.written c.in_err-write_end.ensures)
+    rw p.1 (wrote_last _ _ _ (Err c.in_err-put_end.field-0.0) _ _ _ last c.loop-choice.invariant.written c.in_err-put_end.ensures)
 
 pub returns-clause-written : goal.returns-clause-written
 returns-clause-written g c =
     let none : drop c.loop-choice.choice-index c.args.choices.now ≡ [] = drop_all c.loop-choice.choice-index c.args.choices.now (omega (arith, c.loop-choice-test.false)) in
     let last : lines_from c.loop-choice.book.now (drop c.loop-choice.choice-index c.args.choices.now) ≡ end_lines c.state.result.now.values = rw (none, c.state.ensures.is) refl in
-    wrote_last _ _ _ (Ok tt) _ _ _ last c.loop-choice.invariant.written c.in_ok-write_end.ensures
+    wrote_last _ _ _ (Ok tt) _ _ _ last c.loop-choice.invariant.written c.in_ok-put_end.ensures

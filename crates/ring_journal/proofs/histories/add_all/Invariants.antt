@@ -1,6 +1,6 @@
 use Rattle.std.proofs.Common.{◌≡◌, drop, map, vec_len}
 use Rattle.ring_saved.specs.Content.{block_of}
-use Rattle.ring_journal.specs.Told.{with_calls}
+use Rattle.ring_journal.specs.ContentAfter.{with_calls}
 use Rattle.ring_journal.proofs.histories.add_all.Given as goal
 
 abbrev pub invariant-loop-recorded : goal.invariant-loop-recorded

@@ -3,7 +3,7 @@ use Rattle.std.proofs.lemmas.Iterator.Consumers.{YieldsList-end}
 use Rattle.std.proofs.lemmas.Iterator.Adapters.{YieldsList-from_vec}
 use Rattle.ring_saved.specs.declared.saved.SavedRing.{SavedRing}
 use Rattle.ring_saved.specs.Content.{block_of}
-use Rattle.ring_journal.specs.Told.{in_order}
+use Rattle.ring_journal.specs.ContentAfter.{in_order}
 use Rattle.ring_journal.proofs.Placings.{map_same, ordered_more}
 use Rattle.ring_journal.proofs.histories.all_in_order.Goals as goal
 

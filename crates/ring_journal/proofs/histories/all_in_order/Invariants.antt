@@ -1,6 +1,6 @@
 use Rattle.std.proofs.Common.{◌≡◌, map}
 use Rattle.ring_saved.specs.Content.{block_of}
-use Rattle.ring_journal.specs.Told.{in_order}
+use Rattle.ring_journal.specs.ContentAfter.{in_order}
 use Rattle.ring_journal.proofs.histories.all_in_order.Given as goal
 
 abbrev pub invariant-loop-ring : goal.invariant-loop-ring

@@ -3,7 +3,7 @@ use Rattle.std.specs.Prelude.{not}
 use Rattle.std.specs.List.{filter}
 use Rattle.ring_model.specs.Limits.{seat_limit}
 use Rattle.ring_saved.specs.declared.saved.SavedSurvey.{SavedSurvey}
-use Rattle.ring_journal.specs.Told.{is_of, by_seats}
+use Rattle.ring_journal.specs.ContentAfter.{is_of, by_seats}
 use Rattle.ring_journal.proofs.Seatings.{seat_more, seats_all}
 use Rattle.ring_journal.proofs.histories.by_seats.Goals as goal
 

@@ -1,6 +1,6 @@
 use Rattle.std.proofs.Common.{◌≡◌, ◌-◌, ◌++◌}
 use Rattle.ring_model.specs.Limits.{seat_limit}
-use Rattle.ring_journal.specs.Told.{by_seats}
+use Rattle.ring_journal.specs.ContentAfter.{by_seats}
 use Rattle.ring_journal.proofs.histories.by_seats.Given as goal
 
 abbrev pub invariant-loop-seat : goal.invariant-loop-seat

@@ -1,5 +1,5 @@
 use Rattle.std.proofs.Common.{◌≡◌, ◌≤◌, take}
-use Rattle.ring_journal.specs.Told.{whole}
+use Rattle.ring_journal.specs.ContentAfter.{whole}
 use Rattle.ring_journal.proofs.histories.whole_length.Given as goal
 
 abbrev pub invariant-loop-i : goal.invariant-loop-i

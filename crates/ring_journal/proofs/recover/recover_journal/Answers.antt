@@ -2,7 +2,7 @@ use Rattle.std.proofs.Common.{◌≡◌, List, length, Some, inr, refl, sym, ap,
 use Rattle.ring_saved.specs.Content.{Content, content}
 use Rattle.ring_check.specs.Legal.{IsLegalText}
 use Rattle.ring_journal.specs.declared.calls.JournalLine.{JournalLine}
-use Rattle.ring_journal.specs.Told.{told}
+use Rattle.ring_journal.specs.ContentAfter.{content_after}
 use Rattle.ring_journal.specs.Recovery.{IsWrongCall}
 use Rattle.ring_journal.specs.Judging.{AreCallsOf, IsFaultOf}
 use Rattle.ring_journal.proofs.Heads.{head_lengths, head_lines, line_number, line_small, is_journal, are_calls, calls_within, rings_count, for_head}
@@ -46,7 +46,7 @@ returns-in-Ok-legal_history c =
       lines = is_journal bytes began c.in-Ok.found.1.now c.in-Ok.ensures.0 c.len.result calls c.in-Ok-calls.tail.now same c.in-Ok-calls.ensures.fit c.in-Ok-calls.ensures.spelled c.in-Ok-calls.ensures.all;
       unended = sym c.if-contains.ensures.value;
       began = c.in-Ok.ensures.1;
-      told = c.in-Ok-legal_history.ensures.0 ∙ ap (told began) c.deref.ensures.value;
+      is = c.in-Ok-legal_history.ensures.0 ∙ ap (content_after began) c.deref.ensures.value;
       legal = subst IsLegalText (sym c.in-Ok-legal_history.ensures.0) c.in-Ok-legal_history.ensures.1;
     }
 
@@ -68,9 +68,9 @@ pub wrong_call-requires-clause-wrong : goal.wrong_call-requires-clause-wrong
 wrong_call-requires-clause-wrong c =
     let began = content c.in-Ok.found.0 in
     let right = rw c.in-Err-Bad.field-0-is at c.in-Err-Bad.ensures in
-    let wrong : IsFaultOf (told began c.deref-in-Err-Bad.result.now) (Some c.in-Err-Bad.kind) =
-    subst (λ (xs : List JournalLine). IsFaultOf (told began xs) (Some c.in-Err-Bad.kind)) (c.deref.ensures.value ∙ sym c.deref-in-Err-Bad.ensures.value) (c.in-Err-Bad.field-0-0, right) in
-    λ b r e. for_head (λ (x : Content). IsFaultOf (told x c.deref-in-Err-Bad.result.now) (Some c.in-Err-Bad.kind)) c.args.bytes.now b began r c.in-Ok.found.1.now e c.in-Ok.ensures.0 wrong
+    let wrong : IsFaultOf (content_after began c.deref-in-Err-Bad.result.now) (Some c.in-Err-Bad.kind) =
+    subst (λ (xs : List JournalLine). IsFaultOf (content_after began xs) (Some c.in-Err-Bad.kind)) (c.deref.ensures.value ∙ sym c.deref-in-Err-Bad.ensures.value) (c.in-Err-Bad.field-0-0, right) in
+    λ b r e. for_head (λ (x : Content). IsFaultOf (content_after x c.deref-in-Err-Bad.result.now) (Some c.in-Err-Bad.kind)) c.args.bytes.now b began r c.in-Ok.found.1.now e c.in-Ok.ensures.0 wrong
 
 pub overflow_add-result-in-Ok-wrong_call : goal.overflow_add-result-in-Ok-wrong_call
 overflow_add-result-in-Ok-wrong_call c =

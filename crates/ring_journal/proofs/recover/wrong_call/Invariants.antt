@@ -2,7 +2,7 @@ use Rattle.std.proofs.Common.{◌≡◌, ◌-◌, ◌<◌, ◌≤◌, List, ℕ,
 use Rattle.ring_saved.specs.Content.{Content}
 use Rattle.ring_check.specs.Legal.{IsLegalText}
 use Rattle.ring_journal.specs.Reading.{head_at}
-use Rattle.ring_journal.specs.Told.{told}
+use Rattle.ring_journal.specs.ContentAfter.{content_after}
 use Rattle.ring_journal.specs.Judging.{IsFaultOf}
 use Rattle.ring_journal.proofs.recover.wrong_call.Given as goal
 
@@ -10,7 +10,7 @@ abbrev pub invariant-loop-wrong : goal.invariant-loop-wrong
 invariant-loop-wrong l =
     (l.legal < l.wrong)
     × (l.wrong ≤ length l.calls)
-    × ((began : Content) (rest : List ℕ) → head_at l.bytes ≡ Ok (began, rest) → (0 < l.legal → IsLegalText (told began (take l.legal l.calls))) × IsFaultOf (told began (take l.wrong l.calls)) (Some l.kind))
+    × ((began : Content) (rest : List ℕ) → head_at l.bytes ≡ Ok (began, rest) → (0 < l.legal → IsLegalText (content_after began (take l.legal l.calls))) × IsFaultOf (content_after began (take l.wrong l.calls)) (Some l.kind))
 
 abbrev pub decreases-loop-wrong : goal.decreases-loop-wrong
 decreases-loop-wrong l = l.wrong - l.legal

@@ -8,4 +8,4 @@ returns-in_err-number c =
     rw (p.1, p.2) (place_fails c.args.stop c.args.bytes.now c.in_err-number.field-0.0 c.in_err-number.ensures)
 
 pub returns : goal.returns
-returns c = place_read c.args.stop c.args.bytes.now c.in_ok-number.rest.now c.in_ok-number.number c.named.result c.in_ok-number.ensures c.named.ensures
+returns c = place_read c.args.stop c.args.bytes.now c.in_ok-number.rest.now c.in_ok-number.number c.in_32_bits.result c.in_ok-number.ensures c.in_32_bits.ensures

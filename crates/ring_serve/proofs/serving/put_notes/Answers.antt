@@ -1,5 +1,4 @@
 use Rattle.std.proofs.Common.{[], refl}
-use Rattle.ring_serve.specs.Serving.{held_by}
 use Rattle.ring_serve.proofs.serving.put_notes.Goals as goal
 
 pub returns-in-None-clause-part : goal.returns-in-None-clause-part

@@ -1,4 +1,4 @@
-use Rattle.std.proofs.Common.{List, ℕ, [], ◌++◌, ◌+◌, ◌≤◌, ◌<◌, ◌∙◌, length, take, subst, sym, refl, arith, length-append}
+use Rattle.std.proofs.Common.{List, ℕ, [], ◌++◌, ◌+◌, ◌≤◌, ◌∙◌, length, take, subst, sym, refl, arith, length-append}
 use Rattle.std.specs.Prelude.{is_some}
 use Rattle.std.specs.Io.KnownBytes.{Consumes}
 use Rattle.std.proofs.lemmas.List.{length-take}
@@ -39,8 +39,8 @@ returns-in-Err-clause-err g c =
       block c.args.served.now (g.D.Disk.holds c.args.disk.now) before after inv.0 (rests_goes c.rounds.pending inv.3 inv.4 inv.2),
     )
 
-pub returns-in-Err-commit-clause-err : goal.returns-in-Err-commit-clause-err
-returns-in-Err-commit-clause-err g c =
+pub returns-in-Err-put_pending-clause-err : goal.returns-in-Err-put_pending-clause-err
+returns-in-Err-put_pending-clause-err g c =
     let inv = c.rounds.invariant in
     let before : Written = record { journal = held_by g.J.Write.contents c.args.journal.now; out = g.W.Write.contents c.args.out.now } in
     let after : Written = record { journal = held_by g.J.Write.contents c.rounds.journal; out = g.W.Write.contents c.rounds.out } in
@@ -49,15 +49,15 @@ returns-in-Err-commit-clause-err g c =
     let block = rw c.file_of-file.ensures at c.in-Ok-take_block.ensures in (
       bytes,
       consumes_then (g.I.Read.remaining c.args.input.now) (g.I.Read.remaining c.rounds.input) (g.I.Read.remaining c.read.new.self) inv.0 (take c.in-Ok.count c.read.new.buf) inv.1 got,
-      c.in-Err-commit.ensures.told (is_some c.args.journal.now) c.args.served.now c.take_block.new.served (g.D.Disk.holds c.args.disk.now) (g.D.Disk.holds c.take_block.new.disk) before bytes c.take_block.new.line.items
+      c.in-Err-put_pending.ensures.told (is_some c.args.journal.now) c.args.served.now c.take_block.new.served (g.D.Disk.holds c.args.disk.now) (g.D.Disk.holds c.take_block.new.disk) before bytes c.take_block.new.line.items
           (block c.args.served.now (g.D.Disk.holds c.args.disk.now) before after inv.0 (rests_goes c.rounds.pending inv.3 inv.4 inv.2)),
     )
 
-pub returns-in-Err-commit-clause-long : goal.returns-in-Err-commit-clause-long
-returns-in-Err-commit-clause-long g c = not_long c.in-Err-commit.fault (g.I.Read.remaining c.args.input.now) (g.I.Read.remaining c.read.new.self) c.in-Err-commit.ensures.known
+pub returns-in-Err-put_pending-clause-long : goal.returns-in-Err-put_pending-clause-long
+returns-in-Err-put_pending-clause-long g c = not_long c.in-Err-put_pending.fault (g.I.Read.remaining c.args.input.now) (g.I.Read.remaining c.read.new.self) c.in-Err-put_pending.ensures.known
 
-pub returns-in-Err-commit-clause-kept : goal.returns-in-Err-commit-clause-kept
-returns-in-Err-commit-clause-kept g c = c.in-Err-commit.ensures.kept ∙ c.rounds.invariant.6
+pub returns-in-Err-put_pending-clause-kept : goal.returns-in-Err-put_pending-clause-kept
+returns-in-Err-put_pending-clause-kept g c = c.in-Err-put_pending.ensures.kept ∙ c.rounds.invariant.6
 
 pub rounds-preserved : goal.rounds-preserved
 rounds-preserved g c =
@@ -72,12 +72,12 @@ rounds-preserved g c =
     let more : c.rounds.round + 1 ≤ length bytes = omega (arith, length-append inv.0 (take c.in-Ok.count c.read.new.buf), length-take c.in-Ok.count c.read.new.buf, low, bound, c.if-count-eq0.false) in (
       bytes,
       consumes_then (g.I.Read.remaining c.args.input.now) (g.I.Read.remaining c.rounds.input) (g.I.Read.remaining c.read.new.self) inv.0 (take c.in-Ok.count c.read.new.buf) inv.1 got,
-      c.in-Ok-commit.ensures.told (is_some c.args.journal.now) c.args.served.now c.take_block.new.served (g.D.Disk.holds c.args.disk.now) (g.D.Disk.holds c.take_block.new.disk) before bytes c.take_block.new.line.items
+      c.in-Ok-put_pending.ensures.told (is_some c.args.journal.now) c.args.served.now c.take_block.new.served (g.D.Disk.holds c.args.disk.now) (g.D.Disk.holds c.take_block.new.disk) before bytes c.take_block.new.line.items
           (block c.args.served.now (g.D.Disk.holds c.args.disk.now) before after inv.0 (rests_goes c.rounds.pending inv.3 inv.4 inv.2)),
-      c.in-Ok-commit.ensures.left.0,
-      c.in-Ok-commit.ensures.left.1,
+      c.in-Ok-put_pending.ensures.left.0,
+      c.in-Ok-put_pending.ensures.left.1,
       more,
-      c.in-Ok-commit.ensures.kept ∙ inv.6,
+      c.in-Ok-put_pending.ensures.kept ∙ inv.6,
     )
 
 pub returns-clause-err : goal.returns-clause-err

@@ -1,9 +1,6 @@
 use Rattle.std.proofs.Common.{List, length, ap}
 use Rattle.ring_model.specs.declared.events.Event.{Event}
-use Rattle.ring_desk.specs.Refusals.{Bounds, group_refusal}
-use Rattle.ring_serve.specs.Standings.{standing_of}
-use Rattle.ring_serve.specs.Turns.{grouped}
-use Rattle.ring_serve.proofs.Refusing.{refused_turn, passed_group}
+use Rattle.ring_serve.proofs.Refusing.{passed_group}
 use Rattle.ring_serve.proofs.turns.make_group.Goals as goal
 
 pub returns-in-Ok-clause-turn : goal.returns-in-Ok-clause-turn

@@ -1,5 +1,0 @@
-pub mod Turning
-pub mod Effects
-pub mod Telling
-pub mod Ordering
-pub mod Journaling

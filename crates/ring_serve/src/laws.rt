@@ -1,0 +1,15 @@
+//! The laws of turns and of the journal: functions with empty bodies, whose contracts are the laws.
+
+ghost use Rattle.ring_serve.specs.Recording.{JournalsAreRight};
+ghost use Rattle.ring_serve.specs.Turns.{OneTurnIsRight};
+
+/// A line has one turn, memory aside.
+pub fn one_turn_is_right()
+    ensures { OneTurnIsRight }
+{}
+
+/// The records of the turns of lines, after the saved rings from which they began, are a right journal: its history is legal
+/// at each moment, and it records the rings as they are saved at the end. So any history that is recovered of it is theirs.
+pub fn journals_are_right()
+    ensures { JournalsAreRight }
+{}
