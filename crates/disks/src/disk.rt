@@ -2,8 +2,17 @@
 
 ghost use Rattle.std.specs.Prelude.{◌≡◌, ℕ, List, Option, None, IfOk, IfSome, OnOk, OnErr, false};
 ghost use Rattle.disks.specs.Held.{Held, IsOneFile, Opens, Starts, Grows, Replaces};
+ghost use Rattle.disks.specs.Folders.{Lists, names_of};
 
 use std::io::{self, Read, Write};
+
+/// A name in a folder.
+#[derive(Drop)]
+pub struct FolderEntry {
+    pub name: String,
+    /// Whether a regular file has it: no folder, no device, no link, not even one to a regular file.
+    pub is_regular: bool,
+}
 
 /// Files that are read by their names, and replaced as a whole.
 ///
@@ -32,6 +41,15 @@ pub trait Disk {
     fn is_one_file(&self, one: &str, other: &str) -> io::Result<bool>
         ensures { IfOk result (λ same. IfSome (holds self.now)
             (λ held. same ≡ false → IsOneFile held one.now other.now → ⊥)) };
+
+    /// The names in this folder, in any order.
+    ///
+    /// # Errors
+    ///
+    /// There is no such folder, or it cannot be read to its end, or a name in it is not UTF-8.
+    fn list(&self, folder: &str) -> io::Result<Vec<FolderEntry>>
+        ensures { IfOk result
+            (λ entries. Lists (holds self.now) folder.now (names_of entries.items)) };
 
     /// Makes a new file, empty, beside the one of this name. No file changes.
     fn make(&mut self, name: &str) -> io::Result<Self::New>

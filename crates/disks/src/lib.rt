@@ -10,7 +10,7 @@ mod replacing;
 mod system;
 
 pub use descriptors::take_low;
-pub use disk::Disk;
+pub use disk::{Disk, FolderEntry};
 pub use grown::GrownFile;
 pub use memory::{MemoryDisk, StoredFile};
 pub use part::NewFile;

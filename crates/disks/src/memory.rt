@@ -1,11 +1,14 @@
 //! Files in memory.
 
-ghost use Rattle.std.specs.Prelude.{◌≡◌, None, Some};
+ghost use Rattle.std.specs.Prelude.{◌≡◌, ◌≢◌, ◌+◌, ◌||◌, ℕ, List, length, drop, false, None, Some, IsTrue, IsFalse, IfOk, OnOk};
+ghost use Rattle.std.specs.List.{AllByRecursion};
+ghost use Rattle.std.specs.Str.{bytes_eq};
 ghost use Rattle.std.specs.Option.{option_map};
 ghost use Rattle.disks.specs.Held.{Held};
 ghost use Rattle.disks.specs.Entries.{found, held_of};
+ghost use Rattle.disks.specs.Folders.{path_in, has_slash, is_among, names_of, IsNameIn, ListsNames};
 
-use crate::disk::Disk;
+use crate::disk::{Disk, FolderEntry};
 use std::alloc::Global;
 use std::io::{self, Cursor, ErrorKind};
 
@@ -36,6 +39,64 @@ fn last<'e>(entries: &'e [StoredFile], name: &str) -> Option<&'e [u8]>
     last
 }
 
+/// Whether this is the name of something in the folder.
+fn is_in(name: &[u8], folder: &[u8]) -> bool
+    ensures yes { IsTrue result
+        → name.now ≡ path_in folder.now (drop (length folder.now + 1) name.now) }
+    ensures no { IsFalse result → (n : List ℕ) → name.now ≢ path_in folder.now n }
+{
+    let end = folder.len();
+    if name.len() <= end || &name[..end] != folder {
+        return false;
+    }
+    name[end] == b'/'
+}
+
+/// The name in the folder that a file of this name has, if it lies there.
+fn name_in<'e>(name: &'e str, folder: &str) -> io::Result<Option<&'e str>>
+    ensures { IfOk result (λ found. IsNameIn name.now folder.now found) }
+{
+    if !is_in(name.as_bytes(), folder.as_bytes()) {
+        return Ok(None);
+    }
+    let Some((_, rest)) = name.split_at_checked(folder.len() + 1) else {
+        return Err(io::Error::from(ErrorKind::InvalidFilename));
+    };
+    if rest.as_bytes().contains(&b'/') {
+        return Ok(None);
+    }
+    Ok(Some(rest))
+}
+
+/// Adds a name to those of a folder.
+fn add_name(names: &mut Vec<FolderEntry>, alloc: Global, name: &str) -> io::Result<()>
+    requires { has_slash name.now ≡ false }
+    ensures plain { OnOk result (AllByRecursion (λ n. has_slash n ≡ false) (names_of names.old.items)
+        → AllByRecursion (λ n. has_slash n ≡ false) (names_of names.new.items)) }
+    ensures added { OnOk result ((n : List ℕ)
+        → is_among (names_of names.new.items) n
+        ≡ (bytes_eq name.now n || is_among (names_of names.old.items) n)) }
+{
+    names.push(FolderEntry {
+        name: String::from_str(alloc, name)?,
+        is_regular: true,
+    })?;
+    Ok(())
+}
+
+/// The names in a folder that these files have.
+fn names_among(alloc: Global, entries: &[StoredFile], folder: &str) -> io::Result<Vec<FolderEntry>>
+    ensures { IfOk result (λ names. ListsNames (held_of entries.now) folder.now (names_of names.items)) }
+{
+    let mut names = Vec::new(alloc);
+    for entry in entries {
+        if let Some(name) = name_in(entry.name.as_str(), folder)? {
+            add_name(&mut names, alloc, name)?;
+        }
+    }
+    Ok(names)
+}
+
 impl Disk for MemoryDisk {
     type Reader = Cursor<Vec<u8>>;
 
@@ -54,6 +115,10 @@ impl Disk for MemoryDisk {
 
     fn is_one_file(&self, one: &str, other: &str) -> io::Result<bool> {
         Ok(one == other)
+    }
+
+    fn list(&self, folder: &str) -> io::Result<Vec<FolderEntry>> {
+        names_among(self.alloc, &self.entries, folder)
     }
 
     fn make(&mut self, _name: &str) -> io::Result<Vec<u8>> {

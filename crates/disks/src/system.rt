@@ -1,6 +1,6 @@
 //! The system's files.
 
-use crate::disk::Disk;
+use crate::disk::{Disk, FolderEntry};
 use crate::grown::{GrownFile, grown};
 use crate::part::{NewFile, made_for};
 use std::fs::{self, File};
@@ -35,6 +35,18 @@ impl<'a, R: Files<File = File> + AllocGlobal> Disk for SystemDisk<'a, R> {
             Err(e) if e.kind() == ErrorKind::NotFound => Ok(false),
             Err(e) => Err(e),
         }
+    }
+
+    fn list(&self, folder: &str) -> io::Result<Vec<FolderEntry>> {
+        let mut names = Vec::new(self.files.alloc());
+        for entry in fs::read_dir(&self.files, folder)? {
+            let entry = entry?;
+            names.push(FolderEntry {
+                name: String::from_str(self.files.alloc(), entry.file_name())?,
+                is_regular: entry.file_type()?.is_file(),
+            })?;
+        }
+        Ok(names)
     }
 
     fn make(&mut self, name: &str) -> io::Result<NewFile<'a, R>> {

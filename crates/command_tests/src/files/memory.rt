@@ -84,3 +84,20 @@ fn a_name_is_one_file_with_itself_alone(rt: HostRuntime) -> Result<(), Fail> {
     assert!(rt; !disk.is_one_file("a", "./a")?);
     Ok(())
 }
+
+#[test]
+fn a_folder_has_the_files_with_its_name_before_a_slash(rt: HostRuntime) -> Result<(), Fail> {
+    let mut disk = no_files(rt.alloc());
+    for name in ["f/a", "a", "f/b", "g/a", "f/g/a", "ff/c", "f"] {
+        put(&mut disk, name, b"text")?;
+    }
+    let listed = disk.list("f")?;
+    let mut names = listed
+        .iter()
+        .map(|entry| (entry.name.as_str(), entry.is_regular));
+    assert_eq!(rt; names.next(), Some(("a", true)));
+    assert_eq!(rt; names.next(), Some(("b", true)));
+    assert_eq!(rt; names.next(), None);
+    assert!(rt; disk.list("h")?.is_empty());
+    Ok(())
+}

@@ -1,7 +1,7 @@
 //! The system's files.
 
 use crate::files::memory::{bytes_of, put};
-use disks::{Disk, SystemDisk};
+use disks::{Disk, FolderEntry, SystemDisk};
 use std::fs::{self, File};
 use std::io::{self, ErrorKind, Write};
 use std::os::unix::fs::{MetadataExt, PermissionsExt, symlink};
@@ -300,5 +300,37 @@ fn a_device_is_written_as_it_stands(rt: HostRuntime) -> Result<(), Fail> {
     put(&mut disk, "/dev/null", b"one")?;
     assert!(rt; !fs::metadata(&rt, "/dev/null")?.is_file());
     assert!(rt; !fs::exists(&rt, "/dev/null.part")?);
+    Ok(())
+}
+
+/// What a folder has of this name: none, or whether it is a regular file.
+fn listed(entries: &[FolderEntry], name: &str) -> Option<bool> {
+    let entry = entries.iter().find(|entry| entry.name.as_str() == name)?;
+    Some(entry.is_regular)
+}
+
+#[test]
+fn a_folder_is_listed_with_what_is_a_regular_file(rt: HostRuntime) -> Result<(), Fail> {
+    let folder = folder_of(&rt, "listed")?;
+    write_in(&rt, &folder, "a.ring", "one")?;
+    link_in(&rt, &folder, "b.ring", "a.ring")?;
+    fs::create_dir(&rt, within(&rt, &folder, "c.ring")?.as_str())?;
+    let entries = SystemDisk { files: &rt }.list(&folder)?;
+    assert_eq!(rt; entries.len(), 3);
+    for (name, want) in [("a.ring", true), ("b.ring", false), ("c.ring", false)] {
+        assert!(rt; listed(&entries, name) == Some(want), "at {name}");
+    }
+    fs::remove_dir_all(&rt, folder.as_str())?;
+    Ok(())
+}
+
+#[test]
+fn a_folder_that_is_not_there_is_not_listed(rt: HostRuntime) -> Result<(), Fail> {
+    let folder = folder_of(&rt, "gone")?;
+    fs::remove_dir_all(&rt, folder.as_str())?;
+    let Err(fault) = SystemDisk { files: &rt }.list(&folder) else {
+        panic!(rt; "listed");
+    };
+    assert!(rt; fault.kind() == ErrorKind::NotFound);
     Ok(())
 }

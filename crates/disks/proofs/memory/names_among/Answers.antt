@@ -1,0 +1,33 @@
+use Rattle.std.proofs.Common.{◌≡◌, ◌+◌, ◌++◌, ◌∷◌, ℕ, List, [], length, take, drop, arith, ap, sym, subst, refl, string_bytes, ◌∙◌}
+use Rattle.std.specs.Str.{bytes_eq}
+use Rattle.std.proofs.lemmas.List.{take_more, take_all}
+use Rattle.disks.specs.Entries.{held_of}
+use Rattle.disks.specs.Folders.{path_in, has_slash, is_among, names_of, IsNameIn, ListsNames}
+use Rattle.disks.proofs.Listing.{with_name, without_name, no_names}
+use Rattle.disks.proofs.memory.names_among.Goals.{in-Some+in_ok-add_name, in_default}
+use Rattle.disks.proofs.memory.names_among.Goals as goal
+
+pub loop-entry-init : goal.loop-entry-init
+loop-entry-init c = subst (λ es. ListsNames (held_of []) c.args.folder.now (names_of es)) (sym c.new-names.ensures.items) (no_names c.args.folder.now)
+
+pub loop-entry-preserved : goal.loop-entry-preserved
+loop-entry-preserved c =
+    let e = c.entry-item.result in
+    let es = take c.loop-entry.entry-index c.args.entries.now in
+    let folder = c.args.folder.now in
+    subst (λ xs. ListsNames (held_of xs) folder (names_of c.match-branch-2.names.items)) (sym (take_more c.args.entries.now c.loop-entry.entry-index e (omega (arith, c.loop-entry-test.true)) ∙ ap (λ x. es ++ x ∷ []) (sym c.entry-item.is)))
+    (elim c.match-branch-2.branch [
+      | in-Some+in_ok-add_name w ↦
+          let found = subst (λ o. IsNameIn c.as_str.result.now folder o) w.in-Some.is c.in_ok-name.ensures in
+          subst (λ v. ListsNames (held_of (es ++ e ∷ [])) folder (names_of v.items)) (sym w.names-is)
+          (with_name es e folder w.in-Some.name.now (names_of c.loop-entry.names.items) (names_of w.add_name.new.names.items)
+          (sym c.as_str.ensures.value ∙ found.1) c.loop-entry.invariant w.in_ok-add_name.ensures.plain w.in_ok-add_name.ensures.added)
+      | in_default w ↦
+          subst (λ v. ListsNames (held_of (es ++ e ∷ [])) folder (names_of v.items)) (sym w.names-is)
+          (without_name es e folder (names_of c.loop-entry.names.items)
+          (λ n slashless. ap (λ (x : List ℕ). bytes_eq x (path_in folder n)) (sym c.as_str.ensures.value) ∙ subst (λ o. IsNameIn c.as_str.result.now folder o) w.in_default.is c.in_ok-name.ensures n slashless)
+          c.loop-entry.invariant)
+    ])
+
+pub returns : goal.returns
+returns c = subst (λ es. ListsNames (held_of es) c.args.folder.now (names_of c.loop-entry.names.items)) (take_all c.loop-entry.entry-index c.args.entries.now (omega (arith, c.loop-entry-test.false))) c.loop-entry.invariant
