@@ -1,8 +1,8 @@
 #!/usr/bin/env python3
 """serve.py RING_TOOL FOLDER [KILLS]: kills `ring_tool serve` at random places, and looks for what it had told.
 
-Drives two rings through pipes with random calls, over one journal. Again and again the program is killed (SIGKILL) while
-answers are on their way; sometimes the journal is then cut by hand at a random byte behind the last call that was answered,
+Drives two rings through pipes with random calls, over one journal, which is synced or not. Again and again the program is
+killed (SIGKILL) while answers are on their way; sometimes the journal is then cut by hand at a random byte behind the last call that was answered,
 or gets bytes that are no line; and `serve` goes on from it. After each kill the journal is recovered and checked, by the
 program and by small_checker.py, and the history is compared with what was sent and told: every call that was answered is there
 with its answer, in its order, and besides only calls that were on their way at a kill, in the order in which they were sent."""
@@ -22,7 +22,7 @@ SEATS = 10
 
 
 class Calls:
-    """Draws calls, of which some are refused. No two passes have one order, so each can be found in a history."""
+    """Draws calls, of which some are refused. No two passes or tries have one order, so each can be found in a history."""
 
     def __init__(self, chance):
         self.chance, self.order = chance, 0
@@ -39,7 +39,7 @@ class Calls:
             if kind % 0.1 < 0.02:
                 some = sorted(chance.sample(range(n), chance.randrange(1, n)))
                 return f"group {ring} {seat} {self.next_order()} {' '.join(map(str, some))}"
-            return f"pass {ring} {seat} {chance.randrange(n)} {self.next_order()}"
+            return f"{chance.choice(['pass', 'try'])} {ring} {seat} {chance.randrange(n)} {self.next_order()}"
         if kind < 0.75:
             return f"corrupt {ring} {seat} {chance.randrange(n)} {chance.randrange(k)}"
         if kind < 0.9:
@@ -56,6 +56,8 @@ class Sent:
 
     def is_recorded(self):
         """Whether it was told, and is in the history."""
+        if self.words[0] == "try":
+            return self.answer and self.answer[0] == "granted"
         return self.answer and self.answer[0] != "refused" and self.words[0] in ("pass", "group", "corrupt", "survey")
 
     def lines(self):
@@ -129,8 +131,8 @@ def spoil(journal, noted, chance):
 
 def session(tool, folder, journal, sent, calls, chance):
     """Drives one process, and kills it; returns how many lines were noted of what it told."""
-    serve = subprocess.Popen([tool, "serve", f"{folder}/fresh.txt", "--journal", journal], stdin=subprocess.PIPE,
-                             stdout=subprocess.PIPE, stderr=subprocess.DEVNULL)
+    words = [tool, "serve", f"{folder}/fresh.txt", "--journal", journal, "--faults"] + chance.choice([[], ["--no-sync"]])
+    serve = subprocess.Popen(words, stdin=subprocess.PIPE, stdout=subprocess.PIPE, stderr=subprocess.DEVNULL)
     answered, noted, wanted = 0, 0, chance.randrange(1, 400)
     while answered < wanted:
         count = chance.choice([1, 1, 1, 7, 300])

@@ -7,9 +7,15 @@ mod streams;
 
 use ring_book::Till;
 use ring_desk::OneThreadRing;
-use ring_serve::Served;
+use ring_serve::{Permits, Served};
 use std::alloc::Global;
 use std::process::Abort;
+
+/// Lines may call the rings, and nothing else.
+const NOTHING: Permits<'static> = Permits {
+    faults: false,
+    saves: None,
+};
 
 /// A ring of three machines with three values, and one seat.
 fn served(rt: &impl Abort, alloc: Global) -> Served {

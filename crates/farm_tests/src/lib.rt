@@ -7,6 +7,8 @@ mod by_line;
 #[cfg(test)]
 mod by_number;
 #[cfg(test)]
+mod endless;
+#[cfg(test)]
 mod events;
 #[cfg(test)]
 mod farm;

@@ -1,6 +1,7 @@
 //! The words of the commands on journals.
 
 use crate::words::needed_text;
+use clap::builder::ValueParser;
 use clap::{Arg, ArgAction, ArgMatches, Command, Error};
 use ring_requests::{RecoverWords, Request, ServeWords};
 use std::alloc::Global;
@@ -30,19 +31,25 @@ const SERVE_HELP: &str = "\
 The rings of HISTORY, which has to be legal, go on where it ended, with ten seats each; HISTORY stays as it is. Each
 line of standard input is a call, of at most 8192 bytes with its end, and has one line for its answer:
   pass RING SEAT MACHINE ORDER       granted NUMBER RESULT, or waits if the machine is not privileged
+  try RING SEAT MACHINE ORDER        the same, but nothing keeps a try that waits: use it to poll
   group RING SEAT ORDER MACHINE ..   block FIRST COUNT: all moved at once, from this place of the history on
-  corrupt RING SEAT MACHINE VALUE    corrupted OLD: the value was written over OLD, as a fault would
+  corrupt RING SEAT MACHINE VALUE    corrupted OLD: the value was written over OLD, as a fault would; needs `--faults`
   survey RING SEAT                   survey POSITION PRIVILEGED FIRST CALM REST, which the history keeps
   glance RING                        the same, and nothing keeps it
-  save FILE                          saved: FILE holds all rings as they stand, and is whole at each moment
-Any other line, and a call that cannot be done, changes nothing: it is answered `refused` and why, as `syntax`, `order`,
-`ring`, `seat`, `machine`, `value`, `group`, `privileged MACHINE`, `whole`, `full`, `memory`, or `file` where FILE
-cannot be saved in, or is `-` or the journal. The answers leave before more is read, and what stands behind the last end
-of a line is no call. At the end of standard input the totals of all rings go to standard error.
+  save NAME                          saved: the file NAME in the folder of `--saves` holds all rings as they stand
+Any other line, and a call that cannot be done, changes nothing: it is answered `refused` and why, as `syntax`, `off`
+where it is not permitted, `order`, `ring`, `seat`, `machine`, `value`, `group`, `privileged MACHINE`, `whole`, `full`,
+`memory`, `name` where NAME has other bytes than ASCII letters, digits, `.`, `_` and `-`, or begins with `.`, or `file`
+where it cannot be saved in, or is the journal. The answers leave before more is read, and what stands behind the last
+end of a line is no call. At the end of standard input the totals of all rings go to standard error.
 
-With `--journal` each call is in the journal before its answer leaves, so that whatever was told is there, wherever the
-process ends. If the journal tells something, the rings go on from what `recover` gives of it, and not from HISTORY; it
-is begun anew with these rings. A journal that is refused stays as it is. One process at a time keeps it.
+With `--journal` each call is in the journal, and the journal on the disk, before its answer leaves: what was answered is
+there wherever the process ends, and after the machine loses power. With `--no-sync` the system has the journal before
+an answer leaves, and may write it to the disk later: then nothing is lost if the process is killed, but the last calls
+that were answered may be if the machine loses power. Without `--journal` both words change nothing.
+
+If the journal tells something, the rings go on from what `recover` gives of it, and not from HISTORY; it is begun anew
+with these rings. A journal that is refused stays as it is. One process at a time keeps it.
 
 Example:
   $ printf 'pass 0 0 0 5\\npass 0 0 2 4\\n' | ring_tool serve saved.txt --journal journal.txt
@@ -98,17 +105,49 @@ fn journal_word<'a>(alloc: Global) -> Arg<'a> {
         .help("Keeps a journal of the calls in FILE, and goes on from it if it is there")
 }
 
-/// Whether each call is on the disk before it is answered.
+/// That each call is on the disk before it is answered, as it is without this word.
 fn sync_word<'a>(alloc: Global) -> Arg<'a> {
     Arg::new(alloc, "SYNC")
         .long("sync")
         .action(ArgAction::SetTrue)
-        .help("Has the journal on the disk before an answer leaves")
+        .help("Has the journal on the disk before an answer leaves, as without this word")
+}
+
+/// That a call may be answered before it is on the disk.
+fn no_sync_word<'a>(alloc: Global) -> Result<Arg<'a>, Error> {
+    let word = Arg::new(alloc, "NO_SYNC")
+        .long("no-sync")
+        .action(ArgAction::SetTrue)
+        .help("Lets an answer leave before the journal is on the disk, which is faster");
+    Ok(word.conflicts_with("SYNC")?)
+}
+
+/// Whether a line may be a fault.
+fn faults_word<'a>(alloc: Global) -> Arg<'a> {
+    Arg::new(alloc, "FAULTS")
+        .long("faults")
+        .action(ArgAction::SetTrue)
+        .help("Lets lines write values into machines, as `corrupt` does")
+}
+
+/// The folder that a line may save the rings in, which may be left out.
+fn saves_word<'a>(alloc: Global) -> Arg<'a> {
+    Arg::new(alloc, "SAVES")
+        .long("saves")
+        .value_name("FOLDER")
+        .value_parser(ValueParser::NonEmptyString)
+        .help("Lets lines save all rings in FOLDER, as `save` does")
+}
+
+/// `serve` with what it permits.
+fn with_permits<'a>(alloc: Global, command: Command<'a>) -> Result<Command<'a>, Error> {
+    Ok(command.arg(faults_word(alloc))?.arg(saves_word(alloc))?)
 }
 
 /// `serve` with its journal.
 fn with_journal<'a>(alloc: Global, command: Command<'a>) -> Result<Command<'a>, Error> {
-    Ok(command.arg(journal_word(alloc))?.arg(sync_word(alloc))?)
+    let command = command.arg(journal_word(alloc))?.arg(sync_word(alloc))?;
+    Ok(command.arg(no_sync_word(alloc)?)?)
 }
 
 /// The words of `serve`.
@@ -116,7 +155,10 @@ pub(crate) fn serve_command<'a>(alloc: Global) -> Result<Command<'a>, Error> {
     let command = Command::new(alloc, "serve")
         .about(SERVE_ABOUT)
         .after_help(SERVE_HELP);
-    with_journal(alloc, command.arg(served_word(alloc))?)
+    with_permits(
+        alloc,
+        with_journal(alloc, command.arg(served_word(alloc))?)?,
+    )
 }
 
 /// `serve`, where the saved history is there.
@@ -124,6 +166,8 @@ pub(crate) fn serve_words<'a>(words: &ArgMatches<'a>) -> Option<Request<'a>> {
     Some(Request::Serve(ServeWords {
         history: words.get_str("HISTORY")?,
         journal: words.get_str("JOURNAL"),
-        synced: words.get_flag("SYNC"),
+        synced: !words.get_flag("NO_SYNC"),
+        faults: words.get_flag("FAULTS"),
+        saves: words.get_str("SAVES"),
     }))
 }

@@ -1,6 +1,7 @@
 //! The command line of the program, as `clap` reads it: from words to a request.
 #![tactic(auto)]
 
+mod fresh;
 mod journals;
 mod picture;
 mod version;

@@ -1,5 +1,6 @@
 //! The program's command line, as `clap` reads it.
 
+use crate::fresh::{new_command, new_words};
 use crate::journals::{recover_command, recover_words, serve_command, serve_words};
 use crate::picture::{picture_command, picture_words};
 use crate::version::VERSION;
@@ -243,18 +244,17 @@ fn with_readers<'a>(alloc: Global, program: Command<'a>) -> Result<Command<'a>, 
     with_command(program, upgrade_command(alloc))
 }
 
-/// The program with the commands that keep a journal, or read one.
-fn with_journals<'a>(alloc: Global, program: Command<'a>) -> Result<Command<'a>, Error> {
-    with_command(
-        with_command(program, serve_command(alloc))?,
-        recover_command(alloc),
-    )
+/// The program with the commands that serve rings: what they begin with, and their journal.
+fn with_services<'a>(alloc: Global, program: Command<'a>) -> Result<Command<'a>, Error> {
+    let program = with_command(program, new_command(alloc))?;
+    let program = with_command(program, serve_command(alloc))?;
+    with_command(program, recover_command(alloc))
 }
 
 /// All that the program understands.
 fn command_line<'a>(alloc: Global) -> Result<Command<'a>, Error> {
     let program = with_runs(alloc, program_line(alloc)?)?;
-    with_journals(alloc, with_readers(alloc, program)?)
+    with_services(alloc, with_readers(alloc, program)?)
 }
 
 /// `step`, where all its words are there.
@@ -291,9 +291,8 @@ fn upgrade_words<'a>(words: &ArgMatches<'a>) -> Option<Request<'a>> {
     }))
 }
 
-/// The request of the command that was found, where its words are there.
-fn request_of<'a>(matches: &ArgMatches<'a>) -> Option<Request<'a>> {
-    let (name, words) = matches.subcommand()?;
+/// The request of the command of this name, where its words are there; `new` apart, which takes memory.
+fn request_named<'a>(name: &str, words: &ArgMatches<'a>) -> Option<Request<'a>> {
     match name {
         "step" => step_words(words),
         "run" => run_words(words),
@@ -306,6 +305,17 @@ fn request_of<'a>(matches: &ArgMatches<'a>) -> Option<Request<'a>> {
     }
 }
 
+/// The request of the command that was found, where its words are there.
+fn request_of<'a>(alloc: Global, matches: &ArgMatches<'a>) -> Result<Option<Request<'a>>, Error> {
+    let Some((name, words)) = matches.subcommand() else {
+        return Ok(None);
+    };
+    match name {
+        "new" => new_words(alloc, words),
+        _ => Ok(request_named(name, words)),
+    }
+}
+
 /// Returns the command that the words ask for. The program's name is not among them.
 ///
 /// # Errors
@@ -315,7 +325,7 @@ fn request_of<'a>(matches: &ArgMatches<'a>) -> Option<Request<'a>> {
 pub fn read_words<'a>(alloc: Global, words: &'a [String]) -> Result<Request<'a>, Error> {
     let mut command = command_line(alloc)?;
     let matches = command.try_get_matches_from_mut(words)?;
-    if let Some(request) = request_of(&matches) {
+    if let Some(request) = request_of(alloc, &matches)? {
         return Ok(request);
     }
     // No words lead here, since `clap` asks for a command and for its words.

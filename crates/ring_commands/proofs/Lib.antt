@@ -2,9 +2,12 @@ pub mod Buffers
 pub mod Drawings
 pub mod Entries
 pub mod FirstFaults
+pub mod FreshRings
+pub mod FreshTexts
 pub mod JournalStarts
 pub mod ListTexts
 pub mod Recoveries
 pub mod ServeRefusals
+pub mod Settling
 pub mod StepLemmas
 pub mod Upgrades

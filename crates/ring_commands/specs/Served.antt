@@ -15,6 +15,8 @@ use Rattle.ring_serve.specs.Saved.{content_of}
 use Rattle.ring_serve.specs.declared.starting.StartError.TheVariants as start
 use Rattle.ring_serve.specs.Starting.{AreResumed, IsStartFault}
 use Rattle.ring_serve.specs.Totals.{totals_of, AreTooLarge}
+use Rattle.ring_serve.specs.declared.permits.Permits.{Permits}
+use Rattle.ring_serve.specs.Permits.{Terms, terms_of}
 use Rattle.ring_serve.specs.Serving.{ServesAll, ServesSome}
 use Rattle.ring_commands.specs.Checked.{IsLegalSavedText, IsSavedTextRefusal}
 use Rattle.ring_commands.specs.Named.{IsHeld, IsFileRefusal}
@@ -32,6 +34,10 @@ journal_of words = option_map (λ name. name.now) words.journal
 -- a saved text can have this number of rings, and a journal can begin with them
 abbrev pub CanBegin : ℕ → Type 0
 CanBegin rings = (1 ≤ rings) × (rings < 2 ^ 32)
+
+-- what a line may do beside calling the rings
+abbrev pub permits_of : ServeWords → Permits
+permits_of words = record { faults = words.faults; saves = words.saves }
 
 -- the value is that of the legal saved text that the file of this name held
 pub record IsHistory (files : Option Held) (name : List ℕ) (saved : Saved) : Type 0 where
@@ -60,45 +66,45 @@ BeginsAt files (Some name) saved from = IsNoted files name saved from
 
 -- the lines were served without a journal, from where the rings began to where they are in the
 -- end
-abbrev pub IsServedPlain : List Standing → List Standing → Option Held → Option Held
+abbrev pub IsServedPlain : Permits → List Standing → List Standing → Option Held → Option Held
     → Option (List ℕ) → Option (List ℕ) → Option (List ℕ) → Option (List ℕ) → Type 0
-IsServedPlain start end before after was is old new =
+IsServedPlain permits start end before after was is old new =
     (j : Option (List ℕ))
     × (k : Option (List ℕ))
-    × ServesAll false start end before after was is (record { journal = j; out = old })
-    (record { journal = k; out = new })
+    × ServesAll (terms_of false permits) start end before after was is
+    (record { journal = j; out = old }) (record { journal = k; out = new })
 
 -- The lines were served with a journal in the file of this name. It was put there with the
 -- saved text of the rings as they began; each call was noted after that before it was answered; and
 -- all of that the file holds in the end.
-pub record IsServedNoted (name : List ℕ) (start end : List Standing) (before after : Option Held)
-    (was is old new : Option (List ℕ)) : Type 0 where
+pub record IsServedNoted (permits : Permits) (name : List ℕ) (start end : List Standing)
+    (before after : Option Held) (was is old new : Option (List ℕ)) : Type 0 where
   pub begun : Option Held
   pub ended : Option Held
   pub first : Option (List ℕ)
   pub last : Option (List ℕ)
   pub put : Replaces before begun name (Some (head_text (content_of start)))
   pub opened : Grows begun name first
-  pub served : ServesAll true start end begun ended was is (record { journal = first; out = old })
-      (record { journal = last; out = new })
+  pub served : ServesAll (terms_of true permits) start end begun ended was is
+      (record { journal = first; out = old }) (record { journal = last; out = new })
   pub settled : Replaces ended after name last
 
 -- The same, when the journal has been begun and its writer has so much.
-pub record IsServedOn (name : List ℕ) (start end : List Standing) (begun after : Option Held)
-    (first was is old new : Option (List ℕ)) : Type 0 where
+pub record IsServedOn (permits : Permits) (name : List ℕ) (start end : List Standing)
+    (begun after : Option Held) (first was is old new : Option (List ℕ)) : Type 0 where
   pub ended : Option Held
   pub last : Option (List ℕ)
-  pub served : ServesAll true start end begun ended was is (record { journal = first; out = old })
-      (record { journal = last; out = new })
+  pub served : ServesAll (terms_of true permits) start end begun ended was is
+      (record { journal = first; out = old }) (record { journal = last; out = new })
   pub settled : Replaces ended after name last
 
 -- either, by whether a journal is kept
-abbrev pub IsServed : Option (List ℕ) → List Standing → List Standing → Option Held → Option Held
-    → Option (List ℕ) → Option (List ℕ) → Option (List ℕ) → Option (List ℕ) → Type 0
-IsServed None start end before after was is old new =
-    IsServedPlain start end before after was is old new
-IsServed (Some name) start end before after was is old new =
-    IsServedNoted name start end before after was is old new
+abbrev pub IsServed : Permits → Option (List ℕ) → List Standing → List Standing → Option Held
+    → Option Held → Option (List ℕ) → Option (List ℕ) → Option (List ℕ) → Option (List ℕ) → Type 0
+IsServed permits None start end before after was is old new =
+    IsServedPlain permits start end before after was is old new
+IsServed permits (Some name) start end before after was is old new =
+    IsServedNoted permits name start end before after was is old new
 
 -- the rings began where the value says, or at the end of a journal that recorded something, and all
 -- lines of standard input were served
@@ -108,7 +114,7 @@ pub record IsServedFrom (words : ServeWords) (saved : Saved) (end : List Standin
   pub begins : BeginsAt before (journal_of words) saved from
   pub start : List Standing
   pub resumed : AreResumed start from.rings.items
-  pub served : IsServed (journal_of words) start end before after was is old new
+  pub served : IsServed (permits_of words) (journal_of words) start end before after was is old new
 
 -- The history was read, the rings began there or where their journal ended, all lines of standard
 -- input were served, and the sums over the rings are reported on standard error.
@@ -174,39 +180,39 @@ IsServingFault journal _ = ⊥
 
 -- Some of the lines were answered, or all of them, from where the rings began; and the journal, if
 -- one is kept, holds the notes of each that was delivered.
-pub record IsServedPart (keeps : Bool) (start : List Standing) (was is old new : Option (List ℕ)) :
+pub record IsServedPart (terms : Terms) (start : List Standing) (was is old new : Option (List ℕ)) :
     Type 0 where
   pub end : List Standing
   pub files : Option Held
   pub now : Option Held
   pub first : Option (List ℕ)
   pub last : Option (List ℕ)
-  pub served : ServesSome keeps start end files now was is (record { journal = first; out = old })
+  pub served : ServesSome terms start end files now was is (record { journal = first; out = old })
       (record { journal = last; out = new })
-      ⊎ ServesAll keeps start end files now was is (record { journal = first; out = old })
+      ⊎ ServesAll terms start end files now was is (record { journal = first; out = old })
       (record { journal = last; out = new })
 
 -- these rings do not resume, and no line is read; or they did, and were broken off
-abbrev pub IsUnfinished : Option (List ℕ) → List SavedRing → Option (List ℕ) → Option (List ℕ)
-    → Option (List ℕ) → Option (List ℕ) → ToolError → Type 0
-IsUnfinished journal rings was is old new e =
+abbrev pub IsUnfinished : Permits → Option (List ℕ) → List SavedRing → Option (List ℕ)
+    → Option (List ℕ) → Option (List ℕ) → Option (List ℕ) → ToolError → Type 0
+IsUnfinished permits journal rings was is old new e =
     (IsUnserved was is old new × IsStartRefusal rings e)
     ⊎ (IsServingFault journal e
     × ((start : List Standing)
     × AreResumed start rings
-    × IsServedPart (is_some journal) start was is old new))
+    × IsServedPart (terms_of (is_some journal) permits) start was is old new))
 
 -- with this history: the journal, if one is kept, is refused, and no line is read; or the rings
 -- that begin where they have to are not served to the end
-abbrev pub IsRefusedFrom : Option Held → Option (List ℕ) → Saved → Option (List ℕ) → Option (List ℕ)
-    → Option (List ℕ) → Option (List ℕ) → ToolError → Type 0
-IsRefusedFrom files None saved was is old new e =
-    IsUnfinished None saved.rings.items was is old new e
-IsRefusedFrom files (Some name) saved was is old new e =
+abbrev pub IsRefusedFrom : Permits → Option Held → Option (List ℕ) → Saved → Option (List ℕ)
+    → Option (List ℕ) → Option (List ℕ) → Option (List ℕ) → ToolError → Type 0
+IsRefusedFrom permits files None saved was is old new e =
+    IsUnfinished permits None saved.rings.items was is old new e
+IsRefusedFrom permits files (Some name) saved was is old new e =
     (IsUnserved was is old new × IsJournalRefusal files name e)
     ⊎ ((from : Saved)
     × IsNoted files name saved from
-    × IsUnfinished (Some name) from.rings.items was is old new e)
+    × IsUnfinished permits (Some name) from.rings.items was is old new e)
 
 -- All lines were served, and what adds up over the rings is not told: there are 2^32 rings or more,
 -- or one of the sums has more than 64 bits, and nothing is told; or standard error failed, and got
@@ -226,7 +232,8 @@ IsServeRefusal words was is e =
     × IsHistoryRefusal was.files words.history.now e)
     ⊎ ((saved : Saved)
     × IsHistory was.files words.history.now saved
-    × (IsRefusedFrom was.files (journal_of words) saved was.input is.input was.out is.out e
+    × (IsRefusedFrom (permits_of words) was.files (journal_of words) saved was.input is.input
+    was.out is.out e
     ⊎ ((end : List Standing)
     × IsServedFrom words saved end was.files is.files was.input is.input was.out is.out
     × IsUntold end was.err is.err e)))

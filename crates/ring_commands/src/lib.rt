@@ -7,6 +7,7 @@
 pub mod check;
 pub mod endings;
 pub mod faults;
+pub mod fresh;
 mod handing;
 pub mod lists;
 pub mod picture;

@@ -8,12 +8,13 @@ ghost use Rattle.disks.specs.Held.{Grows, Replaces};
 ghost use Rattle.ring_saved.specs.declared.saved.Saved.{Saved};
 ghost use Rattle.ring_journal.specs.Spelling.{head_text};
 ghost use Rattle.ring_serve.specs.Standings.{Standing};
+ghost use Rattle.ring_serve.specs.Permits.{terms_of};
 ghost use Rattle.ring_serve.specs.Saved.{content_of};
 ghost use Rattle.ring_serve.specs.Starting.{AreResumed};
 ghost use Rattle.ring_serve.specs.Totals.{totals_of};
 ghost use Rattle.ring_text.specs.Report.{total_line};
 ghost use Rattle.ring_commands.specs.Ran.{IsSaveRefusal};
-ghost use Rattle.ring_commands.specs.Served.{CanBegin, IsHistory, IsNoted, IsServedPlain, IsServedOn, IsServedNoted, IsServedFrom, IsServeAnswer, journal_of, IsUnserved, IsHistoryRefusal, IsUnopenedJournal, IsUnkept, IsJournalRefusal, IsStartRefusal, IsServingFault, IsServedPart, IsUnfinished, IsRefusedFrom, IsUntold, IsServeRefusal};
+ghost use Rattle.ring_commands.specs.Served.{permits_of, CanBegin, IsHistory, IsNoted, IsServedPlain, IsServedOn, IsServedNoted, IsServedFrom, IsServeAnswer, journal_of, IsUnserved, IsHistoryRefusal, IsUnopenedJournal, IsUnkept, IsJournalRefusal, IsStartRefusal, IsServingFault, IsServedPart, IsUnfinished, IsRefusedFrom, IsUntold, IsServeRefusal};
 ghost use Rattle.ring_commands.specs.Worlds.{world};
 
 use crate::check::legal_saved;
@@ -24,7 +25,7 @@ use disks::{Contents, ContentsFault, Disk, replace};
 use ring_journal::{put_first_line, recover_journal};
 use ring_requests::ServeWords;
 use ring_saved::Saved;
-use ring_serve::{Journal, ServeFault, Served, StartError, serve, write_rings};
+use ring_serve::{Journal, Permits, ServeFault, Served, StartError, serve, write_rings};
 use ring_text::put_total_line;
 use std::alloc::Global;
 use std::io::{ErrorKind, Read, Sink, Write};
@@ -191,23 +192,34 @@ fn tell_totals<W: Write>(served: &Served, err: &mut W) -> Result<(), ToolError<'
     Ok(())
 }
 
+/// What a line may do beside calling the rings.
+fn permits_of<'a>(words: &ServeWords<'a>) -> Permits<'a>
+    ensures { result ≡ permits_of words.now }
+{
+    Permits {
+        faults: words.faults,
+        saves: words.saves,
+    }
+}
+
 /// Serves without a journal.
 fn serve_plain<D: Disk, I: Read, W: Write>(
     alloc: Global,
     disk: &mut D,
     served: &mut Served,
+    permits: Permits<'_>,
     input: &mut I,
     out: &mut W,
 ) -> Result<(), ToolError<'static>>
-    ensures ok { OnOk result (IsServedPlain served.old served.new (D.holds disk.old)
+    ensures ok { OnOk result (IsServedPlain permits.entry served.old served.new (D.holds disk.old)
         (D.holds disk.new) (I.remaining input.old) (I.remaining input.new) (W.contents out.old)
         (W.contents out.new)) }
     ensures err { IfErr result (λ e. IsServingFault None e
-        × IsServedPart false served.old (I.remaining input.old) (I.remaining input.new)
-        (W.contents out.old) (W.contents out.new)) }
+        × IsServedPart (terms_of false permits.entry) served.old (I.remaining input.old)
+        (I.remaining input.new) (W.contents out.old) (W.contents out.new)) }
 {
     let mut journal: Option<Journal<'_, Sink>> = None;
-    match serve(alloc, served, disk, &mut journal, input, out) {
+    match serve(alloc, served, disk, &mut journal, permits, input, out) {
         Ok(()) => Ok(()),
         Err(fault) => Err(serving_refusal(fault, None)),
     }
@@ -220,21 +232,22 @@ fn serve_with_journal<'a, D: Disk, I: Read, W: Write>(
     served: &mut Served,
     name: &'a str,
     journal: D::Grown,
+    permits: Permits<'_>,
     input: &mut I,
     out: &mut W,
 ) -> Result<(), ToolError<'a>>
-    ensures ok { OnOk result (IsServedOn name.now served.old served.new (D.holds disk.old)
-        (D.holds disk.new) (D.Grown.contents journal) (I.remaining input.old)
+    ensures ok { OnOk result (IsServedOn permits.entry name.now served.old served.new
+        (D.holds disk.old) (D.holds disk.new) (D.Grown.contents journal) (I.remaining input.old)
         (I.remaining input.new) (W.contents out.old) (W.contents out.new)) }
     ensures err { IfErr result (λ e. IsServingFault (Some name.now) e
-        × IsServedPart true served.old (I.remaining input.old) (I.remaining input.new)
-        (W.contents out.old) (W.contents out.new)) }
+        × IsServedPart (terms_of true permits.entry) served.old (I.remaining input.old)
+        (I.remaining input.new) (W.contents out.old) (W.contents out.new)) }
 {
     let mut kept = Some(Journal {
         name,
         writer: journal,
     });
-    match serve(alloc, served, disk, &mut kept, input, out) {
+    match serve(alloc, served, disk, &mut kept, permits, input, out) {
         Ok(()) => {}
         Err(fault) => return Err(serving_refusal(fault, Some(name))),
     }
@@ -273,21 +286,23 @@ fn run_plain<D: Disk, I: Read, W: Write>(
     alloc: Global,
     disk: &mut D,
     saved: &Saved,
+    permits: Permits<'_>,
     input: &mut I,
     out: &mut W,
 ) -> Result<Served, ToolError<'static>>
     ensures ok { IfOk result (λ end. (start : List Standing)
         × AreResumed start saved.now.rings.items
-        × IsServedPlain start end (D.holds disk.old) (D.holds disk.new) (I.remaining input.old)
-        (I.remaining input.new) (W.contents out.old) (W.contents out.new)) }
-    ensures err { IfErr result (λ e. IsUnfinished None saved.now.rings.items (I.remaining input.old)
+        × IsServedPlain permits.entry start end (D.holds disk.old) (D.holds disk.new)
+        (I.remaining input.old) (I.remaining input.new) (W.contents out.old) (W.contents out.new)) }
+    ensures err { IfErr result (λ e.
+        IsUnfinished permits.entry None saved.now.rings.items (I.remaining input.old)
         (I.remaining input.new) (W.contents out.old) (W.contents out.new) e) }
 {
     let mut served = match resume_rings(alloc, saved) {
         Ok(served) => served,
         Err(fault) => return Err(fault),
     };
-    match serve_plain(alloc, disk, &mut served, input, out) {
+    match serve_plain(alloc, disk, &mut served, permits, input, out) {
         Ok(()) => Ok(served),
         Err(fault) => Err(fault),
     }
@@ -299,31 +314,33 @@ fn run_with_locked_journal<'a, D: Disk, I: Read, W: Write>(
     disk: &mut D,
     saved: &Saved,
     name: &'a str,
-    synced: bool,
+    words: &ServeWords<'a>,
     input: &mut I,
     out: &mut W,
 ) -> Result<Served, ToolError<'a>>
     requires rings { CanBegin (length saved.now.rings.items) }
     ensures ok { IfOk result (λ end. (start : List Standing)
         × AreResumed start saved.now.rings.items
-        × IsServedNoted name.now start end (D.holds disk.old) (D.holds disk.new)
-        (I.remaining input.old) (I.remaining input.new) (W.contents out.old)
+        × IsServedNoted (permits_of words.now) name.now start end (D.holds disk.old)
+        (D.holds disk.new) (I.remaining input.old) (I.remaining input.new) (W.contents out.old)
         (W.contents out.new)) }
     ensures err { IfErr result (λ e. (IsUnserved (I.remaining input.old) (I.remaining input.new)
         (W.contents out.old) (W.contents out.new)
         × IsUnkept name.now e)
-        ⊎ IsUnfinished (Some name.now) saved.now.rings.items (I.remaining input.old)
-        (I.remaining input.new) (W.contents out.old) (W.contents out.new) e) }
+        ⊎ IsUnfinished (permits_of words.now) (Some name.now) saved.now.rings.items
+        (I.remaining input.old) (I.remaining input.new) (W.contents out.old) (W.contents out.new)
+        e) }
 {
     let mut served = match resume_rings(alloc, saved) {
         Ok(served) => served,
         Err(fault) => return Err(fault),
     };
-    let journal = match begin_journal(alloc, disk, &served, name, synced) {
+    let journal = match begin_journal(alloc, disk, &served, name, words.synced) {
         Ok(journal) => journal,
         Err(fault) => return Err(fault),
     };
-    match serve_with_journal(alloc, disk, &mut served, name, journal, input, out) {
+    let permits = permits_of(words);
+    match serve_with_journal(alloc, disk, &mut served, name, journal, permits, input, out) {
         Ok(()) => Ok(served),
         Err(fault) => Err(fault),
     }
@@ -335,7 +352,7 @@ fn run_with_journal<'a, D: Disk, I: Read, W: Write>(
     disk: &mut D,
     saved: Saved,
     name: &'a str,
-    synced: bool,
+    words: &ServeWords<'a>,
     input: &mut I,
     out: &mut W,
 ) -> Result<Served, ToolError<'a>>
@@ -344,11 +361,13 @@ fn run_with_journal<'a, D: Disk, I: Read, W: Write>(
         × IsNoted (D.holds disk.old) name.now saved from
         × (start : List Standing)
         × AreResumed start from.rings.items
-        × IsServedNoted name.now start end (D.holds disk.old) (D.holds disk.new)
-        (I.remaining input.old) (I.remaining input.new) (W.contents out.old) (W.contents out.new)) }
+        × IsServedNoted (permits_of words.now) name.now start end (D.holds disk.old)
+        (D.holds disk.new) (I.remaining input.old) (I.remaining input.new) (W.contents out.old)
+        (W.contents out.new)) }
     ensures err { IfErr result (λ e.
-        IsRefusedFrom (D.holds disk.old) (Some name.now) saved (I.remaining input.old)
-        (I.remaining input.new) (W.contents out.old) (W.contents out.new) e) }
+        IsRefusedFrom (permits_of words.now) (D.holds disk.old) (Some name.now) saved
+        (I.remaining input.old) (I.remaining input.new) (W.contents out.old) (W.contents out.new)
+        e) }
 {
     let lock = match open_journal(disk, name, false) {
         Ok(lock) => lock,
@@ -358,7 +377,7 @@ fn run_with_journal<'a, D: Disk, I: Read, W: Write>(
         Ok(saved) => saved,
         Err(fault) => return Err(fault),
     };
-    let end = run_with_locked_journal(alloc, disk, &saved, name, synced, input, out);
+    let end = run_with_locked_journal(alloc, disk, &saved, name, words, input, out);
     drop(lock);
     end
 }
@@ -377,15 +396,16 @@ fn run_on<'a, D: Disk, I: Read, W: Write>(
         IsServedFrom words.now saved end (D.holds disk.old) (D.holds disk.new)
         (I.remaining input.old) (I.remaining input.new) (W.contents out.old) (W.contents out.new)) }
     ensures err { IfErr result (λ e.
-        IsRefusedFrom (D.holds disk.old) (journal_of words.now) saved (I.remaining input.old)
-        (I.remaining input.new) (W.contents out.old) (W.contents out.new) e) }
+        IsRefusedFrom (permits_of words.now) (D.holds disk.old) (journal_of words.now) saved
+        (I.remaining input.old) (I.remaining input.new) (W.contents out.old) (W.contents out.new)
+        e) }
 {
     match words.journal {
-        None => match run_plain(alloc, disk, &saved, input, out) {
+        None => match run_plain(alloc, disk, &saved, permits_of(words), input, out) {
             Ok(end) => Ok(end),
             Err(fault) => Err(fault),
         },
-        Some(name) => match run_with_journal(alloc, disk, saved, name, words.synced, input, out) {
+        Some(name) => match run_with_journal(alloc, disk, saved, name, words, input, out) {
             Ok(end) => Ok(end),
             Err(fault) => Err(fault),
         },

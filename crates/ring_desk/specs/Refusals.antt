@@ -52,6 +52,20 @@ pass_refusal b seat machine = first_of (
     ∷ when (b.events == event_limit) call.HistoryFull
     ∷ [])
 
+-- of a call that is no event
+abbrev pub place_refusal : Bounds → ℕ → ℕ → Option CallError
+place_refusal b seat machine = first_of (
+    when (nat_le b.seats seat) call.NoSeat
+    ∷ when (nat_le (length b.ring.values) machine) call.NoMachine
+    ∷ [])
+
+-- of a try, which is a pass if the machine is privileged, and else no event
+abbrev pub try_refusal : Bounds → ℕ → ℕ → Option CallError
+try_refusal b seat machine =
+    if is_privileged b.ring.values machine
+    then pass_refusal b seat machine
+    else place_refusal b seat machine
+
 -- of a fault, which writes a value into a machine
 abbrev pub corrupt_refusal : Bounds → ℕ → ℕ → ℕ → Option CallError
 corrupt_refusal b seat machine value = first_of (

@@ -1,6 +1,7 @@
 -- A ring on one thread that is called by numbers, as contracts see it (this project's own).
-use Rattle.std.specs.Prelude.{◌≡◌, ℕ, ◌<◌, ◌≤◌, ◌⊎◌, List, [], ◌∷◌, ◌++◌, length, slice_set, slice_index_or}
+use Rattle.std.specs.Prelude.{◌≡◌, ℕ, ◌<◌, ◌≤◌, ◌⊎◌, true, false, List, [], ◌∷◌, ◌++◌, length, slice_set, slice_index_or, Option, Some, None}
 use Rattle.ring_model.specs.Limits.{machine_limit, seat_limit, value_limit}
+use Rattle.ring_model.specs.Ring.{is_privileged}
 use Rattle.ring_state.specs.Sizes.{Size, IsSize}
 use Rattle.ring_state.specs.StateFault.{IsFaultOf}
 use Rattle.ring_state.specs.declared.sizes.ParamsError.{ParamsError}
@@ -9,9 +10,12 @@ use Rattle.ring_state.specs.declared.states.StateError.{StateError}
 use Rattle.ring_state.specs.declared.states.StateError.TheVariants as state
 use Rattle.ring_model.specs.History.{Works, opening}
 use Rattle.ring_model.specs.Logs.{Fits}
+use Rattle.ring_model.specs.declared.events.Op.TheVariants as op
+use Rattle.ring_model.specs.declared.events.Receipt.{Receipt}
 use Rattle.ring_model.specs.declared.events.Entry.{Entry}
+use Rattle.ring_model.specs.declared.events.Entry.TheVariants as entry
 use Rattle.ring_logs.specs.LogView.{LogView}
-use Rattle.ring_book.specs.BookView.{BookView, IsBook}
+use Rattle.ring_book.specs.BookView.{BookView, IsBook, IsRecorded}
 use Rattle.ring_book.specs.declared.events.BookError.{BookError}
 use Rattle.ring_book.specs.declared.events.BookError.TheVariants as book
 use Rattle.ring_book.specs.declared.books.groups.GroupError.{GroupError}
@@ -60,6 +64,16 @@ grown c es = record { number = c.number; log = c.log ++ es }
 abbrev pub told_more : List LogView → ℕ → List Entry → List LogView
 told_more cs seat es =
     slice_set cs seat (grown (slice_index_or cs seat (record { number = seat; log = [] })) es)
+
+-- A try passes if the machine is privileged, and is told as that pass; else nothing changes.
+abbrev pub IsTried : {C : Type 0} → Works C → RingView C → RingView C → ℕ → ℕ → ℕ → Option Receipt
+    → Type 0
+IsTried w old new seat machine order (Some r) =
+    (is_privileged old.book.now.ring.values machine ≡ true)
+    × IsRecorded w old.book new.book seat (op.Pass machine order) r
+    × (new.clients ≡ told_more old.clients seat (entry.Receipt r ∷ []))
+IsTried w old new seat machine order None =
+    (is_privileged old.book.now.ring.values machine ≡ false) × (new ≡ old)
 
 -- the refusal of a book, by the ring
 abbrev pub refusal_of : BookError → CallError

@@ -12,8 +12,8 @@ ghost use Rattle.ring_book.specs.GroupView.{IsGroupRecorded};
 ghost use Rattle.ring_logs.specs.Seats.{receipts_from};
 ghost use Rattle.ring_desk.specs.Clients.{told_all, with_survey_at, AreNew};
 ghost use Rattle.ring_desk.specs.Texts.{surveys_told, surveys_kept};
-ghost use Rattle.ring_desk.specs.Rings.{IsOneThreadRing, IsKeptBy, IsOpenFault, IsSeatCount, AreFresh, told_more};
-ghost use Rattle.ring_desk.specs.Refusals.{IsDecided, bounds_of, seat_refusal, pass_refusal, corrupt_refusal, group_refusal};
+ghost use Rattle.ring_desk.specs.Rings.{IsOneThreadRing, IsKeptBy, IsOpenFault, IsSeatCount, AreFresh, IsTried, told_more};
+ghost use Rattle.ring_desk.specs.Refusals.{IsDecided, bounds_of, seat_refusal, pass_refusal, try_refusal, corrupt_refusal, group_refusal};
 
 mod closing;
 
@@ -137,6 +137,35 @@ impl<R: Resource + Drop> OneThreadRing<R> {
         }
     }
 
+    /// How many seats there are.
+    fn seats(&self) -> u32
+        ensures is { result ≡ length self.now.clients }
+        ensures few { result ≤ seat_limit }
+    {
+        self.clients().len() as u32
+    }
+
+    /// A ring with no events that starts with this one's state, over a resource with its first content, and with as many
+    /// clients, whose logs are empty. This one does not change.
+    ///
+    /// # Errors
+    ///
+    /// If there is no memory for it.
+    pub fn successor(&self, alloc: Global, resource: R) -> Result<OneThreadRing<R>, AllocError>
+        requires { resource ≡ R.first }
+        ensures ring { IfOk result (λ d. IsOneThreadRing R.works R.first d) }
+        ensures fresh { IfOk result (λ d. IsFresh self.now.book.now.ring R.first d.book
+            × AreFresh (length self.now.clients) d.clients) }
+    {
+        let seats = self.seats();
+        let state = self.book.state().try_copy(alloc)?;
+        let clients = fresh_clients(alloc, seats)?;
+        match Book::new(alloc, state, resource) {
+            Ok(book) => Ok(OneThreadRing { book, clients }),
+            Err(_) => Err(AllocError),
+        }
+    }
+
     /// Makes a ring of this book and of clients whose logs fit its history.
     pub(crate) fn with_clients(book: Book<R>, clients: Vec<Client>) -> OneThreadRing<R>
         requires { IsKeptBy R.works R.first book clients.items }
@@ -235,6 +264,40 @@ impl<R: Resource + Drop> OneThreadRing<R> {
         }
         let receipt = self.book.pass(seat, machine, order)?;
         Ok(receipt)
+    }
+
+    /// A pass by a machine, for a seat, if the machine is privileged. If it is not, there is no receipt: nothing is recorded or
+    /// logged, so a client may try as often as it likes.
+    ///
+    /// # Errors
+    ///
+    /// The first that applies: `NoSeat`, `NoMachine`; of a privileged machine `HistoryFull`, `OutOfMemory`. Nothing has
+    /// changed then.
+    pub fn try_pass(
+        &mut self,
+        seat: u32,
+        machine: u32,
+        order: u64,
+    ) -> Result<Option<Receipt>, CallError>
+        ensures ok { IfOk result
+            (λ r. IsTried R.works self.old self.new seat machine order r) }
+        ensures ring { IsOneThreadRing R.works R.first self.new }
+        ensures err { OnErr result (self.new ≡ self.old) }
+        ensures refused { IsDecided (try_refusal (bounds_of self.old) seat machine) result }
+    {
+        if seat as usize >= self.clients.len() {
+            return Err(CallError::NoSeat);
+        }
+        if machine >= self.machines() {
+            return Err(CallError::NoMachine);
+        }
+        if !self.book.state().is_privileged(machine) {
+            return Ok(None);
+        }
+        match self.pass(seat, machine, order) {
+            Ok(receipt) => Ok(Some(receipt)),
+            Err(error) => Err(error),
+        }
     }
 
     /// A fault, for a seat: a value is written into a machine.

@@ -70,6 +70,7 @@ no_lines (asked.Check words) was is e bad refused lines = lines
 no_lines (asked.Picture words) was is e bad refused lines = lines
 no_lines (asked.Upgrade words) was is e bad refused lines = lines
 no_lines (asked.Recover words) was is e bad refused lines = lines
+no_lines (asked.New words) was is e bad refused lines = lines
 no_lines (asked.Serve words) was is e bad refused lines =
     no_list words was is (subst (λ (x : ToolError). IsServeRefusal words was is x) (bad_list e bad) refused)
 

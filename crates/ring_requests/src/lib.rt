@@ -5,5 +5,6 @@
 mod requests;
 
 pub use requests::{
-    CheckWords, PictureWords, RecoverWords, Request, RunWords, ServeWords, StepWords, UpgradeWords,
+    CheckWords, NewWords, PictureWords, RecoverWords, Request, RingSize, RunWords, ServeWords,
+    StepWords, UpgradeWords,
 };

@@ -59,6 +59,22 @@ pub struct RecoverWords<'a> {
     pub new: &'a str,
 }
 
+/// A ring's size, as it was given.
+#[derive(Clone, Copy)]
+pub struct RingSize {
+    /// How many machines it has.
+    pub n: u32,
+    /// How many values each can hold.
+    pub k: u32,
+}
+
+/// The words of `new`.
+#[derive(Drop)]
+pub struct NewWords {
+    /// The size of each ring, in their order.
+    pub rings: Vec<RingSize>,
+}
+
 /// The words of `serve`.
 #[derive(Clone, Copy)]
 pub struct ServeWords<'a> {
@@ -68,10 +84,14 @@ pub struct ServeWords<'a> {
     pub journal: Option<&'a str>,
     /// Whether each call is on the disk before it is answered.
     pub synced: bool,
+    /// Whether a line may be a fault.
+    pub faults: bool,
+    /// The name of the folder that a line may save the rings in, if there is one.
+    pub saves: Option<&'a str>,
 }
 
 /// A command, with its words.
-#[derive(Clone, Copy)]
+#[derive(Drop)]
 pub enum Request<'a> {
     Step(StepWords<'a>),
     Run(RunWords<'a>),
@@ -79,5 +99,6 @@ pub enum Request<'a> {
     Picture(PictureWords<'a>),
     Upgrade(UpgradeWords<'a>),
     Recover(RecoverWords<'a>),
+    New(NewWords),
     Serve(ServeWords<'a>),
 }

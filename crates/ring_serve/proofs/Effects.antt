@@ -1,9 +1,9 @@
 -- The effect of a turn on the rings: nothing, a growth of one history, or a survey that a seat was given.
-use Rattle.std.proofs.Common.{◌≡◌, ℕ, zero, suc, ◌+◌, ◌<◌, ◌≤◌, true, false, ltb, List, [], ◌∷◌, length, Option, Some, None, refl, sym, ap, subst, ◌∙◌, ◌⊎◌, inl, inr, arith, slice_get, slice_set, ◌≢◌}
+use Rattle.std.proofs.Common.{◌≡◌, ℕ, zero, suc, ◌+◌, ◌<◌, ◌≤◌, Bool, true, false, if◌then◌else◌, ltb, List, [], ◌∷◌, length, Option, Some, None, refl, sym, ap, subst, ◌∙◌, ◌⊎◌, inl, inr, arith, slice_get, slice_set, ◌≢◌}
 use Rattle.std.proofs.lemmas.Bool.{lt-ltb}
 use Rattle.ring_model.specs.Limits.{event_limit}
 use Rattle.ring_model.specs.Resources.{till}
-use Rattle.ring_model.specs.Ring.{IsRing}
+use Rattle.ring_model.specs.Ring.{is_privileged, IsRing}
 use Rattle.ring_model.specs.History.{State, StepOf, next, reply, IsLegal}
 use Rattle.ring_model.specs.Groups.{move_order}
 use Rattle.ring_model.specs.GroupLaws.{CanMove, AreAllPrivileged, block_of}
@@ -15,10 +15,11 @@ use Rattle.ring_model.specs.declared.events.Event.{Event}
 use Rattle.ring_desk.specs.Rings.{RingView, IsOneThreadRing}
 use Rattle.ring_journal.specs.ContentAfter.{event_is_open}
 use Rattle.ring_blocks.specs.SavedOf.{saved_event}
-use Rattle.ring_serve.specs.Commands.{Command, pass, group, corrupt, survey, glance, save, heard, ring_of}
+use Rattle.ring_serve.specs.Commands.{Command, pass, try, group, corrupt, survey, glance, save, heard, ring_of}
 use Rattle.ring_serve.specs.Standings.{Standing, standing_of, state_of, with_events, with_survey, survey_now, block_now, event_now}
-use Rattle.ring_serve.specs.Turns.{Turn, events, surveyed, unless, turn_at, turn_among, placed, heard_turn, IsTurnOfLine, bounds_now}
-use Rattle.ring_desk.specs.Refusals.{seat_refusal, pass_refusal, corrupt_refusal, group_refusal}
+use Rattle.ring_serve.specs.declared.answers.Refusal.TheVariants as refusal
+use Rattle.ring_serve.specs.Turns.{Turn, events, surveyed, refused, unless, passed, waits, turn_at, turn_among, turn_of, placed, is_off, heard_turn, IsTurnOfLine, bounds_now}
+use Rattle.ring_desk.specs.Refusals.{seat_refusal, place_refusal, pass_refusal, corrupt_refusal, group_refusal}
 use Rattle.ring_desk.specs.declared.errors.CallError.{CallError}
 use Rattle.ring_desk.proofs.Refusals.{seat_bounds, pass_bounds, corrupt_bounds, group_bounds}
 use Rattle.ring_serve.specs.Saved.{IsRight}
@@ -133,6 +134,13 @@ module _ (d : RingView ℕ) (k : IsOneThreadRing till 0 d) where
       closes reply_is.NotPrivileged = refl
       closes (reply_is.Corrupted old) = refl
 
+  try_effect : (ring seat machine order : ℕ) → Effect ring r (turn_at r (try ring seat machine order))
+  try_effect ring seat machine order = go (is_privileged (state_of r).ring.values machine)
+    where
+      go : (privileged : Bool) → Effect ring r (if privileged then passed ring r seat machine order else unless (place_refusal (bounds_now r) seat machine) r (waits r))
+      go true = pass_effect ring seat machine order
+      go false = unless_effect ring r (place_refusal (bounds_now r) seat machine) (waits r) (λ q. inl (refl, refl))
+
   corrupt_effect : (ring seat machine value : ℕ) → Effect ring r (turn_at r (corrupt ring seat machine value))
   corrupt_effect ring seat machine value = unless_effect ring r (corrupt_refusal (bounds_now r) seat machine value) _ (λ q.
       let b = corrupt_bounds (bounds_now r) seat machine value q in
@@ -180,6 +188,7 @@ module _ (d : RingView ℕ) (k : IsOneThreadRing till 0 d) where
 
   effect_at : (command : Command) → Effect (ring_of command) r (turn_at r command)
   effect_at (pass ring seat machine order) = pass_effect ring seat machine order
+  effect_at (try ring seat machine order) = try_effect ring seat machine order
   effect_at (corrupt ring seat machine value) = corrupt_effect ring seat machine value
   effect_at (group ring seat order machines) = group_effect ring seat order machines
   effect_at (survey ring seat) = survey_effect ring seat
@@ -212,14 +221,18 @@ among rings command (Some r) all e = go (effect_of r command (right_at rings (ri
     go (inl kept) = inl (kept.0, ap (λ (x : Standing). slice_set rings (ring_of command) x) kept.1 ∙ set_same rings (ring_of command) r e)
     go (inr changed) = inr (record { ring = ring_of command; was = r; there = e; one = turn_at r command; effect = changed; recorded = refl; leaves = refl })
 
-heard_effect : (rings : List Standing) (x : Option Command) → AllByRecursion IsRight rings → EffectAmong rings (heard_turn rings x)
-heard_effect rings (Some command) all = among rings command (slice_get rings (ring_of command)) all refl
-heard_effect rings None all = inl (refl, refl)
+heard_effect : (faults : Bool) (rings : List Standing) (x : Option Command) → AllByRecursion IsRight rings → EffectAmong rings (heard_turn faults rings x)
+heard_effect faults rings (Some command) all = go (is_off faults command)
+  where
+    go : (off : Bool) → EffectAmong rings (if off then refused rings refusal.Off else turn_of rings command)
+    go true = inl (refl, refl)
+    go false = among rings command (slice_get rings (ring_of command)) all refl
+heard_effect faults rings None all = inl (refl, refl)
 
-pub turn_effect : (rings : List Standing) (line : List ℕ) (turn : Turn (List Standing)) → AllByRecursion IsRight rings → IsTurnOfLine rings line turn → EffectAmong rings turn
-turn_effect rings line turn all (inl (inl h)) = subst (λ (t : Turn (List Standing)). EffectAmong rings t) (sym h.2) (heard_effect rings (heard h.0) all)
-turn_effect rings line turn all (inl (inr h)) = subst (λ (t : Turn (List Standing)). EffectAmong rings t) (sym h.1) (inl (refl, refl))
-turn_effect rings line turn all (inr e) = subst (λ (t : Turn (List Standing)). EffectAmong rings t) (sym e) (inl (refl, refl))
+pub turn_effect : (faults : Bool) (rings : List Standing) (line : List ℕ) (turn : Turn (List Standing)) → AllByRecursion IsRight rings → IsTurnOfLine faults rings line turn → EffectAmong rings turn
+turn_effect faults rings line turn all (inl (inl h)) = subst (λ (t : Turn (List Standing)). EffectAmong rings t) (sym h.2) (heard_effect faults rings (heard h.0) all)
+turn_effect faults rings line turn all (inl (inr h)) = subst (λ (t : Turn (List Standing)). EffectAmong rings t) (sym h.1) (inl (refl, refl))
+turn_effect faults rings line turn all (inr e) = subst (λ (t : Turn (List Standing)). EffectAmong rings t) (sym e) (inl (refl, refl))
 
 -- the rings are right after it
 pub changed_right : (rings : List Standing) (turn : Turn (List Standing)) → AllByRecursion IsRight rings → EffectAmong rings turn → AllByRecursion IsRight turn.leaves

@@ -196,15 +196,15 @@ cons_some (x ∷ xs) y ys e = cons_none x (xs ++ y ∷ ys) e
 begins : (old : List Standing) → AllByRecursion IsRight old → Stands old [] old
 begins old all = record { right = all; tell = all_saved_tell 0 old all; closed = refl; many = refl }
 
-ends : (old : List Standing) (lines : List (List ℕ)) (done : List JournalLine) (now : List Standing) (records : List RingTrace) (new : List Standing) → Stands old done now → AreTurns now lines records new →
+ends : (faults : Bool) (old : List Standing) (lines : List (List ℕ)) (done : List JournalLine) (now : List Standing) (records : List RingTrace) (new : List Standing) → Stands old done now → AreTurns faults now lines records new →
     Stands old (done ++ flat_map calls_of records) new
-ends old [] done now records new s t =
+ends faults old [] done now records new s t =
     let none : flat_map calls_of records ≡ [] = ap (λ (x : List RingTrace). flat_map calls_of x) t.0 in
     subst (λ (x : List Standing). Stands old (done ++ flat_map calls_of records) x) (sym t.1) (subst (λ (x : List JournalLine). Stands old x now) (sym (ap (λ (x : List JournalLine). done ++ x) none ∙ append-nil done)) s)
-ends old (line ∷ lines) done now records new s t =
+ends faults old (line ∷ lines) done now records new s t =
     let turn : Turn (List Standing) = t.0 in
-    let one = turn_stands old done now s turn (turn_effect now line turn s.right t.2) in
-    let more = ends old lines (done ++ turned turn) turn.leaves t.1 new one.0 t.4 in
+    let one = turn_stands old done now s turn (turn_effect faults now line turn s.right t.2) in
+    let more = ends faults old lines (done ++ turned turn) turn.leaves t.1 new one.0 t.4 in
     let all : flat_map calls_of records ≡ turned turn ++ flat_map calls_of t.1 = ap (λ (x : List RingTrace). flat_map calls_of x) t.3 ∙ flat_map-append calls_of turn.recorded t.1 in
     subst (λ (x : List JournalLine). Stands old x new) (append_assoc done (turned turn) (flat_map calls_of t.1) ∙ ap (λ (x : List JournalLine). done ++ x) (sym all)) more
 
@@ -212,18 +212,18 @@ module _ (legal : (rs : List Standing) → AllByRecursion IsRight rs → IsLegal
   stands_legal : (old : List Standing) (done : List JournalLine) (now : List Standing) → Stands old done now → IsLegalText (content_after (content_of old) done)
   stands_legal old done now s = subst IsLegalText (sym (stands_tell old done now s)) (legal now s.right)
 
-  fronts : (old : List Standing) (lines : List (List ℕ)) (done : List JournalLine) (now : List Standing) (records : List RingTrace) (new : List Standing) → Stands old done now → AreTurns now lines records new →
+  fronts : (faults : Bool) (old : List Standing) (lines : List (List ℕ)) (done : List JournalLine) (now : List Standing) (records : List RingTrace) (new : List Standing) → Stands old done now → AreTurns faults now lines records new →
       (front back : List JournalLine) → flat_map calls_of records ≡ front ++ back → IsLegalText (content_after (content_of old) (done ++ front))
-  fronts old [] done now records new s t [] back e = subst (λ (x : List JournalLine). IsLegalText (content_after (content_of old) x)) (sym (append-nil done)) (stands_legal old done now s)
-  fronts old [] done now records new s t (f ∷ front) back e = absurd (cons_none f (front ++ back) (sym e ∙ ap (λ (x : List RingTrace). flat_map calls_of x) t.0))
-  fronts old (line ∷ lines) done now records new s t front back e =
+  fronts faults old [] done now records new s t [] back e = subst (λ (x : List JournalLine). IsLegalText (content_after (content_of old) x)) (sym (append-nil done)) (stands_legal old done now s)
+  fronts faults old [] done now records new s t (f ∷ front) back e = absurd (cons_none f (front ++ back) (sym e ∙ ap (λ (x : List RingTrace). flat_map calls_of x) t.0))
+  fronts faults old (line ∷ lines) done now records new s t front back e =
       let turn : Turn (List Standing) = t.0 in
-      let one = turn_stands old done now s turn (turn_effect now line turn s.right t.2) in
+      let one = turn_stands old done now s turn (turn_effect faults now line turn s.right t.2) in
       let all : flat_map calls_of records ≡ turned turn ++ flat_map calls_of t.1 = ap (λ (x : List RingTrace). flat_map calls_of x) t.3 ∙ flat_map-append calls_of turn.recorded t.1 in
       elim (split (turned turn) (flat_map calls_of t.1) front back (sym all ∙ e)) [
         | inl w ↦
             let here : (done ++ turned turn) ++ w.0 ≡ done ++ front = append_assoc done (turned turn) w.0 ∙ ap (λ (x : List JournalLine). done ++ x) (sym w.1) in
-            subst (λ (x : List JournalLine). IsLegalText (content_after (content_of old) x)) here (fronts old lines (done ++ turned turn) turn.leaves t.1 new one.0 t.4 w.0 back w.2)
+            subst (λ (x : List JournalLine). IsLegalText (content_after (content_of old) x)) here (fronts faults old lines (done ++ turned turn) turn.leaves t.1 new one.0 t.4 w.0 back w.2)
         | inr w ↦
             let closed_in : are_open front ≡ true = inside turn front w.0 w.1 w.2 one.1 in
             let same : content_after (content_of old) (done ++ front) ≡ content_after (content_of old) done = ap (λ (x : List JournalLine). let c : Content = record { version = latest_version; rings = map in_order (with_calls (blocks_from 0 old) x); rings_said = length old } in c) (whole_front done front closed_in) in
@@ -235,7 +235,7 @@ module _ (legal : (rs : List Standing) → AllByRecursion IsRight rs → IsLegal
       inside turn front r b e (inr close) = front_open front r b (subst CloseAt e close)
 
   pub journals_are_right : JournalsAreRight
-  journals_are_right old new lines records all t fits = (
-    record { fits = fits; began = legal old all; legal = fronts old lines [] old records new (begins old all) t },
-    stands_tell old (flat_map calls_of records) new (ends old lines [] old records new (begins old all) t),
+  journals_are_right faults old new lines records all t fits = (
+    record { fits = fits; began = legal old all; legal = fronts faults old lines [] old records new (begins old all) t },
+    stands_tell old (flat_map calls_of records) new (ends faults old lines [] old records new (begins old all) t),
   )

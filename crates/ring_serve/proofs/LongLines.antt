@@ -1,5 +1,5 @@
 -- A line that is too long is kept only so far.
-use Rattle.std.proofs.Common.{◌≡◌, ℕ, ◌+◌, ◌<◌, ◌≤◌, List, [], ◌∷◌, ◌++◌, length, take, sym, ap, subst, ◌∙◌, inl, inr, length-append, arith, ◌⊎◌}
+use Rattle.std.proofs.Common.{◌≡◌, ℕ, ◌+◌, ◌<◌, ◌≤◌, Bool, List, [], ◌∷◌, ◌++◌, length, take, sym, ap, subst, ◌∙◌, inl, inr, length-append, arith, ◌⊎◌}
 use Rattle.std.proofs.lemmas.List.{take_all, take-append-le, length-take}
 use Rattle.std.proofs.lemmas.Bool.{cases_lt}
 use Rattle.ring_serve.specs.Commands.{line_limit}
@@ -39,21 +39,21 @@ cut_long : (n : ℕ) (full : List ℕ) → n < length full → n < length (take 
 cut_long n full l = omega (arith, length-take (n + 1) full)
 
 -- a line that is too long is refused, or memory ran out
-pub long_refused : (rings : List Standing) (line : List ℕ) (t : Turn (List Standing)) → line_limit < length line → IsTurnOfLine rings line t → (t ≡ refused rings refusal.Syntax) ⊎ (t ≡ refused rings refusal.OutOfMemory)
-long_refused rings line t l (inl (inl h)) = let few = h.1.1 in absurd (omega (arith, l, few))
-long_refused rings line t l (inl (inr h)) = inl h.1
-long_refused rings line t l (inr e) = inr e
+pub long_refused : (faults : Bool) (rings : List Standing) (line : List ℕ) (t : Turn (List Standing)) → line_limit < length line → IsTurnOfLine faults rings line t → (t ≡ refused rings refusal.Syntax) ⊎ (t ≡ refused rings refusal.OutOfMemory)
+long_refused faults rings line t l (inl (inl h)) = let few = h.1.1 in absurd (omega (arith, l, few))
+long_refused faults rings line t l (inl (inr h)) = inl h.1
+long_refused faults rings line t l (inr e) = inr e
 
 -- and is answered as its beginning is
-pub whole_line : (rings : List Standing) (full : List ℕ) (t : Turn (List Standing)) → IsTurnOfLine rings (cut full) t → IsTurnOfLine rings full t
+pub whole_line : (faults : Bool) (rings : List Standing) (full : List ℕ) (t : Turn (List Standing)) → IsTurnOfLine faults rings (cut full) t → IsTurnOfLine faults rings full t
 unfolding cut
-whole_line rings full t h = elim (cases_lt line_limit (length full)) [
+whole_line faults rings full t h = elim (cases_lt line_limit (length full)) [
   | inl l ↦
-      elim (long_refused rings (take (line_limit + 1) full) t (cut_long line_limit full l) h) [
+      elim (long_refused faults rings (take (line_limit + 1) full) t (cut_long line_limit full l) h) [
         | inl e ↦ inl (inr ((λ c is. let few = is.1 in omega (arith, l, few)), e))
         | inr e ↦ inr e
       ]
-  | inr l ↦ subst (λ (x : List ℕ). IsTurnOfLine rings x t) (take_all (line_limit + 1) full (omega arith)) h
+  | inr l ↦ subst (λ (x : List ℕ). IsTurnOfLine faults rings x t) (take_all (line_limit + 1) full (omega arith)) h
 ]
 
 pub cut_nil : [] ≡ cut []

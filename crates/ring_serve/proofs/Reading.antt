@@ -9,9 +9,9 @@ use Rattle.text_lines.specs.declared.fault.Stop.TheVariants as stops
 use Rattle.text_lines.specs.Reading.{Reader, ◌>>=◌, Gives, word_at, after_at, as_at, or_at, none_at, end_at, whole_at}
 use Rattle.text_lines.proofs.Basics.{bind_ok, chosen, ok_is}
 use Rattle.ring_serve.specs.Numbers.{spaced, ended, in_64_bits, in_32_bits, order_at, place_at}
-use Rattle.ring_serve.specs.Commands.{Command, pass, group, corrupt, survey, glance, save, command_line, HasLine, IsLineOf, heard, seen, IsReadAs}
+use Rattle.ring_serve.specs.Commands.{Command, pass, try, group, corrupt, survey, glance, save, command_line, HasLine, IsLineOf, heard, seen, IsReadAs}
 use Rattle.ring_serve.specs.declared.commands.Command.{Command as Read}
-use Rattle.ring_serve.specs.Readers.{pass_of, pass_at, group_of, group_at, corrupt_of, corrupt_at, survey_of, survey_at, glance_of, glance_at, name_at, save_at, g_at, s_at, command_at}
+use Rattle.ring_serve.specs.Readers.{pass_of, pass_at, try_of, try_at, group_of, group_at, corrupt_of, corrupt_at, survey_of, survey_at, glance_of, glance_at, name_at, save_at, g_at, s_at, command_at}
 use Rattle.ring_serve.proofs.Spellings.{Any, Hears, both_hear, word_takes, word_again, place_hears, order_hears, machines_hear, name_takes, name_again}
 
 -- the bytes that the reader takes after these are the line of a command
@@ -59,6 +59,14 @@ pass_takes = kind_takes (both_hear spaced_hears (both_hear spaced_hears (both_he
 pass_again : (ring seat machine order : ℕ) (rest : List ℕ) → pass_at (command_line (pass ring seat machine order) ++ rest) ≡ Ok (heard (pass ring seat machine order), rest)
 unfolding pass_at
 pass_again ring seat machine order rest = kind_again (both_hear spaced_hears (both_hear spaced_hears (both_hear spaced_hears order_ended))) pass_of (codes "pass ") (ring, (seat, (machine, order))) rest (tt, (tt, (tt, tt)))
+
+try_takes : Takes [] try_at
+unfolding try_at
+try_takes = kind_takes (both_hear spaced_hears (both_hear spaced_hears (both_hear spaced_hears order_ended))) try_of (codes "try ") [] (λ p. try p.0 p.1.0 p.1.1.0 p.1.1.1) (λ p f. tt) (λ p. refl) (λ p. refl)
+
+try_again : (ring seat machine order : ℕ) (rest : List ℕ) → try_at (command_line (try ring seat machine order) ++ rest) ≡ Ok (heard (try ring seat machine order), rest)
+unfolding try_at
+try_again ring seat machine order rest = kind_again (both_hear spaced_hears (both_hear spaced_hears (both_hear spaced_hears order_ended))) try_of (codes "try ") (ring, (seat, (machine, order))) rest (tt, (tt, (tt, tt)))
 
 corrupt_takes : Takes [] corrupt_at
 unfolding corrupt_at
@@ -140,11 +148,12 @@ s_takes = behind_takes (codes "s") (or_at 117 survey_at (or_at 97 save_at none_a
 
 command_takes : Takes [] command_at
 unfolding command_at
-command_takes = or_takes [] 112 pass_at _ pass_takes (or_takes [] 99 corrupt_at _ corrupt_takes (or_takes [] 103 g_at _ g_takes (or_takes [] 115 s_at none_at s_takes (none_takes []))))
+command_takes = or_takes [] 112 pass_at _ pass_takes (or_takes [] 116 try_at _ try_takes (or_takes [] 99 corrupt_at _ corrupt_takes (or_takes [] 103 g_at _ g_takes (or_takes [] 115 s_at none_at s_takes (none_takes [])))))
 
 command_again : (c : Command) (rest : List ℕ) → HasLine c → command_at (command_line c ++ rest) ≡ Ok (heard c, rest)
 unfolding command_at
 command_again (pass ring seat machine order) rest f = pass_again ring seat machine order rest
+command_again (try ring seat machine order) rest f = try_again ring seat machine order rest
 command_again (group ring seat order machines) rest f = group_again ring seat order machines rest f
 command_again (corrupt ring seat machine value) rest f = corrupt_again ring seat machine value rest
 command_again (survey ring seat) rest f = survey_again ring seat rest

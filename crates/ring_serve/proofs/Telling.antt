@@ -16,6 +16,7 @@ use Rattle.ring_serve.specs.declared.answers.Refusal.TheVariants as refusal
 use Rattle.ring_serve.specs.declared.serving.Pending.{Pending}
 use Rattle.ring_serve.specs.declared.serving.ServeFault.{ServeFault}
 use Rattle.ring_serve.specs.declared.serving.ServeFault.TheVariants as fault
+use Rattle.ring_serve.specs.Permits.{Terms}
 use Rattle.ring_serve.specs.Standings.{Standing}
 use Rattle.ring_serve.specs.Turns.{Turn, IsTurnOfLine}
 use Rattle.ring_serve.specs.Serving.{IsLine, HasNoEnd, name_in, IsGiven, IsAnswered, Answers, joined_lines, AreAnswered, Written, AreTold, Stops, cut, GoesOn, Rests, IsFaultOf}
@@ -23,13 +24,13 @@ use Rattle.ring_serve.proofs.LongLines.{long_refused, whole_line, cut_nil}
 
 -- ---- a line that is too long is answered as its start is
 
-any_name : (was is : Option Held) (n m : List ℕ) (rings : List Standing) (a given : Answer) (why : Refusal) → a ≡ answer.Refused why → IsGiven was is n rings a given → IsGiven was is m rings a given
-any_name was is n m rings a given why e g =
-    subst (λ (x : Answer). IsGiven was is m rings x given) (sym e) (subst (λ (x : Answer). IsGiven was is n rings x given) e g)
+any_name : (saves : Option (List ℕ)) (was is : Option Held) (n m : List ℕ) (rings : List Standing) (a given : Answer) (why : Refusal) → a ≡ answer.Refused why → IsGiven saves was is n rings a given → IsGiven saves was is m rings a given
+any_name saves was is n m rings a given why e g =
+    subst (λ (x : Answer). IsGiven saves was is m rings x given) (sym e) (subst (λ (x : Answer). IsGiven saves was is n rings x given) e g)
 
-refused_why : (rings : List Standing) (full : List ℕ) (t : Turn (List Standing)) → line_limit < length full → IsTurnOfLine rings (cut full) t → (why : Refusal) × (t.answer ≡ answer.Refused why)
-refused_why rings full t l is =
-    elim (long_refused rings full t l (whole_line rings full t is)) [
+refused_why : (faults : Bool) (rings : List Standing) (full : List ℕ) (t : Turn (List Standing)) → line_limit < length full → IsTurnOfLine faults rings (cut full) t → (why : Refusal) × (t.answer ≡ answer.Refused why)
+refused_why faults rings full t l is =
+    elim (long_refused faults rings full t l (whole_line faults rings full t is)) [
       | inl e ↦ (refusal.Syntax, ap (λ (x : Turn (List Standing)). x.answer) e)
       | inr e ↦ (refusal.OutOfMemory, ap (λ (x : Turn (List Standing)). x.answer) e)
     ]
@@ -38,24 +39,24 @@ cut_short : (full : List ℕ) → length full ≤ line_limit → cut full ≡ fu
 unfolding cut
 cut_short full l = take_all (line_limit + 1) full (omega arith)
 
-pub whole_answer : {noting : Bool} {old new : List Standing} {was is : Option Held} {said noted : List ℕ} (full : List ℕ) → IsAnswered noting old was (cut full) said noted new is → IsAnswered noting old was full said noted new is
-whole_answer {noting} {old} {new} {was} {is} full a =
-    let given : IsGiven was is (name_in full) new a.turn.answer a.given = elim (cases_lt line_limit (length full)) [
-      | inl l ↦ let why = refused_why old full a.turn l a.of_line in any_name was is (name_in (cut full)) (name_in full) new a.turn.answer a.given why.0 why.1 a.gives
-      | inr l ↦ subst (λ (x : List ℕ). IsGiven was is (name_in x) new a.turn.answer a.given) (cut_short full l) a.gives
+pub whole_answer : {terms : Terms} {old new : List Standing} {was is : Option Held} {said noted : List ℕ} (full : List ℕ) → IsAnswered terms old was (cut full) said noted new is → IsAnswered terms old was full said noted new is
+whole_answer {terms} {old} {new} {was} {is} full a =
+    let given : IsGiven terms.saves was is (name_in full) new a.turn.answer a.given = elim (cases_lt line_limit (length full)) [
+      | inl l ↦ let why = refused_why terms.faults old full a.turn l a.of_line in any_name terms.saves was is (name_in (cut full)) (name_in full) new a.turn.answer a.given why.0 why.1 a.gives
+      | inr l ↦ subst (λ (x : List ℕ). IsGiven terms.saves was is (name_in x) new a.turn.answer a.given) (cut_short full l) a.gives
     ] in
-    record { turn = a.turn; given = a.given; of_line = whole_line old full a.turn a.of_line; gives = given; says = a.says; notes = a.notes; leaves = a.leaves }
+    record { turn = a.turn; given = a.given; of_line = whole_line terms.faults old full a.turn a.of_line; gives = given; says = a.says; notes = a.notes; leaves = a.leaves }
 
 -- ---- lines after others
 
-answers_then : (noting : Bool) (old mid new : List Standing) (was between is : Option Held) (lines more : List (List ℕ)) (said later noted notes : List ℕ) → Answers noting old was lines said noted mid between → Answers noting mid between more later notes new is →
-    Answers noting old was (lines ++ more) (said ++ later) (noted ++ notes) new is
-answers_then noting old mid new was between is [] more said later noted notes h k =
-    let a = subst (λ (s : List Standing). Answers noting s between more later notes new is) h.2 k in
-    let b = subst (λ (w : Option Held). Answers noting old w more later notes new is) h.3 a in
-    let c = subst (λ (x : List ℕ). Answers noting old was more (x ++ later) notes new is) (sym h.0) b in
-    subst (λ (x : List ℕ). Answers noting old was more (said ++ later) (x ++ notes) new is) (sym h.1) c
-answers_then noting old mid new was between is (line ∷ lines) more said later noted notes h k = (
+answers_then : (terms : Terms) (old mid new : List Standing) (was between is : Option Held) (lines more : List (List ℕ)) (said later noted notes : List ℕ) → Answers terms old was lines said noted mid between → Answers terms mid between more later notes new is →
+    Answers terms old was (lines ++ more) (said ++ later) (noted ++ notes) new is
+answers_then terms old mid new was between is [] more said later noted notes h k =
+    let a = subst (λ (s : List Standing). Answers terms s between more later notes new is) h.2 k in
+    let b = subst (λ (w : Option Held). Answers terms old w more later notes new is) h.3 a in
+    let c = subst (λ (x : List ℕ). Answers terms old was more (x ++ later) notes new is) (sym h.0) b in
+    subst (λ (x : List ℕ). Answers terms old was more (said ++ later) (x ++ notes) new is) (sym h.1) c
+answers_then terms old mid new was between is (line ∷ lines) more said later noted notes h k = (
   h.0,
   h.1,
   h.2,
@@ -65,7 +66,7 @@ answers_then noting old mid new was between is (line ∷ lines) more said later 
   h.6,
   ap (λ (x : List ℕ). x ++ later) h.7 ∙ append_assoc h.2 h.3 later,
   ap (λ (x : List ℕ). x ++ notes) h.8 ∙ append_assoc h.4 h.5 notes,
-  answers_then noting h.0 mid new h.1 between is lines more h.3 later h.5 notes h.9 k,
+  answers_then terms h.0 mid new h.1 between is lines more h.3 later h.5 notes h.9 k,
 )
 
 joined_then : (lines more : List (List ℕ)) → joined_lines (lines ++ more) ≡ joined_lines lines ++ joined_lines more
@@ -76,20 +77,20 @@ each_then : (lines more : List (List ℕ)) → AllByRecursion IsLine lines → A
 each_then [] more a b = b
 each_then (l ∷ lines) more a b = (a.0, each_then lines more a.1 b)
 
-pub answered_then : {noting : Bool} {old mid new : List Standing} {was between is : Option Held} {bytes behind rest said noted later notes : List ℕ} → AreAnswered noting old was bytes behind said noted mid between → AreAnswered noting mid between behind rest later notes new is →
-    AreAnswered noting old was bytes rest (said ++ later) (noted ++ notes) new is
-answered_then {noting} {old} {mid} {new} {was} {between} {is} {bytes} {behind} {rest} {said} {noted} {later} {notes} x y = record {
+pub answered_then : {terms : Terms} {old mid new : List Standing} {was between is : Option Held} {bytes behind rest said noted later notes : List ℕ} → AreAnswered terms old was bytes behind said noted mid between → AreAnswered terms mid between behind rest later notes new is →
+    AreAnswered terms old was bytes rest (said ++ later) (noted ++ notes) new is
+answered_then {terms} {old} {mid} {new} {was} {between} {is} {bytes} {behind} {rest} {said} {noted} {later} {notes} x y = record {
   lines = x.lines ++ y.lines;
   split = x.split ∙ (ap (λ (b : List ℕ). joined_lines x.lines ++ b) y.split ∙ (sym (append_assoc (joined_lines x.lines) (joined_lines y.lines) rest) ∙ ap (λ (b : List ℕ). b ++ rest) (sym (joined_then x.lines y.lines))));
   each = each_then x.lines y.lines x.each y.each;
-  answers = answers_then noting old mid new was between is x.lines y.lines said later noted notes x.answers y.answers;
+  answers = answers_then terms old mid new was between is x.lines y.lines said later noted notes x.answers y.answers;
 }
 
-pub none_answered : (noting : Bool) (old : List Standing) (was : Option Held) (rest : List ℕ) → AreAnswered noting old was rest rest [] [] old was
-none_answered noting old was rest = record { lines = []; split = refl; each = tt; answers = (refl, refl, refl, refl) }
+pub none_answered : (terms : Terms) (old : List Standing) (was : Option Held) (rest : List ℕ) → AreAnswered terms old was rest rest [] [] old was
+none_answered terms old was rest = record { lines = []; split = refl; each = tt; answers = (refl, refl, refl, refl) }
 
-one_answered : {noting : Bool} {old new : List Standing} {was is : Option Held} {said noted : List ℕ} (line : List ℕ) → IsLine line → IsAnswered noting old was line said noted new is → AreAnswered noting old was line [] said noted new is
-one_answered {noting} {old} {new} {was} {is} {said} {noted} line l a = record {
+one_answered : {terms : Terms} {old new : List Standing} {was is : Option Held} {said noted : List ℕ} (line : List ℕ) → IsLine line → IsAnswered terms old was line said noted new is → AreAnswered terms old was line [] said noted new is
+one_answered {terms} {old} {new} {was} {is} {said} {noted} line l a = record {
   lines = line ∷ [];
   split = sym (append-nil line) ∙ sym (append-nil (line ++ []));
   each = (l, tt);
@@ -97,7 +98,7 @@ one_answered {noting} {old} {new} {was} {is} {said} {noted} line l a = record {
 }
 
 -- more bytes, which are not looked at yet
-pub answered_more : {noting : Bool} {old new : List Standing} {was is : Option Held} {bytes rest said noted : List ℕ} (more : List ℕ) → AreAnswered noting old was bytes rest said noted new is → AreAnswered noting old was (bytes ++ more) (rest ++ more) said noted new is
+pub answered_more : {terms : Terms} {old new : List Standing} {was is : Option Held} {bytes rest said noted : List ℕ} (more : List ℕ) → AreAnswered terms old was bytes rest said noted new is → AreAnswered terms old was (bytes ++ more) (rest ++ more) said noted new is
 answered_more {rest = rest} more a = record {
   lines = a.lines;
   split = ap (λ (x : List ℕ). x ++ more) a.split ∙ append_assoc (joined_lines a.lines) rest more;
@@ -105,7 +106,7 @@ answered_more {rest = rest} more a = record {
   answers = a.answers;
 }
 
-pub told_more : {noting : Bool} {old new : List Standing} {was is : Option Held} {before after : Written} {bytes rest : List ℕ} (more : List ℕ) → AreTold noting old was before after bytes rest new is → AreTold noting old was before after (bytes ++ more) (rest ++ more) new is
+pub told_more : {terms : Terms} {old new : List Standing} {was is : Option Held} {before after : Written} {bytes rest : List ℕ} (more : List ℕ) → AreTold terms old was before after bytes rest new is → AreTold terms old was before after (bytes ++ more) (rest ++ more) new is
 told_more more t = record { said = t.said; noted = t.noted; answered = answered_more more t.answered; wrote = t.wrote; wrote_notes = t.wrote_notes }
 
 -- ---- a byte more
@@ -120,8 +121,8 @@ no_end_more [] b h n = (n, tt)
 no_end_more (x ∷ begun) b h n = (h.0, no_end_more begun b h.1 n)
 
 -- within a line
-pub byte_more : {noting : Bool} {old new : List Standing} {was is : Option Held} {before after : Written} {bytes line : List ℕ} {pending : Pending} (b : ℕ) (line' : List ℕ) (g : GoesOn noting old was before after bytes new is line pending) → b ≢ 10 → line' ≡ cut (g.begun ++ b ∷ []) →
-    GoesOn noting old was before after (bytes ++ b ∷ []) new is line' pending
+pub byte_more : {terms : Terms} {old new : List Standing} {was is : Option Held} {before after : Written} {bytes line : List ℕ} {pending : Pending} (b : ℕ) (line' : List ℕ) (g : GoesOn terms old was before after bytes new is line pending) → b ≢ 10 → line' ≡ cut (g.begun ++ b ∷ []) →
+    GoesOn terms old was before after (bytes ++ b ∷ []) new is line' pending
 byte_more b line' g n e = record {
   mid = g.mid;
   between = g.between;
@@ -134,24 +135,24 @@ byte_more b line' g n e = record {
 }
 
 -- the line that a byte ends, after those that were answered
-line_more : {noting : Bool} {mid now new : List Standing} {between held is : Option Held} {behind begun later notes said noted : List ℕ} (b : ℕ) → b ≡ 10 → HasNoEnd begun → AreAnswered noting mid between behind begun later notes now held → IsAnswered noting now held (cut (begun ++ b ∷ [])) said noted new is →
-    AreAnswered noting mid between (behind ++ b ∷ []) [] (later ++ said) (notes ++ noted) new is
+line_more : {terms : Terms} {mid now new : List Standing} {between held is : Option Held} {behind begun later notes said noted : List ℕ} (b : ℕ) → b ≡ 10 → HasNoEnd begun → AreAnswered terms mid between behind begun later notes now held → IsAnswered terms now held (cut (begun ++ b ∷ [])) said noted new is →
+    AreAnswered terms mid between (behind ++ b ∷ []) [] (later ++ said) (notes ++ noted) new is
 line_more {begun = begun} b e partial u a =
     let ends : IsLine (begun ++ b ∷ []) = subst (λ (x : ℕ). IsLine (begun ++ x ∷ [])) (sym e) (line_ends begun partial) in
     answered_then (answered_more (b ∷ []) u) (one_answered (begun ++ b ∷ []) ends (whole_answer (begun ++ b ∷ []) a))
 
-pub line_pending : {noting : Bool} {old new new' : List Standing} {was is is' : Option Held} {before after : Written} {bytes line said noted : List ℕ} {pending : Pending} (b : ℕ) (g : GoesOn noting old was before after bytes new is line pending) → b ≡ 10 → IsAnswered noting new is (cut (g.begun ++ b ∷ [])) said noted new' is' →
-    (pending' : Pending) (line' : List ℕ) → pending'.answers.items ≡ pending.answers.items ++ said → pending'.notes.items ≡ pending.notes.items ++ noted → line' ≡ [] → GoesOn noting old was before after (bytes ++ b ∷ []) new' is' line' pending'
-line_pending {noting} {new' = new'} {is' = is'} {said = said} {noted = noted} {pending = pending} b g e a pending' line' p q r =
-    let u : AreAnswered noting g.mid g.between (g.behind ++ b ∷ []) [] (pending.answers.items ++ said) (pending.notes.items ++ noted) new' is' = line_more b e g.partial g.untold a in
-    let v = subst (λ (x : List ℕ). AreAnswered noting g.mid g.between (g.behind ++ b ∷ []) [] x (pending.notes.items ++ noted) new' is') (sym p) u in
+pub line_pending : {terms : Terms} {old new new' : List Standing} {was is is' : Option Held} {before after : Written} {bytes line said noted : List ℕ} {pending : Pending} (b : ℕ) (g : GoesOn terms old was before after bytes new is line pending) → b ≡ 10 → IsAnswered terms new is (cut (g.begun ++ b ∷ [])) said noted new' is' →
+    (pending' : Pending) (line' : List ℕ) → pending'.answers.items ≡ pending.answers.items ++ said → pending'.notes.items ≡ pending.notes.items ++ noted → line' ≡ [] → GoesOn terms old was before after (bytes ++ b ∷ []) new' is' line' pending'
+line_pending {terms} {new' = new'} {is' = is'} {said = said} {noted = noted} {pending = pending} b g e a pending' line' p q r =
+    let u : AreAnswered terms g.mid g.between (g.behind ++ b ∷ []) [] (pending.answers.items ++ said) (pending.notes.items ++ noted) new' is' = line_more b e g.partial g.untold a in
+    let v = subst (λ (x : List ℕ). AreAnswered terms g.mid g.between (g.behind ++ b ∷ []) [] x (pending.notes.items ++ noted) new' is') (sym p) u in
     record {
       mid = g.mid;
       between = g.between;
       behind = g.behind ++ b ∷ [];
       begun = [];
       told = told_more (b ∷ []) g.told;
-      untold = subst (λ (x : List ℕ). AreAnswered noting g.mid g.between (g.behind ++ b ∷ []) [] pending'.answers.items x new' is') (sym q) v;
+      untold = subst (λ (x : List ℕ). AreAnswered terms g.mid g.between (g.behind ++ b ∷ []) [] pending'.answers.items x new' is') (sym q) v;
       partial = tt;
       kept = r ∙ cut_nil;
     }
@@ -165,8 +166,8 @@ appends_same : (a b : Option (List ℕ)) (x y : List ℕ) → x ≡ y → Append
 appends_same a b x y e h = subst (λ (t : List ℕ). Appends a b t) e h
 
 -- after the delivered lines these were answered, and nothing of that has left
-pub stops_untold : {noting : Bool} {old mid new : List Standing} {was between is : Option Held} {before after : Written} {bytes behind rest unsaid notes : List ℕ} → AreTold noting old was before after bytes behind mid between → AreAnswered noting mid between behind rest unsaid notes new is →
-    Stops noting old was before after bytes new is
+pub stops_untold : {terms : Terms} {old mid new : List Standing} {was between is : Option Held} {before after : Written} {bytes behind rest unsaid notes : List ℕ} → AreTold terms old was before after bytes behind mid between → AreAnswered terms mid between behind rest unsaid notes new is →
+    Stops terms old was before after bytes new is
 stops_untold {mid = mid} {between = between} {before = before} {after = after} {behind = behind} {rest = rest} {unsaid = unsaid} {notes = notes} t u = record {
   mid = mid;
   between = between;
@@ -184,19 +185,19 @@ stops_untold {mid = mid} {between = between} {before = before} {after = after} {
   wrote_notes = appends_same before.journal after.journal t.noted (t.noted ++ []) (sym (append-nil t.noted)) t.wrote_notes;
 }
 
-pub goes_stops : {noting : Bool} {old new : List Standing} {was is : Option Held} {before after : Written} {bytes line : List ℕ} {pending : Pending} → GoesOn noting old was before after bytes new is line pending → Stops noting old was before after bytes new is
+pub goes_stops : {terms : Terms} {old new : List Standing} {was is : Option Held} {before after : Written} {bytes line : List ℕ} {pending : Pending} → GoesOn terms old was before after bytes new is line pending → Stops terms old was before after bytes new is
 goes_stops g = stops_untold g.told g.untold
 
-pub rests_stops : {noting : Bool} {old new : List Standing} {was is : Option Held} {before after : Written} {bytes line : List ℕ} → Rests noting old was before after bytes new is line → Stops noting old was before after bytes new is
-rests_stops {noting} {new = new} {is = is} r = stops_untold r.told (none_answered noting new is r.begun)
+pub rests_stops : {terms : Terms} {old new : List Standing} {was is : Option Held} {before after : Written} {bytes line : List ℕ} → Rests terms old was before after bytes new is line → Stops terms old was before after bytes new is
+rests_stops {terms} {new = new} {is = is} r = stops_untold r.told (none_answered terms new is r.begun)
 
 -- a line was answered, and not all of that is pending
-pub line_stops : {noting : Bool} {old new new' : List Standing} {was is is' : Option Held} {before after : Written} {bytes line said noted : List ℕ} {pending : Pending} (b : ℕ) (g : GoesOn noting old was before after bytes new is line pending) → b ≡ 10 → IsAnswered noting new is (cut (g.begun ++ b ∷ [])) said noted new' is' →
-    Stops noting old was before after (bytes ++ b ∷ []) new' is'
+pub line_stops : {terms : Terms} {old new new' : List Standing} {was is is' : Option Held} {before after : Written} {bytes line said noted : List ℕ} {pending : Pending} (b : ℕ) (g : GoesOn terms old was before after bytes new is line pending) → b ≡ 10 → IsAnswered terms new is (cut (g.begun ++ b ∷ [])) said noted new' is' →
+    Stops terms old was before after (bytes ++ b ∷ []) new' is'
 line_stops b g e a = stops_untold (told_more (b ∷ []) g.told) (line_more b e g.partial g.untold a)
 
 -- the bytes that were not read any more
-pub stops_more : {noting : Bool} {old new : List Standing} {was is : Option Held} {before after : Written} {bytes : List ℕ} (more : List ℕ) → Stops noting old was before after bytes new is → Stops noting old was before after (bytes ++ more) new is
+pub stops_more : {terms : Terms} {old new : List Standing} {was is : Option Held} {before after : Written} {bytes : List ℕ} (more : List ℕ) → Stops terms old was before after bytes new is → Stops terms old was before after (bytes ++ more) new is
 stops_more more s = record {
   mid = s.mid;
   between = s.between;
@@ -217,9 +218,9 @@ stops_more more s = record {
 -- ---- the pending answers leave
 
 -- the journal could not be written
-pub journal_stops : {noting : Bool} {old new : List Standing} {was is : Option Held} {before : Written} {bytes line : List ℕ} {pending : Pending} (journal after out : Option (List ℕ)) (left : List ℕ) → GoesOn noting old was before (record { journal = journal; out = out }) bytes new is line pending →
-    Wrote journal after pending.notes.items left → Stops noting old was before (record { journal = after; out = out }) bytes new is
-journal_stops {noting} {new = new} {is = is} {before = before} {pending = pending} journal after out left g w = record {
+pub journal_stops : {terms : Terms} {old new : List Standing} {was is : Option Held} {before : Written} {bytes line : List ℕ} {pending : Pending} (journal after out : Option (List ℕ)) (left : List ℕ) → GoesOn terms old was before (record { journal = journal; out = out }) bytes new is line pending →
+    Wrote journal after pending.notes.items left → Stops terms old was before (record { journal = after; out = out }) bytes new is
+journal_stops {terms} {new = new} {is = is} {before = before} {pending = pending} journal after out left g w = record {
   mid = g.mid;
   between = g.between;
   behind = g.behind;
@@ -231,15 +232,15 @@ journal_stops {noting} {new = new} {is = is} {before = before} {pending = pendin
   back = left;
   left = [];
   told = g.told.answered;
-  untold = subst (λ (x : List ℕ). AreAnswered noting g.mid g.between g.behind g.begun pending.answers.items x new is) w.1 g.untold;
+  untold = subst (λ (x : List ℕ). AreAnswered terms g.mid g.between g.behind g.begun pending.answers.items x new is) w.1 g.untold;
   wrote = wrote_whole before.out out g.told.said g.told.wrote;
   wrote_notes = appends_then before.journal journal after g.told.noted w.0 g.told.wrote_notes w.2;
 }
 
 -- it was, and the output could not be
-pub out_stops : {noting : Bool} {old new : List Standing} {was is : Option Held} {before : Written} {bytes line : List ℕ} {pending : Pending} (journal after out end : Option (List ℕ)) (left : List ℕ) → GoesOn noting old was before (record { journal = journal; out = out }) bytes new is line pending →
-    Appends journal after pending.notes.items → Wrote out end pending.answers.items left → Stops noting old was before (record { journal = after; out = end }) bytes new is
-out_stops {noting} {new = new} {is = is} {before = before} {pending = pending} journal after out end left g n w =
+pub out_stops : {terms : Terms} {old new : List Standing} {was is : Option Held} {before : Written} {bytes line : List ℕ} {pending : Pending} (journal after out end : Option (List ℕ)) (left : List ℕ) → GoesOn terms old was before (record { journal = journal; out = out }) bytes new is line pending →
+    Appends journal after pending.notes.items → Wrote out end pending.answers.items left → Stops terms old was before (record { journal = after; out = end }) bytes new is
+out_stops {terms} {new = new} {is = is} {before = before} {pending = pending} journal after out end left g n w =
     let notes = g.told.noted ++ pending.notes.items in
     record {
       mid = new;
@@ -253,14 +254,14 @@ out_stops {noting} {new = new} {is = is} {before = before} {pending = pending} j
       back = [];
       left = left;
       told = answered_then g.told.answered g.untold;
-      untold = none_answered noting new is g.begun;
+      untold = none_answered terms new is g.begun;
       wrote = (g.told.said ++ w.0, ap (λ (x : List ℕ). g.told.said ++ x) w.1 ∙ sym (append_assoc g.told.said w.0 left), appends_then before.out out end g.told.said w.0 g.told.wrote w.2);
       wrote_notes = appends_same before.journal after notes (notes ++ []) (sym (append-nil notes)) (appends_then before.journal journal after g.told.noted pending.notes.items g.told.wrote_notes n);
     }
 
 -- both were
-pub all_told : {noting : Bool} {old new : List Standing} {was is : Option Held} {before : Written} {bytes line : List ℕ} {pending : Pending} (journal after out end : Option (List ℕ)) → GoesOn noting old was before (record { journal = journal; out = out }) bytes new is line pending →
-    Appends journal after pending.notes.items → Appends out end pending.answers.items → Rests noting old was before (record { journal = after; out = end }) bytes new is line
+pub all_told : {terms : Terms} {old new : List Standing} {was is : Option Held} {before : Written} {bytes line : List ℕ} {pending : Pending} (journal after out end : Option (List ℕ)) → GoesOn terms old was before (record { journal = journal; out = out }) bytes new is line pending →
+    Appends journal after pending.notes.items → Appends out end pending.answers.items → Rests terms old was before (record { journal = after; out = end }) bytes new is line
 all_told {before = before} {pending = pending} journal after out end g n a = record {
   begun = g.begun;
   told = record {
@@ -275,24 +276,24 @@ all_told {before = before} {pending = pending} journal after out end g n a = rec
 }
 
 -- and then more is read
-pub rests_goes : {noting : Bool} {old new : List Standing} {was is : Option Held} {before after : Written} {bytes line : List ℕ} (pending : Pending) → pending.answers.items ≡ [] → pending.notes.items ≡ [] → Rests noting old was before after bytes new is line → GoesOn noting old was before after bytes new is line pending
-rests_goes {noting} {new = new} {is = is} pending p q r =
-    let u = subst (λ (x : List ℕ). AreAnswered noting new is r.begun r.begun x [] new is) (sym p) (none_answered noting new is r.begun) in
+pub rests_goes : {terms : Terms} {old new : List Standing} {was is : Option Held} {before after : Written} {bytes line : List ℕ} (pending : Pending) → pending.answers.items ≡ [] → pending.notes.items ≡ [] → Rests terms old was before after bytes new is line → GoesOn terms old was before after bytes new is line pending
+rests_goes {terms} {new = new} {is = is} pending p q r =
+    let u = subst (λ (x : List ℕ). AreAnswered terms new is r.begun r.begun x [] new is) (sym p) (none_answered terms new is r.begun) in
     record {
       mid = new;
       between = is;
       behind = r.begun;
       begun = r.begun;
       told = r.told;
-      untold = subst (λ (x : List ℕ). AreAnswered noting new is r.begun r.begun pending.answers.items x new is) (sym q) u;
+      untold = subst (λ (x : List ℕ). AreAnswered terms new is r.begun r.begun pending.answers.items x new is) (sym q) u;
       partial = r.partial;
       kept = r.kept;
     }
 
-pub none_told : (noting : Bool) (old : List Standing) (was : Option Held) (before : Written) → Rests noting old was before before [] old was []
-none_told noting old was before = record {
+pub none_told : (terms : Terms) (old : List Standing) (was : Option Held) (before : Written) → Rests terms old was before before [] old was []
+none_told terms old was before = record {
   begun = [];
-  told = record { said = []; noted = []; answered = none_answered noting old was []; wrote = appends_nil before.out; wrote_notes = appends_nil before.journal };
+  told = record { said = []; noted = []; answered = none_answered terms old was []; wrote = appends_nil before.out; wrote_notes = appends_nil before.journal };
   partial = tt;
   kept = cut_nil;
 }
@@ -331,8 +332,8 @@ pub both_ok : {E : Type 0} (r : Result (Unit {0}) E) (A B : Type 0) → OnOk r A
 both_ok (Ok u) A B a b = (a, b)
 both_ok (Err e) A B a b = tt
 
-pub same_line : {noting : Bool} {old new : List Standing} {was is : Option Held} {x y said noted : List ℕ} → x ≡ y → IsAnswered noting old was x said noted new is → IsAnswered noting old was y said noted new is
-same_line {noting} {old} {new} {was} {is} {x} {y} {said} {noted} e a = subst (λ (l : List ℕ). IsAnswered noting old was l said noted new is) e a
+pub same_line : {terms : Terms} {old new : List Standing} {was is : Option Held} {x y said noted : List ℕ} → x ≡ y → IsAnswered terms old was x said noted new is → IsAnswered terms old was y said noted new is
+same_line {terms} {old} {new} {was} {is} {x} {y} {said} {noted} e a = subst (λ (l : List ℕ). IsAnswered terms old was l said noted new is) e a
 
 pub name_is : (line : List ℕ) → 6 ≤ length line → take (length line - 1 - 5) (drop 5 line) ≡ drop 5 (take (length line - 1) line)
 name_is line l =

@@ -9,6 +9,7 @@ use Rattle.ring_serve.specs.declared.answers.Refusal.TheVariants as refusal
 -- the word of a refusal
 abbrev pub refusal_text : Refusal → List ℕ
 refusal_text refusal.Syntax = codes "syntax\n"
+refusal_text refusal.Off = codes "off\n"
 refusal_text refusal.OrderTooLarge = codes "order\n"
 refusal_text refusal.NoRing = codes "ring\n"
 refusal_text refusal.NoSeat = codes "seat\n"
@@ -19,6 +20,7 @@ refusal_text refusal.WholeRing = codes "whole\n"
 refusal_text (refusal.NotPrivileged machine) = codes "privileged " ++ ended machine
 refusal_text refusal.HistoryFull = codes "full\n"
 refusal_text refusal.OutOfMemory = codes "memory\n"
+refusal_text refusal.Name = codes "name\n"
 refusal_text refusal.File = codes "file\n"
 
 -- the line of an answer

@@ -9,10 +9,11 @@ use Rattle.ring_serve.specs.declared.commands.Command.{Command as Read}
 use Rattle.ring_serve.specs.declared.commands.Command.TheVariants as reads
 
 -- a command, with its numbers, which are of any size: those of a ring, a seat, a machine and an
--- order; of a ring, a seat, an order and machines; of a ring, a seat, a machine and a value; of a
--- ring and a seat; of a ring; and with the name of a file
+-- order, twice; of a ring, a seat, an order and machines; of a ring, a seat, a machine and a value;
+-- of a ring and a seat; of a ring; and with the name of a file
 pub data Command : Type 0 where
   pass : ℕ → ℕ → ℕ → ℕ → Command
+  try : ℕ → ℕ → ℕ → ℕ → Command
   group : ℕ → ℕ → ℕ → List ℕ → Command
   corrupt : ℕ → ℕ → ℕ → ℕ → Command
   survey : ℕ → ℕ → Command
@@ -23,6 +24,8 @@ pub data Command : Type 0 where
 abbrev pub command_line : Command → List ℕ
 command_line (pass ring seat machine order) =
     codes "pass " ++ (spaced ring ++ (spaced seat ++ (spaced machine ++ ended order)))
+command_line (try ring seat machine order) =
+    codes "try " ++ (spaced ring ++ (spaced seat ++ (spaced machine ++ ended order)))
 command_line (group ring seat order machines) =
     codes "group " ++ (spaced ring ++ (spaced seat ++ (spaced order ++ row machines)))
 command_line (corrupt ring seat machine value) =
@@ -34,6 +37,7 @@ command_line (save name) = codes "save " ++ (name ++ 10 ∷ [])
 -- which commands have a line: a group has a machine at least, a name has a byte at least and no LF
 abbrev pub HasLine : Command → Type 0
 HasLine (pass ring seat machine order) = Unit {0}
+HasLine (try ring seat machine order) = Unit {0}
 HasLine (group ring seat order machines) = 0 < length machines
 HasLine (corrupt ring seat machine value) = Unit {0}
 HasLine (survey ring seat) = Unit {0}
@@ -48,9 +52,14 @@ IsLineOf command line = HasLine command × (line ≡ command_line command)
 -- rings, seats, machines and values. The name of a save is not theirs.
 abbrev pub heard : Command → Option Command
 heard (pass ring seat machine order) =
-    option_map (λ n. pass (in_32_bits ring) (in_32_bits seat) (in_32_bits machine) n) (in_64_bits order)
+    option_map (λ n. pass (in_32_bits ring) (in_32_bits seat) (in_32_bits machine) n)
+    (in_64_bits order)
+heard (try ring seat machine order) =
+    option_map (λ n. try (in_32_bits ring) (in_32_bits seat) (in_32_bits machine) n)
+    (in_64_bits order)
 heard (group ring seat order machines) =
-    option_map (λ n. group (in_32_bits ring) (in_32_bits seat) n (map in_32_bits machines)) (in_64_bits order)
+    option_map (λ n. group (in_32_bits ring) (in_32_bits seat) n (map in_32_bits machines))
+    (in_64_bits order)
 heard (corrupt ring seat machine value) =
     Some (corrupt (in_32_bits ring) (in_32_bits seat) (in_32_bits machine) (in_32_bits value))
 heard (survey ring seat) = Some (survey (in_32_bits ring) (in_32_bits seat))
@@ -60,6 +69,7 @@ heard (save name) = Some (save [])
 -- a command that was read
 abbrev pub seen : Read → Command
 seen (reads.Pass ring seat machine order) = pass ring seat machine order
+seen (reads.Try ring seat machine order) = try ring seat machine order
 seen (reads.Group ring seat order machines) = group ring seat order machines.items
 seen (reads.Corrupt ring seat machine value) = corrupt ring seat machine value
 seen (reads.Survey ring seat) = survey ring seat
@@ -82,6 +92,7 @@ LinesAreApart =
 -- the number of the ring that is called
 abbrev pub ring_of : Command → ℕ
 ring_of (pass ring seat machine order) = ring
+ring_of (try ring seat machine order) = ring
 ring_of (group ring seat order machines) = ring
 ring_of (corrupt ring seat machine value) = ring
 ring_of (survey ring seat) = ring

@@ -6,7 +6,7 @@ use Rattle.text_lines.specs.declared.fault.Fault.{Fault}
 use Rattle.text_lines.specs.declared.fault.Fault.TheVariants.{Short, Bad}
 use Rattle.text_lines.specs.Reading.{Reader, ◌>>=◌, after_at, then_at, as_at, branch, choice_at}
 use Rattle.ring_serve.specs.Numbers.{order_at, place_at, places_at}
-use Rattle.ring_serve.specs.Commands.{Command, pass, group, corrupt, survey, glance, save}
+use Rattle.ring_serve.specs.Commands.{Command, pass, try, group, corrupt, survey, glance, save}
 
 infixr 20 ◌then◌
 abbrev pub ◌then◌ : {A B : Type 0} → Reader A → Reader B → Reader (A × B)
@@ -24,6 +24,12 @@ pass_of (ring, (seat, (machine, order))) = option_map (λ n. pass ring seat mach
 
 unfoldable pub pass_at : Reader (Option Command)
 pass_at = as_at pass_of (after_at (codes "pass ") (place then place then place then order_at 10))
+
+abbrev pub try_of : ℕ × (ℕ × (ℕ × Option ℕ)) → Option Command
+try_of (ring, (seat, (machine, order))) = option_map (λ n. try ring seat machine n) order
+
+unfoldable pub try_at : Reader (Option Command)
+try_at = as_at try_of (after_at (codes "try ") (place then place then place then order_at 10))
 
 abbrev pub corrupt_of : ℕ × (ℕ × (ℕ × ℕ)) → Option Command
 corrupt_of (ring, (seat, (machine, value))) = Some (corrupt ring seat machine value)
@@ -84,4 +90,11 @@ s_at = after_at (codes "s") (choice_at (branch 117 survey_at ∷ branch 97 save_
 -- the command whose line comes
 unfoldable pub command_at : Reader (Option Command)
 command_at =
-    choice_at (branch 112 pass_at ∷ branch 99 corrupt_at ∷ branch 103 g_at ∷ branch 115 s_at ∷ [])
+    choice_at (
+    branch 112 pass_at
+    ∷ branch 116 try_at
+    ∷ branch 99 corrupt_at
+    ∷ branch 103 g_at
+    ∷ branch 115 s_at
+    ∷ []
+    )

@@ -1,6 +1,6 @@
 -- The journal of rings that are served: its start, and the records of their turns (this
 -- project's own).
-use Rattle.std.specs.Prelude.{◌≡◌, ℕ, List, [], ◌∷◌, ◌++◌, map}
+use Rattle.std.specs.Prelude.{◌≡◌, ℕ, Bool, List, [], ◌∷◌, ◌++◌, map}
 use Rattle.std.specs.List.{flat_map, AllByRecursion}
 use Rattle.ring_blocks.specs.Journals.{line_of_event, line_of_survey}
 use Rattle.ring_journal.specs.declared.calls.JournalLine.{JournalLine}
@@ -21,22 +21,23 @@ abbrev pub journal_of : List Standing → List RingTrace → Journal
 journal_of rings records = record { began = content_of rings; calls = flat_map calls_of records }
 
 -- the turns of these lines, one after the other: their records, and the rings after them
-abbrev pub AreTurns : List Standing → List (List ℕ) → List RingTrace → List Standing → Type 0
-AreTurns old [] records new = (records ≡ []) × (new ≡ old)
-AreTurns old (line ∷ lines) records new =
+abbrev pub AreTurns : Bool → List Standing → List (List ℕ) → List RingTrace → List Standing
+    → Type 0
+AreTurns faults old [] records new = (records ≡ []) × (new ≡ old)
+AreTurns faults old (line ∷ lines) records new =
     (turn : Turn (List Standing))
     × (more : List RingTrace)
-    × IsTurnOfLine old line turn
+    × IsTurnOfLine faults old line turn
     × (records ≡ turn.recorded ++ more)
-    × AreTurns turn.leaves lines more new
+    × AreTurns faults turn.leaves lines more new
 
 -- Rings that are right answer lines, whatever these are: the journal that begins with the
 -- saved rings and has the records of the turns is right at each moment, and records the rings as
 -- they are saved at the end.
 abbrev pub JournalsAreRight : Type 0
 JournalsAreRight =
-    (old new : List Standing) (lines : List (List ℕ)) (records : List RingTrace)
-    → AllByRecursion IsRight old → AreTurns old lines records new
+    (faults : Bool) (old new : List Standing) (lines : List (List ℕ)) (records : List RingTrace)
+    → AllByRecursion IsRight old → AreTurns faults old lines records new
     → JournalFits (journal_of old records)
     → IsRightJournal (journal_of old records)
     × (content_after (content_of old) (flat_map calls_of records) ≡ content_of new)

@@ -1,5 +1,5 @@
 -- Lines that are served one after the other (this project's own).
-use Rattle.std.specs.Prelude.{◌≡◌, ◌≢◌, ℕ, ◌+◌, ◌-◌, ◌^◌, ◌≤◌, Bool, cond, List, [], ◌∷◌, ◌++◌, length, take, drop, Option, None, Some, Result, MatchResult, ◌⊎◌}
+use Rattle.std.specs.Prelude.{◌≡◌, ◌≢◌, ℕ, ◌+◌, ◌-◌, ◌^◌, ◌≤◌, true, false, cond, List, [], ◌∷◌, ◌++◌, length, take, drop, Option, None, Some, Result, MatchResult, ◌⊎◌}
 use Rattle.std.specs.List.{AllByRecursion}
 use Rattle.std.specs.Io.KnownBytes.{Appends, Consumes, IsAtEnd}
 use Rattle.text_lines.specs.Writing.{Wrote}
@@ -15,6 +15,7 @@ use Rattle.ring_serve.specs.declared.serving.Pending.{Pending}
 use Rattle.ring_serve.specs.declared.serving.Journal.{Journal}
 use Rattle.ring_serve.specs.declared.serving.ServeFault.{ServeFault}
 use Rattle.ring_serve.specs.declared.serving.ServeFault.TheVariants as fault
+use Rattle.ring_serve.specs.Permits.{Terms, is_plain, file_in}
 use Rattle.ring_serve.specs.Standings.{Standing}
 use Rattle.ring_serve.specs.Saved.{content_of}
 use Rattle.ring_serve.specs.Turns.{Turn, IsTurnOfLine}
@@ -34,45 +35,59 @@ HasNoEnd begun = AllByRecursion (λ b. b ≢ 10) begun
 abbrev pub name_in : List ℕ → List ℕ
 name_in line = drop 5 (take (length line - 1) line)
 
--- A turn that asks for the rings to be saved is answered so if the file of that name holds their
--- text, which is legal; if that was not done, no file has changed, and that is the refusal. Every
--- other turn is answered as it says, and no file changes.
-abbrev pub IsGiven : Option Held → Option Held → List ℕ → List Standing → Answer → Answer → Type 0
-IsGiven was is name rings answer.Saved given =
+-- The file of this name holds the text of the rings, which is legal, and that is the answer; or
+-- this was not done, no file has changed, and that is the refusal.
+abbrev pub IsSaved : Option Held → Option Held → List ℕ → List Standing → Answer → Type 0
+IsSaved was is file rings given =
     ((given ≡ answer.Saved)
-    × Replaces was is name (Some (text (content_of rings)))
+    × Replaces was is file (Some (text (content_of rings)))
     × IsLegalText (content_of rings))
     ⊎ ((given ≡ answer.Refused refusal.File) × (is ≡ was))
-IsGiven was is name rings asked given = (given ≡ asked) × (is ≡ was)
+
+-- All rings are to be saved: in the folder that this is permitted in, if the name is a plain one.
+-- Where it is permitted in none, or the name is not plain, that is the refusal.
+abbrev pub IsSaveGiven : Option (List ℕ) → Option Held → Option Held → List ℕ → List Standing
+    → Answer → Type 0
+IsSaveGiven None was is name rings given = (given ≡ answer.Refused refusal.Off) × (is ≡ was)
+IsSaveGiven (Some folder) was is name rings given =
+    ((is_plain name ≡ true) × IsSaved was is (file_in folder name) rings given)
+    ⊎ ((is_plain name ≡ false) × (given ≡ answer.Refused refusal.Name) × (is ≡ was))
+
+-- A turn that asks for the rings to be saved is answered by what came of that. Every other turn is
+-- answered as it says, and no file changes.
+abbrev pub IsGiven : Option (List ℕ) → Option Held → Option Held → List ℕ → List Standing → Answer
+    → Answer → Type 0
+IsGiven saves was is name rings answer.Saved given = IsSaveGiven saves was is name rings given
+IsGiven saves was is name rings asked given = (given ≡ asked) × (is ≡ was)
 
 -- One line answered, from the rings and the files as they are to those after it: by its turn.
 -- It says the answer's line, and notes, if a journal is kept, the lines of the records of
 -- the turn.
-pub record IsAnswered (noting : Bool) (old : List Standing) (was : Option Held)
+pub record IsAnswered (terms : Terms) (old : List Standing) (was : Option Held)
     (line said noted : List ℕ) (new : List Standing) (is : Option Held) : Type 0 where
   pub turn : Turn (List Standing)
   pub given : Answer
-  pub of_line : IsTurnOfLine old line turn
-  pub gives : IsGiven was is (name_in line) new turn.answer given
+  pub of_line : IsTurnOfLine terms.faults old line turn
+  pub gives : IsGiven terms.saves was is (name_in line) new turn.answer given
   pub says : said ≡ answer_line given
-  pub notes : noted ≡ cond noting (notes_of turn.recorded) []
+  pub notes : noted ≡ cond terms.noting (notes_of turn.recorded) []
   pub leaves : turn.leaves ≡ new
 
 -- The rings answer these lines, one after the other, with this text, and these are the notes.
-abbrev pub Answers : Bool → List Standing → Option Held → List (List ℕ) → List ℕ → List ℕ
+abbrev pub Answers : Terms → List Standing → Option Held → List (List ℕ) → List ℕ → List ℕ
     → List Standing → Option Held → Type 0
-Answers noting old was [] said noted new is = (said ≡ []) × (noted ≡ []) × (new ≡ old) × (is ≡ was)
-Answers noting old was (line ∷ lines) said noted new is =
+Answers terms old was [] said noted new is = (said ≡ []) × (noted ≡ []) × (new ≡ old) × (is ≡ was)
+Answers terms old was (line ∷ lines) said noted new is =
     (mid : List Standing)
     × (between : Option Held)
     × (first : List ℕ)
     × (later : List ℕ)
     × (note : List ℕ)
     × (notes : List ℕ)
-    × IsAnswered noting old was line first note mid between
+    × IsAnswered terms old was line first note mid between
     × (said ≡ first ++ later)
     × (noted ≡ note ++ notes)
-    × Answers noting mid between lines later notes new is
+    × Answers terms mid between lines later notes new is
 
 abbrev pub joined_lines : List (List ℕ) → List ℕ
 joined_lines [] = []
@@ -80,12 +95,12 @@ joined_lines (line ∷ lines) = line ++ joined_lines lines
 
 -- The lines of these bytes, up to where this rest begins, were answered with this text, and these
 -- are the notes.
-pub record AreAnswered (noting : Bool) (old : List Standing) (was : Option Held)
+pub record AreAnswered (terms : Terms) (old : List Standing) (was : Option Held)
     (bytes rest said noted : List ℕ) (new : List Standing) (is : Option Held) : Type 0 where
   pub lines : List (List ℕ)
   pub split : bytes ≡ joined_lines lines ++ rest
   pub each : AllByRecursion IsLine lines
-  pub answers : Answers noting old was lines said noted new is
+  pub answers : Answers terms old was lines said noted new is
 
 -- the content of a journal and of an output, where it is known
 pub record Written : Type 0 where
@@ -99,12 +114,12 @@ held_by contents (Some journal) = contents journal.writer
 
 -- The lines up to the rest were answered and delivered: the output has all of the answers' text,
 -- and the journal all notes.
-pub record AreTold (noting : Bool) (old : List Standing) (was : Option Held)
+pub record AreTold (terms : Terms) (old : List Standing) (was : Option Held)
     (before after : Written) (bytes rest : List ℕ) (new : List Standing) (is : Option Held) :
     Type 0 where
   pub said : List ℕ
   pub noted : List ℕ
-  pub answered : AreAnswered noting old was bytes rest said noted new is
+  pub answered : AreAnswered terms old was bytes rest said noted new is
   pub wrote : Appends before.out after.out said
   pub wrote_notes : Appends before.journal after.journal noted
 
@@ -112,7 +127,7 @@ pub record AreTold (noting : Bool) (old : List Standing) (was : Option Held)
 -- answers to the delivered ones is all that went out. The journal has all notes of the delivered
 -- lines, and a prefix of those of the others. So each delivered line is in the journal, wherever
 -- this ended.
-pub record Stops (noting : Bool) (old : List Standing) (was : Option Held) (before after : Written)
+pub record Stops (terms : Terms) (old : List Standing) (was : Option Held) (before after : Written)
     (bytes : List ℕ) (new : List Standing) (is : Option Held) : Type 0 where
   pub mid : List Standing
   pub between : Option Held
@@ -124,8 +139,8 @@ pub record Stops (noting : Bool) (old : List Standing) (was : Option Held) (befo
   pub front : List ℕ
   pub back : List ℕ
   pub left : List ℕ
-  pub told : AreAnswered noting old was bytes behind said noted mid between
-  pub untold : AreAnswered noting mid between behind rest unsaid (front ++ back) new is
+  pub told : AreAnswered terms old was bytes behind said noted mid between
+  pub untold : AreAnswered terms mid between behind rest unsaid (front ++ back) new is
   pub wrote : Wrote before.out after.out said left
   pub wrote_notes : Appends before.journal after.journal (noted ++ front)
 
@@ -136,56 +151,56 @@ cut begun = take (line_limit + 1) begun
 
 -- All whole lines of the bytes were answered: some were delivered, and the answers and notes of the
 -- others are pending. This is kept of the line that has begun.
-pub record GoesOn (noting : Bool) (old : List Standing) (was : Option Held) (before after : Written)
+pub record GoesOn (terms : Terms) (old : List Standing) (was : Option Held) (before after : Written)
     (bytes : List ℕ) (new : List Standing) (is : Option Held) (line : List ℕ) (pending : Pending) :
     Type 0 where
   pub mid : List Standing
   pub between : Option Held
   pub behind : List ℕ
   pub begun : List ℕ
-  pub told : AreTold noting old was before after bytes behind mid between
-  pub untold : AreAnswered noting mid between behind begun pending.answers.items pending.notes.items
+  pub told : AreTold terms old was before after bytes behind mid between
+  pub untold : AreAnswered terms mid between behind begun pending.answers.items pending.notes.items
       new is
   pub partial : HasNoEnd begun
   pub kept : line ≡ cut begun
 
 -- it continues, or after an error it has stopped
-abbrev pub Serves : {E : Type 0} → Result (Unit {0}) E → Bool → List Standing → Option Held
+abbrev pub Serves : {E : Type 0} → Result (Unit {0}) E → Terms → List Standing → Option Held
     → Written → Written → List ℕ → List Standing → Option Held → List ℕ → Pending → Type 0
-Serves result noting old was before after bytes new is line pending =
-    MatchResult result (λ _. GoesOn noting old was before after bytes new is line pending)
-    (λ _. Stops noting old was before after bytes new is)
+Serves result terms old was before after bytes new is line pending =
+    MatchResult result (λ _. GoesOn terms old was before after bytes new is line pending)
+    (λ _. Stops terms old was before after bytes new is)
 
 -- All whole lines of the bytes were delivered, and this is kept of the line that has begun.
-pub record Rests (noting : Bool) (old : List Standing) (was : Option Held) (before after : Written)
+pub record Rests (terms : Terms) (old : List Standing) (was : Option Held) (before after : Written)
     (bytes : List ℕ) (new : List Standing) (is : Option Held) (line : List ℕ) : Type 0 where
   pub begun : List ℕ
-  pub told : AreTold noting old was before after bytes begun new is
+  pub told : AreTold terms old was before after bytes begun new is
   pub partial : HasNoEnd begun
   pub kept : line ≡ cut begun
 
 -- all answered lines are delivered, or after an error it has stopped
-abbrev pub Tells : {E : Type 0} → Result (Unit {0}) E → Bool → List Standing → Option Held → Written
-    → Written → List ℕ → List Standing → Option Held → List ℕ → Type 0
-Tells result noting old was before after bytes new is line =
-    MatchResult result (λ _. Rests noting old was before after bytes new is line)
-    (λ _. Stops noting old was before after bytes new is)
+abbrev pub Tells : {E : Type 0} → Result (Unit {0}) E → Terms → List Standing → Option Held
+    → Written → Written → List ℕ → List Standing → Option Held → List ℕ → Type 0
+Tells result terms old was before after bytes new is line =
+    MatchResult result (λ _. Rests terms old was before after bytes new is line)
+    (λ _. Stops terms old was before after bytes new is)
 
 -- The whole input was served: each whole line of it was delivered, and no line ended after those.
-pub record ServesAll (noting : Bool) (old new : List Standing) (was is : Option Held)
+pub record ServesAll (terms : Terms) (old new : List Standing) (was is : Option Held)
     (unread rest : Option (List ℕ)) (before after : Written) : Type 0 where
   pub bytes : List ℕ
   pub begun : List ℕ
   pub read : Consumes unread rest bytes
   pub ended : IsAtEnd rest
   pub partial : HasNoEnd begun
-  pub told : AreTold noting old was before after bytes begun new is
+  pub told : AreTold terms old was before after bytes begun new is
 
 -- Of what the reader gave some lines were answered.
-abbrev pub ServesSome : Bool → List Standing → List Standing → Option Held → Option Held
+abbrev pub ServesSome : Terms → List Standing → List Standing → Option Held → Option Held
     → Option (List ℕ) → Option (List ℕ) → Written → Written → Type 0
-ServesSome noting old new was is unread rest before after =
-    (bytes : List ℕ) × Consumes unread rest bytes × Stops noting old was before after bytes new is
+ServesSome terms old new was is unread rest before after =
+    (bytes : List ℕ) × Consumes unread rest bytes × Stops terms old was before after bytes new is
 
 -- only of an input of so many bytes it is said that it is too long
 abbrev pub IsFaultOf : ServeFault → Option (List ℕ) → Option (List ℕ) → Type 0

@@ -1,5 +1,6 @@
 -- How each command is answered, at each state of the rings (this project's own).
-use Rattle.std.specs.Prelude.{◌≡◌, ℕ, ◌≤◌, List, [], ◌∷◌, length, drop, slice_get, slice_set, Option, Some, None, ◌⊎◌}
+use Rattle.std.specs.Prelude.{◌≡◌, ℕ, ◌≤◌, List, [], ◌∷◌, length, drop, slice_get, slice_set, Bool, false, not, if◌then◌else◌, Option, Some, None, ◌⊎◌}
+use Rattle.ring_model.specs.Ring.{is_privileged}
 use Rattle.ring_model.specs.History.{reply}
 use Rattle.ring_model.specs.Resources.{till}
 use Rattle.ring_model.specs.declared.events.Op.{Op}
@@ -8,10 +9,10 @@ use Rattle.ring_model.specs.declared.events.Reply.{Reply}
 use Rattle.ring_model.specs.declared.events.Reply.TheVariants as reply_is
 use Rattle.ring_model.specs.declared.events.Event.{Event}
 use Rattle.ring_model.specs.declared.events.Survey.{Survey}
-use Rattle.ring_desk.specs.Refusals.{Bounds, seat_refusal, pass_refusal, corrupt_refusal, group_refusal}
+use Rattle.ring_desk.specs.Refusals.{Bounds, seat_refusal, place_refusal, pass_refusal, corrupt_refusal, group_refusal}
 use Rattle.ring_desk.specs.declared.errors.CallError.{CallError}
 use Rattle.ring_desk.specs.declared.errors.CallError.TheVariants as call
-use Rattle.ring_serve.specs.Commands.{Command, pass, group, corrupt, survey, glance, save, IsLineOf, heard, ring_of, line_limit}
+use Rattle.ring_serve.specs.Commands.{Command, pass, try, group, corrupt, survey, glance, save, IsLineOf, heard, ring_of, line_limit}
 use Rattle.ring_serve.specs.Standings.{Standing, state_of, event_now, block_now, survey_now, with_events, with_survey}
 use Rattle.ring_serve.specs.declared.turns.CallAnswer.{CallAnswer}
 use Rattle.ring_serve.specs.declared.turns.Trace.{Trace}
@@ -75,6 +76,15 @@ called ring r seat op = record {
   leaves = with_events r seat (event_now r seat op ∷ []);
 }
 
+-- a machine passes, if it is privileged
+abbrev pub passed : ℕ → Standing → ℕ → ℕ → ℕ → Turn Standing
+passed ring r seat machine order =
+    unless (pass_refusal (bounds_now r) seat machine) r (called ring r seat (op.Pass machine order))
+
+-- it waits, which is no event
+abbrev pub waits : Standing → Turn Standing
+waits r = record { answer = answer.Waits; recorded = []; leaves = r }
+
 -- a group passes
 abbrev pub grouped : ℕ → Standing → ℕ → ℕ → List ℕ → Turn Standing
 grouped ring r seat order machines = record {
@@ -85,8 +95,11 @@ grouped ring r seat order machines = record {
 
 -- the turn of a command at its ring
 abbrev pub turn_at : Standing → Command → Turn Standing
-turn_at r (pass ring seat machine order) =
-    unless (pass_refusal (bounds_now r) seat machine) r (called ring r seat (op.Pass machine order))
+turn_at r (pass ring seat machine order) = passed ring r seat machine order
+turn_at r (try ring seat machine order) =
+    if is_privileged (state_of r).ring.values machine
+    then passed ring r seat machine order
+    else unless (place_refusal (bounds_now r) seat machine) r (waits r)
 turn_at r (corrupt ring seat machine value) =
     unless (corrupt_refusal (bounds_now r) seat machine value) r
     (called ring r seat (op.Corrupt machine value))
@@ -163,28 +176,41 @@ IsTurn rings command turn =
 
 -- ---- the turn of a line
 
+-- a fault, where none is permitted
+abbrev pub is_off : Bool → Command → Bool
+is_off faults (corrupt ring seat machine value) = not faults
+is_off faults _ = false
+
 -- the turn of what the rings hear of a command
-abbrev pub heard_turn : List Standing → Option Command → Turn (List Standing)
-heard_turn rings (Some command) = turn_of rings command
-heard_turn rings None = refused rings refusal.OrderTooLarge
+abbrev pub heard_turn : Bool → List Standing → Option Command → Turn (List Standing)
+heard_turn faults rings (Some command) =
+    if is_off faults command then refused rings refusal.Off else turn_of rings command
+heard_turn faults rings None = refused rings refusal.OrderTooLarge
+
+-- the turn is the one of what the rings hear, unless memory ran out
+abbrev pub IsHeardTurn : Bool → List Standing → Option Command → Turn (List Standing) → Type 0
+IsHeardTurn faults rings heard turn =
+    (turn ≡ heard_turn faults rings heard) ⊎ (turn ≡ refused rings refusal.OutOfMemory)
 
 -- the line of a command, which is not too long
 abbrev pub IsCommand : Command → List ℕ → Type 0
 IsCommand command line = IsLineOf command line × (length line ≤ line_limit)
 
 -- the turn of the command whose line it is, or the refusal of a line that is that of none
-abbrev pub IsRightTurn : List Standing → List ℕ → Turn (List Standing) → Type 0
-IsRightTurn rings line turn =
-    ((command : Command) × IsCommand command line × (turn ≡ heard_turn rings (heard command)))
+abbrev pub IsRightTurn : Bool → List Standing → List ℕ → Turn (List Standing) → Type 0
+IsRightTurn faults rings line turn =
+    ((command : Command)
+    × IsCommand command line
+    × (turn ≡ heard_turn faults rings (heard command)))
     ⊎ (((command : Command) → IsCommand command line → ⊥) × (turn ≡ refused rings refusal.Syntax))
 
 -- the turn is the one of the line, unless memory ran out
-abbrev pub IsTurnOfLine : List Standing → List ℕ → Turn (List Standing) → Type 0
-IsTurnOfLine rings line turn =
-    IsRightTurn rings line turn ⊎ (turn ≡ refused rings refusal.OutOfMemory)
+abbrev pub IsTurnOfLine : Bool → List Standing → List ℕ → Turn (List Standing) → Type 0
+IsTurnOfLine faults rings line turn =
+    IsRightTurn faults rings line turn ⊎ (turn ≡ refused rings refusal.OutOfMemory)
 
 -- A line has one turn.
 abbrev pub OneTurnIsRight : Type 0
 OneTurnIsRight =
-    (rings : List Standing) (line : List ℕ) (t u : Turn (List Standing))
-    → IsRightTurn rings line t → IsRightTurn rings line u → t ≡ u
+    (faults : Bool) (rings : List Standing) (line : List ℕ) (t u : Turn (List Standing))
+    → IsRightTurn faults rings line t → IsRightTurn faults rings line u → t ≡ u

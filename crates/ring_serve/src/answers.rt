@@ -13,6 +13,8 @@ use text_lines::Line;
 pub enum Refusal {
     /// The line is not a call, or has more than 8 KiB.
     Syntax,
+    /// The call is not permitted.
+    Off,
     /// The order is 2 to the power 64 or more.
     OrderTooLarge,
     /// No ring has this number.
@@ -32,6 +34,8 @@ pub enum Refusal {
     /// The history is full.
     HistoryFull,
     OutOfMemory,
+    /// The name is not plain.
+    Name,
     /// The rings could not be saved.
     File,
 }
@@ -125,6 +129,7 @@ fn refusal_line(why: Refusal) -> Line
 {
     match why {
         Refusal::Syntax => word_line(b"refused syntax\n"),
+        Refusal::Off => word_line(b"refused off\n"),
         Refusal::OrderTooLarge => word_line(b"refused order\n"),
         Refusal::NoRing => word_line(b"refused ring\n"),
         Refusal::NoSeat => word_line(b"refused seat\n"),
@@ -135,6 +140,7 @@ fn refusal_line(why: Refusal) -> Line
         Refusal::NotPrivileged(machine) => with_number(b"refused privileged ", machine as u64),
         Refusal::HistoryFull => word_line(b"refused full\n"),
         Refusal::OutOfMemory => word_line(b"refused memory\n"),
+        Refusal::Name => word_line(b"refused name\n"),
         Refusal::File => word_line(b"refused file\n"),
     }
 }

@@ -4,7 +4,7 @@ ghost use Rattle.std.specs.Prelude.{◌≡◌, ◌≤◌, length};
 ghost use Rattle.std.specs.Option.{option_map};
 ghost use Rattle.text_lines.specs.Reading.{Gives, whole_at};
 ghost use Rattle.ring_serve.specs.Commands.{seen, IsReadAs};
-ghost use Rattle.ring_serve.specs.Readers.{pass_at, corrupt_at, survey_at, glance_at, group_at, machines_at, gaps, name_at, end_of_line, save_at, g_at, s_at, command_at};
+ghost use Rattle.ring_serve.specs.Readers.{pass_at, try_at, corrupt_at, survey_at, glance_at, group_at, machines_at, gaps, name_at, end_of_line, save_at, g_at, s_at, command_at};
 
 use crate::numbers::{decimal, place, places};
 use std::alloc::Global;
@@ -18,6 +18,13 @@ pub const LINE_LIMIT: usize = 8192;
 pub enum Command {
     /// A pass by a machine, for a seat.
     Pass {
+        ring: u32,
+        seat: u32,
+        machine: u32,
+        order: u64,
+    },
+    /// A pass by a machine, for a seat, if the machine is privileged; it is no event if not.
+    Try {
         ring: u32,
         seat: u32,
         machine: u32,
@@ -63,6 +70,27 @@ fn pass(bytes: &[u8]) -> Result<(Option<Command>, &[u8]), Stop>
         return Ok((None, rest));
     };
     let command = Command::Pass {
+        ring,
+        seat,
+        machine,
+        order,
+    };
+    Ok((Some(command), rest))
+}
+
+#[tactic(auto, unfolding(crate::specs::Readers::try_at))]
+fn try_pass(bytes: &[u8]) -> Result<(Option<Command>, &[u8]), Stop>
+    ensures { Gives (λ x. (option_map seen x.0, x.1.now)) result (try_at bytes.now) }
+{
+    let rest = word(bytes, b"try ")?;
+    let (ring, rest) = place(rest, b' ')?;
+    let (seat, rest) = place(rest, b' ')?;
+    let (machine, rest) = place(rest, b' ')?;
+    let (order, rest) = decimal(rest, b'\n')?;
+    let Some(order) = order else {
+        return Ok((None, rest));
+    };
+    let command = Command::Try {
         ring,
         seat,
         machine,
@@ -219,6 +247,7 @@ fn front_command(alloc: Global, bytes: &[u8]) -> Result<(Option<Command>, &[u8])
     match bytes {
         [] => Err(Stop::Fault(Fault::Short)),
         [b'p', ..] => pass(bytes),
+        [b't', ..] => try_pass(bytes),
         [b'c', ..] => corrupt(bytes),
         [b'g', ..] => begins_with_g(alloc, bytes),
         [b's', ..] => begins_with_s(bytes),

@@ -1,13 +1,13 @@
 //! The rings that are served.
 
-ghost use Rattle.std.specs.Prelude.{◌≡◌, [], ◌∷◌, ◌++◌, length, map, drop, slice_get, OnOk, OnErr};
+ghost use Rattle.std.specs.Prelude.{◌≡◌, [], ◌∷◌, ◌++◌, length, map, drop, slice_get, OnOk, OnErr, Some};
 ghost use Rattle.ring_serve.specs.declared.answers.Answer.TheVariants as answer;
 ghost use Rattle.ring_serve.specs.declared.turns.Trace.TheVariants as trace;
 ghost use Rattle.ring_serve.specs.Commands.{seen, ring_of};
 ghost use Rattle.ring_model.specs.Resources.{till};
 ghost use Rattle.ring_desk.specs.Rings.{IsOneThreadRing};
 ghost use Rattle.ring_serve.specs.Standings.{standing_of, AreRight};
-ghost use Rattle.ring_serve.specs.Turns.{IsTurn, IsTurnOfLine, turn_seen_among, history_of};
+ghost use Rattle.ring_serve.specs.Turns.{IsTurn, is_off, IsHeardTurn, IsTurnOfLine, turn_seen_among, history_of};
 
 use crate::answers::Refusal;
 use crate::commands::{Command, LINE_LIMIT, read_command};
@@ -49,11 +49,22 @@ fn ring_of(command: &Command) -> u32
 {
     match command {
         Command::Pass { ring, .. } => *ring,
+        Command::Try { ring, .. } => *ring,
         Command::Group { ring, .. } => *ring,
         Command::Corrupt { ring, .. } => *ring,
         Command::Survey { ring, .. } => *ring,
         Command::Glance { ring } => *ring,
         Command::Save => 0,
+    }
+}
+
+/// Whether this is a fault, where none is permitted.
+fn is_off(faults: bool, command: &Command) -> bool
+    ensures { result ≡ is_off faults (seen command.now) }
+{
+    match command {
+        Command::Corrupt { .. } => !faults,
+        _ => false,
     }
 }
 
@@ -153,22 +164,33 @@ impl Served {
     }
 }
 
+/// Answers a command, if it is permitted.
+fn answer_command(served: &mut Served, faults: bool, command: &Command) -> LineAnswer
+    ensures { IsHeardTurn faults served.old (Some (seen command.now))
+        (turn_seen_among result.ring served.new result.call) }
+{
+    if is_off(faults, command) {
+        return no_call(Refusal::Off);
+    }
+    LineAnswer {
+        ring: ring_of(command),
+        call: served.make(command),
+    }
+}
+
 /// Answers a line, which has its LF: as the one-thread ring answers to the command whose line it is, `refused syntax` where it is
-/// that of none or has more than 8 KiB, `refused order` where its order is 2 to the power 64 or more. `refused memory` can come at
-/// any line, and changes nothing. A `save` is answered `saved`: to save, or to answer that it was not done, is the caller's, as in
-/// [`serve`](crate::serve).
-pub fn answer_line(alloc: Global, served: &mut Served, line: &[u8]) -> LineAnswer
-    ensures { IsTurnOfLine served.old line.now
+/// that of none or has more than 8 KiB, `refused off` where it is a fault and `faults` permits none, `refused order` where its
+/// order is 2 to the power 64 or more. `refused memory` can come at any line, and changes nothing. A `save` is answered `saved`:
+/// whether it is permitted, and to save, is the caller's, as in [`serve`](crate::serve).
+pub fn answer_line(alloc: Global, served: &mut Served, faults: bool, line: &[u8]) -> LineAnswer
+    ensures { IsTurnOfLine faults served.old line.now
         (turn_seen_among result.ring served.new result.call) }
 {
     if line.len() > LINE_LIMIT {
         return no_call(Refusal::Syntax);
     }
     match read_command(alloc, line) {
-        Ok(Some(command)) => LineAnswer {
-            ring: ring_of(&command),
-            call: served.make(&command),
-        },
+        Ok(Some(command)) => answer_command(served, faults, &command),
         Ok(None) => no_call(Refusal::OrderTooLarge),
         Err(Stop::Memory) => no_call(Refusal::OutOfMemory),
         Err(Stop::Fault(_)) => no_call(Refusal::Syntax),

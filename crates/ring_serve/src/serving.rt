@@ -12,12 +12,14 @@ ghost use Rattle.ring_serve.specs.declared.answers.Refusal.TheVariants as refusa
 ghost use Rattle.ring_serve.specs.declared.serving.ServeFault.TheVariants as fault;
 ghost use Rattle.ring_serve.specs.Answers.{answer_line};
 ghost use Rattle.ring_serve.specs.Standings.{Standing};
+ghost use Rattle.ring_serve.specs.Permits.{Terms, terms_of, terms_by, file_in};
 ghost use Rattle.ring_serve.specs.Turns.{recorded_among};
 ghost use Rattle.ring_serve.specs.Notes.{notes_of};
-ghost use Rattle.ring_serve.specs.Serving.{cut, name_in, IsGiven, IsAnswered, Written, GoesOn, Serves, Tells, held_by, IsFaultOf, ServesAll, ServesSome};
+ghost use Rattle.ring_serve.specs.Serving.{cut, name_in, IsSaved, IsSaveGiven, IsGiven, IsAnswered, Written, GoesOn, Serves, Tells, held_by, IsFaultOf, ServesAll, ServesSome};
 
 use crate::answers::{Answer, Refusal};
 use crate::commands::LINE_LIMIT;
+use crate::permits::{Permits, file_in, is_plain};
 use crate::saving::save_rings;
 use crate::served::{LineAnswer, Served, answer_line};
 use crate::turns::Trace;
@@ -49,6 +51,13 @@ pub enum ServeFault {
 pub struct Journal<'n, J> {
     pub name: &'n str,
     pub writer: J,
+}
+
+/// The rules by which lines are served: the name of the journal's file, if one is kept, and what is permitted.
+#[derive(Clone, Copy)]
+struct Rules<'n> {
+    journal: Option<&'n str>,
+    permits: Permits<'n>,
 }
 
 /// The name of the journal's file, if one is kept.
@@ -98,24 +107,52 @@ fn name_of(line: &[u8]) -> &[u8]
     &line[5..line.len() - 1]
 }
 
-/// Saves all rings in the file that a line names, and says whether it did. The journal's own file is not replaced.
-fn save_named<D: Disk>(
+/// Saves all rings in the file of this name in the folder, and says whether it did. The journal's own file is not replaced.
+fn save_in<D: Disk>(
     alloc: Global,
     served: &Served,
     disk: &mut D,
     journal: Option<&str>,
-    line: &[u8],
+    folder: &str,
+    name: &[u8],
 ) -> bool
-    ensures { IsGiven (D.holds disk.old) (D.holds disk.new) (name_in line.now) served.now
-        answer.Saved (cond result answer.Saved (answer.Refused refusal.File)) }
+    ensures { IsSaved (D.holds disk.old) (D.holds disk.new) (file_in folder.now name.now) served.now
+        (cond result answer.Saved (answer.Refused refusal.File)) }
 {
-    let Ok(name) = str::from_utf8(name_of(line)) else {
+    let Ok(name) = str::from_utf8(name) else {
         return false;
     };
-    if name == "-" || may_be_journal(disk, journal, name) {
+    let Ok(file) = file_in(alloc, folder, name) else {
+        return false;
+    };
+    if may_be_journal(disk, journal, file.as_str()) {
         return false;
     }
-    save_rings(alloc, disk, served, name)
+    save_rings(alloc, disk, served, file.as_str())
+}
+
+/// The answer to a line that asks for the rings to be saved, if that is permitted.
+fn save<D: Disk>(
+    alloc: Global,
+    served: &Served,
+    disk: &mut D,
+    rules: Rules<'_>,
+    name: &[u8],
+) -> Answer
+    ensures { IsSaveGiven (terms_by rules.entry).saves (D.holds disk.old) (D.holds disk.new)
+        name.now served.now result }
+{
+    let Some(folder) = rules.permits.saves else {
+        return Answer::Refused(Refusal::Off);
+    };
+    if !is_plain(name) {
+        return Answer::Refused(Refusal::Name);
+    }
+    if save_in(alloc, served, disk, rules.journal, folder, name) {
+        Answer::Saved
+    } else {
+        Answer::Refused(Refusal::File)
+    }
 }
 
 /// The answer to a line, if its turn asks for this: the rings are saved, if that is asked for.
@@ -123,21 +160,15 @@ fn give<D: Disk>(
     alloc: Global,
     served: &Served,
     disk: &mut D,
-    journal: Option<&str>,
+    rules: Rules<'_>,
     line: &[u8],
     asked: Answer,
 ) -> Answer
-    ensures { IsGiven (D.holds disk.old) (D.holds disk.new) (name_in line.now) served.now asked
-        result }
+    ensures { IsGiven (terms_by rules.entry).saves (D.holds disk.old) (D.holds disk.new)
+        (name_in line.now) served.now asked result }
 {
     match asked {
-        Answer::Saved => {
-            if save_named(alloc, served, disk, journal, line) {
-                Answer::Saved
-            } else {
-                Answer::Refused(Refusal::File)
-            }
-        }
+        Answer::Saved => save(alloc, served, disk, rules, name_of(line)),
         other => other,
     }
 }
@@ -172,20 +203,20 @@ fn answer<D: Disk>(
     alloc: Global,
     served: &mut Served,
     disk: &mut D,
-    journal: Option<&str>,
+    rules: Rules<'_>,
     line: &[u8],
     pending: &mut Pending,
 ) -> Result<(), AllocError>
     ensures { (said : List ℕ)
         × (noted : List ℕ)
-        × IsAnswered (is_some journal.entry) served.old (D.holds disk.old) line.now said noted
+        × IsAnswered (terms_by rules.entry) served.old (D.holds disk.old) line.now said noted
         served.new (D.holds disk.new)
         × OnOk result ((pending.new.answers.items ≡ pending.old.answers.items ++ said)
         × (pending.new.notes.items ≡ pending.old.notes.items ++ noted)) }
 {
-    let turn = answer_line(alloc, served, line);
-    let given = give(alloc, served, disk, journal, line, turn.call.answer);
-    add_pending(served, turn, given, journal.is_some(), pending)
+    let turn = answer_line(alloc, served, rules.permits.faults, line);
+    let given = give(alloc, served, disk, rules, line, turn.call.answer);
+    add_pending(served, turn, given, rules.journal.is_some(), pending)
 }
 
 /// Keeps a byte of a line, unless the line is too long already.
@@ -205,22 +236,22 @@ fn take_byte<D: Disk>(
     alloc: Global,
     served: &mut Served,
     disk: &mut D,
-    journal: Option<&str>,
+    rules: Rules<'_>,
     line: &mut Vec<u8>,
     byte: u8,
     pending: &mut Pending,
 ) -> Result<(), AllocError>
     ensures { (old : List Standing) (was : Option Held) (before after : Written) (bytes : List ℕ)
-        → GoesOn (is_some journal.entry) old was before after bytes served.old (D.holds disk.old)
+        → GoesOn (terms_by rules.entry) old was before after bytes served.old (D.holds disk.old)
         line.old.items pending.old
-        → Serves result (is_some journal.entry) old was before after (bytes ++ byte ∷ []) served.new
+        → Serves result (terms_by rules.entry) old was before after (bytes ++ byte ∷ []) served.new
         (D.holds disk.new) line.new.items pending.new }
 {
     keep(line, byte)?;
     if byte != b'\n' {
         return Ok(());
     }
-    answer(alloc, served, disk, journal, line.as_slice(), pending)?;
+    answer(alloc, served, disk, rules, line.as_slice(), pending)?;
     line.clear();
     Ok(())
 }
@@ -230,19 +261,19 @@ fn take_block<D: Disk>(
     alloc: Global,
     served: &mut Served,
     disk: &mut D,
-    journal: Option<&str>,
+    rules: Rules<'_>,
     line: &mut Vec<u8>,
     block: &[u8],
     pending: &mut Pending,
 ) -> Result<(), AllocError>
     ensures { (old : List Standing) (was : Option Held) (before after : Written) (bytes : List ℕ)
-        → GoesOn (is_some journal.entry) old was before after bytes served.old (D.holds disk.old)
+        → GoesOn (terms_by rules.entry) old was before after bytes served.old (D.holds disk.old)
         line.old.items pending.old
-        → Serves result (is_some journal.entry) old was before after (bytes ++ block.now) served.new
+        → Serves result (terms_by rules.entry) old was before after (bytes ++ block.now) served.new
         (D.holds disk.new) line.new.items pending.new }
 {
     for byte in block {
-        match take_byte(alloc, served, disk, journal, line, *byte, pending) {
+        match take_byte(alloc, served, disk, rules, line, *byte, pending) {
             Ok(()) => {}
             Err(fault) => return Err(fault),
         }
@@ -288,12 +319,12 @@ fn put_pending<J: Write, W: Write>(
     ensures known { IfErr result (λ e. e ≢ fault.TooLong) }
     ensures kept { is_some journal.new ≡ is_some journal.old }
     ensures left { OnOk result ((pending.new.answers.items ≡ []) × (pending.new.notes.items ≡ [])) }
-    ensures told { (noting : Bool) (old new : List Standing) (was is : Option Held)
+    ensures told { (terms : Terms) (old new : List Standing) (was is : Option Held)
         (before : Written) (bytes line : List ℕ)
-        → GoesOn noting old was before
+        → GoesOn terms old was before
         (record { journal = held_by J.contents journal.old; out = W.contents out.old })
         bytes new is line pending.old
-        → Tells result noting old was before
+        → Tells result terms old was before
         (record { journal = held_by J.contents journal.new; out = W.contents out.new })
         bytes new is line }
 {
@@ -324,22 +355,28 @@ pub fn serve<D: Disk, I: Read, J: Write, W: Write>(
     served: &mut Served,
     disk: &mut D,
     journal: &mut Option<Journal<'_, J>>,
+    permits: Permits<'_>,
     input: &mut I,
     out: &mut W,
 ) -> Result<(), ServeFault>
-    ensures ok { OnOk result (ServesAll (is_some journal.old) served.old served.new
-        (D.holds disk.old) (D.holds disk.new) (I.remaining input.old) (I.remaining input.new)
+    ensures ok { OnOk result (ServesAll (terms_of (is_some journal.old) permits.entry)
+        served.old served.new (D.holds disk.old) (D.holds disk.new) (I.remaining input.old)
+        (I.remaining input.new)
         (record { journal = held_by J.contents journal.old; out = W.contents out.old })
         (record { journal = held_by J.contents journal.new; out = W.contents out.new })) }
-    ensures err { OnErr result (ServesSome (is_some journal.old) served.old served.new
-        (D.holds disk.old) (D.holds disk.new) (I.remaining input.old) (I.remaining input.new)
+    ensures err { OnErr result (ServesSome (terms_of (is_some journal.old) permits.entry)
+        served.old served.new (D.holds disk.old) (D.holds disk.new) (I.remaining input.old)
+        (I.remaining input.new)
         (record { journal = held_by J.contents journal.old; out = W.contents out.old })
         (record { journal = held_by J.contents journal.new; out = W.contents out.new })) }
     ensures long { IfErr result (λ e.
         IsFaultOf e (I.remaining input.old) (I.remaining input.new)) }
     ensures kept { is_some journal.new ≡ is_some journal.old }
 {
-    let file = file_of(journal);
+    let rules = Rules {
+        journal: file_of(journal),
+        permits,
+    };
     let mut line = Vec::new(alloc);
     let mut pending = Pending {
         answers: Vec::new(alloc),
@@ -357,7 +394,7 @@ pub fn serve<D: Disk, I: Read, J: Write, W: Write>(
             alloc,
             served,
             disk,
-            file,
+            rules,
             &mut line,
             &block[..count],
             &mut pending,

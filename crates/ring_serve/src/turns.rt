@@ -3,7 +3,7 @@
 ghost use Rattle.std.specs.Prelude.{◌≡◌, ℕ};
 ghost use Rattle.ring_model.specs.Resources.{till};
 ghost use Rattle.ring_desk.specs.Rings.{IsOneThreadRing};
-ghost use Rattle.ring_serve.specs.Commands.{seen, ring_of, pass, group, corrupt, survey, glance};
+ghost use Rattle.ring_serve.specs.Commands.{seen, ring_of, pass, try, group, corrupt, survey, glance};
 ghost use Rattle.ring_serve.specs.Standings.{standing_of};
 ghost use Rattle.ring_serve.specs.Turns.{IsTurnAt, turn_seen, answer_of, refusal_of};
 
@@ -85,6 +85,28 @@ fn make_pass(ring: &mut OneThreadRing<Till>, seat: u32, machine: u32, order: u64
     }
 }
 
+/// A pass by a machine, for a seat, if the machine is privileged; if not, there is nothing to record.
+fn make_try(ring: &mut OneThreadRing<Till>, seat: u32, machine: u32, order: u64) -> CallAnswer
+    requires { IsOneThreadRing till 0 ring.old }
+    ensures turn { (at : ℕ)
+        → IsTurnAt (standing_of ring.old) (try at seat machine order)
+        (turn_seen at (standing_of ring.new) result) }
+    ensures ring { IsOneThreadRing till 0 ring.new }
+{
+    let from = ring.history().len();
+    match ring.try_pass(seat, machine, order) {
+        Ok(Some(receipt)) => CallAnswer {
+            answer: answer_of(receipt.event.reply),
+            trace: Trace::Events(from),
+        },
+        Ok(None) => CallAnswer {
+            answer: Answer::Waits,
+            trace: Trace::Nothing,
+        },
+        Err(error) => refusal_answer(refusal_of(error)),
+    }
+}
+
 /// A fault, for a seat.
 fn make_fault(ring: &mut OneThreadRing<Till>, seat: u32, machine: u32, value: u32) -> CallAnswer
     requires { IsOneThreadRing till 0 ring.old }
@@ -155,6 +177,12 @@ pub(crate) fn make(ring: &mut OneThreadRing<Till>, command: &Command) -> CallAns
             order,
             ..
         } => make_pass(ring, *seat, *machine, *order),
+        Command::Try {
+            seat,
+            machine,
+            order,
+            ..
+        } => make_try(ring, *seat, *machine, *order),
         Command::Group {
             seat,
             order,

@@ -5,6 +5,8 @@
 #[cfg(test)]
 mod book;
 #[cfg(test)]
+mod chains;
+#[cfg(test)]
 mod events;
 #[cfg(test)]
 mod groups;

@@ -4,6 +4,7 @@
 #![tactic(auto)]
 
 pub mod book;
+pub mod chains;
 pub mod check;
 pub mod groups;
 pub mod histories;

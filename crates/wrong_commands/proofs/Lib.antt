@@ -1,8 +1,9 @@
 pub mod Written
 pub mod Reports
 pub mod Checked
-pub mod Readings
+mod Readings
 pub mod Makings
 pub mod Spoiled
+pub mod Permitted
 pub mod Unnoted
 pub mod Traced

@@ -1,9 +1,9 @@
 -- The content of files where one was to be replaced.
 use Rattle.std.proofs.Common.{◌≡◌, ◌∙◌, ap, sym, subst, refl, inl, inr}
-use Rattle.std.specs.Prelude.{ℕ, ◌≢◌, List, [], Option, None, Some, IsSome, Bool, false, ◌⊎◌}
+use Rattle.std.specs.Prelude.{ℕ, ◌≢◌, List, [], Option, None, Some, IsSome, false, ◌⊎◌}
 use Rattle.std.specs.Option.{unwrap_or}
 use Rattle.std.proofs.lemmas.Bool.{false≢true}
-use Rattle.disks.specs.Held.{Held, Starts, Replaces, bytes_of}
+use Rattle.disks.specs.Held.{Held, Starts, Replaces}
 use Rattle.ring_saved.specs.Content.{Content}
 use Rattle.ring_check.specs.declared.answers.Summary.{Summary}
 use Rattle.ring_commands.specs.Named.{IsHeld, IsNamed, IsApart}

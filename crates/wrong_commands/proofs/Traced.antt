@@ -1,5 +1,5 @@
 -- The trace of a line's turn is that of no other one.
-use Rattle.std.proofs.Common.{◌≡◌, ◌∙◌, ◌⊎◌, ℕ, List, [], ◌∷◌, length, inl, inr, refl, sym, ap, arith}
+use Rattle.std.proofs.Common.{◌≡◌, ◌∙◌, ℕ, Bool, List, [], ◌∷◌, length, inl, inr, sym, ap, arith}
 use Rattle.ring_model.specs.declared.events.Survey.{Survey}
 use Rattle.ring_serve.specs.Standings.{Standing}
 use Rattle.ring_serve.specs.declared.answers.Answer.{Answer}
@@ -23,11 +23,11 @@ survey_one : (ring : ℕ) (rings : List Standing) (k : Trace) (seat : ℕ) (s : 
 survey_one ring rings k seat s e = ap (λ (x : Trace). length (recorded_among ring rings x)) e
 
 -- a survey of another ring
-pub another_ring : (old new : List Standing) (line : List ℕ) (ring other : ℕ) (m : CallAnswer) (seat : ℕ) (s : Survey) → IsTurnOfLine old line (turn_seen_among ring new m) → IsTurnOfLine old line (turn_seen_among other new m) → m.trace ≡ trace.Survey seat s → (ring ≡ other → ⊥) → ⊥
-another_ring old new line ring other m seat s t u e ne =
+pub another_ring : (faults : Bool) (old new : List Standing) (line : List ℕ) (ring other : ℕ) (m : CallAnswer) (seat : ℕ) (s : Survey) → IsTurnOfLine faults old line (turn_seen_among ring new m) → IsTurnOfLine faults old line (turn_seen_among other new m) → m.trace ≡ trace.Survey seat s → (ring ≡ other → ⊥) → ⊥
+another_ring faults old new line ring other m seat s t u e ne =
     let one = survey_one ring new m.trace seat s e in
     let also = survey_one other new m.trace seat s e in
-    elim (turns_agree old line (turn_seen_among ring new m) (turn_seen_among other new m) t u) [
+    elim (turns_agree faults old line (turn_seen_among ring new m) (turn_seen_among other new m) t u) [
       | inl same ↦ ne (sym (survey_ring ring new m.trace seat s e) ∙ (ap (λ (x : Turn (List Standing)). ring_first x.recorded) same ∙ survey_ring other new m.trace seat s e))
       | inr x ↦
           elim x [
@@ -36,12 +36,43 @@ another_ring old new line ring other m seat s t u e ne =
           ]
     ]
 
+-- another answer
+pub another_answer : (faults : Bool) (old new : List Standing) (line : List ℕ) (ring : ℕ) (m : CallAnswer) (told : Answer) → IsTurnOfLine faults old line (turn_seen_among ring new m)
+    → IsTurnOfLine faults old line (turn_seen_among ring new (record { answer = told; trace = m.trace })) → (m.answer ≡ told → ⊥) → (m.answer ≡ answer.Refused refusal.OutOfMemory → ⊥) → (told ≡ answer.Refused refusal.OutOfMemory → ⊥) → ⊥
+another_answer faults old new line ring m told t u apart had had_not =
+    elim (turns_agree faults old line (turn_seen_among ring new m) (turn_seen_among ring new (record { answer = told; trace = m.trace })) t u) [
+      | inl same ↦ apart (ap (λ (x : Turn (List Standing)). x.answer) same)
+      | inr x ↦
+          elim x [
+            | inl p ↦ had (ap (λ (x : Turn (List Standing)). x.answer) p)
+            | inr p ↦ had_not (ap (λ (x : Turn (List Standing)). x.answer) p)
+          ]
+    ]
+
+-- a record of a call that has none
+pub recorded_though_none : (faults : Bool) (old new : List Standing) (line : List ℕ) (ring from : ℕ) (m : CallAnswer) → IsTurnOfLine faults old line (turn_seen_among ring new m)
+    → IsTurnOfLine faults old line (turn_seen_among ring new (record { answer = m.answer; trace = trace.Events from })) → m.trace ≡ trace.Nothing → m.answer ≡ answer.Waits → ⊥
+recorded_though_none faults old new line ring from m t u e a =
+    let wrong : CallAnswer = record { answer = m.answer; trace = trace.Events from } in
+    let nothing : length (recorded_among ring new m.trace) ≡ 0 = ap (λ (x : Trace). length (recorded_among ring new x)) e in
+    elim (turns_agree faults old line (turn_seen_among ring new m) (turn_seen_among ring new wrong) t u) [
+      | inl same ↦ let one : length (recorded_among ring new m.trace) ≡ 1 = ap (λ (x : Turn (List Standing)). length x.recorded) same in absurd (omega (arith, nothing, one))
+      | inr x ↦
+          elim x [
+            | inl p ↦ let why : m.answer ≡ answer.Refused refusal.OutOfMemory = ap (λ (x : Turn (List Standing)). x.answer) p in other (sym a ∙ why)
+            | inr p ↦ let none : 1 ≡ 0 = ap (λ (x : Turn (List Standing)). length x.recorded) p in absurd (omega (arith, none))
+          ]
+    ]
+  where
+    other : answer.Waits ≡ answer.Refused refusal.OutOfMemory → ⊥
+    other p = cc
+
 -- a survey that is recorded of a call of a machine that there is not
-pub no_trace : (old new : List Standing) (line : List ℕ) (ring : ℕ) (m : CallAnswer) (seat : ℕ) (s : Survey) → IsTurnOfLine old line (turn_seen_among ring new m) → IsTurnOfLine old line (turn_seen_among ring new (record { answer = m.answer; trace = trace.Survey seat s })) → m.trace ≡ trace.Nothing → m.answer ≡ answer.Refused refusal.NoMachine → ⊥
-no_trace old new line ring m seat s t u e a =
+pub no_trace : (faults : Bool) (old new : List Standing) (line : List ℕ) (ring : ℕ) (m : CallAnswer) (seat : ℕ) (s : Survey) → IsTurnOfLine faults old line (turn_seen_among ring new m) → IsTurnOfLine faults old line (turn_seen_among ring new (record { answer = m.answer; trace = trace.Survey seat s })) → m.trace ≡ trace.Nothing → m.answer ≡ answer.Refused refusal.NoMachine → ⊥
+no_trace faults old new line ring m seat s t u e a =
     let wrong : CallAnswer = record { answer = m.answer; trace = trace.Survey seat s } in
     let nothing : length (recorded_among ring new m.trace) ≡ 0 = ap (λ (x : Trace). length (recorded_among ring new x)) e in
-    elim (turns_agree old line (turn_seen_among ring new m) (turn_seen_among ring new wrong) t u) [
+    elim (turns_agree faults old line (turn_seen_among ring new m) (turn_seen_among ring new wrong) t u) [
       | inl same ↦ let one : length (recorded_among ring new m.trace) ≡ 1 = ap (λ (x : Turn (List Standing)). length x.recorded) same in absurd (omega (arith, nothing, one))
       | inr x ↦
           elim x [

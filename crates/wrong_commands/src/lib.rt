@@ -5,6 +5,7 @@
 
 pub mod commands;
 pub mod files;
+pub mod fresh;
 pub mod journals;
 pub mod lines;
 pub mod replacing;

@@ -1,10 +1,11 @@
 //! A wrong way to serve lines.
 
 ghost use Rattle.std.specs.Prelude.{[], true, Some, IfSome};
+ghost use Rattle.ring_serve.specs.Permits.{terms_of};
 ghost use Rattle.ring_serve.specs.Serving.{ServesAll};
 
 use disks::Disk;
-use ring_serve::{Journal, Served, serve};
+use ring_serve::{Journal, Permits, Served, serve};
 use std::alloc::Global;
 use std::io::{Read, sink};
 
@@ -15,11 +16,13 @@ pub fn answers_before_the_journal<D: Disk, I: Read>(
     served: &mut Served,
     disk: &mut D,
     name: &str,
+    permits: Permits<'_>,
     input: &mut I,
     journal: &mut Vec<u8>,
 ) -> Option<Vec<u8>>
-    ensures wrong { IfSome result (λ out. ServesAll true served.old served.new (D.holds disk.old)
-        (D.holds disk.new) (I.remaining input.old) (I.remaining input.new)
+    ensures wrong { IfSome result (λ out. ServesAll (terms_of true permits.entry)
+        served.old served.new (D.holds disk.old) (D.holds disk.new) (I.remaining input.old)
+        (I.remaining input.new)
         (record { journal = Some journal.old.items; out = Some [] })
         (record { journal = Some journal.new.items; out = Some out.items }) → ⊥) }
 {
@@ -28,7 +31,7 @@ pub fn answers_before_the_journal<D: Disk, I: Read>(
         name,
         writer: sink(),
     });
-    match serve(alloc, served, disk, &mut kept, input, &mut out) {
+    match serve(alloc, served, disk, &mut kept, permits, input, &mut out) {
         Ok(()) => {}
         Err(_) => return None,
     }

@@ -1,8 +1,8 @@
 //! The part of the answered lines that a journal has if it, the output or the input fails.
 
 use super::files::Stuck;
-use super::served;
 use super::streams::{Drops, Late, Narrow};
+use super::{NOTHING, served};
 use ring_serve::{Journal, ServeFault, serve};
 use std::alloc::Global;
 use std::process::Abort;
@@ -66,6 +66,7 @@ fn no_answer_leaves_before_its_call_is_in_the_journal(rt: HostRuntime) {
             &mut served,
             &mut disk,
             &mut journal,
+            NOTHING,
             &mut input,
             &mut out,
         );
@@ -91,6 +92,7 @@ fn an_output_that_fails_leaves_the_journal_whole(rt: HostRuntime) {
             &mut served,
             &mut disk,
             &mut journal,
+            NOTHING,
             &mut input,
             &mut out,
         );
@@ -114,6 +116,7 @@ fn the_journal_is_flushed_before_an_answer_leaves(rt: HostRuntime) {
         &mut served,
         &mut disk,
         &mut journal,
+        NOTHING,
         &mut input,
         &mut out,
     );
@@ -121,6 +124,28 @@ fn the_journal_is_flushed_before_an_answer_leaves(rt: HostRuntime) {
     let journal = writer_of(&rt, journal);
     assert!(rt; journal.held.as_slice() == SHORT_NOTES);
     assert!(rt; journal.waits.is_empty());
+}
+
+#[test]
+fn a_try_that_waits_has_no_part_in_the_journal(rt: HostRuntime) {
+    let alloc = rt.alloc();
+    let mut served = served(&rt, alloc);
+    let mut disk = Stuck { alloc };
+    let mut input: &[u8] = b"try 0 0 0 5\ntry 0 0 0 1\n";
+    let mut journal = kept(Vec::new(alloc));
+    let mut out = Vec::new(alloc);
+    let ended = serve(
+        alloc,
+        &mut served,
+        &mut disk,
+        &mut journal,
+        NOTHING,
+        &mut input,
+        &mut out,
+    );
+    assert!(rt; ended == Ok(()));
+    assert!(rt; writer_of(&rt, journal).as_slice() == b"0 p 0 0 5 g 1 5\n".as_slice());
+    assert!(rt; out.as_slice() == b"granted 1 5\nwaits\n".as_slice());
 }
 
 #[test]
@@ -139,6 +164,7 @@ fn what_was_answered_leaves_before_more_is_read(rt: HostRuntime) {
         &mut served,
         &mut disk,
         &mut journal,
+        NOTHING,
         &mut input,
         &mut out,
     );

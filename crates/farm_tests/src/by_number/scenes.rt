@@ -87,6 +87,25 @@ fn passes_and_a_survey_are_saved(rt: HostRuntime) {
 }
 
 #[test]
+fn a_try_that_waits_is_no_event(rt: HostRuntime) {
+    let mut ring = opened(&rt, rt.alloc(), 3, &[0, 2, 0]);
+    let Ok(Some(receipt)) = ring.try_pass(0, 0, 5) else {
+        panic!(rt; "a privileged machine passes");
+    };
+    assert!(rt;
+        receipt.event.reply
+            == Reply::Granted {
+                number: 1,
+                result: 5
+            }
+    );
+    assert!(rt; ring.try_pass(0, 0, 1).map(|r| r.is_none()) == Ok(true));
+    assert!(rt; ring.try_pass(1, 3, 1).err() == Some(CallError::NoSeat));
+    assert!(rt; ring.try_pass(0, 3, 1).err() == Some(CallError::NoMachine));
+    assert!(rt; ring.history_length() == 1 && log_of(&rt, rt.alloc(), &ring, 0).len() == 1);
+}
+
+#[test]
 fn a_group_is_one_block(rt: HostRuntime) {
     let mut ring = opened(&rt, rt.alloc(), 4, &[0, 2, 1, 0]);
     assert!(rt;

@@ -13,8 +13,8 @@ returns g c =
     let all = notes_of (recorded_among t.ring new t.call.trace) in
     let notes = subst (λ (k : Bool). OnOk c.add_pending.result (c.add_pending.new.pending.notes.items ≡ c.args.pending.now.notes.items ++ cond k all [])) c.is_some.ensures c.add_pending.ensures.notes in (
       answer_line c.give-given.result,
-      cond (is_some c.args.journal) all [],
+      cond (is_some c.args.rules.journal) all [],
       record { turn = turn_seen_among t.ring new t.call; given = c.give-given.result; of_line = c.answer_line-turn.ensures; gives = c.give-given.ensures; says = refl; notes = refl; leaves = refl },
-      both_ok c.add_pending.result (c.add_pending.new.pending.answers.items ≡ c.args.pending.now.answers.items ++ answer_line c.give-given.result) (c.add_pending.new.pending.notes.items ≡ c.args.pending.now.notes.items ++ cond (is_some c.args.journal) all [])
+      both_ok c.add_pending.result (c.add_pending.new.pending.answers.items ≡ c.args.pending.now.answers.items ++ answer_line c.give-given.result) (c.add_pending.new.pending.notes.items ≡ c.args.pending.now.notes.items ++ cond (is_some c.args.rules.journal) all [])
           c.add_pending.ensures.answers notes,
     )

@@ -6,14 +6,14 @@ use Rattle.ring_serve.proofs.Telling.{journal_stops, out_stops, all_told}
 use Rattle.ring_serve.proofs.serving.put_pending.Goals as goal
 
 pub returns-then-not-put_notes-clause-told : goal.returns-then-not-put_notes-clause-told
-returns-then-not-put_notes-clause-told g c = λ noting old new was is before bytes line h.
+returns-then-not-put_notes-clause-told g c = λ terms old new was is before bytes line h.
     let p = c.put_notes.ensures.part in
     let journal = held_by g.J.Write.contents c.args.journal.now in
     let end = held_by g.J.Write.contents c.put_notes.new.journal in
     journal_stops journal end (g.W.Write.contents c.args.out.now) p.0 h (subst (λ (x : List ℕ). Wrote journal end x p.0) c.as_slice.ensures.value p.1)
 
 pub returns-then-not-put_out-clause-told : goal.returns-then-not-put_out-clause-told
-returns-then-not-put_out-clause-told g c = λ noting old new was is before bytes line h.
+returns-then-not-put_out-clause-told g c = λ terms old new was is before bytes line h.
     let p = c.put_out.ensures.part in
     let journal = held_by g.J.Write.contents c.args.journal.now in
     let noted = held_by g.J.Write.contents c.put_notes.new.journal in
@@ -23,7 +23,7 @@ returns-then-not-put_out-clause-told g c = λ noting old new was is before bytes
     (subst (λ (x : List ℕ). Wrote out end x p.0) c.as_slice-2.ensures.value p.1)
 
 pub returns-clause-told : goal.returns-clause-told
-returns-clause-told g c = λ noting old new was is before bytes line h.
+returns-clause-told g c = λ terms old new was is before bytes line h.
     let journal = held_by g.J.Write.contents c.args.journal.now in
     let noted = held_by g.J.Write.contents c.put_notes.new.journal in
     let out = g.W.Write.contents c.args.out.now in

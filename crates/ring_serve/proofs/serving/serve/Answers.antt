@@ -2,6 +2,7 @@ use Rattle.std.proofs.Common.{List, ℕ, [], ◌++◌, ◌+◌, ◌≤◌, ◌�
 use Rattle.std.specs.Prelude.{is_some}
 use Rattle.std.specs.Io.KnownBytes.{Consumes}
 use Rattle.std.proofs.lemmas.List.{length-take}
+use Rattle.ring_serve.specs.Permits.{terms_of}
 use Rattle.ring_serve.specs.Serving.{Written, Rests, held_by}
 use Rattle.ring_serve.proofs.Telling.{none_told, rests_stops, rests_goes, consumes_nil, consumes_then, consumes_kept, not_long}
 use Rattle.ring_serve.proofs.serving.serve.Goals as goal
@@ -12,7 +13,7 @@ rounds-init g c =
     let held = g.D.Disk.holds c.args.disk.now in (
       [],
       consumes_nil (g.I.Read.remaining c.args.input.now),
-      subst (λ (x : List ℕ). Rests (is_some c.args.journal.now) c.args.served.now held before before [] c.args.served.now held x) (sym c.new-line.ensures.items) (none_told (is_some c.args.journal.now) c.args.served.now held before),
+      subst (λ (x : List ℕ). Rests (terms_of (is_some c.args.journal.now) c.args.permits) c.args.served.now held before before [] c.args.served.now held x) (sym c.new-line.ensures.items) (none_told (terms_of (is_some c.args.journal.now) c.args.permits) c.args.served.now held before),
       c.new.ensures.items,
       c.new-2.ensures.items,
       omega arith,
@@ -33,7 +34,7 @@ returns-in-Err-clause-err g c =
     let before : Written = record { journal = held_by g.J.Write.contents c.args.journal.now; out = g.W.Write.contents c.args.out.now } in
     let after : Written = record { journal = held_by g.J.Write.contents c.rounds.journal; out = g.W.Write.contents c.rounds.out } in
     let got : Consumes (g.I.Read.remaining c.rounds.input) (g.I.Read.remaining c.read.new.self) (take c.in-Ok.count c.read.new.buf) = c.in-Ok.ensures.bytes.0 in
-    let block = rw c.file_of-file.ensures at c.in-Err.ensures in (
+    let block = rw c.file_of.ensures at c.in-Err.ensures in (
       inv.0 ++ take c.in-Ok.count c.read.new.buf,
       consumes_then (g.I.Read.remaining c.args.input.now) (g.I.Read.remaining c.rounds.input) (g.I.Read.remaining c.read.new.self) inv.0 (take c.in-Ok.count c.read.new.buf) inv.1 got,
       block c.args.served.now (g.D.Disk.holds c.args.disk.now) before after inv.0 (rests_goes c.rounds.pending inv.3 inv.4 inv.2),
@@ -46,10 +47,10 @@ returns-in-Err-put_pending-clause-err g c =
     let after : Written = record { journal = held_by g.J.Write.contents c.rounds.journal; out = g.W.Write.contents c.rounds.out } in
     let bytes = inv.0 ++ take c.in-Ok.count c.read.new.buf in
     let got : Consumes (g.I.Read.remaining c.rounds.input) (g.I.Read.remaining c.read.new.self) (take c.in-Ok.count c.read.new.buf) = c.in-Ok.ensures.bytes.0 in
-    let block = rw c.file_of-file.ensures at c.in-Ok-take_block.ensures in (
+    let block = rw c.file_of.ensures at c.in-Ok-take_block.ensures in (
       bytes,
       consumes_then (g.I.Read.remaining c.args.input.now) (g.I.Read.remaining c.rounds.input) (g.I.Read.remaining c.read.new.self) inv.0 (take c.in-Ok.count c.read.new.buf) inv.1 got,
-      c.in-Err-put_pending.ensures.told (is_some c.args.journal.now) c.args.served.now c.take_block.new.served (g.D.Disk.holds c.args.disk.now) (g.D.Disk.holds c.take_block.new.disk) before bytes c.take_block.new.line.items
+      c.in-Err-put_pending.ensures.told (terms_of (is_some c.args.journal.now) c.args.permits) c.args.served.now c.take_block.new.served (g.D.Disk.holds c.args.disk.now) (g.D.Disk.holds c.take_block.new.disk) before bytes c.take_block.new.line.items
           (block c.args.served.now (g.D.Disk.holds c.args.disk.now) before after inv.0 (rests_goes c.rounds.pending inv.3 inv.4 inv.2)),
     )
 
@@ -66,13 +67,13 @@ rounds-preserved g c =
     let after : Written = record { journal = held_by g.J.Write.contents c.rounds.journal; out = g.W.Write.contents c.rounds.out } in
     let bytes = inv.0 ++ take c.in-Ok.count c.read.new.buf in
     let got : Consumes (g.I.Read.remaining c.rounds.input) (g.I.Read.remaining c.read.new.self) (take c.in-Ok.count c.read.new.buf) = c.in-Ok.ensures.bytes.0 in
-    let block = rw c.file_of-file.ensures at c.in-Ok-take_block.ensures in
+    let block = rw c.file_of.ensures at c.in-Ok-take_block.ensures in
     let low = inv.5 in
     let bound = c.in-Ok.ensures.bound in
     let more : c.rounds.round + 1 ≤ length bytes = omega (arith, length-append inv.0 (take c.in-Ok.count c.read.new.buf), length-take c.in-Ok.count c.read.new.buf, low, bound, c.if-count-eq0.false) in (
       bytes,
       consumes_then (g.I.Read.remaining c.args.input.now) (g.I.Read.remaining c.rounds.input) (g.I.Read.remaining c.read.new.self) inv.0 (take c.in-Ok.count c.read.new.buf) inv.1 got,
-      c.in-Ok-put_pending.ensures.told (is_some c.args.journal.now) c.args.served.now c.take_block.new.served (g.D.Disk.holds c.args.disk.now) (g.D.Disk.holds c.take_block.new.disk) before bytes c.take_block.new.line.items
+      c.in-Ok-put_pending.ensures.told (terms_of (is_some c.args.journal.now) c.args.permits) c.args.served.now c.take_block.new.served (g.D.Disk.holds c.args.disk.now) (g.D.Disk.holds c.take_block.new.disk) before bytes c.take_block.new.line.items
           (block c.args.served.now (g.D.Disk.holds c.args.disk.now) before after inv.0 (rests_goes c.rounds.pending inv.3 inv.4 inv.2)),
       c.in-Ok-put_pending.ensures.left.0,
       c.in-Ok-put_pending.ensures.left.1,

@@ -1,11 +1,11 @@
 use Rattle.std.proofs.Common.{ℕ, List, ◌++◌, take, Option}
-use Rattle.std.specs.Prelude.{is_some}
 use Rattle.disks.specs.Held.{Held}
 use Rattle.ring_serve.specs.Standings.{Standing}
+use Rattle.ring_serve.specs.Permits.{terms_by}
 use Rattle.ring_serve.specs.Serving.{Written, GoesOn}
 use Rattle.ring_serve.proofs.serving.take_block.Given as goal
 
 abbrev pub invariant-loop-byte : goal.invariant-loop-byte
 invariant-loop-byte g l =
-    (old : List Standing) (was : Option Held) (before after : Written) (bytes : List ℕ) → GoesOn (is_some l.fn.journal) old was before after bytes l.initial.served (g.D.Disk.holds l.initial.disk) l.initial.line.items l.initial.pending →
-    GoesOn (is_some l.fn.journal) old was before after (bytes ++ take l.byte-index l.block) l.served (g.D.Disk.holds l.disk) l.line.items l.pending
+    (old : List Standing) (was : Option Held) (before after : Written) (bytes : List ℕ) → GoesOn (terms_by l.fn.rules) old was before after bytes l.initial.served (g.D.Disk.holds l.initial.disk) l.initial.line.items l.initial.pending →
+    GoesOn (terms_by l.fn.rules) old was before after (bytes ++ take l.byte-index l.block) l.served (g.D.Disk.holds l.disk) l.line.items l.pending

@@ -1,4 +1,4 @@
-use Rattle.std.proofs.Common.{ℕ, List, sym, subst}
+use Rattle.std.proofs.Common.{ℕ, List, subst}
 use Rattle.ring_commands.specs.Checked.{IsLegalSavedText}
 use Rattle.wrong_commands.proofs.Makings.{one_file_holds}
 use Rattle.wrong_commands.proofs.files.check_of_a_constant.Goals as goal

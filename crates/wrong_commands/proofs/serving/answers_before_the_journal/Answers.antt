@@ -12,5 +12,5 @@ returns g c = record {
       let many = eqb-false c.serve.new.out.len 0 (sym c.is_empty.ensures ∙ c.if-is_empty.false) in
       let some : 0 < length out = omega (arith, many, full) in
       let letter = c.if-index-ne103.false in
-      unnoted c.args.served.now c.serve.new.served (g.D.Disk.holds c.args.disk.now) (g.D.Disk.holds c.serve.new.disk) (g.I.Read.remaining c.args.input.now) (g.I.Read.remaining c.serve.new.input) c.args.journal.now.items out y c.index.ensures some (omega (arith, letter)) h;
+      unnoted c.args.permits c.args.served.now c.serve.new.served (g.D.Disk.holds c.args.disk.now) (g.D.Disk.holds c.serve.new.disk) (g.I.Read.remaining c.args.input.now) (g.I.Read.remaining c.serve.new.input) c.args.journal.now.items out y c.index.ensures some (omega (arith, letter)) h;
 }

@@ -1,4 +1,4 @@
-use Rattle.std.proofs.Common.{◌≡◌, ap, refl, ◌∙◌, sym, arith}
+use Rattle.std.proofs.Common.{ap, refl, ◌∙◌, sym, arith}
 use Rattle.wrong_commands.proofs.Makings.{only_left}
 use Rattle.wrong_commands.proofs.upgrades.file_that_is_made_before_the_check.Goals as goal
 

@@ -1,0 +1,75 @@
+//! A ring that is cut after its first three calls.
+
+ghost use Rattle.ring_model.specs.Resources.{till};
+ghost use Rattle.ring_desk.specs.Rings.{IsOneThreadRing};
+
+use ring_book::Till;
+use ring_chains::Base;
+use ring_desk::{CallError, OneThreadRing};
+use ring_endless::EndlessRing;
+use ring_model::{Receipt, Reply, Survey};
+use std::alloc::Global;
+use std::process::Abort;
+
+/// Three machines with three values, and two seats.
+fn opened(rt: &impl Abort, alloc: Global) -> OneThreadRing<Till>
+    ensures { IsOneThreadRing till 0 result }
+{
+    match OneThreadRing::open(alloc, 3, 3, &[0, 2, 0], 2, Till::new()) {
+        Ok(ring) => ring,
+        Err(_) => panic!(rt; "the ring is opened"),
+    }
+}
+
+/// The position and the reply of a call.
+fn told(rt: &impl Abort, call: Result<Receipt, CallError>) -> (u64, Reply) {
+    match call {
+        Ok(receipt) => (receipt.position, receipt.event.reply),
+        Err(_) => panic!(rt; "the call is recorded"),
+    }
+}
+
+// The history that is worked by hand in `ring_model`: positions, grants, amounts and calm go on over the cut.
+#[test]
+fn goes_on_over_a_cut(rt: HostRuntime) {
+    let granted = |number, amount| Reply::Granted {
+        number,
+        result: amount,
+    };
+    let mut ring = EndlessRing::after(Base::none(), opened(&rt, rt.alloc()));
+    assert!(rt; told(&rt, ring.pass(0, 0, 10)) == (0, granted(1, 10)));
+    assert!(rt; told(&rt, ring.pass(1, 0, 5)) == (1, Reply::NotPrivileged));
+    assert!(rt; told(&rt, ring.pass(0, 2, 7)) == (2, granted(2, 17)));
+    let Ok(mut next) = ring.cut(rt.alloc()) else {
+        panic!(rt; "there is memory");
+    };
+    let base = Base {
+        events: 3,
+        grants: 2,
+        amount: 17,
+        calm: 2,
+    };
+    let at_cut = Survey {
+        position: 3,
+        privileged: 1,
+        first: 1,
+        calm: 2,
+        rest: 0,
+    };
+    assert!(rt; *next.base() == base && next.segment().history_length() == 0);
+    assert!(rt; next.survey(1).is_ok_and(|survey| survey == at_cut));
+    assert!(rt; told(&rt, next.corrupt(1, 1, 0)) == (3, Reply::Corrupted { old: 2 }));
+    assert!(rt; told(&rt, next.pass(1, 1, 1)) == (4, granted(3, 18)));
+    match next.pass_group(0, &[2], 4) {
+        Ok(block) => assert!(rt; block.first == 5 && block.count == 1),
+        Err(_) => panic!(rt; "the group passes"),
+    }
+    let end = Survey {
+        position: 6,
+        privileged: 1,
+        first: 0,
+        calm: 2,
+        rest: 0,
+    };
+    assert!(rt; next.glance() == end && next.segment().history_length() == 3);
+}

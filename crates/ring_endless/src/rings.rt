@@ -1,0 +1,210 @@
+//! A ring whose segment can end and be followed by the next.
+
+ghost use Rattle.std.specs.Prelude.{◌≡◌, ◌≤◌, IfOk, IfErr, OnOk, OnErr, length};
+ghost use Rattle.ring_model.specs.Resources.{till};
+ghost use Rattle.ring_model.specs.declared.events.Op.TheVariants as op;
+ghost use Rattle.ring_desk.specs.Rings.{IsOneThreadRing};
+ghost use Rattle.ring_desk.specs.Refusals.{IsDecided, bounds_of, seat_refusal, pass_refusal, corrupt_refusal, group_refusal};
+ghost use Rattle.ring_chains.specs.Bases.{IsBase, base_after};
+ghost use Rattle.ring_endless.specs.declared.rings.NextError.TheVariants as error;
+ghost use Rattle.ring_endless.specs.Endless.{IsEndless, IsCalled, IsGrouped, IsSurveyed, IsNext, survey_now};
+
+use ring_book::{GroupReceipt, Till};
+use ring_chains::{Base, Tally};
+use ring_desk::{CallError, OneThreadRing};
+use ring_model::{Receipt, Survey};
+use std::alloc::Global;
+use std::marker::Model;
+
+/// A ring over a till whose history has no end: a segment of it in memory, and the base of the segment.
+///
+/// Contracts see the base and the segment.
+#[derive(Drop)]
+pub struct EndlessRing {
+    base: Base,
+    tally: Tally,
+    ring: OneThreadRing<Till>,
+}
+
+impl Model for EndlessRing {
+    ghost use Rattle.ring_endless.specs.Endless.{EndlessView, IsTallied};
+
+    ghost Value = { EndlessView };
+
+    ghost view = { λ e. record { base = e.base; ring = e.ring } };
+
+    ghost invariant = { λ e. IsTallied e.base e.tally e.ring };
+}
+
+/// Why there is no next segment.
+#[derive(Clone, Copy, Debug, PartialEq, Eq)]
+pub enum NextError {
+    /// No segment has room after this one: its numbers would not have 64 bits.
+    Full,
+    OutOfMemory,
+}
+
+impl EndlessRing {
+    /// A ring whose segment is this one, after this base.
+    pub fn after(base: Base, ring: OneThreadRing<Till>) -> EndlessRing
+        requires base { IsBase base }
+        requires ring { IsOneThreadRing till 0 ring }
+        ensures is { IsEndless result }
+        ensures base { result.base ≡ base }
+        ensures ring { result.ring ≡ ring }
+    {
+        EndlessRing {
+            base,
+            tally: Tally::empty().with_events(ring.history()),
+            ring,
+        }
+    }
+
+    /// The base of the segment.
+    pub fn base(&self) -> &Base
+        ensures is { result.now ≡ self.now.base }
+        ensures endless { IsEndless self.now }
+    {
+        &self.base
+    }
+
+    /// The segment, which counts by itself.
+    pub fn segment(&self) -> &OneThreadRing<Till>
+        ensures is { result.now ≡ self.now.ring }
+        ensures endless { IsEndless self.now }
+    {
+        &self.ring
+    }
+
+    /// A pass by a machine, for a seat; its receipt is shifted.
+    ///
+    /// # Errors
+    ///
+    /// Those of [`OneThreadRing::pass`]. Nothing has changed then.
+    pub fn pass(&mut self, seat: u32, machine: u32, order: u64) -> Result<Receipt, CallError>
+        ensures ok { IfOk result
+            (λ r. IsCalled self.old self.new seat (op.Pass machine order) r) }
+        ensures err { OnErr result (self.new ≡ self.old) }
+        ensures refused { IsDecided (pass_refusal (bounds_of self.old.ring) seat machine) result }
+    {
+        let receipt = match self.ring.pass(seat, machine, order) {
+            Ok(receipt) => receipt,
+            Err(error) => return Err(error),
+        };
+        self.tally = self.tally.with_reply(receipt.event.reply);
+        Ok(self.base.shift_receipt(receipt))
+    }
+
+    /// A fault, for a seat: a value is written into a machine; its receipt is shifted.
+    ///
+    /// # Errors
+    ///
+    /// Those of [`OneThreadRing::corrupt`]. Nothing has changed then.
+    pub fn corrupt(&mut self, seat: u32, machine: u32, value: u32) -> Result<Receipt, CallError>
+        ensures ok { IfOk result
+            (λ r. IsCalled self.old self.new seat (op.Corrupt machine value) r) }
+        ensures err { OnErr result (self.new ≡ self.old) }
+        ensures refused { IsDecided
+            (corrupt_refusal (bounds_of self.old.ring) seat machine value) result }
+    {
+        let receipt = match self.ring.corrupt(seat, machine, value) {
+            Ok(receipt) => receipt,
+            Err(error) => return Err(error),
+        };
+        self.tally = self.tally.with_reply(receipt.event.reply);
+        Ok(self.base.shift_receipt(receipt))
+    }
+
+    /// A pass by a group of machines at once, for a seat; the place of its block is shifted.
+    ///
+    /// # Errors
+    ///
+    /// Those of [`OneThreadRing::pass_group`]. Nothing has changed then.
+    pub fn pass_group(
+        &mut self,
+        seat: u32,
+        machines: &[u32],
+        order: u64,
+    ) -> Result<GroupReceipt, CallError>
+        ensures ok { IfOk result (λ r. IsGrouped self.old self.new seat order machines.now r) }
+        ensures err { OnErr result (self.new ≡ self.old) }
+        ensures refused { IsDecided
+            (group_refusal (bounds_of self.old.ring) seat machines.now) result }
+    {
+        let receipt = match self.ring.pass_group(seat, machines, order) {
+            Ok(receipt) => receipt,
+            Err(error) => return Err(error),
+        };
+        self.tally = self
+            .tally
+            .with_events(&self.ring.history()[receipt.first as usize..]);
+        Ok(GroupReceipt {
+            first: self.base.events + receipt.first,
+            count: receipt.count,
+        })
+    }
+
+    /// A survey of the segment's end, shifted; the seat's log keeps it as the segment counts.
+    ///
+    /// # Errors
+    ///
+    /// Those of [`OneThreadRing::survey`]. Nothing has changed then.
+    pub fn survey(&mut self, seat: u32) -> Result<Survey, CallError>
+        ensures ok { IfOk result (λ s. IsSurveyed self.old self.new seat s) }
+        ensures err { OnErr result (self.new ≡ self.old) }
+        ensures refused { IsDecided (seat_refusal (bounds_of self.old.ring) seat) result }
+    {
+        let survey = match self.ring.survey(seat) {
+            Ok(survey) => survey,
+            Err(error) => return Err(error),
+        };
+        Ok(self.base.shift_survey(self.tally.quiet, survey))
+    }
+
+    /// The same survey, which no log keeps.
+    pub fn glance(&self) -> Survey
+        ensures { result ≡ survey_now self.now }
+    {
+        self.base.shift_survey(self.tally.quiet, self.ring.glance())
+    }
+
+    /// The ring with its next segment, which has no events. This one does not change.
+    ///
+    /// # Errors
+    ///
+    /// `Full` exactly where no segment has room after this one, or `OutOfMemory`.
+    pub fn next(&self, alloc: Global) -> Result<EndlessRing, NextError>
+        ensures ok { IfOk result (λ next. IsNext self.now next) }
+        ensures is { IfOk result (λ next. IsEndless next) }
+        ensures full { IfErr result (λ e. e ≡ error.Full
+            → ¬ IsBase (base_after self.now.base self.now.ring.book.start
+            self.now.ring.book.history)) }
+    {
+        let Some(base) = self.base.next(self.tally, self.ring.glance()) else {
+            return Err(NextError::Full);
+        };
+        let Ok(ring) = self.ring.successor(alloc, Till::new()) else {
+            return Err(NextError::OutOfMemory);
+        };
+        Ok(EndlessRing {
+            base,
+            tally: Tally::empty(),
+            ring,
+        })
+    }
+
+    /// Ends the segment and begins the next.
+    ///
+    /// # Errors
+    ///
+    /// The ring as it was, if there is no next segment.
+    pub fn cut(self, alloc: Global) -> Result<EndlessRing, EndlessRing>
+        ensures ok { IfOk result (λ next. IsNext self next × IsEndless next) }
+        ensures err { IfErr result (λ ring. ring ≡ self) }
+    {
+        match self.next(alloc) {
+            Ok(next) => Ok(next),
+            Err(_) => Err(self),
+        }
+    }
+}

@@ -1,0 +1,42 @@
+-- What a line may do beside calling the rings (this project's own).
+use Rattle.std.specs.Prelude.{ℕ, List, [], ◌∷◌, ◌++◌, Bool, false, ◌&&◌, ◌||◌, ◌==◌, nat_le, if◌then◌else◌, Option}
+use Rattle.std.specs.Option.{option_map, is_some}
+use Rattle.std.specs.List.{list_all}
+use Rattle.ring_serve.specs.declared.permits.Permits.{Permits}
+use Rattle.ring_serve.specs.declared.serving.Rules.{Rules}
+
+-- the terms on which lines are served: whether a journal is kept, whether a line may be a fault,
+-- and the folder that one may save all rings in, if there is one
+pub record Terms : Type 0 where
+  pub noting : Bool
+  pub faults : Bool
+  pub saves : Option (List ℕ)
+
+abbrev pub terms_of : Bool → Permits → Terms
+terms_of noting permits = record {
+  noting = noting;
+  faults = permits.faults;
+  saves = option_map (λ folder. folder.now) permits.saves;
+}
+
+-- those of these rules
+abbrev pub terms_by : Rules → Terms
+terms_by rules = terms_of (is_some rules.journal) rules.permits
+
+-- ---- the files that a line may save in
+
+-- a byte of a plain name: an ASCII letter or digit, `.`, `_` or `-`
+abbrev pub is_plain_byte : ℕ → Bool
+is_plain_byte b =
+    (nat_le 97 b && nat_le b 122)
+    || ((nat_le 65 b && nat_le b 90)
+    || ((nat_le 48 b && nat_le b 57) || (b == 46 || (b == 95 || b == 45))))
+
+-- a plain name has only such bytes, at least one, and begins with no `.`
+abbrev pub is_plain : List ℕ → Bool
+is_plain [] = false
+is_plain (b ∷ bs) = if b == 46 then false else list_all is_plain_byte (b ∷ bs)
+
+-- the name of the file of that name in a folder
+abbrev pub file_in : List ℕ → List ℕ → List ℕ
+file_in folder name = folder ++ 47 ∷ name
