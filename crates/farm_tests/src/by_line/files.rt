@@ -1,7 +1,7 @@
 //! Files that fail.
 
 use super::{NOTHING, served};
-use disks::{Disk, MemoryDisk};
+use disks::{Disk, FolderEntry, MemoryDisk};
 use ring_serve::{Journal, Permits, serve};
 use std::alloc::Global;
 use std::io::{self, Cursor, ErrorKind, Sink, sink};
@@ -25,6 +25,10 @@ impl Disk for Stuck {
     }
 
     fn is_one_file(&self, _one: &str, _other: &str) -> io::Result<bool> {
+        Err(io::Error::from(ErrorKind::PermissionDenied))
+    }
+
+    fn list(&self, _folder: &str) -> io::Result<Vec<FolderEntry>> {
         Err(io::Error::from(ErrorKind::PermissionDenied))
     }
 
