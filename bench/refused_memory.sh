@@ -126,6 +126,7 @@ for crate in $crates; do
         cp "$top/examples/first.json" "$out/first.json"
         cp "$top/examples/first.json" "$out/input"
         try_program step 3 3 0,2,0 0,0,2
+        try_program new 3:3 5:6
         try_program run first.json
         try_program run first.json --history first.txt
         try_program run --quiet -

@@ -10,3 +10,5 @@ mod files;
 mod lists;
 #[cfg(test)]
 mod reading;
+#[cfg(test)]
+mod segments;

@@ -3,10 +3,13 @@
 
 mod files;
 mod journals;
+mod segments;
 mod streams;
 
 use ring_book::Till;
+use ring_chains::Base;
 use ring_desk::OneThreadRing;
+use ring_endless::EndlessRing;
 use ring_serve::{Permits, Served};
 use std::alloc::Global;
 use std::process::Abort;
@@ -23,6 +26,7 @@ fn served(rt: &impl Abort, alloc: Global) -> Served {
     let Ok(ring) = OneThreadRing::open(alloc, 3, 3, &[0, 2, 0], 1, Till::new()) else {
         panic!(rt; "the ring is opened");
     };
+    let ring = EndlessRing::after(Base::none(), ring);
     assert!(rt; served.add(ring).is_ok());
     served
 }

@@ -114,9 +114,9 @@ fn fresh(alloc: Global, sizes: &[RingSize]) -> Result<Saved, ToolError<'static>>
 ///
 /// # Errors
 ///
-/// `NoRing` if there is no ring, `TotalsTooLarge` if there are too many for a saved text, `Ring` with the place of the first ring
-/// whose size is not allowed and its fault, and `OutOfMemory`: nothing is written then. `Write` if the writer fails: the bytes
-/// written until then are a prefix of the text.
+/// `NoRing` if there is no ring, `TotalsTooLarge` if there are too many for a saved text, `Ring` with the place of the
+/// first ring whose size is not allowed and its fault, and `OutOfMemory`: nothing is written then. `Write` if the writer
+/// fails: the bytes written until then are a prefix of the text.
 pub fn run<W: Write>(alloc: Global, words: &NewWords, out: &mut W) -> Result<(), ToolError<'static>>
     ensures ok { OnOk result (IsNewAnswer words.now (W.contents out.old) (W.contents out.new)) }
     ensures err { IfErr result

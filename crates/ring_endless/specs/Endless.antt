@@ -1,10 +1,11 @@
 -- A ring over a till whose history is a chain of segments (this project's own).
-use Rattle.std.specs.Prelude.{◌≡◌, ℕ, ◌+◌, List, [], ◌∷◌, ◌++◌, length, drop}
-use Rattle.ring_model.specs.Ring.{Ring}
+use Rattle.std.specs.Prelude.{◌≡◌, ℕ, ◌+◌, true, false, List, [], ◌∷◌, ◌++◌, length, drop, Option, Some, None}
+use Rattle.ring_model.specs.Ring.{Ring, is_privileged}
 use Rattle.ring_model.specs.History.{opening, reply, after}
 use Rattle.ring_model.specs.Resources.{till}
 use Rattle.ring_model.specs.Surveys.{survey_at}
 use Rattle.ring_model.specs.declared.events.Op.{Op}
+use Rattle.ring_model.specs.declared.events.Op.TheVariants as op
 use Rattle.ring_model.specs.declared.events.Receipt.{Receipt}
 use Rattle.ring_model.specs.declared.events.Survey.{Survey}
 use Rattle.ring_model.specs.declared.events.Entry.TheVariants as entry
@@ -46,6 +47,14 @@ pub record IsCalled (old new : EndlessView) (seat : ℕ) (op : Op) (r : Receipt)
   pub logged : new.ring.clients ≡ told_more old.ring.clients seat (entry.Receipt local ∷ [])
   pub shifted : r ≡ shifted_receipt old.base local
   pub base : new.base ≡ old.base
+
+-- A try passes if the machine is privileged, and is that call; else nothing changes.
+abbrev pub IsTried : EndlessView → EndlessView → ℕ → ℕ → ℕ → Option Receipt → Type 0
+IsTried old new seat machine order (Some r) =
+    (is_privileged old.ring.book.now.ring.values machine ≡ true)
+    × IsCalled old new seat (op.Pass machine order) r
+IsTried old new seat machine order None =
+    (is_privileged old.ring.book.now.ring.values machine ≡ false) × (new ≡ old)
 
 -- A group passed; the place of its block is shifted.
 pub record IsGrouped (old new : EndlessView) (seat order : ℕ) (machines : List ℕ)

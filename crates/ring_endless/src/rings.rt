@@ -4,10 +4,10 @@ ghost use Rattle.std.specs.Prelude.{◌≡◌, ◌≤◌, IfOk, IfErr, OnOk, OnE
 ghost use Rattle.ring_model.specs.Resources.{till};
 ghost use Rattle.ring_model.specs.declared.events.Op.TheVariants as op;
 ghost use Rattle.ring_desk.specs.Rings.{IsOneThreadRing};
-ghost use Rattle.ring_desk.specs.Refusals.{IsDecided, bounds_of, seat_refusal, pass_refusal, corrupt_refusal, group_refusal};
+ghost use Rattle.ring_desk.specs.Refusals.{IsDecided, bounds_of, seat_refusal, pass_refusal, try_refusal, corrupt_refusal, group_refusal};
 ghost use Rattle.ring_chains.specs.Bases.{IsBase, base_after};
 ghost use Rattle.ring_endless.specs.declared.rings.NextError.TheVariants as error;
-ghost use Rattle.ring_endless.specs.Endless.{IsEndless, IsCalled, IsGrouped, IsSurveyed, IsNext, survey_now};
+ghost use Rattle.ring_endless.specs.Endless.{IsEndless, IsCalled, IsTried, IsGrouped, IsSurveyed, IsNext, survey_now};
 
 use ring_book::{GroupReceipt, Till};
 use ring_chains::{Base, Tally};
@@ -84,6 +84,7 @@ impl EndlessRing {
     pub fn pass(&mut self, seat: u32, machine: u32, order: u64) -> Result<Receipt, CallError>
         ensures ok { IfOk result
             (λ r. IsCalled self.old self.new seat (op.Pass machine order) r) }
+        ensures endless { IsEndless self.new }
         ensures err { OnErr result (self.new ≡ self.old) }
         ensures refused { IsDecided (pass_refusal (bounds_of self.old.ring) seat machine) result }
     {
@@ -95,6 +96,31 @@ impl EndlessRing {
         Ok(self.base.shift_receipt(receipt))
     }
 
+    /// A pass by a machine, for a seat, if the machine is privileged, with its receipt, shifted; if it is not, nothing changes.
+    ///
+    /// # Errors
+    ///
+    /// Those of [`OneThreadRing::try_pass`]. Nothing has changed then.
+    pub fn try_pass(
+        &mut self,
+        seat: u32,
+        machine: u32,
+        order: u64,
+    ) -> Result<Option<Receipt>, CallError>
+        ensures ok { IfOk result (λ r. IsTried self.old self.new seat machine order r) }
+        ensures endless { IsEndless self.new }
+        ensures err { OnErr result (self.new ≡ self.old) }
+        ensures refused { IsDecided (try_refusal (bounds_of self.old.ring) seat machine) result }
+    {
+        let receipt = match self.ring.try_pass(seat, machine, order) {
+            Ok(Some(receipt)) => receipt,
+            Ok(None) => return Ok(None),
+            Err(error) => return Err(error),
+        };
+        self.tally = self.tally.with_reply(receipt.event.reply);
+        Ok(Some(self.base.shift_receipt(receipt)))
+    }
+
     /// A fault, for a seat: a value is written into a machine; its receipt is shifted.
     ///
     /// # Errors
@@ -103,6 +129,7 @@ impl EndlessRing {
     pub fn corrupt(&mut self, seat: u32, machine: u32, value: u32) -> Result<Receipt, CallError>
         ensures ok { IfOk result
             (λ r. IsCalled self.old self.new seat (op.Corrupt machine value) r) }
+        ensures endless { IsEndless self.new }
         ensures err { OnErr result (self.new ≡ self.old) }
         ensures refused { IsDecided
             (corrupt_refusal (bounds_of self.old.ring) seat machine value) result }
@@ -127,6 +154,7 @@ impl EndlessRing {
         order: u64,
     ) -> Result<GroupReceipt, CallError>
         ensures ok { IfOk result (λ r. IsGrouped self.old self.new seat order machines.now r) }
+        ensures endless { IsEndless self.new }
         ensures err { OnErr result (self.new ≡ self.old) }
         ensures refused { IsDecided
             (group_refusal (bounds_of self.old.ring) seat machines.now) result }
@@ -151,6 +179,7 @@ impl EndlessRing {
     /// Those of [`OneThreadRing::survey`]. Nothing has changed then.
     pub fn survey(&mut self, seat: u32) -> Result<Survey, CallError>
         ensures ok { IfOk result (λ s. IsSurveyed self.old self.new seat s) }
+        ensures endless { IsEndless self.new }
         ensures err { OnErr result (self.new ≡ self.old) }
         ensures refused { IsDecided (seat_refusal (bounds_of self.old.ring) seat) result }
     {

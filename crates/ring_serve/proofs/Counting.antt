@@ -12,7 +12,7 @@ use Rattle.ring_blocks.specs.SavedOf.{saved_survey, entry_surveys}
 use Rattle.ring_blocks.specs.Counts.{is_survey, survey_count}
 use Rattle.ring_desk.specs.Clients.{ClientView}
 use Rattle.ring_desk.specs.Texts.{surveys_told, client_surveys, surveys_kept}
-use Rattle.ring_desk.specs.Rings.{RingView}
+use Rattle.ring_endless.specs.Endless.{EndlessView}
 use Rattle.ring_serve.specs.Standings.{Standing, standing_of}
 use Rattle.ring_serve.specs.Totals.{surveys_among, with_ring, totals_of, AreTooLarge}
 
@@ -58,7 +58,7 @@ many_kept most cs ts i all d same below is here many =
     let most_at : most ≤ all + length d.surveys = omega (arith, many) in
     omega (arith, sum, part, size, is, most_at)
 
-part : (f : Standing → ℕ) (rings : List (RingView ℕ)) (i : ℕ) (d : RingView ℕ) → i < length rings → sum_by f (map standing_of (take i rings)) + f (standing_of (get_or rings i d)) ≤ sum_by f (map standing_of rings)
+part : (f : Standing → ℕ) (rings : List EndlessView) (i : ℕ) (d : EndlessView) → i < length rings → sum_by f (map standing_of (take i rings)) + f (standing_of (get_or rings i d)) ≤ sum_by f (map standing_of rings)
 part f rings i d below =
     let size : length (map standing_of rings) ≡ length rings = length-map rings standing_of in
     let within : i < length (map standing_of rings) = omega (arith, size, below) in
@@ -68,19 +68,19 @@ part f rings i d below =
     let same : sum_by f (take i (map standing_of rings)) + f (get_or (map standing_of rings) i (standing_of d)) ≡ sum_by f (map standing_of (take i rings)) + f (standing_of (get_or rings i d)) = λ j. sum_by f (first j) + f (here j) in
     omega (arith, less, same)
 
-too_large_at : (rings : List (RingView ℕ)) (i : ℕ) (d : RingView ℕ) → i < length rings → AreTooLarge (with_ring (totals_of (map standing_of (take i rings))) (standing_of (get_or rings i d))) → AreTooLarge (totals_of (map standing_of rings))
+too_large_at : (rings : List EndlessView) (i : ℕ) (d : EndlessView) → i < length rings → AreTooLarge (with_ring (totals_of (map standing_of (take i rings))) (standing_of (get_or rings i d))) → AreTooLarge (totals_of (map standing_of rings))
 too_large_at rings i d below (inl many) =
-    let less = part (λ (r : Standing). length r.history) rings i d below in
+    let less = part (λ (r : Standing). r.base.events + length r.history) rings i d below in
     inl (omega (arith, less, many))
 too_large_at rings i d below (inr (inl many)) =
-    let less = part (λ (r : Standing). granted_count r.history) rings i d below in
+    let less = part (λ (r : Standing). r.base.grants + granted_count r.history) rings i d below in
     inr (inl (omega (arith, less, many)))
 too_large_at rings i d below (inr (inr many)) =
     let less = part (λ (r : Standing). surveys_among r.clients) rings i d below in
     inr (inr (omega (arith, less, many)))
 
 -- sums that are too large with one ring more are too large with all
-pub too_large_with : (rings : List (RingView ℕ)) (i : ℕ) (all : Totals) (d : RingView ℕ) → i < length rings → all ≡ totals_of (map standing_of (take i rings)) → d ≡ get_or rings i d → AreTooLarge (with_ring all (standing_of d)) → AreTooLarge (totals_of (map standing_of rings))
+pub too_large_with : (rings : List EndlessView) (i : ℕ) (all : Totals) (d : EndlessView) → i < length rings → all ≡ totals_of (map standing_of (take i rings)) → d ≡ get_or rings i d → AreTooLarge (with_ring all (standing_of d)) → AreTooLarge (totals_of (map standing_of rings))
 too_large_with rings i all d below is here many =
     too_large_at rings i d below
-    (subst (λ (x : Totals). AreTooLarge (with_ring x (standing_of (get_or rings i d)))) is (subst (λ (r : RingView ℕ). AreTooLarge (with_ring all (standing_of r))) here many))
+    (subst (λ (x : Totals). AreTooLarge (with_ring x (standing_of (get_or rings i d)))) is (subst (λ (r : EndlessView). AreTooLarge (with_ring all (standing_of r))) here many))

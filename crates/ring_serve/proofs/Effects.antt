@@ -12,7 +12,7 @@ use Rattle.ring_model.specs.declared.events.Op.TheVariants as op
 use Rattle.ring_model.specs.declared.events.Reply.{Reply}
 use Rattle.ring_model.specs.declared.events.Reply.TheVariants as reply_is
 use Rattle.ring_model.specs.declared.events.Event.{Event}
-use Rattle.ring_desk.specs.Rings.{RingView, IsOneThreadRing}
+use Rattle.ring_endless.specs.Endless.{EndlessView, IsEndless}
 use Rattle.ring_journal.specs.ContentAfter.{event_is_open}
 use Rattle.ring_blocks.specs.SavedOf.{saved_event}
 use Rattle.ring_serve.specs.Commands.{Command, pass, try, group, corrupt, survey, glance, save, heard, ring_of}
@@ -105,15 +105,15 @@ block_closes a seat order (m ∷ k ∷ ms) some l =
 
 -- ---- the effect of a call of one ring
 
-module _ (d : RingView ℕ) (k : IsOneThreadRing till 0 d) where
+module _ (e : EndlessView) (k : IsEndless e) where
   abbrev r : Standing
-  r = standing_of d
+  r = standing_of e
 
   abbrev size : ℕ
   size = length (state_of r).ring.values
 
-  room_of : (h : ℕ) → h ≡ length d.book.history → h ≢ event_limit → h < event_limit
-  room_of h e ne = let most = k.book.bounded in grind (arith, ne, most, e)
+  room_of : (h : ℕ) → h ≡ length e.ring.book.history → h ≢ event_limit → h < event_limit
+  room_of h is ne = let most = k.ring.book.bounded in grind (arith, ne, most, is)
 
   pass_effect : (ring seat machine order : ℕ) → Effect ring r (turn_at r (pass ring seat machine order))
   pass_effect ring seat machine order = unless_effect ring r (pass_refusal (bounds_now r) seat machine) _ (λ q.
@@ -124,7 +124,7 @@ module _ (d : RingView ℕ) (k : IsOneThreadRing till 0 d) where
         es = event_now r seat (op.Pass machine order) ∷ [];
         within = within;
         closes = closes (reply till (state_of r) (op.Pass machine order));
-        right = call_right d seat k within (op.Pass machine order) b.1 tt (room_of (length r.history) refl b.2);
+        right = call_right e.base e.ring seat k.base k.ring within (op.Pass machine order) b.1 tt (room_of (length r.history) refl b.2);
         recorded = refl;
         leaves = refl;
       })))
@@ -150,7 +150,7 @@ module _ (d : RingView ℕ) (k : IsOneThreadRing till 0 d) where
         es = event_now r seat (op.Corrupt machine value) ∷ [];
         within = within;
         closes = refl;
-        right = call_right d seat k within (op.Corrupt machine value) (b.1, b.2) tt (room_of (length r.history) refl b.3);
+        right = call_right e.base e.ring seat k.base k.ring within (op.Corrupt machine value) (b.1, b.2) tt (room_of (length r.history) refl b.3);
         recorded = refl;
         leaves = refl;
       })))
@@ -158,21 +158,21 @@ module _ (d : RingView ℕ) (k : IsOneThreadRing till 0 d) where
   survey_effect : (ring seat : ℕ) → Effect ring r (turn_at r (survey ring seat))
   survey_effect ring seat = unless_effect ring r (seat_refusal (bounds_now r) seat) _ (λ q.
       let within : seat < length r.clients = seat_bounds (bounds_now r) seat q in
-      inr (inr (record { seat = seat; within = within; right = survey_right d seat k within; recorded = refl; leaves = refl })))
+      inr (inr (record { seat = seat; within = within; right = survey_right e.base e.ring seat k.base k.ring within; recorded = refl; leaves = refl })))
 
   group_effect : (ring seat order : ℕ) (machines : List ℕ) → Effect ring r (turn_at r (group ring seat order machines))
   group_effect ring seat order machines = unless_effect ring r (group_refusal (bounds_now r) seat machines) _ (λ q.
       let b = group_bounds (bounds_now r) seat machines q in
       let within : seat < length r.clients = b.0 in
       let can : CanMove (state_of r).ring.values machines = b.1 in
-      let here : CanMove d.book.now.ring.values machines = subst (λ (t : State ℕ). CanMove t.ring.values machines) k.book.current can in
-      let room : length d.book.history + length machines ≤ event_limit = b.2 in
+      let here : CanMove e.ring.book.now.ring.values machines = subst (λ (t : State ℕ). CanMove t.ring.values machines) k.ring.book.current can in
+      let room : length e.ring.book.history + length machines ≤ event_limit = b.2 in
       inr (inl (record {
         seat = seat;
         es = block_now r seat order machines;
         within = within;
         closes = closes order machines can;
-        right = group_right d seat order machines k within here room;
+        right = group_right e.base e.ring seat order machines k.base k.ring within here room;
         recorded = refl;
         leaves = refl;
       })))
@@ -181,7 +181,7 @@ module _ (d : RingView ℕ) (k : IsOneThreadRing till 0 d) where
       closes order machines can =
           let law = move_order_law (length (state_of r).ring.values) machines can.rising can.some can.fewer in
           let able : AreAllPrivileged (state_of r).ring.values (move_order machines) = λ i h. can.able i (sym (law.same i) ∙ h) in
-          let ring : IsRing (state_of r).ring = subst (λ (t : State ℕ). IsRing t.ring) (sym k.book.current) k.book.now_ring.ring in
+          let ring : IsRing (state_of r).ring = subst (λ (t : State ℕ). IsRing t.ring) (sym k.ring.book.current) k.ring.book.now_ring.ring in
           let size : length (move_order machines) ≡ length machines = law.size in
           let some = can.some in
           block_closes (state_of r) seat order (move_order machines) (omega (arith, size, some)) (blocks_are_legal till (state_of r) seat order (move_order machines) ring law.in_order able).0

@@ -8,12 +8,12 @@ use Rattle.ring_check.specs.Legal.{IsLegalText}
 use Rattle.ring_check.specs.Meaning.{IsRightBlock, AreRightBlocks}
 use Rattle.ring_check.proofs.Meanings.{legal_means}
 use Rattle.ring_desk.proofs.Saved.{ring_right}
-use Rattle.ring_desk.specs.Rings.{RingView}
+use Rattle.ring_endless.specs.Endless.{EndlessView}
 use Rattle.ring_serve.specs.Standings.{Standing, standing_of, AreRight}
 use Rattle.ring_serve.specs.Saved.{IsRight, block_at, blocks_from, content_of}
 
 right_block : (place : ℕ) (r : Standing) → IsRight r → IsRightBlock latest_version place (block_at place r)
-right_block place r k = subst (λ (x : Standing). IsRightBlock latest_version place (block_at place x)) k.2 (ring_right place k.0 k.1)
+right_block place r k = subst (λ (x : Standing). IsRightBlock latest_version place (block_at place x)) k.2 (ring_right place k.0.ring k.1.ring)
 
 right_blocks : (place : ℕ) (rs : List Standing) → AllByRecursion IsRight rs → AreRightBlocks latest_version place (blocks_from place rs)
 right_blocks place [] all = tt
@@ -31,6 +31,6 @@ pub content_legal : (rs : List Standing) → AllByRecursion IsRight rs → IsLeg
 content_legal rs all = (legal_means (content_of rs) (whole_starts 0 rs)).1 (record { blocks = right_blocks 0 rs all; rings_said = sym (as_many 0 rs) })
 
 -- rings that are right have right standings
-pub all_right : (rings : List (RingView ℕ)) → AreRight rings → AllByRecursion IsRight (map standing_of rings)
+pub all_right : (rings : List EndlessView) → AreRight rings → AllByRecursion IsRight (map standing_of rings)
 all_right [] are = tt
 all_right (d ∷ rings) are = ((d, are 0 d (omega arith), refl), all_right rings (λ i e l. are (suc i) e (omega (arith, l))))

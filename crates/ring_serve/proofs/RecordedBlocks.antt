@@ -120,7 +120,7 @@ numbered from (c ∷ cs) f =
 
 pub right_numbered : (r : Standing) → IsRight r → Numbered 0 r.clients × (length r.clients ≤ seat_limit)
 right_numbered r k = subst (λ (x : Standing). Numbered 0 x.clients × (length x.clients ≤ seat_limit)) k.2
-    (numbered 0 k.0.clients (λ i d l. let same : 0 + i ≡ i = omega arith in (k.1.each i d l).number ∙ sym same), k.1.few)
+    (numbered 0 k.0.ring.clients (λ i d l. let same : 0 + i ≡ i = omega arith in (k.1.ring.each i d l).number ∙ sym same), k.1.ring.few)
 
 -- ---- the saved block of a ring records its state
 
@@ -145,7 +145,7 @@ all_saved_tell place (r ∷ rs) all = (saved_tells place r all.0, all_saved_tell
 
 -- ---- one call more
 
-event_told : (place : ℕ) (b : Block) (r : Standing) (e : Event) → Tells place b r → Tells place (with_call b (call.Event (saved_event e))) (record { start = r.start; history = r.history ++ e ∷ []; clients = r.clients })
+event_told : (place : ℕ) (b : Block) (r : Standing) (e : Event) → Tells place b r → Tells place (with_call b (call.Event (saved_event e))) (record { base = r.base; start = r.start; history = r.history ++ e ∷ []; clients = r.clients })
 event_told place b r e t =
     let long : length b.events ≡ length r.history = ap (λ (es : List SavedEvent). length es) t.history ∙ length-map r.history saved_event in
     record {
@@ -159,7 +159,7 @@ event_told place b r e t =
       seats = t.seats;
     }
 
-clients_told : (place : ℕ) (b : Block) (r : Standing) (cs : List LogView) → ((seat : ℕ) → told_by cs seat ≡ told_by r.clients seat) → Tells place b r → Tells place b (record { start = r.start; history = r.history; clients = cs })
+clients_told : (place : ℕ) (b : Block) (r : Standing) (cs : List LogView) → ((seat : ℕ) → told_by cs seat ≡ told_by r.clients seat) → Tells place b r → Tells place b (record { base = r.base; start = r.start; history = r.history; clients = cs })
 clients_told place b r cs same t = record {
   index = t.index;
   n = t.n;
@@ -172,7 +172,7 @@ clients_told place b r cs same t = record {
 }
 
 survey_told : (place : ℕ) (b : Block) (r : Standing) (seat : ℕ) (s : Survey) → seat < length r.clients → length r.clients ≤ seat_limit → Tells place b r →
-    Tells place (with_call b (call.Survey (saved_survey seat s))) (record { start = r.start; history = r.history; clients = told_more r.clients seat (entry.Survey s ∷ []) })
+    Tells place (with_call b (call.Survey (saved_survey seat s))) (record { base = r.base; start = r.start; history = r.history; clients = told_more r.clients seat (entry.Survey s ∷ []) })
 survey_told place b r seat s within few t = record {
   index = t.index;
   n = t.n;
@@ -235,27 +235,27 @@ set_is (r ∷ rs) zero x y e same = ap (λ (z : Standing). z ∷ rs) (sym (some_
 set_is (r ∷ rs) (suc i) x y e same = ap (λ (xs : List Standing). r ∷ xs) (set_is rs i x y e same)
 
 abbrev longer : Standing → List Event → Standing
-longer r es = record { start = r.start; history = r.history ++ es; clients = r.clients }
+longer r es = record { base = r.base; start = r.start; history = r.history ++ es; clients = r.clients }
 
 -- the events by which one history grew
 events_told : (place : ℕ) (bs : List Block) (rs : List Standing) (ring : ℕ) (was : Standing) (es : List Event) → slice_get rs ring ≡ Some was →
     AllTell place bs rs → AllTell place (with_calls bs (map (line_of_event ring) es)) (slice_set rs ring (longer was es))
 events_told place bs rs ring was [] e t =
-    let same : was ≡ longer was [] = λ i. record { start = was.start; history = sym (append-nil was.history) i; clients = was.clients } in
+    let same : was ≡ longer was [] = λ i. record { base = was.base; start = was.start; history = sym (append-nil was.history) i; clients = was.clients } in
     subst (λ (xs : List Standing). AllTell place bs xs) (sym (set_is rs ring was (longer was []) e same)) t
 events_told place bs rs ring was (x ∷ es) e t =
     let one : Standing = longer was (x ∷ []) in
     let first : AllTell place (with_call_at bs ring (call.Event (saved_event x))) (slice_set rs ring one) = one_told place bs rs ring was one (call.Event (saved_event x)) e (λ p b. event_told p b was x) t in
     let more = events_told place (with_call_at bs ring (call.Event (saved_event x))) (slice_set rs ring one) ring one es (set_there rs ring was one e) first in
-    let same : longer one es ≡ longer was (x ∷ es) = ap (λ (h : List Event). let s : Standing = record { start = was.start; history = h; clients = was.clients } in s) (append_assoc was.history (x ∷ []) es) in
+    let same : longer one es ≡ longer was (x ∷ es) = ap (λ (h : List Event). let s : Standing = record { base = was.base; start = was.start; history = h; clients = was.clients } in s) (append_assoc was.history (x ∷ []) es) in
     subst (λ (xs : List Standing). AllTell place (with_calls bs (map (line_of_event ring) (x ∷ es))) xs) (set_twice rs ring one (longer one es) ∙ ap (λ (s : Standing). slice_set rs ring s) same) more
 
 -- and the receipts that the seat got of them
 pub grown_told : (place : ℕ) (bs : List Block) (rs : List Standing) (ring : ℕ) (was : Standing) (es : List Event) (cs : List LogView) → slice_get rs ring ≡ Some was →
     ((seat : ℕ) → told_by cs seat ≡ told_by was.clients seat) → AllTell place bs rs →
-    AllTell place (with_calls bs (map (line_of_event ring) es)) (slice_set rs ring (record { start = was.start; history = was.history ++ es; clients = cs }))
+    AllTell place (with_calls bs (map (line_of_event ring) es)) (slice_set rs ring (record { base = was.base; start = was.start; history = was.history ++ es; clients = cs }))
 grown_told place bs rs ring was es cs e same t =
-    let is : Standing = record { start = was.start; history = was.history ++ es; clients = cs } in
+    let is : Standing = record { base = was.base; start = was.start; history = was.history ++ es; clients = cs } in
     subst (λ (xs : List Standing). AllTell place (with_calls bs (map (line_of_event ring) es)) xs) (set_twice rs ring (longer was es) is)
     (one_kept place (with_calls bs (map (line_of_event ring) es)) (slice_set rs ring (longer was es)) ring (longer was es) is (set_there rs ring was (longer was es) e)
     (λ p b. clients_told p b (longer was es) cs same) (events_told place bs rs ring was es e t))
@@ -263,7 +263,7 @@ grown_told place bs rs ring was es cs e same t =
 -- a survey that a seat was given
 pub looked_told : (place : ℕ) (bs : List Block) (rs : List Standing) (ring : ℕ) (was : Standing) (seat : ℕ) (s : Survey) → slice_get rs ring ≡ Some was →
     seat < length was.clients → length was.clients ≤ seat_limit → AllTell place bs rs →
-    AllTell place (with_calls bs (line_of_survey ring seat s ∷ [])) (slice_set rs ring (record { start = was.start; history = was.history; clients = told_more was.clients seat (entry.Survey s ∷ []) }))
+    AllTell place (with_calls bs (line_of_survey ring seat s ∷ [])) (slice_set rs ring (record { base = was.base; start = was.start; history = was.history; clients = told_more was.clients seat (entry.Survey s ∷ []) }))
 looked_told place bs rs ring was seat s e within few t =
-    one_told place bs rs ring was (record { start = was.start; history = was.history; clients = told_more was.clients seat (entry.Survey s ∷ []) }) (call.Survey (saved_survey seat s)) e
+    one_told place bs rs ring was (record { base = was.base; start = was.start; history = was.history; clients = told_more was.clients seat (entry.Survey s ∷ []) }) (call.Survey (saved_survey seat s)) e
     (λ p b. survey_told p b was seat s within few) t

@@ -4,22 +4,22 @@ use Rattle.std.specs.List.{flat_map, AllByRecursion}
 use Rattle.ring_saved.specs.Versions.{latest_version}
 use Rattle.ring_saved.specs.Spelling.{block_text, BlockFits, Fits}
 use Rattle.ring_saved.proofs.Passing.{Spelled}
-use Rattle.ring_desk.specs.Rings.{RingView}
+use Rattle.ring_endless.specs.Endless.{EndlessView}
 use Rattle.ring_serve.specs.Standings.{Standing, standing_of}
 use Rattle.ring_serve.specs.Saved.{block_at, blocks_from, content_of}
 
 -- ---- rings
 
-abbrev pub rings_text : ℕ → List (RingView ℕ) → List ℕ
+abbrev pub rings_text : ℕ → List EndlessView → List ℕ
 rings_text i rs = flat_map block_text (blocks_from i (map standing_of rs))
 
-abbrev pub RingsFit : ℕ → List (RingView ℕ) → Type 0
+abbrev pub RingsFit : ℕ → List EndlessView → Type 0
 RingsFit i rs = AllByRecursion (BlockFits latest_version) (blocks_from i (map standing_of rs))
 
-abbrev pub ring_text : ℕ → RingView ℕ → List ℕ
+abbrev pub ring_text : ℕ → EndlessView → List ℕ
 ring_text i r = block_text (block_at i (standing_of r))
 
-abbrev pub RingFit : ℕ → RingView ℕ → Type 0
+abbrev pub RingFit : ℕ → EndlessView → Type 0
 RingFit i r = BlockFits latest_version (block_at i (standing_of r))
 
 pub rings_spelled : Spelled ring_text rings_text RingFit RingsFit

@@ -26,6 +26,8 @@ use Rattle.ring_logs.specs.Seats.{receipts_from}
 use Rattle.ring_state.specs.Sizes.{Size, size_of}
 use Rattle.ring_desk.specs.Rings.{RingView, IsOneThreadRing, told_more}
 use Rattle.ring_desk.proofs.Kept.{called_ring, grouped_ring, surveyed_ring}
+use Rattle.ring_chains.specs.declared.bases.Base.{Base}
+use Rattle.ring_chains.specs.Bases.{IsBase}
 use Rattle.ring_serve.specs.Standings.{Standing, standing_of, state_of, event_now, block_now, with_events, with_survey, survey_now}
 use Rattle.ring_serve.specs.Saved.{IsRight}
 
@@ -68,9 +70,9 @@ call_step a (op.Corrupt i v) h = (h.0, h.1, refl, refl)
 
 -- ---- one call more
 
-module _ (d : RingView ℕ) (seat : ℕ) (k : IsOneThreadRing till 0 d) (within : seat < length d.clients) where
+module _ (b : Base) (d : RingView ℕ) (seat : ℕ) (base : IsBase b) (k : IsOneThreadRing till 0 d) (within : seat < length d.clients) where
   abbrev standing : Standing
-  standing = standing_of d
+  standing = standing_of (record { base = b; ring = d })
 
   pub call_right : (o : Op) → IsInRange (state_of standing).ring o → IsAlone o → length d.book.history < event_limit → IsRight (with_events standing seat (event_now standing seat o ∷ []))
   call_right o range alone room =
@@ -79,15 +81,15 @@ module _ (d : RingView ℕ) (seat : ℕ) (k : IsOneThreadRing till 0 d) (within 
       let here : Step till d.book.now e (next till d.book.now o) = subst (λ (a : State ℕ). Step till a e (next till a o)) k.book.current step in
       let book : IsBook till 0 (gone_on d.book (e ∷ [])) = goes_on d.book (e ∷ []) k.book (here, tt) (omega (arith, room)) (whole_push (length d.book.start.values) d.book.history e k.book.whole alone) in
       let rec : IsRecorded till d.book (gone_on d.book (e ∷ [])) seat o (record { position = length d.book.history; event = e }) = record { step = here; grown = refl; position = refl; of_seat = refl; of_call = refl; same_start = refl } in (
-        record { book = gone_on d.book (e ∷ []); clients = told_more d.clients seat (entry.Receipt (record { position = length d.book.history; event = e }) ∷ []) },
-        called_ring till 0 d.book (gone_on d.book (e ∷ [])) d.clients seat o (record { position = length d.book.history; event = e }) k book within rec,
+        record { base = b; ring = record { book = gone_on d.book (e ∷ []); clients = told_more d.clients seat (entry.Receipt (record { position = length d.book.history; event = e }) ∷ []) } },
+        record { base = base; ring = called_ring till 0 d.book (gone_on d.book (e ∷ [])) d.clients seat o (record { position = length d.book.history; event = e }) k book within rec },
         refl,
       )
 
   pub survey_right : IsRight (with_survey standing seat (survey_now standing))
   survey_right = (
-    record { book = d.book; clients = told_more d.clients seat (entry.Survey (survey_now standing) ∷ []) },
-    surveyed_ring till 0 d.book d.clients seat (survey_now standing) k within refl,
+    record { base = b; ring = record { book = d.book; clients = told_more d.clients seat (entry.Survey (survey_now standing) ∷ []) } },
+    record { base = base; ring = surveyed_ring till 0 d.book d.clients seat (survey_now standing) k within refl },
     refl,
   )
 
@@ -104,7 +106,7 @@ same_group ring t ms machines same some g = record {
   values = λ i l. g.values i l ∙ ap (λ (b : Bool). cond b (moved_value ring i) (slice_index ring.values i)) (same i);
 }
 
-module _ (d : RingView ℕ) (seat order : ℕ) (machines : List ℕ) (k : IsOneThreadRing till 0 d) (within : seat < length d.clients) (can : CanMove d.book.now.ring.values machines)
+module _ (b : Base) (d : RingView ℕ) (seat order : ℕ) (machines : List ℕ) (base : IsBase b) (k : IsOneThreadRing till 0 d) (within : seat < length d.clients) (can : CanMove d.book.now.ring.values machines)
     (room : length d.book.history + length machines ≤ event_limit) where
   abbrev ms : List ℕ
   ms = move_order machines
@@ -115,7 +117,10 @@ module _ (d : RingView ℕ) (seat order : ℕ) (machines : List ℕ) (k : IsOneT
   abbrev receipt : GroupReceipt
   receipt = record { first = length d.book.history; count = length machines }
 
-  pub group_right : IsRight (with_events (standing_of d) seat (block_now (standing_of d) seat order machines))
+  abbrev standing_now : Standing
+  standing_now = standing_of (record { base = b; ring = d })
+
+  pub group_right : IsRight (with_events standing_now seat (block_now standing_now seat order machines))
   group_right =
       let law = move_order_law (length d.book.now.ring.values) machines can.rising can.some can.fewer in
       let able : AreAllPrivileged d.book.now.ring.values ms = λ i h. can.able i (sym (law.same i) ∙ h) in
@@ -141,9 +146,9 @@ module _ (d : RingView ℕ) (seat order : ℕ) (machines : List ℕ) (k : IsOneT
       } in
       let g : IsGroupRecorded till d.book (gone_on d.book es) seat order machines receipt = record { moved = moved; first = refl; count = refl } in
       let cut : drop (length d.book.history) (d.book.history ++ es) ≡ es = drop_at d.book.history es (length d.book.history) refl in
-      let now : es ≡ block_now (standing_of d) seat order machines = ap (λ (a : State ℕ). block_of till a seat order ms) (sym k.book.current) in
+      let now : es ≡ block_now standing_now seat order machines = ap (λ (a : State ℕ). block_of till a seat order ms) (sym k.book.current) in
       let told : List Event → List LogView = λ x. told_more d.clients seat (receipts_from (length d.book.history) x) in (
-        record { book = gone_on d.book es; clients = told (drop (length d.book.history) (d.book.history ++ es)) },
-        grouped_ring till 0 d.book (gone_on d.book es) d.clients seat order machines receipt k book within g,
-        λ i. record { start = d.book.start; history = d.book.history ++ now i; clients = told ((cut ∙ now) i) },
+        record { base = b; ring = record { book = gone_on d.book es; clients = told (drop (length d.book.history) (d.book.history ++ es)) } },
+        record { base = base; ring = grouped_ring till 0 d.book (gone_on d.book es) d.clients seat order machines receipt k book within g },
+        λ i. record { base = b; start = d.book.start; history = d.book.history ++ now i; clients = told ((cut ∙ now) i) },
       )

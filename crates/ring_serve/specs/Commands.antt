@@ -84,11 +84,6 @@ IsReadAs line (Ok read) =
 IsReadAs line (Err stops.Memory) = Unit {0}
 IsReadAs line (Err (stops.Fault f)) = (command : Command) → IsLineOf command line → ⊥
 
--- No line is that of two commands.
-abbrev pub LinesAreApart : Type 0
-LinesAreApart =
-    (a b : Command) (line : List ℕ) → IsLineOf a line → IsLineOf b line → a ≡ b
-
 -- the number of the ring that is called
 abbrev pub ring_of : Command → ℕ
 ring_of (pass ring seat machine order) = ring

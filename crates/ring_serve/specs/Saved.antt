@@ -1,10 +1,9 @@
 -- The saved text of rings that are served (this project's own).
 use Rattle.std.specs.Prelude.{◌≡◌, ℕ, ◌+◌, List, [], ◌∷◌, length, map}
-use Rattle.ring_model.specs.Resources.{till}
 use Rattle.ring_saved.specs.Versions.{latest_version}
 use Rattle.ring_saved.specs.Content.{Block, Content}
 use Rattle.ring_blocks.specs.SavedOf.{saved_event}
-use Rattle.ring_desk.specs.Rings.{RingView, IsOneThreadRing}
+use Rattle.ring_endless.specs.Endless.{EndlessView, IsEndless}
 use Rattle.ring_desk.specs.Texts.{surveys_told}
 use Rattle.ring_serve.specs.Standings.{Standing, standing_of}
 
@@ -34,6 +33,6 @@ content_of rs = record {
   rings_said = length rs;
 }
 
--- a ring that is a one-thread ring with its clients' logs
+-- a ring that is a ring without end with its clients' logs
 abbrev pub IsRight : Standing → Type 0
-IsRight r = (d : RingView ℕ) × IsOneThreadRing till 0 d × (standing_of d ≡ r)
+IsRight r = (e : EndlessView) × IsEndless e × (standing_of e ≡ r)

@@ -1,5 +1,5 @@
--- The served rings, over a till, each with its start, its history, and the surveys that its clients
--- were given (this project's own).
+-- The served rings, over a till, each with its segment: the base, the start, the history, and the
+-- surveys that its clients were given (this project's own). A segment counts by itself.
 use Rattle.std.specs.Prelude.{ℕ, ◌<◌, List, [], ◌∷◌, ◌++◌, length, slice_index_or}
 use Rattle.ring_model.specs.Ring.{Ring}
 use Rattle.ring_model.specs.History.{State, opening, after, reply}
@@ -13,16 +13,25 @@ use Rattle.ring_model.specs.declared.events.Survey.{Survey}
 use Rattle.ring_model.specs.declared.events.Entry.TheVariants as entry
 use Rattle.ring_logs.specs.LogView.{LogView}
 use Rattle.ring_logs.specs.Seats.{receipts_from}
-use Rattle.ring_desk.specs.Rings.{RingView, IsOneThreadRing, told_more}
+use Rattle.ring_desk.specs.Rings.{told_more}
+use Rattle.ring_chains.specs.declared.bases.Base.{Base}
+use Rattle.ring_chains.specs.Bases.{is_quiet, shifted_survey}
+use Rattle.ring_endless.specs.Endless.{EndlessView, IsEndless}
 
 -- a ring that is served
 pub record Standing : Type 0 where
+  pub base : Base
   pub start : Ring
   pub history : List Event
   pub clients : List LogView
 
-abbrev pub standing_of : RingView ℕ → Standing
-standing_of d = record { start = d.book.start; history = d.book.history; clients = d.clients }
+abbrev pub standing_of : EndlessView → Standing
+standing_of e = record {
+  base = e.base;
+  start = e.ring.book.start;
+  history = e.ring.book.history;
+  clients = e.ring.clients;
+}
 
 -- the state of the one-thread ring at the end of the history
 abbrev pub state_of : Standing → State ℕ
@@ -40,9 +49,14 @@ block_now r seat order machines = block_of till (state_of r) seat order (move_or
 abbrev pub survey_now : Standing → Survey
 survey_now r = survey_at till (opening r.start 0) r.history (length r.history)
 
+-- the same, counted from the first event of all
+abbrev pub shifted_survey_now : Standing → Survey
+shifted_survey_now r = shifted_survey r.base (is_quiet r.history) (survey_now r)
+
 -- the ring with more events of a seat, which has their receipts
 abbrev pub with_events : Standing → ℕ → List Event → Standing
 with_events r seat es = record {
+  base = r.base;
   start = r.start;
   history = r.history ++ es;
   clients = told_more r.clients seat (receipts_from (length r.history) es);
@@ -51,12 +65,13 @@ with_events r seat es = record {
 -- the ring with a survey more that a seat was given
 abbrev pub with_survey : Standing → ℕ → Survey → Standing
 with_survey r seat s = record {
+  base = r.base;
   start = r.start;
   history = r.history;
   clients = told_more r.clients seat (entry.Survey s ∷ []);
 }
 
--- each of the rings is, at every moment, a one-thread ring with its clients' logs
-abbrev pub AreRight : List (RingView ℕ) → Type 0
+-- each of the rings is, at every moment, a ring without end with its clients' logs
+abbrev pub AreRight : List EndlessView → Type 0
 AreRight rings =
-    (i : ℕ) (d : RingView ℕ) → i < length rings → IsOneThreadRing till 0 (slice_index_or rings i d)
+    (i : ℕ) (e : EndlessView) → i < length rings → IsEndless (slice_index_or rings i e)

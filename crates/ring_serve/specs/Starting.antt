@@ -4,13 +4,16 @@ use Rattle.ring_model.specs.Ring.{ring_with}
 use Rattle.ring_model.specs.Limits.{event_limit, seat_limit}
 use Rattle.ring_saved.specs.declared.saved.SavedRing.{SavedRing}
 use Rattle.ring_check.specs.Table.{event_of}
+use Rattle.ring_chains.specs.Bases.{no_base}
 use Rattle.ring_desk.specs.Texts.{surveys_told}
 use Rattle.ring_serve.specs.declared.starting.StartError.{StartError}
 use Rattle.ring_serve.specs.declared.starting.StartError.TheVariants as start
 use Rattle.ring_serve.specs.Standings.{Standing}
 
--- the ring is where the saved one ended: it has its start, its history and its surveys
+-- the ring is where the saved one ended, with nothing before: it has its start, its history and its
+-- surveys
 pub record IsResumed (r : Standing) (saved : SavedRing) : Type 0 where
+  pub base : r.base ≡ no_base
   pub start : r.start ≡ ring_with saved.k saved.start.items
   pub history : r.history ≡ map event_of saved.events.items
   pub surveys : surveys_told r.clients ≡ saved.surveys.items

@@ -11,19 +11,20 @@ use Rattle.ring_serve.specs.Standings.{Standing}
 abbrev pub surveys_among : List LogView → ℕ
 surveys_among cs = sum_by (λ (c : LogView). survey_count c.log) cs
 
--- the events, the granted passes and the surveys of all rings
+-- the events and the granted passes of all rings, from the first of all, and the surveys of their
+-- segments
 abbrev pub totals_of : List Standing → Totals
 totals_of rs = record {
-  events = sum_by (λ (r : Standing). length r.history) rs;
-  granted = sum_by (λ (r : Standing). granted_count r.history) rs;
+  events = sum_by (λ (r : Standing). r.base.events + length r.history) rs;
+  granted = sum_by (λ (r : Standing). r.base.grants + granted_count r.history) rs;
   surveys = sum_by (λ (r : Standing). surveys_among r.clients) rs;
 }
 
 -- these sums with one ring more
 abbrev pub with_ring : Totals → Standing → Totals
 with_ring all r = record {
-  events = all.events + length r.history;
-  granted = all.granted + granted_count r.history;
+  events = all.events + (r.base.events + length r.history);
+  granted = all.granted + (r.base.grants + granted_count r.history);
   surveys = all.surveys + surveys_among r.clients;
 }
 

@@ -1,5 +1,5 @@
 -- How each command is answered, at each state of the rings (this project's own).
-use Rattle.std.specs.Prelude.{◌≡◌, ℕ, ◌≤◌, List, [], ◌∷◌, length, drop, slice_get, slice_set, Bool, false, not, if◌then◌else◌, Option, Some, None, ◌⊎◌}
+use Rattle.std.specs.Prelude.{◌≡◌, ℕ, ◌+◌, ◌≤◌, List, [], ◌∷◌, length, drop, slice_get, slice_set, Bool, false, not, if◌then◌else◌, Option, Some, None, ◌⊎◌}
 use Rattle.ring_model.specs.Ring.{is_privileged}
 use Rattle.ring_model.specs.History.{reply}
 use Rattle.ring_model.specs.Resources.{till}
@@ -9,11 +9,12 @@ use Rattle.ring_model.specs.declared.events.Reply.{Reply}
 use Rattle.ring_model.specs.declared.events.Reply.TheVariants as reply_is
 use Rattle.ring_model.specs.declared.events.Event.{Event}
 use Rattle.ring_model.specs.declared.events.Survey.{Survey}
+use Rattle.ring_chains.specs.Bases.{shifted_reply}
 use Rattle.ring_desk.specs.Refusals.{Bounds, seat_refusal, place_refusal, pass_refusal, corrupt_refusal, group_refusal}
 use Rattle.ring_desk.specs.declared.errors.CallError.{CallError}
 use Rattle.ring_desk.specs.declared.errors.CallError.TheVariants as call
 use Rattle.ring_serve.specs.Commands.{Command, pass, try, group, corrupt, survey, glance, save, IsLineOf, heard, ring_of, line_limit}
-use Rattle.ring_serve.specs.Standings.{Standing, state_of, event_now, block_now, survey_now, with_events, with_survey}
+use Rattle.ring_serve.specs.Standings.{Standing, state_of, event_now, block_now, survey_now, shifted_survey_now, with_events, with_survey}
 use Rattle.ring_serve.specs.declared.turns.CallAnswer.{CallAnswer}
 use Rattle.ring_serve.specs.declared.turns.Trace.{Trace}
 use Rattle.ring_serve.specs.declared.turns.Trace.TheVariants as trace
@@ -68,10 +69,11 @@ answer_of (reply_is.Granted number result) = answer.Granted number result
 answer_of reply_is.NotPrivileged = answer.Waits
 answer_of (reply_is.Corrupted old) = answer.Corrupted old
 
--- a call of the ring: its answer and its ring afterwards are those of the one-thread ring
+-- a call of the ring: its ring afterwards is that of the one-thread ring, and so is its answer,
+-- shifted
 abbrev pub called : ℕ → Standing → ℕ → Op → Turn Standing
 called ring r seat op = record {
-  answer = answer_of (reply till (state_of r) op);
+  answer = answer_of (shifted_reply r.base (reply till (state_of r) op));
   recorded = events ring (event_now r seat op ∷ []) ∷ [];
   leaves = with_events r seat (event_now r seat op ∷ []);
 }
@@ -88,7 +90,7 @@ waits r = record { answer = answer.Waits; recorded = []; leaves = r }
 -- a group passes
 abbrev pub grouped : ℕ → Standing → ℕ → ℕ → List ℕ → Turn Standing
 grouped ring r seat order machines = record {
-  answer = answer.Block (length r.history) (length machines);
+  answer = answer.Block (r.base.events + length r.history) (length machines);
   recorded = events ring (block_now r seat order machines) ∷ [];
   leaves = with_events r seat (block_now r seat order machines);
 }
@@ -107,12 +109,12 @@ turn_at r (group ring seat order machines) =
     unless (group_refusal (bounds_now r) seat machines) r (grouped ring r seat order machines)
 turn_at r (survey ring seat) =
     unless (seat_refusal (bounds_now r) seat) r (record {
-      answer = answer.Survey (survey_now r);
+      answer = answer.Survey (shifted_survey_now r);
       recorded = surveyed ring seat (survey_now r) ∷ [];
       leaves = with_survey r seat (survey_now r);
     })
 turn_at r (glance ring) = record {
-  answer = answer.Survey (survey_now r);
+  answer = answer.Survey (shifted_survey_now r);
   recorded = [];
   leaves = r;
 }

@@ -1,6 +1,7 @@
 //! The laws of turns and of the journal: functions with empty bodies, whose contracts are the laws.
 
 ghost use Rattle.ring_serve.specs.Recording.{JournalsAreRight};
+ghost use Rattle.ring_serve.specs.Segments.{ChainsGrow, AnswersAreOfChains, BlocksAreOfChains, SurveysAreOfChains};
 ghost use Rattle.ring_serve.specs.Turns.{OneTurnIsRight};
 
 /// A line has one turn, memory aside.
@@ -12,4 +13,13 @@ pub fn one_turn_is_right()
 /// at each moment, and it records the rings as they are saved at the end. So any history that is recovered of it is theirs.
 pub fn journals_are_right()
     ensures { JournalsAreRight }
+{}
+
+/// The segments of a ring are a chain, wherever one ends and the next begins; and each answer is that of the one-thread ring
+/// whose history is the whole chain.
+pub fn answers_are_of_chains()
+    ensures grow { ChainsGrow }
+    ensures calls { AnswersAreOfChains }
+    ensures blocks { BlocksAreOfChains }
+    ensures surveys { SurveysAreOfChains }
 {}

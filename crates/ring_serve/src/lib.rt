@@ -7,6 +7,7 @@ mod laws;
 mod numbers;
 mod permits;
 mod saving;
+mod segments;
 mod served;
 mod serving;
 mod starting;
@@ -15,7 +16,7 @@ mod turns;
 
 pub use answers::{Answer, Refusal};
 pub use commands::{Command, LINE_LIMIT, read_command};
-pub use laws::{journals_are_right, one_turn_is_right};
+pub use laws::{answers_are_of_chains, journals_are_right, one_turn_is_right};
 pub use permits::Permits;
 pub use saving::{save_rings, write_rings};
 pub use served::{LineAnswer, Served, answer_line};

@@ -8,20 +8,30 @@ ghost use Rattle.ring_saved.specs.Versions.{latest_version};
 ghost use Rattle.ring_saved.specs.Spelling.{block_text, text, BlockFits, Fits};
 ghost use Rattle.ring_check.specs.Legal.{IsLegalText};
 ghost use Rattle.ring_serve.specs.Standings.{standing_of};
-ghost use Rattle.ring_serve.specs.Saved.{blocks_from, content_of};
+ghost use Rattle.ring_serve.specs.Saved.{block_at, blocks_from, content_of};
 
 use crate::served::Served;
 use disks::{Contents, ContentsFault, Disk, replace};
-use ring_book::Till;
-use ring_desk::{OneThreadRing, put_ring};
+use ring_desk::put_ring;
+use ring_endless::EndlessRing;
 use ring_saved::LATEST_VERSION;
 use ring_saved::put_lines::{put_done_line, put_first_line};
 use std::alloc::Global;
 use std::io::Write;
 use text_lines::WriteFault;
 
+/// Writes the block of a ring's segment, with its place.
+fn put_segment<W: Write>(out: &mut W, place: u32, ring: &EndlessRing) -> Result<(), WriteFault>
+    ensures written { Writes (W.contents out.old) (W.contents out.new) result
+        (block_text (block_at place (standing_of ring.now))) }
+    ensures fits { IfOk result (λ _.
+        BlockFits latest_version (block_at place (standing_of ring.now))) }
+{
+    put_ring(out, place, ring.segment())
+}
+
 /// Writes the blocks of the rings, each with its place from 0.
-fn put_blocks<W: Write>(out: &mut W, rings: &[OneThreadRing<Till>]) -> Result<(), WriteFault>
+fn put_blocks<W: Write>(out: &mut W, rings: &[EndlessRing]) -> Result<(), WriteFault>
     requires { length rings.now < 2 ^ 32 }
     ensures written { Writes (W.contents out.old) (W.contents out.new) result
         (flat_map block_text (blocks_from 0 (map standing_of rings.now))) }
@@ -29,7 +39,7 @@ fn put_blocks<W: Write>(out: &mut W, rings: &[OneThreadRing<Till>]) -> Result<()
         AllByRecursion (BlockFits latest_version) (blocks_from 0 (map standing_of rings.now))) }
 {
     for (place, ring) in rings.iter().enumerate() {
-        match put_ring(out, place as u32, ring) {
+        match put_segment(out, place as u32, ring) {
             Ok(()) => {}
             Err(fault) => return Err(fault),
         }
@@ -38,7 +48,7 @@ fn put_blocks<W: Write>(out: &mut W, rings: &[OneThreadRing<Till>]) -> Result<()
 }
 
 /// Writes the saved text of these rings, at least one.
-fn write_text<W: Write>(out: &mut W, rings: &[OneThreadRing<Till>]) -> Result<(), WriteFault>
+fn write_text<W: Write>(out: &mut W, rings: &[EndlessRing]) -> Result<(), WriteFault>
     requires some { 1 ≤ length rings.now }
     requires most { length rings.now < 2 ^ 32 }
     ensures written { Writes (W.contents out.old) (W.contents out.new) result

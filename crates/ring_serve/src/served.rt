@@ -4,16 +4,14 @@ ghost use Rattle.std.specs.Prelude.{◌≡◌, [], ◌∷◌, ◌++◌, length, 
 ghost use Rattle.ring_serve.specs.declared.answers.Answer.TheVariants as answer;
 ghost use Rattle.ring_serve.specs.declared.turns.Trace.TheVariants as trace;
 ghost use Rattle.ring_serve.specs.Commands.{seen, ring_of};
-ghost use Rattle.ring_model.specs.Resources.{till};
-ghost use Rattle.ring_desk.specs.Rings.{IsOneThreadRing};
+ghost use Rattle.ring_endless.specs.Endless.{IsEndless};
 ghost use Rattle.ring_serve.specs.Standings.{standing_of, AreRight};
 ghost use Rattle.ring_serve.specs.Turns.{IsTurn, is_off, IsHeardTurn, IsTurnOfLine, turn_seen_among, history_of};
 
 use crate::answers::Refusal;
 use crate::commands::{Command, LINE_LIMIT, read_command};
 use crate::turns::{CallAnswer, make, refusal_answer};
-use ring_book::Till;
-use ring_desk::OneThreadRing;
+use ring_endless::EndlessRing;
 use ring_model::Event;
 use std::alloc::{AllocError, Global};
 use std::marker::Model;
@@ -22,7 +20,7 @@ use text_lines::Stop;
 /// Rings that are called by their numbers, from 0. Contracts see the state of each of them.
 #[derive(Drop)]
 pub struct Served {
-    rings: Vec<OneThreadRing<Till>>,
+    rings: Vec<EndlessRing>,
 }
 
 impl Model for Served {
@@ -69,7 +67,7 @@ fn is_off(faults: bool, command: &Command) -> bool
 }
 
 /// A command for one of the rings.
-fn make_among(rings: &mut Vec<OneThreadRing<Till>>, command: &Command) -> CallAnswer
+fn make_among(rings: &mut Vec<EndlessRing>, command: &Command) -> CallAnswer
     requires { AreRight rings.old.items }
     ensures turn { IsTurn (map standing_of rings.old.items) (seen command.now)
         (turn_seen_among (ring_of (seen command.now)) (map standing_of rings.new.items) result) }
@@ -83,13 +81,13 @@ fn make_among(rings: &mut Vec<OneThreadRing<Till>>, command: &Command) -> CallAn
 }
 
 /// The events of a ring's history from a place on; none if there is no such ring.
-fn events_of(rings: &[OneThreadRing<Till>], ring: usize, from: usize) -> &[Event]
+fn events_of(rings: &[EndlessRing], ring: usize, from: usize) -> &[Event]
     ensures { result.now ≡ drop from (history_of (slice_get (map standing_of rings.now) ring)) }
 {
     if ring >= rings.len() {
         return &[];
     }
-    let history = rings[ring].history();
+    let history = rings[ring].segment().history();
     if from > history.len() {
         return &[];
     }
@@ -97,9 +95,9 @@ fn events_of(rings: &[OneThreadRing<Till>], ring: usize, from: usize) -> &[Event
 }
 
 /// A ring more.
-fn add_to(rings: &mut Vec<OneThreadRing<Till>>, ring: OneThreadRing<Till>) -> Result<(), AllocError>
+fn add_to(rings: &mut Vec<EndlessRing>, ring: EndlessRing) -> Result<(), AllocError>
     requires all { AreRight rings.old.items }
-    requires ring { IsOneThreadRing till 0 ring }
+    requires ring { IsEndless ring }
     ensures right { AreRight rings.new.items }
     ensures ok { OnOk result (map standing_of rings.new.items
         ≡ map standing_of rings.old.items ++ standing_of ring ∷ []) }
@@ -125,8 +123,8 @@ impl Served {
     /// # Errors
     ///
     /// Out of memory alone.
-    pub fn add(&mut self, ring: OneThreadRing<Till>) -> Result<(), AllocError>
-        requires { IsOneThreadRing till 0 ring }
+    pub fn add(&mut self, ring: EndlessRing) -> Result<(), AllocError>
+        requires { IsEndless ring }
         ensures ok { OnOk result (self.new ≡ self.old ++ standing_of ring ∷ []) }
         ensures err { OnErr result (self.new ≡ self.old) }
     {
@@ -141,7 +139,7 @@ impl Served {
     }
 
     /// The rings, in their order, as they are.
-    pub(crate) fn rings(&self) -> &[OneThreadRing<Till>]
+    pub(crate) fn rings(&self) -> &[EndlessRing]
         ensures same { map standing_of result.now ≡ self.now }
         ensures right { AreRight result.now }
     {

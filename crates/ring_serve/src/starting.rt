@@ -4,7 +4,9 @@ ghost use Rattle.std.specs.Prelude.{◌<◌, IfOk, IfErr};
 ghost use Rattle.ring_serve.specs.Starting.{AreResumed, IsStartFault};
 
 use crate::served::Served;
+use ring_chains::Base;
 use ring_desk::from_saved;
+use ring_endless::EndlessRing;
 use ring_model::limits::{EVENT_LIMIT, SEAT_LIMIT};
 use ring_saved::Saved;
 use std::alloc::Global;
@@ -36,6 +38,7 @@ impl Served {
             let Ok(ring) = from_saved(alloc, ring, SEAT_LIMIT as u32) else {
                 return Err(StartError::OutOfMemory);
             };
+            let ring = EndlessRing::after(Base::none(), ring);
             let Ok(()) = served.add(ring) else {
                 return Err(StartError::OutOfMemory);
             };

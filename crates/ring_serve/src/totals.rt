@@ -8,6 +8,7 @@ use crate::served::Served;
 use ring_blocks::{Totals, granted};
 use ring_book::Till;
 use ring_desk::OneThreadRing;
+use ring_endless::EndlessRing;
 
 /// How many surveys the clients of a ring were given; none if they are 2 to the power 64 or more.
 fn surveys_of(ring: &OneThreadRing<Till>) -> Option<u64>
@@ -23,20 +24,23 @@ fn surveys_of(ring: &OneThreadRing<Till>) -> Option<u64>
 }
 
 /// The sums over rings, with one ring more; none if one of them has more than 64 bits.
-fn with_ring(all: Totals, ring: &OneThreadRing<Till>) -> Option<Totals>
+fn with_ring(all: Totals, ring: &EndlessRing) -> Option<Totals>
     ensures some { IfSome result (λ totals. totals ≡ with_ring all (standing_of ring.now)) }
     ensures none { IsNone result → AreTooLarge (with_ring all (standing_of ring.now)) }
 {
-    let history = ring.history();
+    let base = ring.base();
+    let history = ring.segment().history();
+    let events = all.events.checked_add(base.events)?;
+    let grants = all.granted.checked_add(base.grants)?;
     Some(Totals {
-        events: all.events.checked_add(history.len() as u64)?,
-        granted: all.granted.checked_add(granted(history) as u64)?,
-        surveys: all.surveys.checked_add(surveys_of(ring)?)?,
+        events: events.checked_add(history.len() as u64)?,
+        granted: grants.checked_add(granted(history) as u64)?,
+        surveys: all.surveys.checked_add(surveys_of(ring.segment())?)?,
     })
 }
 
 /// The sums over rings; none if one of them has more than 64 bits.
-fn totals_of(rings: &[OneThreadRing<Till>]) -> Option<Totals>
+fn totals_of(rings: &[EndlessRing]) -> Option<Totals>
     ensures some { IfSome result (λ totals. totals ≡ totals_of (map standing_of rings.now)) }
     ensures none { IsNone result → AreTooLarge (totals_of (map standing_of rings.now)) }
 {

@@ -1,25 +1,24 @@
 //! The calls of one ring, each with its answer and its record.
 
 ghost use Rattle.std.specs.Prelude.{◌≡◌, ℕ};
-ghost use Rattle.ring_model.specs.Resources.{till};
-ghost use Rattle.ring_desk.specs.Rings.{IsOneThreadRing};
+ghost use Rattle.ring_endless.specs.Endless.{IsEndless};
 ghost use Rattle.ring_serve.specs.Commands.{seen, ring_of, pass, try, group, corrupt, survey, glance};
 ghost use Rattle.ring_serve.specs.Standings.{standing_of};
 ghost use Rattle.ring_serve.specs.Turns.{IsTurnAt, turn_seen, answer_of, refusal_of};
 
 use crate::answers::{Answer, Refusal};
 use crate::commands::Command;
-use ring_book::Till;
-use ring_desk::{CallError, OneThreadRing};
+use ring_desk::CallError;
+use ring_endless::EndlessRing;
 use ring_model::{Reply, Survey};
 
 /// The trace of a call: what is to be recorded of it.
 #[derive(Clone, Copy)]
 pub enum Trace {
     Nothing,
-    /// The events of the ring's history, from this place on.
+    /// The events of the ring's segment, from this place on.
     Events(usize),
-    /// A survey, which the log of a seat keeps.
+    /// A survey of the segment, which the log of a seat keeps.
     Survey { seat: u32, survey: Survey },
 }
 
@@ -68,14 +67,13 @@ fn answer_of(reply: Reply) -> Answer
 }
 
 /// A pass by a machine, for a seat.
-fn make_pass(ring: &mut OneThreadRing<Till>, seat: u32, machine: u32, order: u64) -> CallAnswer
-    requires { IsOneThreadRing till 0 ring.old }
+fn make_pass(ring: &mut EndlessRing, seat: u32, machine: u32, order: u64) -> CallAnswer
     ensures turn { (at : ℕ)
         → IsTurnAt (standing_of ring.old) (pass at seat machine order)
         (turn_seen at (standing_of ring.new) result) }
-    ensures ring { IsOneThreadRing till 0 ring.new }
+    ensures ring { IsEndless ring.new }
 {
-    let from = ring.history().len();
+    let from = ring.segment().history().len();
     match ring.pass(seat, machine, order) {
         Ok(receipt) => CallAnswer {
             answer: answer_of(receipt.event.reply),
@@ -86,14 +84,13 @@ fn make_pass(ring: &mut OneThreadRing<Till>, seat: u32, machine: u32, order: u64
 }
 
 /// A pass by a machine, for a seat, if the machine is privileged; if not, there is nothing to record.
-fn make_try(ring: &mut OneThreadRing<Till>, seat: u32, machine: u32, order: u64) -> CallAnswer
-    requires { IsOneThreadRing till 0 ring.old }
+fn make_try(ring: &mut EndlessRing, seat: u32, machine: u32, order: u64) -> CallAnswer
     ensures turn { (at : ℕ)
         → IsTurnAt (standing_of ring.old) (try at seat machine order)
         (turn_seen at (standing_of ring.new) result) }
-    ensures ring { IsOneThreadRing till 0 ring.new }
+    ensures ring { IsEndless ring.new }
 {
-    let from = ring.history().len();
+    let from = ring.segment().history().len();
     match ring.try_pass(seat, machine, order) {
         Ok(Some(receipt)) => CallAnswer {
             answer: answer_of(receipt.event.reply),
@@ -108,14 +105,13 @@ fn make_try(ring: &mut OneThreadRing<Till>, seat: u32, machine: u32, order: u64)
 }
 
 /// A fault, for a seat.
-fn make_fault(ring: &mut OneThreadRing<Till>, seat: u32, machine: u32, value: u32) -> CallAnswer
-    requires { IsOneThreadRing till 0 ring.old }
+fn make_fault(ring: &mut EndlessRing, seat: u32, machine: u32, value: u32) -> CallAnswer
     ensures turn { (at : ℕ)
         → IsTurnAt (standing_of ring.old) (corrupt at seat machine value)
         (turn_seen at (standing_of ring.new) result) }
-    ensures ring { IsOneThreadRing till 0 ring.new }
+    ensures ring { IsEndless ring.new }
 {
-    let from = ring.history().len();
+    let from = ring.segment().history().len();
     match ring.corrupt(seat, machine, value) {
         Ok(receipt) => CallAnswer {
             answer: answer_of(receipt.event.reply),
@@ -126,14 +122,13 @@ fn make_fault(ring: &mut OneThreadRing<Till>, seat: u32, machine: u32, value: u3
 }
 
 /// A pass by a group of machines at once, for a seat.
-fn make_group(ring: &mut OneThreadRing<Till>, seat: u32, order: u64, machines: &[u32]) -> CallAnswer
-    requires { IsOneThreadRing till 0 ring.old }
+fn make_group(ring: &mut EndlessRing, seat: u32, order: u64, machines: &[u32]) -> CallAnswer
     ensures turn { (at : ℕ)
         → IsTurnAt (standing_of ring.old) (group at seat order machines.now)
         (turn_seen at (standing_of ring.new) result) }
-    ensures ring { IsOneThreadRing till 0 ring.new }
+    ensures ring { IsEndless ring.new }
 {
-    let from = ring.history().len();
+    let from = ring.segment().history().len();
     match ring.pass_group(seat, machines, order) {
         Ok(receipt) => CallAnswer {
             answer: Answer::Block {
@@ -147,16 +142,16 @@ fn make_group(ring: &mut OneThreadRing<Till>, seat: u32, order: u64, machines: &
 }
 
 /// A survey, which the log of a seat keeps.
-fn make_survey(ring: &mut OneThreadRing<Till>, seat: u32) -> CallAnswer
-    requires { IsOneThreadRing till 0 ring.old }
+fn make_survey(ring: &mut EndlessRing, seat: u32) -> CallAnswer
     ensures turn { (at : ℕ)
         → IsTurnAt (standing_of ring.old) (survey at seat)
         (turn_seen at (standing_of ring.new) result) }
-    ensures ring { IsOneThreadRing till 0 ring.new }
+    ensures ring { IsEndless ring.new }
 {
+    let survey = ring.segment().glance();
     match ring.survey(seat) {
-        Ok(survey) => CallAnswer {
-            answer: Answer::Survey(survey),
+        Ok(shifted) => CallAnswer {
+            answer: Answer::Survey(shifted),
             trace: Trace::Survey { seat, survey },
         },
         Err(error) => refusal_answer(refusal_of(error)),
@@ -164,11 +159,11 @@ fn make_survey(ring: &mut OneThreadRing<Till>, seat: u32) -> CallAnswer
 }
 
 /// A command for its ring.
-pub(crate) fn make(ring: &mut OneThreadRing<Till>, command: &Command) -> CallAnswer
-    requires { IsOneThreadRing till 0 ring.old }
+pub(crate) fn make(ring: &mut EndlessRing, command: &Command) -> CallAnswer
+    requires { IsEndless ring.old }
     ensures turn { IsTurnAt (standing_of ring.old) (seen command.now)
         (turn_seen (ring_of (seen command.now)) (standing_of ring.new) result) }
-    ensures ring { IsOneThreadRing till 0 ring.new }
+    ensures ring { IsEndless ring.new }
 {
     match command {
         Command::Pass {

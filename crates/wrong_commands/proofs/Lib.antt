@@ -7,3 +7,4 @@ pub mod Spoiled
 pub mod Permitted
 pub mod Unnoted
 pub mod Traced
+pub mod Unchained

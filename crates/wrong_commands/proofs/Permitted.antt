@@ -2,6 +2,8 @@
 use Rattle.std.proofs.Common.{◌≡◌, ℕ, List, Bool, true, false, cond, if◌then◌else◌, Option, None, Some, inl, inr, refl, sym, subst}
 use Rattle.ring_model.specs.Ring.{is_privileged}
 use Rattle.ring_model.specs.declared.events.Reply.TheVariants as reply_is
+use Rattle.ring_chains.specs.declared.bases.Base.{Base}
+use Rattle.ring_chains.specs.Bases.{shifted_reply}
 use Rattle.ring_desk.specs.Refusals.{seat_refusal, place_refusal, pass_refusal, group_refusal}
 use Rattle.ring_desk.specs.declared.errors.CallError.{CallError}
 use Rattle.ring_serve.specs.Commands.{Command, pass, try, group, corrupt, survey, glance, save, heard}
@@ -31,18 +33,18 @@ waits_none r old e = no e
     no p = cc
 
 -- a pass is granted, or waits
-reply_none : (privileged : Bool) (number result old : ℕ) → answer_of (cond privileged (reply_is.Granted number result) reply_is.NotPrivileged) ≡ answer.Corrupted old → ⊥
-reply_none true number result old e = no e
+reply_none : (b : Base) (privileged : Bool) (number result old : ℕ) → answer_of (shifted_reply b (cond privileged (reply_is.Granted number result) reply_is.NotPrivileged)) ≡ answer.Corrupted old → ⊥
+reply_none b true number result old e = no _ _ e
   where
-    no : answer.Granted number result ≡ answer.Corrupted old → ⊥
-    no p = cc
-reply_none false number result old e = no e
+    no : (x y : ℕ) → answer.Granted x y ≡ answer.Corrupted old → ⊥
+    no x y p = cc
+reply_none b false number result old e = no e
   where
     no : answer.Waits ≡ answer.Corrupted old → ⊥
     no p = cc
 
 pass_none : (r : Standing) (ring seat machine order : ℕ) → IsNoFault (passed ring r seat machine order)
-pass_none r ring seat machine order = unless_none (pass_refusal (bounds_now r) seat machine) r _ (λ old e. reply_none (is_privileged (state_of r).ring.values machine) _ _ old e)
+pass_none r ring seat machine order = unless_none (pass_refusal (bounds_now r) seat machine) r _ (λ old e. reply_none r.base (is_privileged (state_of r).ring.values machine) _ _ old e)
 
 try_none : (r : Standing) (ring seat machine order : ℕ) (privileged : Bool) → IsNoFault (if privileged then passed ring r seat machine order else unless (place_refusal (bounds_now r) seat machine) r (waits r))
 try_none r ring seat machine order true = pass_none r ring seat machine order

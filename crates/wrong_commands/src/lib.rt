@@ -1,6 +1,6 @@
-//! Wrong bodies of what replaces a file, of what writes a farm's texts, of what a journal recovers, of how lines are answered and served, and of the
-//! the commands: each calls a real function with something wrong, or spoils its answer, and its contract says that the result
-//! does not meet the clause that the real one promises.
+//! Wrong bodies of what replaces a file, of what writes a farm's texts, of what a journal recovers, of which files are a
+//! chain, of how lines are answered and served, and of the commands: each calls a real function with something wrong, or
+//! spoils its answer, and its contract says that the result does not meet the clause that the real one promises.
 #![tactic(auto)]
 
 pub mod commands;
@@ -9,6 +9,7 @@ pub mod fresh;
 pub mod journals;
 pub mod lines;
 pub mod replacing;
+pub mod segments;
 pub mod serving;
 pub mod texts;
 pub mod upgrades;

@@ -1,6 +1,6 @@
 use Rattle.std.proofs.Common.{◌≡◌, List, [], ◌∷◌, ◌++◌, ℕ, map, subst, sym, ap, ◌∙◌, arith}
 use Rattle.std.proofs.lemmas.Grind.{common_steps}
-use Rattle.ring_desk.specs.Rings.{RingView}
+use Rattle.ring_endless.specs.Endless.{EndlessView}
 use Rattle.ring_serve.specs.Standings.{standing_of, AreRight}
 use Rattle.ring_serve.proofs.Placing.{right_more, standings_more}
 use Rattle.ring_serve.proofs.served.add_to.Goals as goal
@@ -8,9 +8,9 @@ use Rattle.ring_serve.proofs.served.add_to.Goals as goal
 pub returns-clause-right : goal.returns-clause-right
 returns-clause-right c =
     let e : c.push_reserved.new.self.items ≡ c.args.rings.now.items ++ c.args.ring ∷ [] = grind (arith, common_steps) in
-    subst (λ (xs : List (RingView ℕ)). AreRight xs) (sym e) (right_more c.args.rings.now.items c.args.ring c.requires.all c.requires.ring)
+    subst (λ (xs : List EndlessView). AreRight xs) (sym e) (right_more c.args.rings.now.items c.args.ring c.requires.all c.requires.ring)
 
 pub returns-clause-ok : goal.returns-clause-ok
 returns-clause-ok c =
     let e : c.push_reserved.new.self.items ≡ c.args.rings.now.items ++ c.args.ring ∷ [] = grind (arith, common_steps) in
-    ap (λ (xs : List (RingView ℕ)). map standing_of xs) e ∙ standings_more c.args.rings.now.items c.args.ring
+    ap (λ (xs : List EndlessView). map standing_of xs) e ∙ standings_more c.args.rings.now.items c.args.ring

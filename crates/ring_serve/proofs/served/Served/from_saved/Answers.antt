@@ -1,7 +1,10 @@
-use Rattle.std.proofs.Common.{◌≡◌, ◌<◌, length, List, get_or, Some, refl, sym, ap, ◌∙◌, arith, subst}
+use Rattle.std.proofs.Common.{◌≡◌, ℕ, ◌<◌, length, List, get_or, Some, refl, sym, ap, ◌∙◌, arith, subst}
 use Rattle.std.proofs.lemmas.Option.{slice_get-get_or}
 use Rattle.ring_saved.specs.declared.saved.SavedRing.{SavedRing}
+use Rattle.ring_desk.specs.Rings.{RingView}
+use Rattle.ring_desk.specs.Texts.{surveys_told}
 use Rattle.ring_serve.specs.Standings.{standing_of}
+use Rattle.ring_serve.specs.Starting.{IsResumed}
 use Rattle.ring_serve.proofs.Resuming.{resumed_more}
 use Rattle.ring_serve.proofs.served.Served.from_saved.Goals as goal
 
@@ -27,5 +30,12 @@ loop-number-preserved c =
     let same = c.deref-ring-items.ensures.value in
     let within : c.loop-number.number < length rings = subst (λ (xs : List SavedRing). c.loop-number.number < length xs) same c.loop-number-test.true in
     let at : ring ≡ get_or rings c.loop-number.number ring = c.ring-item.is ∙ ap (λ (xs : List SavedRing). get_or xs c.loop-number.number ring) same in
-    resumed_more c.loop-number.served c.add.new.self rings c.loop-number.number (standing_of c.in-Ok.ring) ring within at c.loop-number.invariant
-    (record { start = c.in-Ok.ensures.start; history = c.in-Ok.ensures.history; surveys = c.in-Ok.ensures.surveys; seats = c.in-Ok.ensures.seats }) c.in-Ok-add.ensures.ok
+    let is = c.after-ring.ensures.ring in
+    let resumed : IsResumed (standing_of c.after-ring.result) ring = record {
+      base = c.after-ring.ensures.base ∙ c.none.ensures.none;
+      start = ap (λ (d : RingView ℕ). d.book.start) is ∙ c.in-Ok.ensures.start;
+      history = ap (λ (d : RingView ℕ). d.book.history) is ∙ c.in-Ok.ensures.history;
+      surveys = ap (λ (d : RingView ℕ). surveys_told d.clients) is ∙ c.in-Ok.ensures.surveys;
+      seats = ap (λ (d : RingView ℕ). length d.clients) is ∙ c.in-Ok.ensures.seats;
+    } in
+    resumed_more c.loop-number.served c.add.new.self rings c.loop-number.number (standing_of c.after-ring.result) ring within at c.loop-number.invariant resumed c.in-Ok-add.ensures.ok

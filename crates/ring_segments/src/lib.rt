@@ -1,0 +1,28 @@
+//! A history without end, cut into files that follow one another: the text of a file, and the check of such files.
+//!
+//! A file has a head, which says what came before, and after it a journal with a segment of each ring.
+//! `specs/Spelling.antt` spells the head, `specs/Files.antt` says when files are a chain.
+#![tactic(auto)]
+
+mod chain;
+mod digests;
+mod errors;
+mod heads;
+mod laws;
+mod links;
+mod places;
+mod read;
+mod replay;
+mod segments;
+mod sums;
+mod write;
+
+pub use chain::Chain;
+pub use digests::{DIGEST_DIGITS, digest, digits};
+pub use errors::SegmentError;
+pub use heads::SegmentHead;
+pub use laws::{added_are_chained, files_tell_histories, one_file};
+pub use read::read_head;
+pub use sums::ChainSums;
+pub use text_lines::{ReadError, WriteFault};
+pub use write::put_head;

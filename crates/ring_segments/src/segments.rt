@@ -1,0 +1,107 @@
+//! A file as it is read: its head, and the history that is recovered of its journal.
+
+ghost use Rattle.std.specs.Prelude.{◌≡◌, ◌==◌, ℕ, ◌+◌, ◌<◌, ◌≤◌, ◌^◌, ◌↔◌, List, [], ◌∷◌, ◌++◌, length, map, IsTrue};
+ghost use Rattle.std.specs.List.{flat_map, count_by};
+ghost use Rattle.ring_saved.specs.Content.{block_of, content};
+ghost use Rattle.ring_check.specs.Lines.{block_lines};
+ghost use Rattle.ring_journal.specs.Recovery.{IsRecovered};
+ghost use Rattle.ring_segments.specs.Files.{IsAllOf};
+ghost use Rattle.ring_segments.specs.Chain.{IsReadSegment, refused_head, refused_journal, line_in};
+
+use crate::errors::SegmentError;
+use crate::heads::SegmentHead;
+use crate::read::read_head;
+use ring_journal::{RecoverError, recover_journal};
+use ring_saved::{Saved, SavedRing};
+use std::alloc::Global;
+use text_lines::ReadError;
+
+/// A file as it is read.
+#[derive(Drop)]
+pub(crate) struct Segment {
+    pub(crate) head: SegmentHead,
+    /// The history that is recovered of its journal.
+    pub(crate) saved: Saved,
+    /// Whether nothing of the journal is left out.
+    pub(crate) whole: bool,
+}
+
+/// A refusal of the head.
+fn of_head(error: ReadError) -> SegmentError
+    ensures { result ≡ refused_head error }
+{
+    match error {
+        ReadError::Syntax(line) => SegmentError::Syntax(line),
+        ReadError::Truncated => SegmentError::Truncated,
+        ReadError::OutOfMemory => SegmentError::OutOfMemory,
+    }
+}
+
+/// A refusal of the journal after a head of this many lines.
+fn of_journal(lines: u64, error: RecoverError) -> SegmentError
+    requires { line_in error + lines < 2 ^ 64 }
+    ensures { result ≡ refused_journal lines error }
+{
+    match error {
+        RecoverError::Truncated => SegmentError::Truncated,
+        RecoverError::Syntax(line) => SegmentError::Syntax(line + lines),
+        RecoverError::Bad { line, kind } => SegmentError::Bad {
+            line: line + lines,
+            kind,
+        },
+        RecoverError::OutOfMemory => SegmentError::OutOfMemory,
+    }
+}
+
+/// How many lines the blocks of these rings have.
+fn lines_of(rings: &[SavedRing]) -> usize
+    requires { length (flat_map block_lines (map block_of rings.now)) + 3 < 2 ^ 64 }
+    ensures { result ≡ length (flat_map block_lines (map block_of rings.now)) }
+{
+    let mut lines: usize = 0;
+    for ring in rings {
+        lines += 3 + ring.events.len() + ring.surveys.len();
+    }
+    lines
+}
+
+/// How many lines end in the bytes.
+fn ends(bytes: &[u8]) -> usize
+    ensures value { result ≡ count_by (λ b. b == 10) bytes.now }
+    ensures few { result ≤ length bytes.now }
+{
+    bytes.iter().filter(|b| **b == b'\n').count()
+}
+
+/// Whether the bytes end with a line.
+fn is_ended(bytes: &[u8]) -> bool
+    ensures { IsTrue result ↔ ((front : List ℕ) × (bytes.now ≡ front ++ 10 ∷ [])) }
+{
+    !bytes.is_empty() && bytes[bytes.len() - 1] == b'\n'
+}
+
+/// Whether the recovered history has each call of the journal: then as many lines end in the journal as the blocks of the
+/// history have, and three more: its first line, and the first and the last line of a saved text.
+fn is_whole(journal: &[u8], saved: &Saved) -> bool
+    requires { IsRecovered journal.now (content saved.now) }
+    ensures { IsTrue result ↔ IsAllOf journal.now (content saved.now) }
+{
+    is_ended(journal) && ends(journal) == lines_of(&saved.rings) + 3
+}
+
+/// Reads a file.
+pub(crate) fn read_segment(alloc: Global, bytes: &[u8]) -> Result<Segment, SegmentError>
+    ensures { IsReadSegment bytes.now result }
+{
+    let (head, journal) = match read_head(alloc, bytes) {
+        Ok(found) => found,
+        Err(error) => return Err(of_head(error)),
+    };
+    match recover_journal(alloc, journal) {
+        Ok(saved) => {
+            let whole = is_whole(journal, &saved);
+            Ok(Segment { head, saved, whole })
+        }
+        Err(error) => Err(of_journal(2 + head.bases.len() as u64, error)),
+    }
+}
