@@ -41,6 +41,7 @@ fn answers_count_on_over_the_end_of_a_segment(rt: HostRuntime) {
     let Ok(mut next) = before.next(alloc) else {
         panic!(rt; "there is memory");
     };
+    assert!(rt; next.count() == 1);
     let mut text = Vec::new(alloc);
     assert!(rt; write_rings(&mut text, &next).is_ok());
     assert!(rt;
