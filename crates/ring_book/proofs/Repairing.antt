@@ -1,17 +1,20 @@
 -- The history laws for a book, and the steps of its repairs.
-use Rattle.std.proofs.Common.{◌≡◌, ℕ, ◌-◌, ◌<◌, ◌≤◌, true, false, List, [], ◌∷◌, ◌++◌, length, append_assoc, append-nil, refl, sym, ◌∙◌, ap, subst, inl, inr, arith}
+use Rattle.std.proofs.Common.{◌≡◌, ℕ, ◌+◌, ◌-◌, ◌<◌, ◌≤◌, true, false, List, [], ◌∷◌, ◌++◌, length, append_assoc, append-nil, refl, sym, ◌∙◌, ap, subst, inl, inr, arith}
 use Rattle.std.proofs.lemmas.Bool.{cases_lt, both_ways, eqb-true}
 use Rattle.ring_model.specs.Ring.{is_privileged, moved, is_settled, privileged_count, first_privileged, rest, bound}
 use Rattle.ring_model.specs.History.{Works, State, opening, granted_state, next, reply, after}
 use Rattle.ring_model.specs.Surveys.{is_granted, calm}
 use Rattle.ring_model.specs.HistoryLaws.{Settlement}
+use Rattle.ring_model.specs.RepairLaws.{passes_left}
 use Rattle.ring_model.specs.Progress.{Progress}
 use Rattle.ring_model.specs.declared.events.Op.{Op}
 use Rattle.ring_model.specs.declared.events.Op.TheVariants.{Pass}
 use Rattle.ring_model.specs.declared.events.Event.{Event}
 use Rattle.ring_model.specs.declared.events.Receipt.{Receipt}
+use Rattle.ring_model.proofs.Moves.{length_move}
 use Rattle.ring_model.proofs.Settled.{first_is, rest_zero}
 use Rattle.ring_model.proofs.Descent.{descent}
+use Rattle.ring_model.proofs.FirstPasses.{unsettled_pass}
 use Rattle.ring_model.proofs.Histories.{StepOf-next, StepOf-reply, after-push}
 use Rattle.ring_model.proofs.Places.{calm_after}
 use Rattle.ring_model.proofs.HistoryLaws.{settlement}
@@ -55,6 +58,8 @@ no_repairs w old seat = record { repairs = tt; grown = sym (append-nil old.histo
 pub record IsTurn {C : Type 0} (w : Works C) (old b c : BookView C) (seat : ℕ) (passes : List Event) : Type 0 where
   pub made : IsRepairedBy w old c seat passes
   pub falls : rest c.now.ring < rest b.now.ring
+  pub count : passes_left b.now.ring ≡ passes_left c.now.ring + 1
+  pub size : length c.now.ring.values ≡ length b.now.ring.values
 
 pub repair_turn : {C : Type 0} (w : Works C) (first : C) (old b c : BookView C) (seat : ℕ) (es : List Event) (r : Receipt) (m : ℕ) →
     IsBook w first b → IsRepairedBy w old b seat es → is_settled b.now.ring.values ≡ false → m ≡ first_privileged b.now.ring.values →
@@ -82,6 +87,11 @@ repair_turn {C = C} w first old b c seat es r m k done unsettled q rec =
           descent b.now.ring m k.now_ring.ring inside on unsettled in
           let s : rest c.now.ring ≡ rest (moved b.now.ring m) = ap (λ (s : State C). rest s.ring) moves in
           omega arith;
+      count =
+          let d : passes_left b.now.ring ≡ passes_left (moved b.now.ring m) + 1 = unsettled_pass b.now.ring m k.now_ring.ring unsettled q in
+          let s : passes_left c.now.ring ≡ passes_left (moved b.now.ring m) = ap (λ (s : State _). passes_left s.ring) moves in
+          omega arith;
+      size = ap (λ (s : State _). length s.ring.values) moves ∙ length_move b.now.ring m;
     }
 
 -- a ring that is not settled has a rest

@@ -25,6 +25,13 @@ pub mod OneCut
 pub mod Scanning
 pub mod Rounds
 pub mod Waiting
+pub mod Labels
+pub mod FewRounds
+pub mod FirstPasses
+pub mod PassedValues
+pub mod SlowRuns
+pub mod LongRuns
+pub mod LongestRepair
 pub mod Progress
 mod Steps
 mod Worked

@@ -161,7 +161,7 @@ move_order_law n machines r some few =
 
 -- the machine whose turn it is
 
-down_at : (x i : ℕ) → i < x → get_or (down_from x) i 0 ≡ x - 1 - i
+pub down_at : (x i : ℕ) → i < x → get_or (down_from x) i 0 ≡ x - 1 - i
 down_at zero i l = absurd (omega arith)
 down_at (suc x) zero l = omega arith
 down_at (suc x) (suc i) l = let ih : get_or (down_from x) i 0 ≡ x - 1 - i = down_at x i (omega arith) in omega arith

@@ -1,6 +1,7 @@
 -- Worked values, found by hand from the definitions.
 use Rattle.std.proofs.Common.{◌≡◌, [], ◌∷◌, true, false, refl}
 use Rattle.ring_model.specs.Runs.{after_passes, granted_passes}
+use Rattle.ring_model.specs.RepairLaws.{copies_left, passes_left, longest_repair}
 use Rattle.ring_model.specs.Surveys.{survey_at}
 use Rattle.ring_model.specs.Resources.{till}
 use Rattle.ring_model.specs.Replay.{till_state}
@@ -86,6 +87,35 @@ bound_of_256 = refl
 -- 3 * 65536 * 65535 / 2, past 32 bits
 bound_of_65536 : bound 65536 ≡ 6442352640
 bound_of_65536 = refl
+
+-- where the first privileged machine passes each time: (0,2,1,0), (1,2,1,0), (1,1,1,0)
+passes_of_0210 : passes_left (ring_with 4 (0 ∷ 2 ∷ 1 ∷ 0 ∷ [])) ≡ 2
+passes_of_0210 = refl
+
+-- (0,2,2,0), (1,2,2,0), (1,1,2,0), (1,1,1,0)
+passes_of_0220 : passes_left (ring_with 4 (0 ∷ 2 ∷ 2 ∷ 0 ∷ [])) ≡ 3
+passes_of_0220 = refl
+
+-- (1,0,1,1), (2,0,1,1), (2,2,1,1): machine 2 keeps its value, since no other comes after it
+passes_of_1011 : passes_left (ring_with 4 (1 ∷ 0 ∷ 1 ∷ 1 ∷ [])) ≡ 2
+passes_of_1011 = refl
+
+copies_of_2011 : copies_left (2 ∷ 0 ∷ 1 ∷ 1 ∷ []) ≡ 1
+copies_of_2011 = refl
+
+-- settled
+passes_of_1110 : passes_left (ring_with 4 (1 ∷ 1 ∷ 1 ∷ 0 ∷ [])) ≡ 0
+passes_of_1110 = refl
+
+-- 2 * 13 / 2, 3 * 16 / 2, 8 * 31 / 2
+longest_of_4 : longest_repair 4 ≡ 13
+longest_of_4 = refl
+
+longest_of_5 : longest_repair 5 ≡ 24
+longest_of_5 = refl
+
+longest_of_10 : longest_repair 10 ≡ 124
+longest_of_10 = refl
 
 -- four machines with four values in the state (0,2,1,0) over a till: the group 0, 1, 3 with order 2
 order_of_013 : move_order (0 ∷ 1 ∷ 3 ∷ []) ≡ 1 ∷ 0 ∷ 3 ∷ []

@@ -8,6 +8,7 @@ pub mod legal_histories;
 pub mod limits;
 pub mod meanings;
 pub mod plain;
+pub mod repair_laws;
 pub mod replay;
 pub mod settlement;
 

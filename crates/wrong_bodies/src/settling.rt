@@ -1,13 +1,15 @@
 //! Wrong bodies of [`Book::settle`].
 
-ghost use Rattle.std.specs.Prelude.{◌≡◌, ◌≢◌, ◌<◌, ◌+◌, true, false, List, length, IfOk, OnOk};
+ghost use Rattle.std.specs.Prelude.{◌≡◌, ◌≢◌, ◌<◌, ◌≤◌, ◌+◌, true, false, List, length, IsOk, IfOk, OnOk};
 ghost use Rattle.ring_model.specs.Limits.{seat_limit};
-ghost use Rattle.ring_model.specs.Ring.{first_privileged, is_settled};
+ghost use Rattle.ring_model.specs.Ring.{first_privileged, is_settled, rest};
+ghost use Rattle.ring_model.specs.RepairLaws.{passes_left};
 ghost use Rattle.ring_model.specs.declared.events.Event.{Event};
 ghost use Rattle.ring_book.specs.Repairs.{IsRepairedBy};
 
 use crate::numbers::another;
 use ring_book::{Book, BookError, Resource};
+use ring_settle::rest;
 
 /// A ring that was settled has one privileged machine: this one is left as it was, where it has more.
 pub fn settles_nothing<R: Resource + Drop>(book: &mut Book<R>) -> Result<u64, BookError>
@@ -28,6 +30,28 @@ pub fn tells_another_number_of_repairs<R: Resource + Drop>(
 {
     let passes = book.settle(seat)?;
     Ok(another(passes))
+}
+
+/// The number of the passes is the one that the state before determines: here the rest is answered, where it is another.
+pub fn tells_the_rest_as_the_repairs<R: Resource + Drop>(
+    book: &mut Book<R>,
+    seat: u32,
+) -> Result<u64, BookError>
+    requires seat { seat < seat_limit }
+    requires more { rest book.old.now.ring ≢ passes_left book.old.now.ring }
+    ensures wrong { IfOk result (λ passes. passes ≡ passes_left book.old.now.ring → ⊥) }
+{
+    let most = rest(book.state());
+    book.settle(seat)?;
+    Ok(most)
+}
+
+/// With room for the passes that are left no call is refused: here it is.
+pub fn refuses_to_settle_with_room<R: Resource + Drop>(book: &mut Book<R>) -> Result<u64, BookError>
+    requires room { passes_left book.old.now.ring ≤ book.old.room }
+    ensures wrong { (passes_left book.old.now.ring ≤ book.old.room → IsOk result) → ⊥ }
+{
+    Err(BookError::HistoryFull)
 }
 
 /// The repairs are calls of the seat: here of another, where there is one at least.

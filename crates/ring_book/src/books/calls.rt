@@ -1,5 +1,6 @@
 ghost use Rattle.std.specs.Prelude.{◌≡◌, ◌<◌, ◌≤◌, ◌+◌, ◌↔◌, true, false, List, length, IsOk, IfOk, IfErr, OnOk, OnErr, IsErrOf};
 ghost use Rattle.ring_model.specs.Ring.{is_settled, rest};
+ghost use Rattle.ring_model.specs.RepairLaws.{passes_left};
 ghost use Rattle.ring_model.specs.History.{opening};
 ghost use Rattle.ring_model.specs.HistoryLaws.{Settlement};
 ghost use Rattle.ring_model.specs.declared.events.Event.{Event};
@@ -86,8 +87,9 @@ impl<R: Resource + Drop> Book<R> {
     }
 
     /// Passes the first privileged machine with order 0, as calls of `seat`, which is below `SEAT_LIMIT`, until exactly
-    /// one machine is privileged. Answers the number of these passes, which is at most the rest there was; in
-    /// a ring with one privileged machine it is 0 and nothing is recorded, also where the history is full.
+    /// one machine is privileged. Answers the number of these passes, which the state before determines, and which is at
+    /// most n - 1 and at most the rest there was; in a ring with one privileged machine it is 0 and nothing is recorded,
+    /// also where the history is full.
     ///
     /// # Errors
     ///
@@ -100,6 +102,8 @@ impl<R: Resource + Drop> Book<R> {
         ensures number { IfOk result
             (λ passes. length self.new.history ≡ length self.old.history + passes) }
         ensures few { IfOk result (λ passes. passes ≤ rest self.old.now.ring) }
+        ensures count { IfOk result (λ passes. passes ≡ passes_left self.old.now.ring) }
+        ensures soon { IfOk result (λ passes. passes + 1 ≤ length self.old.now.ring.values) }
         ensures none { is_settled self.old.now.ring.values ≡ true → result ≡ Ok 0 }
         ensures book { IsBook R.works R.first self.new }
         ensures settlement { Settlement R.works (opening self.new.start R.first) self.new.history }
@@ -107,6 +111,7 @@ impl<R: Resource + Drop> Book<R> {
             (λ e. (e ≡ BookError.HistoryFull) ↔ (length self.new.history ≡ event_limit)) }
         ensures err { OnErr result (is_settled self.new.now.ring.values ≡ false) }
         ensures succeeds { rest self.old.now.ring ≤ self.old.room → IsOk result }
+        ensures fits { passes_left self.old.now.ring ≤ self.old.room → IsOk result }
     {
         let mut passes = 0;
         while !self.is_settled() {

@@ -118,7 +118,7 @@ fn passes_and_corruptions_are_recorded(rt: HostRuntime) {
     play_all(&rt, rt.alloc(), &PASSES);
 }
 
-const SETTLING: [Scene<'static>; 3] = [
+const SETTLING: [Scene<'static>; 5] = [
     Scene {
         k: 3,
         start: &[0, 2, 0],
@@ -143,6 +143,30 @@ const SETTLING: [Scene<'static>; 3] = [
             Step::Survey(2, 1, 3, 2, 0),
             Step::Settle(Ok(0)),
             Step::Survey(2, 1, 3, 2, 0),
+        ],
+    },
+    // Each machine but the last passes: no more are ever needed.
+    Scene {
+        k: 5,
+        start: &[0, 2, 2, 2, 0],
+        filled: 0,
+        steps: &[
+            Step::Survey(0, 3, 0, 0, 10),
+            Step::Settle(Ok(4)),
+            Step::Values(&[1, 1, 1, 1, 0]),
+            Step::Survey(4, 1, 4, 4, 0),
+        ],
+    },
+    // Machine 2 passes only if some machine to its right is privileged.
+    Scene {
+        k: 4,
+        start: &[1, 0, 1, 1],
+        filled: 0,
+        steps: &[
+            Step::Survey(0, 3, 0, 0, 9),
+            Step::Settle(Ok(2)),
+            Step::Values(&[2, 2, 1, 1]),
+            Step::Survey(2, 1, 2, 2, 0),
         ],
     },
     // A ring that starts settled goes round.
