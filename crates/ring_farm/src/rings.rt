@@ -40,7 +40,7 @@ fn run_named<N: Name + Send + Sync, G: Gate + Sync, W: Threads + Wait + Sync>(
     requires possible { All (IsPlanOn number N.start) plans.now.items }
     ensures { IfOk result (λ o. IsRun plans.now.items number draft.book.start o.book o.logs.items) }
 {
-    let (ring, mut seats) = match Ring::<N, Till>::open(rt, alloc, draft) {
+    let (ring, mut seats) = match Ring::<N, Till>::open(alloc, draft) {
         Ok(opened) => opened,
         Err(fault) => {
             let refusal = refusal_of(fault.reason);

@@ -1,5 +1,5 @@
 -- The numbers of a ring's seats.
-use Rattle.std.proofs.Common.{◌≡◌, ℕ, ◌+◌, ◌<◌, ◌≤◌, ◌==◌, ◌++◌, Bool, length-append, List, [], ◌∷◌, true, false, Some, slice_get, get_or, All, length, map, eqb, zero, suc, subst, ap, sym, ◌∙◌, refl, arith}
+use Rattle.std.proofs.Common.{◌≡◌, ℕ, ◌+◌, ◌<◌, ◌≤◌, ◌==◌, ◌++◌, Bool, length-append, List, [], ◌∷◌, true, false, Some, slice_get, slice_index_or, get_or, All, length, map, eqb, zero, suc, subst, ap, sym, ◌∙◌, refl, arith}
 use Rattle.std.specs.List.{IsDistinct, AllByRecursion}
 use Rattle.std.specs.List.Sorted.{IsPermutation, IsNonDecreasingBy}
 use Rattle.std.proofs.lemmas.List.Sorted.{All-permutation, IsPermutation-map, length_permutation}
@@ -128,3 +128,18 @@ fresh_more n ss s f is = record {
   count = (let count = f.count in omega (arith, length-append ss (s ∷ [])));
   each = λ i within. each_more n ss s f is i within (i == n) refl;
 }
+
+-- seats that keep their numbers
+pub numbers_kept : (xs ys : List Client) → length ys ≡ length xs → ((i : ℕ) (d : Client) → i < length xs → (slice_index_or ys i d).number ≡ (slice_index_or xs i d).number) →
+    map (λ (s : Client). s.number) ys ≡ map (λ (s : Client). s.number) xs
+numbers_kept [] [] long same = refl
+numbers_kept [] (y ∷ ys) long same = absurd (omega arith)
+numbers_kept (x ∷ xs) [] long same = absurd (omega arith)
+numbers_kept (x ∷ xs) (y ∷ ys) long same =
+    let here : y.number ≡ x.number = same 0 x (omega arith) in
+    let more = numbers_kept xs ys (omega arith) (λ i d lt. same (suc i) d (omega arith)) in
+    rw (here, more) refl
+
+-- a fact that a call kept of its argument is kept of the value there before
+pub through : (x y argument left : Client) → argument ≡ x → left ≡ y → left.number ≡ argument.number → y.number ≡ x.number
+through x y argument left is_x is_y same = sym (ap (λ (s : Client). s.number) is_y) ∙ same ∙ ap (λ (s : Client). s.number) is_x

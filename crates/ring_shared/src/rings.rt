@@ -1,5 +1,5 @@
 //! Rings that threads share: how they are opened, and the calls of their seats.
-ghost use Rattle.std.specs.Prelude.{◌≡◌, ◌<◌, ◌≤◌, ◌+◌, ◌++◌, ◌∷◌, [], length, map, eqb, drop, IsTrue, IsOk, IfOk, IfErr, OnErr, IsErrOf};
+ghost use Rattle.std.specs.Prelude.{◌≡◌, ◌<◌, ◌≤◌, ◌+◌, ◌++◌, ◌∷◌, [], length, map, eqb, drop, fold, IsOk, IfOk, IfErr, OnErr, IsErrOf};
 ghost use Rattle.std.specs.List.{IsDistinct};
 ghost use mathlib.Core.List.{IsPrefix};
 ghost use Rattle.ring_model.specs.Ring.{bound};
@@ -14,9 +14,10 @@ ghost use Rattle.ring_shared.specs.Groups.{IsGroupLogged, IsRefusedFor};
 ghost use Rattle.ring_shared.specs.Holding.{MeansLegal};
 ghost use Rattle.ring_logs.specs.Seats.{AreOfSeats};
 ghost use Rattle.ring_shared.specs.Opening.{AreFresh};
+ghost use Rattle.ring_shared.specs.Stepping.{stepped};
 
 use crate::front::{Front, Opened};
-use crate::locked::{Locked, publish};
+use crate::locked::Locked;
 use crate::names::Name;
 use crate::seats::{RingWriter, Seat};
 use crate::shown::{Operation, Shown};
@@ -209,26 +210,28 @@ fn seats_of<N: Name>(
     Ok(seats)
 }
 
-/// Makes eight places for operations, and empties them by a turn of each copy. A call has at most two: its own, and
-/// that of the last one, which one copy lacks. So no call asks for memory to show its effect.
+/// Appends so many operations that the list of those that are pending gets eight places. A call needs two beside them: its
+/// own, and that of the last call, which one copy lacks.
+const FIRST_OPERATIONS: u32 = 5;
+
+/// Makes room for the operations of calls, by pending ones that change nothing: the first call shows them with its own. So
+/// no call asks for memory to show its effect.
 #[tactic(auto, using(crate::proofs::Stepped::stepped_still))]
-fn warm<N: Name, W: Wait>(rt: &W, writer: &mut RingWriter<N>, front: &Front<N>) -> bool
+fn warm<N: Name>(writer: &mut RingWriter<N>, front: &Front<N>) -> bool
     requires machine { 0 < length N.start.values }
     requires value { 0 < N.start.k }
     requires front { front.now ≡ [] }
     requires shown { writer.old.desk.shown.value ≡ [] }
     requires pending { drop writer.old.behind writer.old.log.items ≡ [] }
-    ensures shown { IsTrue result → writer.new.desk.shown.value ≡ [] }
-    ensures pending { IsTrue result → drop writer.new.behind writer.new.log.items ≡ [] }
+    ensures shown { writer.new.desk.shown.value ≡ [] }
+    ensures pending { fold stepped [] (drop writer.new.behind writer.new.log.items) ≡ [] }
 {
-    for _ in 0..8u32 {
+    for _ in 0..FIRST_OPERATIONS {
         let operation = Operation::nothing(front.again());
         if writer.append(operation).is_err() {
             return false;
         }
     }
-    publish(rt, writer);
-    publish(rt, writer);
     true
 }
 
@@ -252,8 +255,7 @@ fn writer_of<N: Name>(
 
 /// A writer that shows the start, with room for operations, and this many seats. Where a seat is refused there may
 /// be a writer, which has to be ended.
-fn writer_and_seats<N: Name, W: Wait>(
-    rt: &W,
+fn writer_and_seats<N: Name>(
     alloc: Global,
     front: &Front<N>,
     start: &RingState,
@@ -266,13 +268,13 @@ fn writer_and_seats<N: Name, W: Wait>(
     requires start { start.now ≡ N.start }
     requires front { front.now ≡ [] }
     ensures shown { IfOk result (λ t. t.0.desk.shown.value ≡ []) }
-    ensures pending { IfOk result (λ t. drop t.0.behind t.0.log.items ≡ []) }
+    ensures pending { IfOk result (λ t. fold stepped [] (drop t.0.behind t.0.log.items) ≡ []) }
     ensures fresh { IfOk result (λ t. AreFresh N.seats t.1.items) }
 {
     let Ok(mut writer) = writer_of(alloc, start, front, count) else {
         return Err((OpenReason::OutOfMemory, None));
     };
-    if !warm(rt, &mut writer, front) {
+    if !warm(&mut writer, front) {
         return Err((OpenReason::OutOfMemory, Some(writer)));
     }
     match seats_of(alloc, &writer, front, start, count) {
@@ -285,15 +287,14 @@ impl<N: Name, R: Resource + Drop> Ring<N, R> {
     /// A ring over the draft's book, and its seats with the numbers 0, 1 and so on, which have called
     /// nothing and seen nothing.
     ///
-    /// The name says the draft's start, its number of seats, its list of events, and which histories are legal. It may
-    /// wait, for nobody: no seat looks before it is handed out.
+    /// The name says the draft's start, its number of seats, its list of events, and which histories are legal. It waits for
+    /// nobody.
     ///
     /// # Errors
     ///
     /// `OutOfMemory`; `NoSeat`, where there is no place for a seat to look from. The book is handed back as
     /// it was.
-    pub fn open<W: Wait>(
-        rt: &W,
+    pub fn open(
         alloc: Global,
         draft: Draft<R>,
     ) -> Result<(Ring<N, R>, Vec<Seat<N>>), OpenFault<N, R>>
@@ -312,7 +313,7 @@ impl<N: Name, R: Resource + Drop> Ring<N, R> {
         } = draft;
         book.history(); // says: the book is one
         let (head, front) = opened.with_name::<N>();
-        match writer_and_seats(rt, alloc, &front, book.start(), count) {
+        match writer_and_seats(alloc, &front, book.start(), count) {
             Ok((writer, seats)) => {
                 let ring = Ring {
                     shared: Mutex::new(Locked::new(alloc, book, head, front, writer)),
@@ -327,6 +328,15 @@ impl<N: Name, R: Resource + Drop> Ring<N, R> {
                 writer,
             }),
         }
+    }
+
+    /// The events of all calls so far, as a front: who has the ring to itself need not wait for its lock.
+    pub fn seen(&mut self) -> Front<N>
+        ensures legal { N.legal result }
+    {
+        let front = self.shared.get_mut().front.again();
+        front.len(); // says: it is legal
+        front
     }
 
     /// Waits for the lock, and makes a pass by `machine`, which is below n, for the seat: its receipt is

@@ -13,6 +13,8 @@ mod groups;
 #[cfg(test)]
 mod lanes;
 #[cfg(test)]
+mod names;
+#[cfg(test)]
 mod plain;
 #[cfg(test)]
 mod replay;

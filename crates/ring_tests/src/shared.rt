@@ -124,7 +124,7 @@ fn opened<N: Name, W: Wait + Abort>(
     ensures second { IfOk result (λ t. t.1.1.number ≡ 1) }
     ensures back { IfErr result (λ b. b ≡ draft.book) }
 {
-    let (ring, mut seats) = match Ring::<N, Till>::open(rt, alloc, draft) {
+    let (ring, mut seats) = match Ring::<N, Till>::open(alloc, draft) {
         Ok(opened) => opened,
         Err(fault) => {
             assert_eq!(rt; fault.reason, OpenReason::OutOfMemory);

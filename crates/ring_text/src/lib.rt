@@ -11,4 +11,8 @@ mod report;
 pub use laws::{outcome_is_legal, written_is_legal};
 pub use outcomes::write_outcome;
 pub use report::{put_total_line, write_report, write_total};
+pub use ring_saved::{
+    ReadError, Saved, SavedEvent, SavedRing, SavedSurvey, answers_are_apart, read_saved,
+    texts_are_apart, texts_read_back, upgrade, write_saved,
+};
 pub use text_lines::WriteFault;

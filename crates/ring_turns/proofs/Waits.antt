@@ -2,9 +2,9 @@
 use Rattle.std.proofs.Common.{◌≡◌, ℕ, suc, ◌+◌, ◌<◌, ◌≤◌, ◌≢◌, Bool, true, false, List, [], ◌∷◌, ◌++◌, length, get_or, set, take, drop, refl, sym, ◌∙◌, ap, subst, inl, inr, arith}
 use Rattle.std.specs.Prelude.{◌⊎◌, Option, Some, None, slice_get, slice_set}
 use mathlib.Core.List.{IsPrefix}
-use Rattle.std.proofs.lemmas.Bool.{cases_eq, ne_eqb, both_ways}
+use Rattle.std.proofs.lemmas.Bool.{cases_eq, cases_lt, ne_eqb, both_ways}
 use Rattle.std.proofs.lemmas.List.{length-set, length-append, get_or-set_same, get_or-set_other, take-append-le, take_all, take-append-drop, drop_all, drop-append-le}
-use Rattle.std.proofs.lemmas.Option.{slice_get_within, slice_get-get_or}
+use Rattle.std.proofs.lemmas.Option.{slice_get_past, slice_get_within, slice_get-get_or}
 use Rattle.std.proofs.Math.Seq.{drop-cons}
 use Rattle.ring_model.specs.Numbers.{bit}
 use Rattle.ring_model.specs.Ring.{IsRing, is_privileged, first_privileged}
@@ -23,7 +23,7 @@ use Rattle.ring_model.specs.declared.events.Reply.TheVariants.{Granted, NotPrivi
 use Rattle.ring_model.proofs.Suffixes.{count_events-push}
 use Rattle.ring_model.proofs.Progress.{history_progress}
 use Rattle.ring_shared.proofs.Prefixes.{prefix_take}
-use Rattle.ring_turns.specs.Waiting.{AreWaiting, HasWaited}
+use Rattle.ring_turns.specs.Waiting.{AreWaiting, HasLeft, HasWaited}
 
 -- the value in an option
 
@@ -54,6 +54,17 @@ get_set xs i k p v h =
       | inr ne ↦ inr (slice_get-get_or xs i v (omega arith) ∙ ap (λ (x : Option ℕ). Some x) (sym (get_or-set_other xs k i v v ne) ∙ is))
     ]
 
+-- a write to another place changes no read
+set_other : (xs : List (Option ℕ)) (i k : ℕ) (v : Option ℕ) → i ≢ k → slice_get (slice_set xs k v) i ≡ slice_get xs i
+set_other xs i k v ne =
+    let n : length (set xs k v) ≡ length xs = length-set xs k v in
+    elim (cases_lt i (length xs)) [
+      | inr past ↦ slice_get_past (set xs k v) i (omega (arith, n, past)) ∙ sym (slice_get_past xs i past)
+      | inl within ↦
+          slice_get-get_or (set xs k v) i v (omega (arith, n, within))
+          ∙ (ap (λ (x : Option ℕ). Some x) (get_or-set_other xs k i v v ne) ∙ sym (slice_get-get_or xs i v within))
+    ]
+
 pub asks : (waits : List (Option ℕ)) (h : List Event) (client : ℕ) → AreWaiting waits h → AreWaiting (slice_set waits client (Some (length h))) h
 asks waits h client kept i p e = elim (get_set waits i client p (Some (length h)) e) [
   | inr there ↦ kept i p there
@@ -76,6 +87,9 @@ left waits client p e =
     let l : client < length waits = omega (arith, n, within) in
     let read : slice_get (set waits client None) client ≡ Some (get_or (set waits client None) client None) = slice_get-get_or (set waits client None) client None within in
     none_some p (sym (get_or-set_same waits client None None l) ∙ some-injective (get_or (set waits client None) client None) (Some p) (sym read ∙ e))
+
+pub has_left : (waits : List (Option ℕ)) (client : ℕ) → HasLeft waits (slice_set waits client None) client
+has_left waits client = record { gone = left waits client; others = λ j ne. set_other waits j client None ne }
 
 -- a list that is one longer than its prefix
 pub one_more : (h seen : List Event) (e : Event) → IsPrefix h seen → length seen ≡ length h + 1 → slice_get seen (length h) ≡ Some e → seen ≡ h ++ e ∷ []

@@ -1,19 +1,20 @@
 //! The clients that wait for a turn at a ring, and since when.
-ghost use Rattle.std.specs.Prelude.{◌≡◌, ◌<◌, ◌≤◌, ◌+◌, ◌++◌, ◌∷◌, [], ℕ, false, Some, length, drop, slice_get, IfOk, OnErr};
+ghost use Rattle.std.specs.Prelude.{◌≡◌, ◌<◌, ◌≤◌, ◌+◌, ◌++◌, ◌∷◌, ◌↔◌, [], ℕ, Some, length, drop, slice_get, MatchBool, IfOk, OnErr, IsErrOf};
 ghost use mathlib.Core.List.{IsPrefix};
 ghost use Rattle.ring_model.specs.Grants.{grants_of};
 ghost use Rattle.ring_model.specs.Groups.{IsHistory};
 ghost use Rattle.ring_model.specs.History.{opening};
-ghost use Rattle.ring_model.specs.Limits.{seat_limit};
+ghost use Rattle.ring_model.specs.Limits.{event_limit, seat_limit};
 ghost use Rattle.ring_model.specs.Ring.{IsRing};
 ghost use Rattle.ring_model.specs.Surveys.{survey_at};
-ghost use Rattle.ring_turns.specs.Looking.{IsFirst, IsGrantedPass, IsLook};
+ghost use Rattle.ring_turns.specs.Looking.{IsDeskAfter, IsFirst, IsGrantedPass, IsLook};
 ghost use Rattle.ring_shared.specs.Client.{IsUnchanged};
-ghost use Rattle.ring_turns.specs.Waiting.{AreWaiting, HasWaited};
+ghost use Rattle.ring_turns.specs.Spared.{on_order};
+ghost use Rattle.ring_turns.specs.Waiting.{AreWaiting, HasLeft, HasWaited};
 
 use crate::spared::PASS_ON;
 use ring_book::{BookError, Resource};
-use ring_model::limits::SEAT_LIMIT;
+use ring_model::limits::{EVENT_LIMIT, SEAT_LIMIT};
 use ring_model::{Entry, Event, Op, Receipt};
 use ring_shared::{Front, Name, Ring, Seat};
 use std::alloc::AllocError;
@@ -52,7 +53,9 @@ impl<N: Name> Desk<N> {
 
     /// Whether the client of the machine waits.
     fn is_left_to(&self, machine: u32) -> bool
-        ensures { result ≡ false → (p : ℕ) → slice_get self.now.waits machine ≡ Some (Some p) → ⊥ }
+        ensures { MatchBool result
+            ((p : ℕ) × (slice_get self.now.waits machine ≡ Some (Some p)))
+            ((p : ℕ) → slice_get self.now.waits machine ≡ Some (Some p) → ⊥) }
     {
         let machine = machine as usize;
         machine < self.waits.len() && self.waits[machine].is_some()
@@ -67,10 +70,10 @@ impl<N: Name> Desk<N> {
     }
 
     /// The client waits no more.
-    pub(crate) fn leave(&mut self, client: u32)
+    fn leave(&mut self, client: u32)
         requires { client < seat_limit }
         ensures last { self.new.last ≡ self.old.last }
-        ensures gone { (p : ℕ) → slice_get self.new.waits client ≡ Some (Some p) → ⊥ }
+        ensures left { HasLeft self.old.waits self.new.waits client }
     {
         self.waits[client as usize] = None;
     }
@@ -93,12 +96,23 @@ impl<N: Name> Desk<N> {
     fn end_wait<W: Wait>(&mut self, rt: &W, client: u32, asked_at: u64)
         requires { client < seat_limit }
         ensures last { self.new.last ≡ self.old.last }
-        ensures gone { (p : ℕ) → slice_get self.new.waits client ≡ Some (Some p) → ⊥ }
+        ensures left { HasLeft self.old.waits self.new.waits client }
         ensures waited { asked_at ≤ length self.old.last }
         ensures none { grants_of client (drop asked_at self.old.last) ≡ 0 }
     {
         self.surely_waits(rt, client, asked_at);
         self.leave(client);
+    }
+
+    /// Why a call was refused that the ring refused: the history is full, or memory ran out.
+    fn refusal(&self) -> BookError
+        ensures { result ≡ BookError.HistoryFull ↔ length self.now.last ≡ event_limit }
+    {
+        if self.last.len() >= EVENT_LIMIT as u64 {
+            BookError::HistoryFull
+        } else {
+            BookError::OutOfMemory
+        }
     }
 
     /// One pass more, by a machine whose client does not wait.
@@ -186,6 +200,7 @@ impl<N: Name> Desk<N> {
     ) -> u32
         requires start { IsRing N.start }
         ensures first { IsFirst R.works (opening N.start R.first) self.now.last result }
+        ensures seen { seat.new.seen ≡ self.now.last }
         ensures machine { result < length N.start.values }
         ensures number { seat.new.number ≡ seat.old.number }
         ensures log { seat.new.log ≡ seat.old.log }
@@ -214,18 +229,23 @@ impl<N: Name> Desk<N> {
         ensures place { IfOk result (λ r. seat.new.seen ≡ self.old.last ++ r.event ∷ []) }
         ensures told { IfOk result (λ r.
             IsGrantedPass R.works (opening N.start R.first) seat.old seat.new machine order r) }
+        ensures waits { self.new.waits ≡ self.old.waits }
         ensures number { seat.new.number ≡ seat.old.number }
         ensures later { IsPrefix seat.old.seen seat.new.seen }
+        ensures full { IsErrOf result BookError.HistoryFull → length self.old.last ≡ event_limit }
         ensures err { OnErr result (IsUnchanged seat.old seat.new) }
     {
-        let receipt = ring.pass(rt, seat, machine, order)?;
+        let Ok(receipt) = ring.pass(rt, seat, machine, order) else {
+            return Err(self.refusal());
+        };
         let seen = seat.seen();
         self.surely_one_more(rt, &seen, receipt);
         self.record(seen, machine, order, receipt.event);
         Ok(receipt)
     }
 
-    /// The turn of a client that waits since this place, and whose machine is the first that is privileged.
+    /// The turn of a client that waits since this place, and whose machine is the first that is privileged. It waits no more
+    /// then, also if it is refused.
     fn turn<R: Resource + Drop, W: Wait>(
         &mut self,
         rt: &W,
@@ -241,8 +261,10 @@ impl<N: Name> Desk<N> {
             seat.new seat.old.number order r) }
         ensures waited { IfOk result (λ r. HasWaited R.works (opening N.start R.first) seat.new.seen
             seat.old.number asked_at r.position) }
+        ensures left { HasLeft self.old.waits self.new.waits seat.old.number }
         ensures number { seat.new.number ≡ seat.old.number }
         ensures later { IsPrefix seat.old.seen seat.new.seen }
+        ensures full { IsErrOf result BookError.HistoryFull → length self.old.last ≡ event_limit }
         ensures err { OnErr result (IsUnchanged seat.old seat.new) }
     {
         let me = seat.number();
@@ -251,8 +273,40 @@ impl<N: Name> Desk<N> {
         Ok(receipt)
     }
 
+    /// Passes on the first privileged machine, whose client does not wait. If that is refused, the client of this seat waits no
+    /// more, and every other client waits as it did.
+    fn pass_on<R: Resource + Drop, W: Wait>(
+        &mut self,
+        rt: &W,
+        ring: &Ring<N, R>,
+        seat: &mut Seat<N>,
+        machine: u32,
+    ) -> Result<Receipt, BookError>
+        requires start { IsRing N.start }
+        requires machine { machine < length N.start.values }
+        requires first { IsFirst R.works (opening N.start R.first) self.old.last machine }
+        requires free { (p : ℕ) → slice_get self.old.waits machine ≡ Some (Some p) → ⊥ }
+        ensures told { IfOk result (λ r.
+            IsGrantedPass R.works (opening N.start R.first) seat.old seat.new machine on_order r) }
+        ensures same { IfOk result (λ _. self.new.waits ≡ self.old.waits) }
+        ensures left { OnErr result (HasLeft self.old.waits self.new.waits seat.old.number) }
+        ensures number { seat.new.number ≡ seat.old.number }
+        ensures later { IsPrefix seat.old.seen seat.new.seen }
+        ensures full { IsErrOf result BookError.HistoryFull → length self.old.last ≡ event_limit }
+        ensures err { OnErr result (IsUnchanged seat.old seat.new) }
+    {
+        match self.pass(rt, ring, seat, machine, PASS_ON) {
+            Ok(receipt) => Ok(receipt),
+            Err(error) => {
+                self.leave(seat.number());
+                Err(error)
+            }
+        }
+    }
+
     /// One look at the ring for a client that waits since this place: its turn, if its machine is the first that is
-    /// privileged; else another's machine is passed on, if its client does not wait.
+    /// privileged; else another's machine is passed on, if its client does not wait. If that is refused, the client waits no
+    /// more, and every other client waits as it did.
     pub(crate) fn look<R: Resource + Drop, W: Wait>(
         &mut self,
         rt: &W,
@@ -265,8 +319,12 @@ impl<N: Name> Desk<N> {
         requires machine { seat.old.number < length N.start.values }
         ensures look { IfOk result
             (λ l. IsLook R.works (opening N.start R.first) seat.old seat.new asked_at order l) }
+        ensures desk { IfOk result (λ l. IsDeskAfter R.works (opening N.start R.first) seat.new.seen
+            self.old.waits self.new.waits seat.old.number l) }
         ensures number { seat.new.number ≡ seat.old.number }
         ensures later { IsPrefix seat.old.seen seat.new.seen }
+        ensures full { IsErrOf result BookError.HistoryFull → length seat.new.seen ≡ event_limit }
+        ensures left { OnErr result (HasLeft self.old.waits self.new.waits seat.old.number) }
         ensures err { OnErr result (seat.new.log ≡ seat.old.log) }
     {
         let first = self.first_privileged(rt, ring, seat);
@@ -277,7 +335,7 @@ impl<N: Name> Desk<N> {
         if self.is_left_to(first) {
             return Ok(Look::Waits);
         }
-        let receipt = self.pass(rt, ring, seat, first, PASS_ON)?;
+        let receipt = self.pass_on(rt, ring, seat, first)?;
         Ok(Look::PassedOn(receipt))
     }
 
@@ -300,10 +358,14 @@ impl<N: Name> Desk<N> {
             × (slice_get seat.new.seen r.position ≡ Some r.event)) }
         ensures legal_and_whole { IfOk result
             (λ r. IsHistory R.works (opening N.start R.first) seat.new.seen) }
+        ensures waits { self.new.waits ≡ self.old.waits }
         ensures later { IsPrefix seat.old.seen seat.new.seen }
+        ensures full { IsErrOf result BookError.HistoryFull → length self.old.last ≡ event_limit }
         ensures err { OnErr result (IsUnchanged seat.old seat.new) }
     {
-        let receipt = ring.corrupt(rt, seat, machine, value)?;
+        let Ok(receipt) = ring.corrupt(rt, seat, machine, value) else {
+            return Err(self.refusal());
+        };
         let seen = seat.seen();
         self.surely_one_more(rt, &seen, receipt);
         self.note(seen, machine, value, receipt.event);

@@ -1,14 +1,16 @@
 //! The turns of the clients of one ring.
-ghost use Rattle.std.specs.Prelude.{◌≡◌, ◌<◌, ◌+◌, ◌++◌, ◌∷◌, ◌↔◌, [], All, length, map, eqb, vec_len, slice_get, Some, IfOk, IfErr, OnErr, IsErr, MatchResult};
+ghost use Rattle.std.specs.Prelude.{◌≡◌, ◌<◌, ◌+◌, ◌++◌, ◌∷◌, ◌↔◌, [], All, length, map, eqb, vec_len, slice_get, Some, IfOk, IfErr, OnErr, IsErr, IsErrOf, MatchResult};
 ghost use Rattle.std.specs.List.{IsDistinct};
 ghost use mathlib.Core.List.{IsPrefix};
 ghost use Rattle.ring_book.specs.BookView.{IsBook};
 ghost use Rattle.ring_model.specs.Groups.{IsHistory};
 ghost use Rattle.ring_model.specs.History.{opening};
 ghost use Rattle.ring_model.specs.HistoryLaws.{Settlement};
+ghost use Rattle.ring_model.specs.Limits.{event_limit};
 ghost use Rattle.ring_model.specs.Logs.{Fits, calls_of, receipts_of};
 ghost use Rattle.ring_model.specs.Progress.{Progress};
 ghost use Rattle.ring_model.specs.Ring.{IsRing};
+ghost use Rattle.ring_model.specs.Surveys.{survey_at};
 ghost use Rattle.ring_shared.specs.Closing.{HasLog, AreNumbered};
 ghost use Rattle.ring_shared.specs.Seats.{AreOfSeats};
 ghost use Rattle.ring_turns.specs.Spared.{spared};
@@ -21,7 +23,7 @@ use crate::spared::Spared;
 use ring_book::{BookError, Resource};
 use ring_model::{Entry, Op, Receipt};
 use ring_shared::{CloseFault, CloseReason, Closed, Name, Ring, Seat};
-use std::alloc::Global;
+use std::alloc::{AllocError, Global};
 use std::marker::Model;
 use std::sync::{Condvar, Mutex, MutexGuard, Wait};
 
@@ -58,11 +60,10 @@ impl<N: Name, R: Resource + Drop> Model for Turns<N, R> {
 }
 
 /// Waits until the client's machine comes up, and passes it; meanwhile machines whose clients do not wait are passed on.
-/// The client has asked at this place.
+/// The client has asked at this place. The desk is left between any two looks, so that others can ask.
 fn await_turn<N: Name, R: Resource + Drop, W: Wait>(
     rt: &W,
     turns: &Turns<N, R>,
-    desk: MutexGuard<'_, Desk<N>>,
     seat: &mut Seat<N>,
     asked_at: u64,
     order: u64,
@@ -72,22 +73,22 @@ fn await_turn<N: Name, R: Resource + Drop, W: Wait>(
         IsTaken (spared R.works) (opening N.start R.first) seat.old seat.new asked_at order r) }
     ensures number { seat.new.number ≡ seat.old.number }
     ensures later { IsPrefix seat.old.seen seat.new.seen }
+    ensures full { IsErrOf result BookError.HistoryFull → length seat.new.seen ≡ event_limit }
     ensures err { OnErr result (HasPassedOn seat.old.number seat.old.log seat.new.log) }
 {
-    let mut desk = desk;
     for _ in rt.forever() {
+        let mut desk = turns.desk.lock(rt);
         match desk.look(rt, &turns.ring, seat, asked_at, order) {
             Ok(Look::Taken(receipt)) => {
-                turns.moved.notify_all();
-                MutexGuard::unlock(desk);
+                turns.leave(desk);
                 return Ok(receipt);
             }
-            Ok(Look::PassedOn(_)) => turns.moved.notify_all(),
-            Ok(Look::Waits) => desk = turns.moved.wait(rt, desk),
+            Ok(Look::PassedOn(_)) => turns.leave(desk),
+            Ok(Look::Waits) => {
+                MutexGuard::unlock(turns.moved.wait(rt, desk));
+            }
             Err(error) => {
-                desk.leave(seat.number());
-                turns.moved.notify_all();
-                MutexGuard::unlock(desk);
+                turns.leave(desk);
                 return Err(error);
             }
         }
@@ -96,14 +97,13 @@ fn await_turn<N: Name, R: Resource + Drop, W: Wait>(
 }
 
 impl<N: Name, R: Resource + Drop> Turns<N, R> {
-    /// Turns at a ring for `clients` clients. The seat may be any of the ring's.
+    /// Turns at a ring for `clients` clients. They begin with all that the ring's seats have called before.
     ///
     /// # Errors
     ///
     /// `TooFewMachines` if the ring has fewer machines than clients; the ring is handed back.
     pub fn new(
         ring: Ring<N, Spared<R>>,
-        seat: &Seat<N>,
         clients: u32,
         machines: u32,
     ) -> Result<Turns<N, R>, TooFewMachines<N, R>>
@@ -115,15 +115,53 @@ impl<N: Name, R: Resource + Drop> Turns<N, R> {
         if machines < clients {
             return Err(TooFewMachines { ring });
         }
+        let mut ring = ring;
+        let seen = ring.seen();
         Ok(Turns {
             ring,
-            desk: Mutex::new(Desk::new(seat.seen())),
+            desk: Mutex::new(Desk::new(seen)),
             moved: Condvar::new(),
             clients,
         })
     }
 
-    /// Takes a turn.
+    /// Leaves the desk after a change, of which it tells all that wait.
+    fn leave(&self, desk: MutexGuard<'_, Desk<N>>) {
+        self.moved.notify_all();
+        MutexGuard::unlock(desk);
+    }
+
+    /// Asks for a turn, and answers where.
+    fn ask<W: Wait>(&self, rt: &W, seat: &mut Seat<N>) -> Result<u64, AllocError>
+        ensures place { IfOk result (λ p. p ≡ length seat.new.seen) }
+        ensures logged { IfOk result (λ p. seat.new.log
+            ≡ seat.old.log
+            ++ Entry.Survey
+            (survey_at (spared R.works) (opening N.start R.first) seat.new.seen p) ∷ []) }
+        ensures number { seat.new.number ≡ seat.old.number }
+        ensures later { IsPrefix seat.old.seen seat.new.seen }
+        ensures err { OnErr result (IsUnchanged seat.old seat.new) }
+    {
+        let mut desk = self.desk.lock(rt);
+        let asked = desk.ask(rt, &self.ring, seat);
+        MutexGuard::unlock(desk);
+        asked
+    }
+
+    /// Takes a turn: asks, waits until the client's machine comes up, and passes it on this order. Meanwhile the client passes
+    /// on each machine whose client does not wait.
+    ///
+    /// - A client that is alone pays an event for each machine of the others, up to n for a turn.
+    /// - A client that does not ask before its machine comes up loses that round.
+    /// - A corruption voids the bound on what others are granted, for the clients that wait meanwhile.
+    /// - A turn on the order `PASS_ON` does no work.
+    /// - It waits for the other clients that ask: a thread that is stopped within its turn stops them all.
+    ///
+    /// # Errors
+    ///
+    /// `HistoryFull` only if the history has `EVENT_LIMIT` events, all of which the seat has seen then; `OutOfMemory`. The client
+    /// waits no more then, no other client is put off, and all that wait look again. The log may have the survey by which the
+    /// client asked, and machines that it passed on. The seat can ask again.
     pub fn take_turn<W: Wait>(
         &self,
         rt: &W,
@@ -137,18 +175,21 @@ impl<N: Name, R: Resource + Drop> Turns<N, R> {
             seat.new.seen seat.old.number t.asked_at t.receipt.position) }
         ensures number { seat.new.number ≡ seat.old.number }
         ensures later { IsPrefix seat.old.seen seat.new.seen }
+        ensures full { IsErrOf result BookError.HistoryFull → length seat.new.seen ≡ event_limit }
         ensures err { OnErr result (HasNoTurn seat.old seat.new) }
     {
-        let mut desk = self.desk.lock(rt);
-        let Ok(asked_at) = desk.ask(rt, &self.ring, seat) else {
-            MutexGuard::unlock(desk);
+        let Ok(asked_at) = self.ask(rt, seat) else {
             return Err(BookError::OutOfMemory);
         };
-        let receipt = await_turn(rt, self, desk, seat, asked_at, order)?;
+        let receipt = await_turn(rt, self, seat, asked_at, order)?;
         Ok(Turn { asked_at, receipt })
     }
 
-    /// Writes a value into a machine, as a fault.
+    /// Writes a value into a machine, as a fault, and has all that wait look again. It voids the bound of `waited` for them.
+    ///
+    /// # Errors
+    ///
+    /// `HistoryFull` if the history has `EVENT_LIMIT` events; `OutOfMemory`. Nothing has changed then.
     pub fn corrupt<W: Wait>(
         &self,
         rt: &W,
@@ -171,8 +212,7 @@ impl<N: Name, R: Resource + Drop> Turns<N, R> {
     {
         let mut desk = self.desk.lock(rt);
         let result = desk.corrupt(rt, &self.ring, seat, machine, value);
-        self.moved.notify_all();
-        MutexGuard::unlock(desk);
+        self.leave(desk);
         result
     }
 

@@ -97,7 +97,7 @@ fn run_named<N: Name + Send + Sync, W: Threads + Wait + Sync>(
     requires machines { machines ≡ length N.start.values }
     requires ring { IsRing N.start }
 {
-    let (ring, mut seats) = match Ring::<N, Spared<Roll>>::open(rt, alloc, draft) {
+    let (ring, mut seats) = match Ring::<N, Spared<Roll>>::open(alloc, draft) {
         Ok(opened) => opened,
         Err(fault) => {
             let reason = fault.reason;
@@ -105,11 +105,7 @@ fn run_named<N: Name + Send + Sync, W: Threads + Wait + Sync>(
             bail!("the ring is not opened: {reason:?}");
         }
     };
-    let Some(first) = seats.first() else {
-        let _ = ring.close(rt, alloc, seats);
-        bail!("the ring has no seat");
-    };
-    let turns = match Turns::new(ring, first, CLIENTS, machines) {
+    let turns = match Turns::new(ring, CLIENTS, machines) {
         Ok(turns) => turns,
         Err(TooFewMachines { ring }) => {
             let _ = ring.close(rt, alloc, seats);

@@ -1,5 +1,5 @@
 -- The tickets of all seats' logs are the tickets of the history.
-use Rattle.std.proofs.Common.{◌≡◌, ℕ, zero, suc, ◌+◌, ◌<◌, ◌≤◌, Bool, true, false, cond, List, [], ◌∷◌, map, All, Some, slice_get, slice_index_or, length, eqb, leb, refl, sym, ◌∙◌, ap, subst, arith}
+use Rattle.std.proofs.Common.{◌≡◌, ℕ, zero, suc, ◌+◌, ◌<◌, ◌≤◌, Bool, true, false, cond, List, [], ◌∷◌, All, Some, slice_get, length, eqb, leb, refl, sym, ◌∙◌, ap, subst, arith}
 use Rattle.std.proofs.lemmas.List.Sums.{sum_by-cons}
 use Rattle.std.proofs.lemmas.Bool.Decides.{nat_tests}
 use Rattle.ring_model.specs.Numbers.{bit}
@@ -12,7 +12,6 @@ use Rattle.ring_model.specs.declared.events.Entry.{Entry}
 use Rattle.ring_model.specs.declared.events.Entry.TheVariants as entry
 use Rattle.ring_model.proofs.QuietRuns.{bit_is}
 use Rattle.ring_shared.specs.Log.{Log}
-use Rattle.ring_shared.specs.Client.{Client}
 use Rattle.ring_shared.specs.Closing.{AreNumbered}
 use Rattle.ring_shared.specs.Seats.{AreOfSeats}
 use Rattle.ticket_roll.specs.Tickets.{roll, gives, hands_out, times_in, times_given, NoneTwice, JustThoseGone}
@@ -149,18 +148,3 @@ just_those_gone n start h ls gone legal is of count numbered fits t one =
 
     gone_is : (t gone : ℕ) → t ≤ gone → bit (leb t gone) ≡ 1
     gone_is t gone h = grind (arith, nat_tests)
-
--- seats that keep their numbers
-pub numbers_kept : (xs ys : List Client) → length ys ≡ length xs → ((i : ℕ) (d : Client) → i < length xs → (slice_index_or ys i d).number ≡ (slice_index_or xs i d).number) →
-    map (λ (s : Client). s.number) ys ≡ map (λ (s : Client). s.number) xs
-numbers_kept [] [] long same = refl
-numbers_kept [] (y ∷ ys) long same = absurd (omega arith)
-numbers_kept (x ∷ xs) [] long same = absurd (omega arith)
-numbers_kept (x ∷ xs) (y ∷ ys) long same =
-    let here : y.number ≡ x.number = same 0 x (omega arith) in
-    let more = numbers_kept xs ys (omega arith) (λ i d lt. same (suc i) d (omega arith)) in
-    rw (here, more) refl
-
--- a fact that a call kept of its argument is kept of the value there before
-pub through : (x y argument left : Client) → argument ≡ x → left ≡ y → left.number ≡ argument.number → y.number ≡ x.number
-through x y argument left is_x is_y same = sym (ap (λ (s : Client). s.number) is_y) ∙ same ∙ ap (λ (s : Client). s.number) is_x

@@ -203,7 +203,7 @@ fn run_named<N: Name + Send + Sync, W: Threads + Wait + Sync>(
     ensures twice { IfOk result (λ c. NoneTwice c.logs.items) }
     ensures gone { IfOk result (λ c. JustThoseGone c.book.now.content c.logs.items) }
 {
-    let (ring, mut seats) = match Ring::<N, Roll>::open(rt, alloc, draft) {
+    let (ring, mut seats) = match Ring::<N, Roll>::open(alloc, draft) {
         Ok(opened) => opened,
         Err(fault) => {
             let refusal = refusal_of_open(fault.reason);

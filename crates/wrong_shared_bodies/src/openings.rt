@@ -27,8 +27,7 @@ pub fn draft_for_another_number_of_seats<R: Resource + Drop>(
 }
 
 /// A ring is opened with all its seats: the last one is not handed out.
-pub fn seat_that_is_not_handed_out<N: Name, R: Resource + Drop, W: Wait>(
-    rt: &W,
+pub fn seat_that_is_not_handed_out<N: Name, R: Resource + Drop>(
     alloc: Global,
     draft: Draft<R>,
 ) -> Result<(Ring<N, R>, Vec<Seat<N>>), OpenFault<N, R>>
@@ -38,7 +37,7 @@ pub fn seat_that_is_not_handed_out<N: Name, R: Resource + Drop, W: Wait>(
     requires legal { MeansLegal R.works R.first N.start N.legal }
     ensures wrong { IfOk result (λ t. AreFresh N.seats t.1.items → ⊥) }
 {
-    let (ring, mut seats) = Ring::<N, R>::open(rt, alloc, draft)?;
+    let (ring, mut seats) = Ring::<N, R>::open(alloc, draft)?;
     seats.pop();
     Ok((ring, seats))
 }

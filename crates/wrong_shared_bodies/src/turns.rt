@@ -1,12 +1,14 @@
 //! Turns of a client, each broken: a turn in which one thing is wrong.
 
-ghost use Rattle.std.specs.Prelude.{◌≡◌, ◌≢◌, ◌<◌, IfOk};
+ghost use Rattle.std.specs.Prelude.{◌≡◌, ◌≢◌, ◌<◌, length, IfOk, IsErrOf};
 ghost use Rattle.ring_model.specs.History.{opening};
+ghost use Rattle.ring_model.specs.Limits.{event_limit};
 ghost use Rattle.ring_turns.specs.Spared.{spared};
 ghost use Rattle.ring_turns.specs.Turning.{IsTurn};
 ghost use Rattle.ring_turns.specs.Waiting.{HasWaited};
 
 use ring_book::{BookError, Resource};
+use ring_model::limits::EVENT_LIMIT;
 use ring_model::{Event, Receipt, Reply};
 use ring_shared::{Name, Seat};
 use ring_turns::{Turn, Turns};
@@ -88,4 +90,25 @@ pub fn wait_in_which_its_machine_was_granted<N: Name, R: Resource + Drop, W: Wai
         asked_at: first.asked_at,
         ..second
     })
+}
+
+/// A history is reported as full only if it is: memory ran out, and this is reported as a full history.
+pub fn turn_refused_as_full<N: Name, R: Resource + Drop, W: Wait>(
+    turns: &Turns<N, R>,
+    rt: &W,
+    seat: &mut Seat<N>,
+    order: u64,
+) -> Result<Turn, BookError>
+    requires client { seat.old.number < turns.now }
+    ensures wrong { IsErrOf result BookError.HistoryFull → length seat.new.seen ≡ event_limit → ⊥ }
+{
+    let Ok(turn) = turns.take_turn(rt, seat, order) else {
+        let full = seat.seen().len() >= EVENT_LIMIT as u64;
+        return Err(if full {
+            BookError::OutOfMemory
+        } else {
+            BookError::HistoryFull
+        });
+    };
+    Ok(turn)
 }

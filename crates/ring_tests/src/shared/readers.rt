@@ -95,7 +95,7 @@ fn run_named<N: Name + Send + Sync, W: Threads + Wait + Abort + Sync>(
     requires legal { MeansLegal till 0 N.start N.legal }
     requires machines { 2 ≤ length N.start.values }
 {
-    let (ring, mut seats) = match Ring::<N, Till>::open(rt, alloc, draft) {
+    let (ring, mut seats) = match Ring::<N, Till>::open(alloc, draft) {
         Ok(opened) => opened,
         Err(fault) => {
             fault.into_book(rt);

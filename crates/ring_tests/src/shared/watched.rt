@@ -159,7 +159,7 @@ fn run_named<N: Name + Send + Sync, W: Threads + Wait + Abort + Sync>(
     requires legal { MeansLegal {C = Unit {0}} idle tt N.start N.legal }
     requires machines { 2 ≤ length N.start.values }
 {
-    let (ring, mut seats) = match Ring::<N, Watched>::open(rt, alloc, draft) {
+    let (ring, mut seats) = match Ring::<N, Watched>::open(alloc, draft) {
         Ok(opened) => opened,
         Err(fault) => {
             fault.into_book(rt);

@@ -1,4 +1,4 @@
-use Rattle.ticket_roll.proofs.Shares.{numbers_kept, through}
+use Rattle.ring_shared.proofs.Numbers.{numbers_kept, through}
 use Rattle.ticket_roll.proofs.desks.serve_all.Goals as goal
 
 pub returns : goal.returns

@@ -28,5 +28,5 @@ returns-clause-look g c =
     let apart : c.first_privileged-first.result ≢ c.args.seat.now.number = λ q. omega (arith, q, c.if-first-number.false, c.number.ensures.is, f.number) in (
       c.first_privileged-first.result,
       apart,
-      granted_from works a c.args.seat.now c.first_privileged-first.new.seat c.pass.new.seat c.first_privileged-first.result on_order c.in_ok-receipt-2.receipt c.in_ok-receipt-2.ensures.told f.number f.log f.room,
+      granted_from works a c.args.seat.now c.first_privileged-first.new.seat c.pass_on.new.seat c.first_privileged-first.result on_order c.in_ok-receipt-2.receipt c.in_ok-receipt-2.ensures.told f.number f.log f.room,
     )

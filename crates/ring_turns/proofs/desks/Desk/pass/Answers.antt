@@ -8,8 +8,8 @@ pub returns-clause-told : goal.returns-clause-told
 returns-clause-told g c =
     let works = g.R.Resource.works in
     let a = opening g.N.Name.start g.R.Resource.first in
-    let told = c.in_ok-receipt.ensures.told in
-    let event = c.in_ok-receipt.receipt.event in
+    let told = c.in-Ok.ensures.told in
+    let event = c.in-Ok.receipt.event in
     let one : c.pass.new.seat.seen ≡ c.args.self.now.last ++ event ∷ [] = sym c.seen-seen.ensures ∙ c.surely_one_more.ensures in
     let legal : IsLegal works a (c.args.self.now.last ++ event ∷ []) = subst (λ (h : List Event). IsLegal works a h) one told.legal_and_whole.0 in
     record {
