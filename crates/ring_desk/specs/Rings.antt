@@ -49,6 +49,11 @@ pub record IsOneThreadRing {C : Type 0} (w : Works C) (first : C) (d : RingView 
   pub each : (i : ℕ) (c : LogView) → i < length d.clients
       → IsClient w first d.book i (slice_index_or d.clients i c)
 
+-- the same ring, room aside
+pub record IsSameRing {C : Type 0} (old new : RingView C) : Type 0 where
+  pub book : new.book ≡ record old.book { room = new.book.room }
+  pub clients : new.clients ≡ old.clients
+
 -- such a ring with these clients' logs of its history, where the surveys of each are in
 -- their order
 pub record IsKeptBy {C : Type 0} (w : Works C) (first : C) (b : BookView C) (cs : List ClientView) :

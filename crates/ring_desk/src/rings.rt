@@ -1,5 +1,5 @@
 //! A ring with its clients, called by numbers.
-ghost use Rattle.std.specs.Prelude.{◌≡◌, ◌<◌, ◌≤◌, ◌+◌, ◌↔◌, ◌∷◌, [], length, drop, slice_index_or, IsTrue, IfOk, IfErr, OnOk, OnErr};
+ghost use Rattle.std.specs.Prelude.{◌≡◌, ◌<◌, ◌≤◌, ◌+◌, ◌↔◌, ◌∷◌, [], length, drop, slice_index_or, IsTrue, IsOk, IfOk, IfErr, OnOk, OnErr};
 ghost use Rattle.ring_model.specs.History.{opening};
 ghost use Rattle.ring_model.specs.HistoryLaws.{Settlement};
 ghost use Rattle.ring_model.specs.Limits.{seat_limit};
@@ -12,8 +12,8 @@ ghost use Rattle.ring_book.specs.GroupView.{IsGroupRecorded};
 ghost use Rattle.ring_logs.specs.Seats.{receipts_from};
 ghost use Rattle.ring_desk.specs.Clients.{told_all, with_survey_at, AreNew};
 ghost use Rattle.ring_desk.specs.Texts.{surveys_told, surveys_kept};
-ghost use Rattle.ring_desk.specs.Rings.{IsOneThreadRing, IsKeptBy, IsOpenFault, IsSeatCount, AreFresh, IsTried, told_more};
-ghost use Rattle.ring_desk.specs.Refusals.{IsDecided, bounds_of, seat_refusal, pass_refusal, try_refusal, corrupt_refusal, group_refusal};
+ghost use Rattle.ring_desk.specs.Rings.{IsOneThreadRing, IsSameRing, IsKeptBy, IsOpenFault, IsSeatCount, AreFresh, IsTried, told_more};
+ghost use Rattle.ring_desk.specs.Refusals.{IsDecided, bounds_of, seat_refusal, reserve_refusal, pass_refusal, try_refusal, corrupt_refusal, group_refusal};
 
 mod closing;
 
@@ -240,7 +240,27 @@ impl<R: Resource + Drop> OneThreadRing<R> {
         Ok(log)
     }
 
+    /// Takes memory for `more` events, so that as many calls are not refused for want of it.
+    ///
+    /// # Errors
+    ///
+    /// `HistoryFull` where the history would have more events than it may have, else `OutOfMemory`. Nothing has changed then.
+    pub fn reserve(&mut self, more: u32) -> Result<(), CallError>
+        ensures ok { OnOk result (more ≤ self.new.book.room) }
+        ensures same { IsSameRing self.old self.new }
+        ensures ring { IsOneThreadRing R.works R.first self.new }
+        ensures refused { IsDecided (reserve_refusal (bounds_of self.old) more) result }
+        ensures err { OnErr result (self.new ≡ self.old) }
+    {
+        match self.book.reserve(more) {
+            Ok(()) => Ok(()),
+            Err(error) => Err(CallError::from(error)),
+        }
+    }
+
     /// A pass by a machine, for a seat.
+    ///
+    /// With room for an event, it is refused for want of neither.
     ///
     /// # Errors
     ///
@@ -255,6 +275,9 @@ impl<R: Resource + Drop> OneThreadRing<R> {
             self.new.book.history }
         ensures err { OnErr result (self.new ≡ self.old) }
         ensures refused { IsDecided (pass_refusal (bounds_of self.old) seat machine) result }
+        ensures succeeds { 1 ≤ self.old.book.room
+            → pass_refusal (bounds_of self.old) seat machine ≡ None → IsOk result }
+        ensures room { OnOk result (self.old.book.room ≤ self.new.book.room + 1) }
     {
         if seat as usize >= self.clients.len() {
             return Err(CallError::NoSeat);
@@ -314,6 +337,7 @@ impl<R: Resource + Drop> OneThreadRing<R> {
         ensures refused { IsDecided
             (corrupt_refusal (bounds_of self.old) seat machine value) result }
         ensures err { OnErr result (self.new ≡ self.old) }
+        ensures room { OnOk result (self.old.book.room ≤ self.new.book.room + 1) }
     {
         if seat as usize >= self.clients.len() {
             return Err(CallError::NoSeat);

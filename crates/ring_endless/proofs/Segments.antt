@@ -29,6 +29,7 @@ use Rattle.ring_chains.specs.Bases.{IsBase, is_quiet, shifted_reply, shifted_sur
 use Rattle.ring_chains.specs.Tallies.{empty_tally, tally_with, tallied, base_with, IsInSegment}
 use Rattle.ring_chains.specs.Chains.{Segment, IsChainFrom, chain_history, IsSurveyAfter}
 use Rattle.ring_chains.proofs.Tallied.{tallied-append, kept_is, few_grants, calm_few, next_bases_are_right}
+use Rattle.ring_chains.proofs.Shifts.{grants_legal}
 use Rattle.ring_chains.proofs.ChainHistories.{Stands, stands, replies_are_right}
 use Rattle.ring_chains.proofs.Seen.{front_size, surveys_are_right}
 use Rattle.ring_endless.specs.Endless.{EndlessView, IsEndless, IsTallied, IsSurveyed, IsNext, EndsChain, segment_of, local_survey, survey_now, ChainsGrow, ReceiptsAreRight, SurveysNowAreRight}
@@ -62,6 +63,15 @@ end_small b t d k =
     let c : calm h ≤ granted_count h = calm_few h in
     let same : calm (take (length h) h) ≡ calm h = ap (λ (x : List Event). calm x) (taken h) in
     record { grants = omega arith; position = omega arith; calm = omega arith }
+
+-- the passes of the segment
+pub grants_now : (b : Base) (t : Tally) (d : RingView ℕ) → IsTallied b t d → t.grants ≡ d.book.now.grants
+grants_now b t d k =
+    let h : List Event = d.book.history in
+    let is : t.grants ≡ granted_count h = ap (λ (x : Tally). x.grants) (k.tally ∙ kept_is d.book.start h k.is.ring.book.legal) in
+    let g : (after till (opening d.book.start 0) h).grants ≡ 0 + granted_count h = grants_legal till (opening d.book.start 0) h k.is.ring.book.legal in
+    let now : (after till (opening d.book.start 0) h).grants ≡ d.book.now.grants = ap (λ (x : State ℕ). x.grants) k.is.ring.book.current in
+    omega arith
 
 -- the next base, of the tally
 pub next_base_is : (b : Base) (t : Tally) (d : RingView ℕ) → IsTallied b t d → base_with b t (local_survey d) ≡ base_after b d.book.start d.book.history

@@ -13,7 +13,7 @@ use Rattle.ring_book.specs.BookView.{IsRecorded}
 use Rattle.ring_book.specs.GroupView.{IsGroupRecorded}
 use Rattle.ring_book.specs.declared.books.groups.GroupReceipt.{GroupReceipt}
 use Rattle.ring_logs.specs.Seats.{receipts_from}
-use Rattle.ring_desk.specs.Rings.{RingView, IsOneThreadRing, AreFresh, told_more}
+use Rattle.ring_desk.specs.Rings.{RingView, IsOneThreadRing, IsSameRing, AreFresh, told_more}
 use Rattle.ring_chains.specs.declared.bases.Base.{Base}
 use Rattle.ring_chains.specs.declared.tallies.Tally.{Tally}
 use Rattle.ring_chains.specs.Bases.{IsBase, IsAmount, state_from, is_quiet, base_after, shifted_receipt, shifted_survey}
@@ -30,6 +30,11 @@ pub record EndlessView : Type 0 where
 pub record IsEndless (e : EndlessView) : Type 0 where
   pub base : IsBase e.base
   pub ring : IsOneThreadRing till 0 e.ring
+
+-- the same ring, room aside
+pub record IsSameEndless (old new : EndlessView) : Type 0 where
+  pub base : new.base ≡ old.base
+  pub ring : IsSameRing old.ring new.ring
 
 -- such a ring whose tally is that of its segment
 pub record IsTallied (b : Base) (t : Tally) (d : RingView ℕ) : Type 0 where

@@ -1,13 +1,13 @@
 //! A ring whose segment can end and be followed by the next.
 
-ghost use Rattle.std.specs.Prelude.{◌≡◌, ◌≤◌, IfOk, IfErr, OnOk, OnErr, length};
+ghost use Rattle.std.specs.Prelude.{◌≡◌, ◌≤◌, ◌+◌, IsOk, IfOk, IfErr, OnOk, OnErr, length};
 ghost use Rattle.ring_model.specs.Resources.{till};
 ghost use Rattle.ring_model.specs.declared.events.Op.TheVariants as op;
 ghost use Rattle.ring_desk.specs.Rings.{IsOneThreadRing};
-ghost use Rattle.ring_desk.specs.Refusals.{IsDecided, bounds_of, seat_refusal, pass_refusal, try_refusal, corrupt_refusal, group_refusal};
+ghost use Rattle.ring_desk.specs.Refusals.{IsDecided, bounds_of, seat_refusal, reserve_refusal, pass_refusal, try_refusal, corrupt_refusal, group_refusal};
 ghost use Rattle.ring_chains.specs.Bases.{IsBase, base_after};
 ghost use Rattle.ring_endless.specs.declared.rings.NextError.TheVariants as error;
-ghost use Rattle.ring_endless.specs.Endless.{IsEndless, IsCalled, IsTried, IsGrouped, IsSurveyed, IsNext, survey_now};
+ghost use Rattle.ring_endless.specs.Endless.{IsEndless, IsSameEndless, IsCalled, IsTried, IsGrouped, IsSurveyed, IsNext, survey_now};
 
 use ring_book::{GroupReceipt, Till};
 use ring_chains::{Base, Tally};
@@ -76,7 +76,34 @@ impl EndlessRing {
         &self.ring
     }
 
+    /// How many passes were granted, over all segments.
+    pub fn grants(&self) -> u64
+        ensures { result ≡ self.now.base.grants + self.now.ring.book.now.grants }
+    {
+        self.base.grants + self.tally.grants
+    }
+
+    /// Takes memory for `more` events of the segment, so that as many calls are not refused for want of it.
+    ///
+    /// # Errors
+    ///
+    /// Those of [`OneThreadRing::reserve`]. Nothing has changed then.
+    pub fn reserve(&mut self, more: u32) -> Result<(), CallError>
+        ensures ok { OnOk result (more ≤ self.new.ring.book.room) }
+        ensures same { IsSameEndless self.old self.new }
+        ensures endless { IsEndless self.new }
+        ensures refused { IsDecided (reserve_refusal (bounds_of self.old.ring) more) result }
+        ensures err { OnErr result (self.new ≡ self.old) }
+    {
+        match self.ring.reserve(more) {
+            Ok(()) => Ok(()),
+            Err(error) => Err(error),
+        }
+    }
+
     /// A pass by a machine, for a seat; its receipt is shifted.
+    ///
+    /// With room for an event, it is refused for want of neither room nor memory.
     ///
     /// # Errors
     ///
@@ -87,6 +114,9 @@ impl EndlessRing {
         ensures endless { IsEndless self.new }
         ensures err { OnErr result (self.new ≡ self.old) }
         ensures refused { IsDecided (pass_refusal (bounds_of self.old.ring) seat machine) result }
+        ensures succeeds { 1 ≤ self.old.ring.book.room
+            → pass_refusal (bounds_of self.old.ring) seat machine ≡ None → IsOk result }
+        ensures room { OnOk result (self.old.ring.book.room ≤ self.new.ring.book.room + 1) }
     {
         let receipt = match self.ring.pass(seat, machine, order) {
             Ok(receipt) => receipt,
@@ -133,6 +163,7 @@ impl EndlessRing {
         ensures err { OnErr result (self.new ≡ self.old) }
         ensures refused { IsDecided
             (corrupt_refusal (bounds_of self.old.ring) seat machine value) result }
+        ensures room { OnOk result (self.old.ring.book.room ≤ self.new.ring.book.room + 1) }
     {
         let receipt = match self.ring.corrupt(seat, machine, value) {
             Ok(receipt) => receipt,

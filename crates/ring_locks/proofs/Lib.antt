@@ -1,0 +1,16 @@
+pub mod Rings
+pub mod Moves
+pub mod Standing
+pub mod Circles
+pub mod Right
+pub mod Changes
+pub mod Excluded
+pub mod Tokens
+pub mod Order
+pub mod Shown
+pub mod Answered
+pub mod Calls
+pub mod Turned
+pub mod Lifting
+pub mod Finding
+pub mod Adding

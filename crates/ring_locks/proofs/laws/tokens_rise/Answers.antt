@@ -1,0 +1,8 @@
+use Rattle.ring_locks.proofs.Tokens.{tokens_rise, tokens_are_counted}
+use Rattle.ring_locks.proofs.laws.tokens_rise.Goals as goal
+
+pub returns-clause-rise : goal.returns-clause-rise
+returns-clause-rise c = tokens_rise
+
+pub returns-clause-counted : goal.returns-clause-counted
+returns-clause-counted c = tokens_are_counted

@@ -1,0 +1,9 @@
+pub mod Lines
+pub mod Inputs
+pub mod Grants
+pub mod Locks
+pub mod Promises
+pub mod Worked
+pub mod Waiting
+pub mod Kept
+pub mod Parts

@@ -1,0 +1,278 @@
+-- What the machine of locks promises, over every list of inputs (this project's own).
+use Rattle.std.specs.Prelude.{◌≡◌, ◌≢◌, ℕ, zero, suc, ◌+◌, ◌<◌, ◌≤◌, Bool, true, false, ◌&&◌, ◌||◌, ◌==◌, if◌then◌else◌, List, [], ◌∷◌, ◌++◌, length, slice_get, filter_map, Option, Some, None, is_some, option_map, ◌⊎◌}
+use Rattle.ring_model.specs.Ring.{IsRing, is_settled}
+use Rattle.ring_locks.specs.Grants.{most_passes}
+use Rattle.ring_model.specs.History.{State, after, IsLegal}
+use Rattle.ring_model.specs.Resources.{till}
+use Rattle.ring_model.specs.declared.events.Reply.{Reply}
+use Rattle.ring_model.specs.declared.events.Reply.TheVariants as reply
+use Rattle.ring_model.specs.declared.events.Event.{Event}
+use Rattle.ring_locks.specs.declared.answers.Waiter.{Waiter}
+use Rattle.ring_locks.specs.declared.answers.Holder.{Holder}
+use Rattle.ring_locks.specs.declared.answers.Answer.{Answer}
+use Rattle.ring_locks.specs.declared.answers.Answer.TheVariants as answer
+use Rattle.ring_locks.specs.Lines.{Lock, stands, waits_for, client_of, holder_of, comes_to}
+use Rattle.ring_locks.specs.Locks.{Ask, Release, Cancel, Leave, Corrupt, Mark, Call, Survey, Input, Asked, Restart, step}
+
+-- ---- what is true at every moment
+
+-- nobody stands in the line twice
+abbrev pub AreApart : List Waiter → Type 0
+AreApart [] = Unit {0}
+AreApart (w ∷ line) = (stands w.client line ≡ false) × AreApart line
+
+-- the ring of the lock is settled, and nobody waits for a lock that nobody holds
+pub record IsRightLock (l : Lock) : Type 0 where
+  pub ring : IsRing l.ring.ring
+  pub settled : is_settled l.ring.ring.values ≡ true
+  pub held : l.holder ≡ None → l.line ≡ []
+  pub apart : AreApart l.line
+
+-- From whoever waits to who holds what it waits for, so many times: where one comes to.
+abbrev pub comes : ℕ → List Lock → Option ℕ → Option ℕ
+comes steps ls None = None
+comes zero ls (Some c) = Some c
+comes (suc steps) ls (Some c) = comes steps ls (holder_of (waits_for ls c))
+
+-- one comes to an end: to a client that waits for nothing
+abbrev pub ComesToAnEnd : List Lock → Option ℕ → Type 0
+ComesToAnEnd ls at = (steps : ℕ) × (comes steps ls at ≡ None)
+
+-- each lock is right, a client waits for one lock at most, and nobody waits for itself, however far
+-- round
+pub record AreRight (ls : List Lock) : Type 0 where
+  pub each : (i : ℕ) (l : Lock) → slice_get ls i ≡ Some l → IsRightLock l
+  pub once : (c i j : ℕ) (l m : Lock) → slice_get ls i ≡ Some l → slice_get ls j ≡ Some m
+      → stands c l.line ≡ true → stands c m.line ≡ true → i ≡ j
+  pub ends : (c : ℕ) → ComesToAnEnd ls (Some c)
+
+-- ---- lists of inputs
+
+-- the locks behind them
+abbrev pub locks_after : List Lock → List Input → List Lock
+locks_after ls [] = ls
+locks_after ls (i ∷ is) = locks_after (step ls i).locks is
+
+-- the input names this lock
+abbrev pub names : ℕ → Input → Bool
+names at (Asked c i ask) = i == at
+names at Restart = false
+
+-- what they leave in the history of a lock
+abbrev pub marks_of : ℕ → List Lock → List Input → List Mark
+marks_of at ls [] = []
+marks_of at ls (i ∷ is) =
+    (if names at i then (step ls i).marks else []) ++ marks_of at (step ls i).locks is
+
+-- the grants among answers, and those of a lock
+abbrev pub grant_of : ℕ → Answer → Option Holder
+grant_of c (answer.Granted token) = Some (record { client = c; token = token })
+grant_of c _ = None
+
+abbrev pub grants_in : List (ℕ × Answer) → List Holder
+grants_in answers = filter_map (λ (a : ℕ × Answer). grant_of a.0 a.1) answers
+
+abbrev pub grants_of : ℕ → List Lock → List Input → List Holder
+grants_of at ls [] = []
+grants_of at ls (i ∷ is) =
+    (if names at i then grants_in (step ls i).answers else []) ++ grants_of at (step ls i).locks is
+
+-- an input that ends this hold of the lock: a release with its token, or a leave by who holds it,
+-- which is client 0 behind a restart
+abbrev pub ends_hold : ℕ → Holder → Input → Bool
+ends_hold at h (Asked c i (Release token)) = (i == at) && (token == h.token)
+ends_hold at h (Asked c i Leave) = (i == at) && ((c == h.client) || (c == 0))
+ends_hold at h _ = false
+
+-- an input with which this client waits for the lock no more: it cancels, it leaves, a restart
+abbrev pub gives_up : ℕ → ℕ → Input → Bool
+gives_up at client (Asked c i Cancel) = (i == at) && (c == client)
+gives_up at client (Asked c i Leave) = (i == at) && (c == client)
+gives_up at client (Asked c i _) = false
+gives_up at client Restart = true
+
+-- a fault of the lock's ring
+abbrev pub breaks : ℕ → Input → Bool
+breaks at (Asked c i (Corrupt m v)) = i == at
+breaks at _ = false
+
+-- none of the inputs is such a one
+abbrev pub NoneIs : (Input → Bool) → List Input → Type 0
+NoneIs test [] = Unit {0}
+NoneIs test (i ∷ is) = (test i ≡ false) × NoneIs test is
+
+-- ---- the promises
+
+-- Locks of settled rings are right, held or not, while nobody waits; what is right stays right.
+abbrev pub EmptyLinesAreRight : Type 0
+EmptyLinesAreRight =
+    (ls : List Lock)
+    → ((i : ℕ) (l : Lock) → slice_get ls i ≡ Some l
+    → IsRing l.ring.ring × (is_settled l.ring.ring.values ≡ true) × (l.line ≡ [])) → AreRight ls
+
+abbrev pub RightStays : Type 0
+RightStays = (ls : List Lock) (is : List Input) → AreRight ls → AreRight (locks_after ls is)
+
+-- somebody waits for a lock only while somebody holds it
+abbrev pub NobodyWaitsForNothing : Type 0
+NobodyWaitsForNothing =
+    (ls : List Lock) (is : List Input) → AreRight ls → (at : ℕ) (l : Lock)
+    → slice_get (locks_after ls is) at ≡ Some l → l.holder ≡ None → l.line ≡ []
+
+-- nobody waits for itself, however far round; and who is refused because of a circle would
+abbrev pub NoCircle : Type 0
+NoCircle =
+    (ls : List Lock) (is : List Input) → AreRight ls → (c : ℕ)
+    → ComesToAnEnd (locks_after ls is) (Some c)
+
+abbrev pub CirclesAreReal : Type 0
+CirclesAreReal =
+    (ls : List Lock) (i : ℕ) (l : Lock) (c : ℕ) → AreRight ls → slice_get ls i ≡ Some l
+    → comes_to (length ls) ls c (client_of l.holder) ≡ true
+    → (steps : ℕ) × (comes steps ls (client_of l.holder) ≡ Some c)
+
+-- this hold goes on: its token is the same, and its client or, behind a restart, client 0
+pub record GoesOn (h : Holder) (l : Lock) : Type 0 where
+  pub now : Holder
+  pub held : l.holder ≡ Some now
+  pub token : now.token ≡ h.token
+  pub client : (now.client ≡ h.client) ⊎ (now.client ≡ 0)
+
+-- exclusion: a hold goes on until an input ends it, restarts or not, and until then nobody is
+-- granted
+abbrev pub Exclusion : Type 0
+Exclusion =
+    (ls : List Lock) (is : List Input) (at : ℕ) (l : Lock) (h : Holder) → slice_get ls at ≡ Some l
+    → l.holder ≡ Some h → NoneIs (ends_hold at h) is
+    → (grants_of at ls is ≡ [])
+    × ((m : Lock) × (slice_get (locks_after ls is) at ≡ Some m) × GoesOn h m)
+
+-- the tokens rise, from the passes before on, up to the passes behind
+abbrev pub Rise : ℕ → List Holder → ℕ → Type 0
+Rise low [] high = low ≤ high
+Rise low (h ∷ hs) high = (low < h.token) × Rise h.token hs high
+
+abbrev pub TokensRise : Type 0
+TokensRise =
+    (ls : List Lock) (is : List Input) (at : ℕ) (l : Lock) → AreRight ls
+    → slice_get ls at ≡ Some l
+    → (m : Lock) × (slice_get (locks_after ls is) at ≡ Some m)
+    × Rise l.ring.grants (grants_of at ls is) m.ring.grants
+
+-- with no fault between, each token is one more than the one before
+abbrev pub AreCounted : ℕ → List Holder → Type 0
+AreCounted passes [] = Unit {0}
+AreCounted passes (h ∷ hs) = (h.token ≡ passes + 1) × AreCounted (passes + 1) hs
+
+abbrev pub TokensAreCounted : Type 0
+TokensAreCounted =
+    (ls : List Lock) (is : List Input) (at : ℕ) (l : Lock) → AreRight ls
+    → slice_get ls at ≡ Some l → NoneIs (breaks at) is
+    → AreCounted l.ring.grants (grants_of at ls is)
+
+-- Grants, up to that of w: each is of one of those who stood before it, in their order.
+abbrev pub AreServed : List Waiter → Waiter → List Holder → Type 0
+AreServed front w [] = Unit {0}
+AreServed front w (h ∷ hs) =
+    (h.client ≡ w.client)
+    ⊎ ((gone others : List Waiter)
+    × (next : Waiter)
+    × (front ≡ gone ++ next ∷ others)
+    × (h.client ≡ next.client)
+    × AreServed others w hs)
+
+-- first come, first served: while a client waits, only those are granted who stood before it
+abbrev pub FirstComeFirstServed : Type 0
+FirstComeFirstServed =
+    (ls : List Lock) (is : List Input) (at : ℕ) (l : Lock) (front : List Waiter) (w : Waiter)
+    (back : List Waiter) → AreRight ls → slice_get ls at ≡ Some l → l.line ≡ front ++ w ∷ back
+    → NoneIs (gives_up at w.client) is → AreServed front w (grants_of at ls is)
+
+-- the events among marks
+abbrev pub events_of : List Mark → List Event
+events_of [] = []
+events_of (Call e ∷ ms) = e ∷ events_of ms
+events_of (Survey seat ∷ ms) = events_of ms
+
+-- an input makes one event at most; a fault and its repair, as many as the ring has machines
+abbrev pub most_of_fault : Option Lock → ℕ
+most_of_fault None = 0
+most_of_fault (Some l) = 1 + most_passes (length l.ring.ring.values)
+
+abbrev pub most_events : List Lock → Input → ℕ
+most_events ls (Asked c i (Corrupt m v)) = most_of_fault (slice_get ls i)
+most_events ls _ = 1
+
+abbrev pub OneEventEach : Type 0
+OneEventEach = (ls : List Lock) (i : Input) → length (events_of (step ls i).marks) ≤ most_events ls i
+
+-- the history alone: the number of a grant on seat 0, of which a survey is the end
+abbrev pub number_of : Reply → Option ℕ
+number_of (reply.Granted number result) = Some number
+number_of _ = None
+
+abbrev pub open_after : Option ℕ → List Mark → Option ℕ
+open_after token [] = token
+open_after token (Call e ∷ ms) = open_after (if e.seat == 0 then number_of e.reply else token) ms
+open_after token (Survey seat ∷ ms) = open_after None ms
+
+-- grants on seat 0 and surveys of the seats 1 and 2 alternate
+abbrev pub Alternate : Option ℕ → List Mark → Type 0
+Alternate token [] = Unit {0}
+Alternate token (Call e ∷ ms) =
+    (e.seat ≡ 0 → (token ≡ None) × (is_some (number_of e.reply) ≡ true))
+    × Alternate (if e.seat == 0 then number_of e.reply else token) ms
+Alternate token (Survey seat ∷ ms) =
+    (is_some token ≡ true) × ((seat ≡ 1) ⊎ (seat ≡ 2)) × Alternate None ms
+
+abbrev pub token_of : Option Holder → Option ℕ
+token_of h = option_map (λ (x : Holder). x.token) h
+
+-- the history of a lock is its ring's, and shows its holds; so a restart, which knows only the
+-- history, knows the lock: a hold that is open there is client 0's
+pub record IsShown (l m : Lock) (marks : List Mark) : Type 0 where
+  pub legal : IsLegal till l.ring (events_of marks)
+  pub ring : m.ring ≡ after till l.ring (events_of marks)
+  pub alternate : Alternate (token_of l.holder) marks
+  pub open_hold : token_of m.holder ≡ open_after (token_of l.holder) marks
+
+abbrev pub HistoryShowsHolds : Type 0
+HistoryShowsHolds =
+    (ls : List Lock) (is : List Input) (at : ℕ) (l : Lock) → AreRight ls
+    → slice_get ls at ≡ Some l
+    → (m : Lock) × (slice_get (locks_after ls is) at ≡ Some m) × IsShown l m (marks_of at ls is)
+
+-- the lock that a restart makes of a history
+abbrev pub recovered : State ℕ → Option ℕ → List Mark → Lock
+recovered a token marks = record {
+  ring = after till a (events_of marks);
+  line = [];
+  holder = option_map (λ (t : ℕ). record { client = 0; token = t }) (open_after token marks);
+}
+
+abbrev pub RestartsRecover : Type 0
+RestartsRecover =
+    (ls : List Lock) (is : List Input) (at : ℕ) (l : Lock) → AreRight ls
+    → slice_get ls at ≡ Some l
+    → slice_get (locks_after ls (is ++ Restart ∷ [])) at
+    ≡ Some (recovered l.ring (token_of l.holder) (marks_of at ls is))
+
+-- no other answer than a grant, to another client
+abbrev pub IsGrantOfAnother : ℕ → List (ℕ × Answer) → Type 0
+IsGrantOfAnother c answers =
+    (answers ≡ [])
+    ⊎ ((d token : ℕ) × (answers ≡ (d, answer.Granted token) ∷ []) × (d ≢ c))
+
+-- each ask is answered once, and a leave not at all; behind the answer another may be granted
+abbrev pub IsAnswered : ℕ → Ask → List (ℕ × Answer) → Type 0
+IsAnswered c Leave answers = IsGrantOfAnother c answers
+IsAnswered c _ answers =
+    (a : Answer)
+    × (others : List (ℕ × Answer))
+    × (answers ≡ (c, a) ∷ others)
+    × IsGrantOfAnother c others
+
+abbrev pub OneAnswerEach : Type 0
+OneAnswerEach =
+    (ls : List Lock) (c i : ℕ) (ask : Ask) → AreRight ls → i < length ls
+    → IsAnswered c ask (step ls (Asked c i ask)).answers

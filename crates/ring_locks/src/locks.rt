@@ -1,0 +1,373 @@
+//! Locks that are called by their numbers.
+
+ghost use Rattle.std.specs.Prelude.{◌≡◌, ℕ, ◌<◌, ◌++◌, ◌∷◌, [], List, length, slice_get, Some, IfErr, OnOk, OnErr};
+ghost use Rattle.ring_locks.specs.Lines.{stands, waits_for, client_of, holder_of, comes_to};
+ghost use Rattle.ring_locks.specs.Locks.{Acquire, Try, Release, Cancel, Leave, Corrupt, Stats, acquire_refusal, try_refusal};
+ghost use Rattle.ring_locks.specs.Kept.{lock_of, locks_of, holder_behind, IsKeptRing, AreKept, IsAdded, IsAnswer};
+ghost use Rattle.ring_locks.specs.Parts.{view_of, views_of};
+ghost use Rattle.ring_locks.specs.declared.parts.LockParts.{LockParts};
+
+use crate::answers::{Answers, Holder, Refusal, Waiter};
+use crate::parts::{LockParts, refused};
+use crate::waits::Waits;
+use crate::{asks, marks};
+use ring_endless::EndlessRing;
+use std::alloc::Global;
+use std::collections::VecDeque;
+use std::marker::Model;
+
+/// Locks that are called by their numbers, from 0. Contracts see each of them as it is kept.
+#[derive(Drop)]
+pub struct Locks {
+    locks: Vec<LockParts>,
+    waits: Waits,
+}
+
+impl Model for Locks {
+    ghost use Rattle.std.specs.Prelude.{List};
+    ghost use Rattle.ring_locks.specs.Kept.{LockView, AreKept};
+    ghost use Rattle.ring_locks.specs.Parts.{views_of};
+
+    ghost Value = { List LockView };
+
+    ghost view = { λ s. views_of s.locks.items };
+
+    ghost invariant = { λ s. AreKept (views_of s.locks.items) s.waits };
+}
+
+/// The client that holds.
+fn client_of(holder: Option<Holder>) -> Option<u64>
+    ensures { result ≡ client_of holder }
+{
+    match holder {
+        Some(holder) => Some(holder.client),
+        None => None,
+    }
+}
+
+/// Who holds what a client waits for.
+fn awaited(locks: &[LockParts], waits: &Waits, client: u64) -> Option<u64>
+    requires { AreKept (views_of locks.now) waits.now }
+    ensures { result ≡ holder_of (waits_for (locks_of (views_of locks.now)) client) }
+{
+    match waits.get(client) {
+        Some(lock) => client_of(locks[lock as usize].holder),
+        None => None,
+    }
+}
+
+/// Whether one comes from this client to the asker, from whoever waits to who holds what it waits for.
+fn comes_back(locks: &[LockParts], waits: &Waits, asker: u64, from: Option<u64>) -> bool
+    requires { AreKept (views_of locks.now) waits.now }
+    ensures { result
+        ≡ comes_to (length locks.now) (locks_of (views_of locks.now)) asker from }
+{
+    let mut at = from;
+    let mut more = locks.len();
+    while more > 0 {
+        let Some(client) = at else {
+            return false;
+        };
+        if client == asker {
+            return true;
+        }
+        at = awaited(locks, waits, client);
+        more -= 1;
+    }
+    at.is_some()
+}
+
+/// Why a client may not acquire a lock.
+fn acquire_refusal(locks: &[LockParts], waits: &Waits, client: u64, lock: usize) -> Option<Refusal>
+    requires kept { AreKept (views_of locks.now) waits.now }
+    requires lock { lock < length locks.now }
+    ensures { (p : LockParts) → slice_get locks.now lock ≡ Some p
+        → result ≡ acquire_refusal (locks_of (views_of locks.now)) (lock_of (view_of p)) client }
+{
+    let holder = locks[lock].holder;
+    if asks::is_held_by(client, holder) {
+        return Some(Refusal::Holds);
+    }
+    if waits.get(client).is_some() {
+        return Some(Refusal::Waits);
+    }
+    if comes_back(locks, waits, client, client_of(holder)) {
+        return Some(Refusal::Circle);
+    }
+    None
+}
+
+/// Whether a client waits for a lock.
+fn stands_at(locks: &[LockParts], waits: &Waits, client: u64, lock: u32) -> bool
+    requires { AreKept (views_of locks.now) waits.now }
+    ensures { (p : LockParts) → slice_get locks.now lock ≡ Some p
+        → result ≡ stands client p.line.items }
+{
+    match waits.get(client) {
+        Some(other) => other == lock,
+        None => false,
+    }
+}
+
+/// Why a client may not try to acquire a lock.
+fn try_refusal(locks: &[LockParts], waits: &Waits, client: u64, lock: u32) -> Option<Refusal>
+    requires kept { AreKept (views_of locks.now) waits.now }
+    requires lock { lock < length locks.now }
+    ensures { (p : LockParts) → slice_get locks.now lock ≡ Some p
+        → result ≡ try_refusal (lock_of (view_of p)) client }
+{
+    if asks::is_held_by(client, locks[lock as usize].holder) {
+        return Some(Refusal::Holds);
+    }
+    if stands_at(locks, waits, client, lock) {
+        return Some(Refusal::Waits);
+    }
+    None
+}
+
+fn acquire_among(
+    locks: &mut Vec<LockParts>,
+    waits: &mut Waits,
+    client: u64,
+    lock: u32,
+    order: u64,
+) -> Answers
+    requires { AreKept (views_of locks.old.items) waits.old }
+    ensures { IsAnswer (views_of locks.old.items) (views_of locks.new.items) client lock
+        (Acquire order) result × AreKept (views_of locks.new.items) waits.new }
+{
+    if lock as usize >= locks.len() {
+        return refused(Refusal::Lock);
+    }
+    let why = acquire_refusal(locks, waits, client, lock as usize);
+    let waiter = Waiter { client, order };
+    asks::acquire(&mut locks[lock as usize], waits, lock, waiter, why)
+}
+
+fn try_among(
+    locks: &mut Vec<LockParts>,
+    waits: &mut Waits,
+    client: u64,
+    lock: u32,
+    order: u64,
+) -> Answers
+    requires { AreKept (views_of locks.old.items) waits.old }
+    ensures { IsAnswer (views_of locks.old.items) (views_of locks.new.items) client lock
+        (Try order) result × AreKept (views_of locks.new.items) waits.new }
+{
+    if lock as usize >= locks.len() {
+        return refused(Refusal::Lock);
+    }
+    let why = try_refusal(locks, waits, client, lock);
+    let waiter = Waiter { client, order };
+    asks::try_acquire(&mut locks[lock as usize], waiter, why)
+}
+
+fn release_among(
+    locks: &mut Vec<LockParts>,
+    waits: &mut Waits,
+    client: u64,
+    lock: u32,
+    token: u64,
+) -> Answers
+    requires { AreKept (views_of locks.old.items) waits.old }
+    ensures { IsAnswer (views_of locks.old.items) (views_of locks.new.items) client lock
+        (Release token) result × AreKept (views_of locks.new.items) waits.new }
+{
+    if lock as usize >= locks.len() {
+        return refused(Refusal::Lock);
+    }
+    asks::release(&mut locks[lock as usize], waits, lock, client, token)
+}
+
+fn cancel_among(locks: &mut Vec<LockParts>, waits: &mut Waits, client: u64, lock: u32) -> Answers
+    requires { AreKept (views_of locks.old.items) waits.old }
+    ensures { IsAnswer (views_of locks.old.items) (views_of locks.new.items) client lock
+        Cancel result × AreKept (views_of locks.new.items) waits.new }
+{
+    if lock as usize >= locks.len() {
+        return refused(Refusal::Lock);
+    }
+    let waiting = stands_at(locks, waits, client, lock);
+    asks::cancel(&mut locks[lock as usize], waits, lock, client, waiting)
+}
+
+fn leave_among(locks: &mut Vec<LockParts>, waits: &mut Waits, client: u64, lock: u32) -> Answers
+    requires { AreKept (views_of locks.old.items) waits.old }
+    ensures { IsAnswer (views_of locks.old.items) (views_of locks.new.items) client lock
+        Leave result × AreKept (views_of locks.new.items) waits.new }
+{
+    if lock as usize >= locks.len() {
+        return refused(Refusal::Lock);
+    }
+    let waiting = stands_at(locks, waits, client, lock);
+    asks::leave(&mut locks[lock as usize], waits, lock, client, waiting)
+}
+
+fn corrupt_among(
+    locks: &mut Vec<LockParts>,
+    waits: &mut Waits,
+    client: u64,
+    lock: u32,
+    machine: u32,
+    value: u32,
+) -> Answers
+    requires { AreKept (views_of locks.old.items) waits.old }
+    ensures { IsAnswer (views_of locks.old.items) (views_of locks.new.items) client lock
+        (Corrupt machine value) result × AreKept (views_of locks.new.items) waits.new }
+{
+    if lock as usize >= locks.len() {
+        return refused(Refusal::Lock);
+    }
+    asks::corrupt(&mut locks[lock as usize], client, machine, value)
+}
+
+/// What there is to say of a lock.
+fn stats_of(locks: &[LockParts], lock: u32) -> Answers
+    requires rings { (i : ℕ) (p : LockParts) → slice_get locks.now i ≡ Some p → IsKeptRing p.ring }
+    ensures { (client : ℕ) (entries : List (ℕ × ℕ)) → AreKept (views_of locks.now) entries
+        → IsAnswer (views_of locks.now) (views_of locks.now) client lock Stats result
+        × AreKept (views_of locks.now) entries }
+{
+    if lock as usize >= locks.len() {
+        return refused(Refusal::Lock);
+    }
+    asks::stats(&locks[lock as usize])
+}
+
+/// A lock more, of a settled ring.
+fn add_to(
+    locks: &mut Vec<LockParts>,
+    alloc: Global,
+    ring: EndlessRing,
+    holder: Option<Holder>,
+) -> Result<(), Refusal>
+    ensures ok { OnOk result (views_of locks.new.items ≡ views_of locks.old.items
+        ++ record { ring = ring; line = []; holder = holder } ∷ []) }
+    ensures err { OnErr result (locks.new.items ≡ locks.old.items) }
+    ensures why { IfErr result (λ e. e ≡ Refusal.Memory) }
+{
+    let Ok(()) = locks.reserve(1) else {
+        return Err(Refusal::Memory);
+    };
+    let line = VecDeque::new(alloc);
+    locks.push_reserved(LockParts { ring, line, holder });
+    Ok(())
+}
+
+/// Who holds a lock whose hold with this token was open at a restart.
+fn zeroth(held: Option<u64>) -> Option<Holder>
+    ensures { result ≡ holder_behind held }
+{
+    match held {
+        Some(token) => Some(Holder { client: 0, token }),
+        None => None,
+    }
+}
+
+impl Locks {
+    /// No locks.
+    pub fn none(alloc: Global) -> Locks
+        ensures { result ≡ [] }
+    {
+        Locks {
+            locks: Vec::new(alloc),
+            waits: Waits::new(alloc),
+        }
+    }
+
+    /// Adds a lock, whose number is how many there were: its ring of 10 seats is repaired first, and if a hold was open in its
+    /// history, it goes on as client 0's, with this token.
+    ///
+    /// # Errors
+    ///
+    /// `Full`, `Memory`. There are as many locks as before then, and the ring is let go.
+    pub fn add(
+        &mut self,
+        alloc: Global,
+        ring: EndlessRing,
+        held: Option<u64>,
+    ) -> Result<(), Refusal>
+        requires { IsKeptRing ring }
+        ensures ok { OnOk result (IsAdded self.old self.new ring held) }
+        ensures err { OnErr result (self.new ≡ self.old) }
+    {
+        let mut ring = ring;
+        match marks::settle(&mut ring) {
+            Ok(()) => {}
+            Err(why) => return Err(why),
+        }
+        add_to(&mut self.locks, alloc, ring, zeroth(held))
+    }
+
+    /// Acquires a lock for a client, with an order that the client chooses: it is granted at once if nobody holds the lock, or
+    /// else the client waits, and is granted once, later, unless it cancels or leaves.
+    ///
+    /// Refused, the first that applies: `Lock`, `Holds`, `Waits`, `Circle`; `Full`, `Memory`. Nothing has changed then.
+    pub fn acquire(&mut self, client: u64, lock: u32, order: u64) -> Answers
+        ensures { IsAnswer self.old self.new client lock (Acquire order) result }
+    {
+        acquire_among(&mut self.locks, &mut self.waits, client, lock, order)
+    }
+
+    /// The same, but a client does not wait: if somebody holds the lock, the answer is `Busy`.
+    ///
+    /// Refused, the first that applies: `Lock`, `Holds`, `Waits` for this lock; `Full`, `Memory`. Nothing has changed then.
+    pub fn try_acquire(&mut self, client: u64, lock: u32, order: u64) -> Answers
+        ensures { IsAnswer self.old self.new client lock (Try order) result }
+    {
+        try_among(&mut self.locks, &mut self.waits, client, lock, order)
+    }
+
+    /// Ends the hold of a client with this token, and grants the head of the line.
+    ///
+    /// Refused, the first that applies: `Lock`, `Holder`; `Full`, `Memory`. Nothing has changed then.
+    pub fn release(&mut self, client: u64, lock: u32, token: u64) -> Answers
+        ensures { IsAnswer self.old self.new client lock (Release token) result }
+    {
+        release_among(&mut self.locks, &mut self.waits, client, lock, token)
+    }
+
+    /// Takes a client that waits out of the line.
+    ///
+    /// Refused, the first that applies: `Lock`, `Waiter`. Nothing has changed then.
+    pub fn cancel(&mut self, client: u64, lock: u32) -> Answers
+        ensures { IsAnswer self.old self.new client lock Cancel result }
+    {
+        cancel_among(&mut self.locks, &mut self.waits, client, lock)
+    }
+
+    /// A client leaves a lock: it goes out of the line, or its hold ends and the head of the line is granted. There is no answer
+    /// to the client.
+    ///
+    /// Refused: `Lock`; the end of a hold `Full`, `Memory`. Nothing has changed then.
+    pub fn leave(&mut self, client: u64, lock: u32) -> Answers
+        ensures { IsAnswer self.old self.new client lock Leave result }
+    {
+        leave_among(&mut self.locks, &mut self.waits, client, lock)
+    }
+
+    /// A fault of a lock's ring: a value is written into a machine, and the ring is repaired at once. No hold ends.
+    ///
+    /// Refused, the first that applies: `Lock`, `Machine`, `Value`; `Full`, `Memory`. Nothing has changed then.
+    pub fn corrupt(&mut self, client: u64, lock: u32, machine: u32, value: u32) -> Answers
+        ensures { IsAnswer self.old self.new client lock (Corrupt machine value) result }
+    {
+        corrupt_among(
+            &mut self.locks,
+            &mut self.waits,
+            client,
+            lock,
+            machine,
+            value,
+        )
+    }
+
+    /// How many machines the ring of a lock has, how many clients wait for it, how many passes of its ring were granted, and who
+    /// holds it. Refused: `Lock`.
+    pub fn stats(&self, lock: u32) -> Answers
+        ensures { (client : ℕ) → IsAnswer self.now self.now client lock Stats result }
+    {
+        stats_of(self.locks.as_slice(), lock)
+    }
+}

@@ -1,0 +1,237 @@
+//! What is done to the ring of a lock: passes, surveys that end holds, faults with their repair.
+
+ghost use Rattle.std.specs.Prelude.{◌≡◌, true, ℕ, ◌+◌, ◌<◌, ◌≤◌, ◌^◌, length, [], ◌∷◌, map, slice_index, Some, IsOk, IfOk, IfErr, OnOk, OnErr};
+ghost use Rattle.ring_model.specs.Ring.{first_privileged, is_settled};
+ghost use Rattle.ring_locks.specs.Grants.{most_passes};
+ghost use Rattle.ring_endless.specs.Endless.{IsSameEndless};
+ghost use Rattle.ring_locks.specs.Locks.{Call, Survey, called, fault, first_pass, repairs};
+ghost use Rattle.ring_locks.specs.Promises.{number_of};
+ghost use Rattle.ring_locks.specs.Kept.{state_of, seat_count, IsKeptRing, AreMade};
+ghost use Rattle.ring_locks.specs.Parts.{IsMade, IsWantOf};
+
+use crate::answers::Refusal;
+use ring_desk::CallError;
+use ring_endless::EndlessRing;
+use ring_model::Reply;
+
+/// The number of a grant; 0 of another reply.
+fn number_of(reply: Reply) -> u64
+    ensures { (number : ℕ) → number_of reply ≡ Some number → result ≡ number }
+{
+    match reply {
+        Reply::Granted { number, .. } => number,
+        Reply::NotPrivileged | Reply::Corrupted { .. } => 0,
+    }
+}
+
+/// The value over which a fault was written; 0 of another reply.
+fn old_of(reply: Reply) -> u32
+    ensures { (old : ℕ) → reply ≡ Reply.Corrupted old → result ≡ old }
+{
+    match reply {
+        Reply::Corrupted { old } => old,
+        Reply::NotPrivileged | Reply::Granted { .. } => 0,
+    }
+}
+
+/// Why a ring refuses a call that has its seat, its machine and its value right.
+fn want(error: CallError) -> Refusal
+    ensures full { error ≡ CallError.HistoryFull → result ≡ Refusal.Full }
+    ensures memory { error ≡ CallError.OutOfMemory → result ≡ Refusal.Memory }
+{
+    match error {
+        CallError::HistoryFull => Refusal::Full,
+        _ => Refusal::Memory,
+    }
+}
+
+/// The first privileged machine.
+fn first(ring: &EndlessRing) -> u32
+    requires { IsKeptRing ring.now }
+    ensures { result ≡ first_privileged (state_of ring.now).ring.values }
+{
+    ring.glance().first
+}
+
+/// Takes memory for so many events.
+fn reserve(ring: &mut EndlessRing, events: u32) -> Result<(), Refusal>
+    requires { IsKeptRing ring.old }
+    ensures ok { OnOk result (events ≤ ring.new.ring.book.room) }
+    ensures same { IsSameEndless ring.old ring.new }
+    ensures kept { IsKeptRing ring.new }
+    ensures err { OnErr result (ring.new ≡ ring.old) }
+    ensures why { IfErr result (λ e. IsWantOf ring.old events e) }
+{
+    match ring.reserve(events) {
+        Ok(()) => Ok(()),
+        Err(error) => Err(want(error)),
+    }
+}
+
+/// A pass of the first privileged machine by this seat. Answers its number, which counts all passes of the ring.
+///
+/// # Errors
+///
+/// `Full`, `Memory`; neither if there is room for an event. Nothing has changed then.
+pub(crate) fn pass(ring: &mut EndlessRing, seat: u32, order: u64) -> Result<u64, Refusal>
+    requires kept { IsKeptRing ring.old }
+    requires seat { seat < seat_count }
+    ensures number { IfOk result (λ number. number ≡ (state_of ring.old).grants + 1) }
+    ensures made { OnOk result
+        (IsMade ring.old ring.new seat (first_pass (state_of ring.old) order)) }
+    ensures kept { IsKeptRing ring.new }
+    ensures err { OnErr result (ring.new ≡ ring.old) }
+    ensures why { IfErr result (λ e. IsWantOf ring.old 1 e) }
+    ensures succeeds { 1 ≤ ring.old.ring.book.room → IsOk result }
+    ensures room { OnOk result (ring.old.ring.book.room ≤ ring.new.ring.book.room + 1) }
+{
+    let first = first(ring);
+    match ring.pass(seat, first, order) {
+        Ok(receipt) => Ok(number_of(receipt.event.reply)),
+        Err(error) => Err(want(error)),
+    }
+}
+
+/// Ends a hold, with a survey by this seat.
+///
+/// # Errors
+///
+/// `Memory`. Nothing has changed then.
+pub(crate) fn end(ring: &mut EndlessRing, seat: u32) -> Result<(), Refusal>
+    requires kept { IsKeptRing ring.old }
+    requires seat { seat < seat_count }
+    ensures made { OnOk result (AreMade ring.old (Survey seat ∷ []) ring.new) }
+    ensures kept { IsKeptRing ring.new }
+    ensures room { ring.new.ring.book.room ≡ ring.old.ring.book.room }
+    ensures state { state_of ring.new ≡ state_of ring.old }
+    ensures err { OnErr result (ring.new ≡ ring.old) }
+    ensures why { IfErr result (λ e. e ≡ Refusal.Memory) }
+{
+    match ring.survey(seat) {
+        Ok(_) => Ok(()),
+        Err(error) => Err(want(error)),
+    }
+}
+
+/// Ends a hold, with a survey by this seat, and passes the first privileged machine on seat 0. Answers the number of the pass.
+///
+/// # Errors
+///
+/// `Full`, `Memory`. Nothing has changed then, room aside.
+pub(crate) fn pass_on(ring: &mut EndlessRing, seat: u32, order: u64) -> Result<u64, Refusal>
+    requires kept { IsKeptRing ring.old }
+    requires seat { seat < seat_count }
+    ensures number { IfOk result (λ number. number ≡ (state_of ring.old).grants + 1) }
+    ensures made { OnOk result (AreMade ring.old
+        (Survey seat ∷ Call (called (state_of ring.old) 0 (first_pass (state_of ring.old) order))
+        ∷ []) ring.new) }
+    ensures kept { IsKeptRing ring.new }
+    ensures err { OnErr result (IsSameEndless ring.old ring.new) }
+    ensures why { IfErr result (λ e. IsWantOf ring.old 1 e) }
+{
+    match reserve(ring, 1) {
+        Ok(()) => {}
+        Err(why) => return Err(why),
+    }
+    match end(ring, seat) {
+        Ok(()) => {}
+        Err(why) => return Err(why),
+    }
+    match pass(ring, 0, order) {
+        Ok(number) => Ok(number),
+        Err(_) => unreachable!(),
+    }
+}
+
+/// Whether exactly one machine is privileged.
+fn is_settled(ring: &EndlessRing) -> bool
+    requires { IsKeptRing ring.now }
+    ensures { result ≡ is_settled (state_of ring.now).ring.values }
+{
+    ring.glance().privileged == 1
+}
+
+/// Passes the first privileged machine by seat 9 until the ring is settled, at most so often. There is room for that.
+fn repair(ring: &mut EndlessRing, most: u32)
+    requires kept { IsKeptRing ring.old }
+    requires room { most ≤ ring.old.ring.book.room }
+    ensures made { AreMade ring.old (map Call (repairs most (state_of ring.old))) ring.new }
+    ensures kept { IsKeptRing ring.new }
+{
+    let mut more = most;
+    while more > 0 {
+        if is_settled(ring) {
+            return;
+        }
+        match pass(ring, 9, 0) {
+            Ok(_) => {}
+            Err(_) => unreachable!(),
+        }
+        more -= 1;
+    }
+}
+
+/// The most passes that a repair of the ring may need.
+fn most_repairs(ring: &EndlessRing) -> u32
+    requires { IsKeptRing ring.now }
+    ensures is { result ≡ most_passes (length (state_of ring.now).ring.values) }
+    ensures few { result < 1024 }
+{
+    ring.segment().machines() - 1
+}
+
+/// Passes the first privileged machine by seat 9 until the ring is settled.
+///
+/// # Errors
+///
+/// `Full`, `Memory`. Nothing has changed then, room aside.
+pub(crate) fn settle(ring: &mut EndlessRing) -> Result<(), Refusal>
+    requires { IsKeptRing ring.old }
+    ensures made { OnOk result (AreMade ring.old
+        (map Call (repairs (most_passes (length (state_of ring.old).ring.values)) (state_of ring.old)))
+        ring.new) }
+    ensures settled { OnOk result (is_settled (state_of ring.new).ring.values ≡ true) }
+    ensures kept { IsKeptRing ring.new }
+    ensures why { IfErr result (λ e.
+        IsWantOf ring.old (most_passes (length (state_of ring.old).ring.values)) e) }
+{
+    let most = most_repairs(ring);
+    match reserve(ring, most) {
+        Ok(()) => {}
+        Err(why) => return Err(why),
+    }
+    repair(ring, most);
+    Ok(())
+}
+
+/// A fault by seat 8, which writes a value into a machine, and its repair. Answers the value that was there.
+///
+/// # Errors
+///
+/// `Full`, `Memory`. Nothing has changed then, room aside.
+pub(crate) fn fault(ring: &mut EndlessRing, machine: u32, value: u32) -> Result<u32, Refusal>
+    requires kept { IsKeptRing ring.old }
+    requires machine { machine < length (state_of ring.old).ring.values }
+    requires value { value < (state_of ring.old).ring.k }
+    ensures old { IfOk result (λ old. old
+        ≡ slice_index (state_of ring.old).ring.values machine) }
+    ensures made { OnOk result (AreMade ring.old
+        (map Call (fault (state_of ring.old) machine value)) ring.new) }
+    ensures kept { IsKeptRing ring.new }
+    ensures err { OnErr result (IsSameEndless ring.old ring.new) }
+    ensures why { IfErr result (λ e.
+        IsWantOf ring.old (1 + most_passes (length (state_of ring.old).ring.values)) e) }
+{
+    let most = most_repairs(ring);
+    match reserve(ring, 1 + most) {
+        Ok(()) => {}
+        Err(why) => return Err(why),
+    }
+    match ring.corrupt(8, machine, value) {
+        Ok(receipt) => {
+            repair(ring, most);
+            Ok(old_of(receipt.event.reply))
+        }
+        Err(error) => Err(want(error)),
+    }
+}
