@@ -6,6 +6,7 @@
 #![tactic(auto)]
 
 mod farms;
+mod names;
 mod paper;
 mod runs;
 mod texts;
@@ -73,6 +74,10 @@ fn play_file<R: AllocGlobal + Files, W: Write>(
         show(rt, name, out)
     } else if let Some(name) = line.strip_prefix('-') {
         fs::remove_file(rt, name)
+    } else if let Some(name) = line.strip_prefix('/') {
+        fs::create_dir(rt, name)
+    } else if let Some(name) = line.strip_prefix('\\') {
+        fs::remove_dir(rt, name)
     } else {
         writeln!(out, "{line}")
     }

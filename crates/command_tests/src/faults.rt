@@ -4,6 +4,7 @@ use ring_check::{CheckError, Kind};
 use ring_commands::endings::tell;
 use ring_commands::faults::ToolError;
 use ring_journal::RecoverError;
+use ring_segments::SegmentError;
 use ring_settings::{Field, RingCause};
 use std::test::Fail;
 
@@ -105,6 +106,44 @@ fn each_fault_has_its_line(rt: HostRuntime) {
             ToolError::Journal("kept.txt", RecoverError::OutOfMemory),
             1,
             "kept.txt: out of memory\n",
+        ),
+        (ToolError::NoSegment("kept"), 1, "kept has no segments\n"),
+        (
+            ToolError::Irregular("kept", 7),
+            1,
+            "kept/0000000007.ring: not a regular file\n",
+        ),
+        (
+            ToolError::Missing("kept", 12_345_678_901),
+            1,
+            "kept/12345678901.ring: missing\n",
+        ),
+        (
+            ToolError::UnreadSegment("kept", 1),
+            1,
+            "cannot read kept/0000000001.ring\n",
+        ),
+        (
+            ToolError::LargeSegment("kept", u64::MAX),
+            1,
+            "kept/18446744073709551615.ring is too large\n",
+        ),
+        (
+            ToolError::Segment(
+                "kept",
+                2,
+                SegmentError::Bad {
+                    line: 15,
+                    kind: Kind::Reply,
+                },
+            ),
+            1,
+            "kept/0000000002.ring: line 15: reply\n",
+        ),
+        (
+            ToolError::Segment("kept", 3, SegmentError::Full),
+            1,
+            "kept/0000000003.ring: full\n",
         ),
     ];
     for (fault, status, text) in table {

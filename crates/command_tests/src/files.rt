@@ -1,5 +1,6 @@
-//! Files in memory, and the system's files in a folder of their own.
+//! Files in memory, the system's files in a folder of their own, and folders of segments.
 
+mod folders;
 mod grown;
 mod memory;
 mod replacing;

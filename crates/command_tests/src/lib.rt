@@ -9,6 +9,10 @@ mod files;
 #[cfg(test)]
 mod lists;
 #[cfg(test)]
+mod names;
+#[cfg(test)]
 mod reading;
+#[cfg(test)]
+mod salvage;
 #[cfg(test)]
 mod segments;

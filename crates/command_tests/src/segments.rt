@@ -12,7 +12,7 @@ use std::test::Fail;
 
 const NONE: &str = "0000000000000000000000000000000000000000000000000000000000000000";
 
-const FIRST: &str = "ringsegment 1 1 2\n\
+pub const FIRST: &str = "ringsegment 1 1 2\n\
     behind 0000000000000000000000000000000000000000000000000000000000000000\n\
     base 0 0 0 0\n\
     base 0 0 0 0\n\
@@ -31,9 +31,9 @@ const FIRST: &str = "ringsegment 1 1 2\n\
     1 m 0 0 2 1 2 4\n\
     1 m 0 3 2 0 3 6\n";
 
-const FIRST_DIGEST: &str = "3e0fee3e8672fa1b3f3444a4d3bcbf61999e2b7c43ecb4a5a92a1cd9d9e46239";
+pub const FIRST_DIGEST: &str = "3e0fee3e8672fa1b3f3444a4d3bcbf61999e2b7c43ecb4a5a92a1cd9d9e46239";
 
-const SECOND: &str = "ringsegment 1 2 2\n\
+pub const SECOND: &str = "ringsegment 1 2 2\n\
     behind 3e0fee3e8672fa1b3f3444a4d3bcbf61999e2b7c43ecb4a5a92a1cd9d9e46239\n\
     base 1 1 5 1\n\
     base 3 3 6 3\n\
@@ -51,7 +51,7 @@ const SECOND: &str = "ringsegment 1 2 2\n\
 
 const SECOND_DIGEST: &str = "fc022e386e328ac620106ec1596737796121f60f178f835f0fe1b03d5a7506e3";
 
-const THIRD: &str = "ringsegment 1 3 3\n\
+pub const THIRD: &str = "ringsegment 1 3 3\n\
     behind fc022e386e328ac620106ec1596737796121f60f178f835f0fe1b03d5a7506e3\n\
     base 3 2 9 1\n\
     base 3 3 6 3\n\
@@ -71,7 +71,7 @@ const THIRD: &str = "ringsegment 1 3 3\n\
     2 p 0 0 1 g 1 1\n\
     0 p 0 2";
 
-const THIRD_DIGEST: &str = "2244ec08b1b29a5f67def1883062ad99864f287154d1166f1217cb72a467fdc1";
+pub const THIRD_DIGEST: &str = "2244ec08b1b29a5f67def1883062ad99864f287154d1166f1217cb72a467fdc1";
 
 /// The digits of a digest.
 fn digits_of(text: &str) -> [u8; DIGEST_DIGITS] {

@@ -19,7 +19,8 @@ pub struct StoredFile {
     pub bytes: Vec<u8>,
 }
 
-/// Files in memory: the last entry with a name is the file of that name, and no two names lead to one file.
+/// Files in memory: the last entry with a name is the file of that name, and no two names lead to one file. A folder is there
+/// if a file is in it.
 #[derive(Drop)]
 pub struct MemoryDisk {
     pub alloc: Global,
@@ -118,7 +119,11 @@ impl Disk for MemoryDisk {
     }
 
     fn list(&self, folder: &str) -> io::Result<Vec<FolderEntry>> {
-        names_among(self.alloc, &self.entries, folder)
+        let names = names_among(self.alloc, &self.entries, folder)?;
+        if names.is_empty() {
+            return Err(io::Error::from(ErrorKind::NotFound));
+        }
+        Ok(names)
     }
 
     fn make(&mut self, _name: &str) -> io::Result<Vec<u8>> {

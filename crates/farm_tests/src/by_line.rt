@@ -1,6 +1,7 @@
 //! Rings that lines drive: readers, writers and files that fail. The answers to a dialogue, and its journal, are rows
 //! of `command_script`.
 
+mod chained;
 mod files;
 mod journals;
 mod segments;

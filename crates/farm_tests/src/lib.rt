@@ -13,6 +13,10 @@ mod events;
 #[cfg(test)]
 mod farm;
 #[cfg(test)]
+mod locks;
+#[cfg(test)]
+mod names;
+#[cfg(test)]
 mod scripted;
 #[cfg(test)]
 mod settings;

@@ -13,8 +13,7 @@ ghost use Rattle.ring_text.specs.Report.{entries_of};
 
 use crate::scripted::{REFUSALS, Refusal, writer_with};
 use ring_farm::{Log, Outcome, RingOutcome};
-use ring_saved::{read_saved, upgrade, write_saved};
-use ring_text::{write_outcome, write_report, write_total};
+use ring_text::{read_saved, upgrade, write_outcome, write_report, write_saved, write_total};
 use std::alloc::Global;
 use std::io::Write;
 use std::process::Abort;

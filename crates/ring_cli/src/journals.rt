@@ -2,9 +2,14 @@
 
 use crate::words::needed_text;
 use clap::builder::ValueParser;
-use clap::{Arg, ArgAction, ArgMatches, Command, Error};
+use clap::{Arg, ArgAction, ArgMatches, Command, Error, value_parser};
 use ring_requests::{RecoverWords, Request, ServeWords};
 use std::alloc::Global;
+
+/// How many lines a segment has at most, and how many if none are given.
+const MOST_LINES: i64 = 4_000_000;
+
+const LINES: u32 = 1_000_000;
 
 const RECOVER_ABOUT: &str = "Saves the history that a journal tells, which may be cut off anywhere";
 
@@ -17,6 +22,9 @@ prints of NEW. Where NEW is `-`, the text goes to standard output, and the line 
 
 A FILE that is refused makes no NEW: it is cut off within what it began with; or it says which line is no journal's, as
 `syntax`, or which call cannot have been, as `reply` or `survey`, where the calls before it are legal.
+
+Where FILE is a folder of segments, it is the last of them that is recovered: NEW has its history, which counts by itself,
+and its head, which says what came before it, is printed behind the line.
 
 Example:
   $ ring_tool recover journal.txt saved.txt
@@ -48,8 +56,13 @@ there wherever the process ends, and after the machine loses power. With `--no-s
 an answer leaves, and may write it to the disk later: then nothing is lost if the process is killed, but the last calls
 that were answered may be if the machine loses power. Without `--journal` both words change nothing.
 
-If the journal tells something, the rings go on from what `recover` gives of it, and not from HISTORY; it is begun anew
-with these rings. A journal that is refused stays as it is. One process at a time keeps it.
+If the journal tells something, the rings go on from what `recover` gives of it, and not from HISTORY, which may be left
+out; it is begun anew with these rings. A journal that is refused stays as it is. One process at a time keeps it.
+
+If FILE is a folder, the journal is a chain of segments in it, FILE/0000000001.ring and so on: when one has LINES
+lines, or a ring of it is nearly full, the next one begins. So the journal has no end, and the numbers of grants go on
+rising over all of them. Where the next one cannot begin, for want of room or of memory, each line is answered `refused
+file` or `refused memory` until it can. `check FILE` checks the whole chain.
 
 Example:
   $ printf 'pass 0 0 0 5\\npass 0 0 2 4\\n' | ring_tool serve saved.txt --journal journal.txt
@@ -88,13 +101,12 @@ pub(crate) fn recover_words<'a>(words: &ArgMatches<'a>) -> Option<Request<'a>> {
     }))
 }
 
-/// The saved rings from which `serve` resumes.
-fn served_word<'a>(alloc: Global) -> Arg<'a> {
-    needed_text(
-        alloc,
-        "HISTORY",
-        "The saved history, as `run --history` writes it, of at most 1,073,741,824 bytes",
-    )
+/// The saved rings from which `serve` resumes, which may be left out if a journal tells of them.
+fn served_word<'a>(alloc: Global) -> Result<Arg<'a>, Error> {
+    let word = Arg::new(alloc, "HISTORY").help(
+        "The saved history, as `run --history` or `new` writes it, of at most 1,073,741,824 bytes",
+    );
+    Ok(word.required_unless_present("JOURNAL")?)
 }
 
 /// The journal's file, which may be left out.
@@ -102,7 +114,16 @@ fn journal_word<'a>(alloc: Global) -> Arg<'a> {
     Arg::new(alloc, "JOURNAL")
         .long("journal")
         .value_name("FILE")
-        .help("Keeps a journal of the calls in FILE, and goes on from it if it is there")
+        .help("Keeps a journal of the calls in FILE, or in the folder FILE, and goes on from it")
+}
+
+/// How many lines a segment has, which may be left out.
+fn segment_word<'a>(alloc: Global) -> Arg<'a> {
+    Arg::new(alloc, "SEGMENT")
+        .long("segment")
+        .value_name("LINES")
+        .value_parser(value_parser!(u32).range(1..=MOST_LINES))
+        .help("How many lines a segment of the folder has, up to 4000000 [default: 1000000]")
 }
 
 /// That each call is on the disk before it is answered, as it is without this word.
@@ -144,10 +165,16 @@ fn with_permits<'a>(alloc: Global, command: Command<'a>) -> Result<Command<'a>, 
     Ok(command.arg(faults_word(alloc))?.arg(saves_word(alloc))?)
 }
 
+/// `serve` with what its journal survives.
+fn with_sync<'a>(alloc: Global, command: Command<'a>) -> Result<Command<'a>, Error> {
+    let command = command.arg(sync_word(alloc))?;
+    Ok(command.arg(no_sync_word(alloc)?)?)
+}
+
 /// `serve` with its journal.
 fn with_journal<'a>(alloc: Global, command: Command<'a>) -> Result<Command<'a>, Error> {
-    let command = command.arg(journal_word(alloc))?.arg(sync_word(alloc))?;
-    Ok(command.arg(no_sync_word(alloc)?)?)
+    let command = command.arg(journal_word(alloc))?.arg(segment_word(alloc))?;
+    with_sync(alloc, command)
 }
 
 /// The words of `serve`.
@@ -157,15 +184,16 @@ pub(crate) fn serve_command<'a>(alloc: Global) -> Result<Command<'a>, Error> {
         .after_help(SERVE_HELP);
     with_permits(
         alloc,
-        with_journal(alloc, command.arg(served_word(alloc))?)?,
+        with_journal(alloc, command.arg(served_word(alloc)?)?)?,
     )
 }
 
-/// `serve`, where the saved history is there.
+/// `serve`, where the saved history or a journal is there.
 pub(crate) fn serve_words<'a>(words: &ArgMatches<'a>) -> Option<Request<'a>> {
     Some(Request::Serve(ServeWords {
-        history: words.get_str("HISTORY")?,
+        history: words.get_str("HISTORY"),
         journal: words.get_str("JOURNAL"),
+        segment: words.get_one::<u32>("SEGMENT").unwrap_or(LINES),
         synced: !words.get_flag("NO_SYNC"),
         faults: words.get_flag("FAULTS"),
         saves: words.get_str("SAVES"),

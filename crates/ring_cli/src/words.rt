@@ -64,6 +64,12 @@ It replays each ring of the file on one thread, and trusts nothing that the file
 survey and each count is right it prints the sums over all rings. Else it says which line is the first bad one,
 and why: `parameter`, `range`, `reply`, `count`, `survey`, `group`, or `syntax` where the file is no saved history.
 
+Where FILE is a folder, it is one of segments, the files 0000000001.ring, 0000000002.ring and so on of a served journal.
+Each has to begin where the one before it ends, and to have its digest. Then it prints how many there are, and from which
+on if the first are gone; the sums over all rings from the first event of all; and the digest of the last file, which the
+next one has to have. Else it says the file, and its line or why: `foreign`, `missing`, `number`, `behind`, `base`,
+`start`, `full`, `unfinished`.
+
 Example:
   $ ring_tool check saved.txt
   legal rings 1 events 3 granted 2 corrupted 0 surveys 1

@@ -5,6 +5,7 @@ pub mod FirstFaults
 pub mod FreshRings
 pub mod FreshTexts
 pub mod JournalStarts
+pub mod Leads
 pub mod ListTexts
 pub mod Recoveries
 pub mod ServeRefusals

@@ -8,7 +8,7 @@ use Rattle.ring_commands.specs.New.{IsNewAnswer, IsNewRefusal}
 use Rattle.ring_commands.specs.Pictured.{IsPictureAnswer, IsPictureRefusal}
 use Rattle.ring_commands.specs.Reading.{names_stream}
 use Rattle.ring_commands.specs.Recovered.{IsRecoverAnswer, IsRecoverRefusal}
-use Rattle.ring_commands.specs.Served.{IsServeAnswer, IsServeRefusal}
+use Rattle.ring_commands.specs.ServeAnswer.{IsServeAnswer, IsServeRefusal}
 use Rattle.ring_commands.specs.Upgraded.{IsUpgradeAnswer, IsUpgradeRefusal}
 use Rattle.ring_commands.specs.Worlds.{World}
 use Rattle.ring_commands.specs.declared.faults.ToolError.{ToolError}

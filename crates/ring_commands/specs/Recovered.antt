@@ -1,5 +1,5 @@
 -- The answer of `recover`.
-use Rattle.std.specs.Prelude.{◌≡◌, ℕ, List, Option, Some, Err, ◌⊎◌}
+use Rattle.std.specs.Prelude.{◌≡◌, ℕ, false, List, Option, Some, Err, ◌⊎◌}
 use Rattle.ring_saved.specs.Content.{Content}
 use Rattle.ring_saved.specs.Spelling.{text}
 use Rattle.ring_check.specs.Legal.{summary_of}
@@ -10,6 +10,8 @@ use Rattle.ring_commands.specs.Faults.{fault_of_recovery}
 use Rattle.ring_commands.specs.Handed.{IsHanded, IsHandRefusal}
 use Rattle.ring_commands.specs.Named.{IsNamed, IsNamedRefusal, IsApart, IsApartRefusal}
 use Rattle.ring_commands.specs.Ran.{file_of}
+use Rattle.ring_commands.specs.Reading.{names_stream}
+use Rattle.ring_commands.specs.SegmentRecovered.{IsFolderRecovered, IsFolderUnrecovered}
 use Rattle.ring_commands.specs.Worlds.{World}
 use Rattle.ring_requests.specs.declared.requests.RecoverWords.{RecoverWords}
 use Rattle.ring_commands.specs.declared.faults.ToolError.{ToolError}
@@ -21,8 +23,8 @@ made_file words = file_of (Some words.new.now)
 -- The source that the word FILE names gave the bytes of a journal, and it is not the file that is
 -- made. The text of the history that is recovered of it, which is legal, and the line of its sums
 -- went where the word NEW says.
-abbrev pub IsRecoverAnswer : RecoverWords → World → World → Type 0
-IsRecoverAnswer words was is =
+abbrev pub IsJournalRecovered : RecoverWords → World → World → Type 0
+IsJournalRecovered words was is =
     (bytes : List ℕ)
     × (c : Content)
     × IsNamed words.file.now was.files was.input is.input bytes
@@ -30,15 +32,21 @@ IsRecoverAnswer words was is =
     × IsRecovered bytes c
     × IsHanded words.new.now (text c) (legal_line (summary_of c)) was is
 
+-- A journal is recovered, or the last segment of a folder, which is no standard stream.
+abbrev pub IsRecoverAnswer : RecoverWords → World → World → Type 0
+IsRecoverAnswer words was is =
+    IsJournalRecovered words was is
+    ⊎ ((names_stream words.file.now ≡ false) × IsFolderRecovered words was is)
+
 -- nothing is recovered of these bytes, for the right reason
 abbrev pub IsRecoveryRefusal : List ℕ → ToolError → Type 0
 IsRecoveryRefusal bytes e =
     (error : RecoverError) × IsRightRecovery bytes (Err error) × (e ≡ fault_of_recovery error)
 
--- Which refusals `recover` may meet: those of reading what its word names, that both names are of
--- one file, that nothing is recovered of the bytes, and those of handing out what is.
-abbrev pub IsRecoverRefusal : RecoverWords → World → World → ToolError → Type 0
-IsRecoverRefusal words was is e =
+-- Which refusals the recovery of a journal may meet: those of reading what the word names, that both
+-- names are of one file, that nothing is recovered of the bytes, and those of handing out what is.
+abbrev pub IsJournalUnrecovered : RecoverWords → World → World → ToolError → Type 0
+IsJournalUnrecovered words was is e =
     IsNamedRefusal words.file.now was.files was.input is.input e
     ⊎ ((bytes : List ℕ)
     × IsNamed words.file.now was.files was.input is.input bytes
@@ -47,3 +55,9 @@ IsRecoverRefusal words was is e =
     ⊎ ((c : Content)
     × IsRecovered bytes c
     × IsHandRefusal words.new.now (text c) (legal_line (summary_of c)) was is e))))
+
+-- Which refusals `recover` may meet: those of a journal, or those of a folder.
+abbrev pub IsRecoverRefusal : RecoverWords → World → World → ToolError → Type 0
+IsRecoverRefusal words was is e =
+    IsJournalUnrecovered words was is e
+    ⊎ ((names_stream words.file.now ≡ false) × IsFolderUnrecovered words was is e)

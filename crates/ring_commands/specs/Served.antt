@@ -1,7 +1,6 @@
 -- The answer of `serve`.
-use Rattle.std.specs.Prelude.{◌≡◌, ℕ, ◌≤◌, ◌<◌, ◌^◌, ◌⊎◌, List, [], length, codes, Bool, true, false, Option, None, Some, Err}
+use Rattle.std.specs.Prelude.{◌≡◌, ℕ, ◌≤◌, ◌<◌, ◌^◌, ◌⊎◌, List, [], length, codes, Bool, true, false, Option, None, Some, IfSome, Err}
 use Rattle.std.specs.Option.{option_map, is_some}
-use Rattle.std.specs.Io.KnownBytes.{Appends}
 use Rattle.disks.specs.Held.{Held, Grows, Replaces}
 use Rattle.ring_saved.specs.declared.saved.Saved.{Saved}
 use Rattle.ring_saved.specs.declared.saved.SavedRing.{SavedRing}
@@ -9,23 +8,23 @@ use Rattle.ring_saved.specs.Content.{content}
 use Rattle.ring_check.specs.declared.answers.Summary.{Summary}
 use Rattle.ring_journal.specs.Spelling.{head_text}
 use Rattle.ring_journal.specs.Recovery.{IsRecovered, IsRightRecovery}
-use Rattle.ring_text.specs.Report.{total_line}
 use Rattle.ring_serve.specs.Standings.{Standing}
 use Rattle.ring_serve.specs.Saved.{content_of}
 use Rattle.ring_serve.specs.declared.starting.StartError.TheVariants as start
 use Rattle.ring_serve.specs.Starting.{AreResumed, IsStartFault}
-use Rattle.ring_serve.specs.Totals.{totals_of, AreTooLarge}
 use Rattle.ring_serve.specs.declared.permits.Permits.{Permits}
 use Rattle.ring_serve.specs.Permits.{Terms, terms_of}
 use Rattle.ring_serve.specs.Serving.{ServesAll, ServesSome}
 use Rattle.ring_commands.specs.Checked.{IsLegalSavedText, IsSavedTextRefusal}
 use Rattle.ring_commands.specs.Named.{IsHeld, IsFileRefusal}
 use Rattle.ring_commands.specs.Ran.{IsSaveRefusal}
-use Rattle.ring_commands.specs.Worlds.{World}
-use Rattle.ring_commands.specs.Written.{AppendsFront}
 use Rattle.ring_requests.specs.declared.requests.ServeWords.{ServeWords}
 use Rattle.ring_commands.specs.declared.faults.ToolError.{ToolError}
 use Rattle.ring_commands.specs.declared.faults.ToolError.TheVariants as tool
+
+-- the name of the history's file, if one is given
+abbrev pub history_of : ServeWords → Option (List ℕ)
+history_of words = option_map (λ name. name.now) words.history
 
 -- the name of the journal's file, if one is kept
 abbrev pub journal_of : ServeWords → Option (List ℕ)
@@ -34,6 +33,10 @@ journal_of words = option_map (λ name. name.now) words.journal
 -- a saved text can have this number of rings, and a journal can begin with them
 abbrev pub CanBegin : ℕ → Type 0
 CanBegin rings = (1 ≤ rings) × (rings < 2 ^ 32)
+
+-- the same of the rings of a value, if there is one
+abbrev pub CanBeginWith : Option Saved → Type 0
+CanBeginWith saved = IfSome saved (λ s. CanBegin (length s.rings.items))
 
 -- what a line may do beside calling the rings
 abbrev pub permits_of : ServeWords → Permits
@@ -47,6 +50,12 @@ pub record IsHistory (files : Option Held) (name : List ℕ) (saved : Saved) : T
   pub legal : IsLegalSavedText bytes sums
   pub value : legal.content ≡ content saved
 
+-- the value of the history, if one is given
+abbrev pub IsGivenHistory : Option Held → Option (List ℕ) → Option Saved → Type 0
+IsGivenHistory files None saved = saved ≡ None
+IsGivenHistory files (Some name) saved =
+    (s : Saved) × (saved ≡ Some s) × IsHistory files name s
+
 -- the value is the one recovered of the journal that the file of this name held
 pub record IsOfJournal (files : Option Held) (name : List ℕ) (saved : Saved) : Type 0 where
   pub bytes : List ℕ
@@ -55,13 +64,13 @@ pub record IsOfJournal (files : Option Held) (name : List ℕ) (saved : Saved) :
 
 -- where the rings begin if a journal is kept: with the given value if the journal's file held
 -- nothing, else at the journal's end
-abbrev pub IsNoted : Option Held → List ℕ → Saved → Saved → Type 0
+abbrev pub IsNoted : Option Held → List ℕ → Option Saved → Saved → Type 0
 IsNoted files name saved from =
-    (IsHeld files name [] × (from ≡ saved)) ⊎ IsOfJournal files name from
+    (IsHeld files name [] × (saved ≡ Some from)) ⊎ IsOfJournal files name from
 
 -- where they begin
-abbrev pub BeginsAt : Option Held → Option (List ℕ) → Saved → Saved → Type 0
-BeginsAt files None saved from = from ≡ saved
+abbrev pub BeginsAt : Option Held → Option (List ℕ) → Option Saved → Saved → Type 0
+BeginsAt files None saved from = saved ≡ Some from
 BeginsAt files (Some name) saved from = IsNoted files name saved from
 
 -- the lines were served without a journal, from where the rings began to where they are in the
@@ -108,22 +117,13 @@ IsServed permits (Some name) start end before after was is old new =
 
 -- the rings began where the value says, or at the end of a journal that recorded something, and all
 -- lines of standard input were served
-pub record IsServedFrom (words : ServeWords) (saved : Saved) (end : List Standing)
+pub record IsServedFrom (words : ServeWords) (saved : Option Saved) (end : List Standing)
     (before after : Option Held) (was is old new : Option (List ℕ)) : Type 0 where
   pub from : Saved
   pub begins : BeginsAt before (journal_of words) saved from
   pub start : List Standing
   pub resumed : AreResumed start from.rings.items
   pub served : IsServed (permits_of words) (journal_of words) start end before after was is old new
-
--- The history was read, the rings began there or where their journal ended, all lines of standard
--- input were served, and the sums over the rings are reported on standard error.
-pub record IsServeAnswer (words : ServeWords) (was is : World) : Type 0 where
-  pub saved : Saved
-  pub history : IsHistory was.files words.history.now saved
-  pub end : List Standing
-  pub served : IsServedFrom words saved end was.files is.files was.input is.input was.out is.out
-  pub told : Appends was.err is.err (total_line (length end) (totals_of end))
 
 -- ---- refusals
 
@@ -132,11 +132,21 @@ abbrev pub IsUnserved : Option (List ℕ) → Option (List ℕ) → Option (List
     → Type 0
 IsUnserved was is old new = (is ≡ was) × (new ≡ old)
 
+-- no history is given, and no journal tells where the rings stand
+abbrev pub IsUngiven : Option Saved → ToolError → Type 0
+IsUngiven saved tool.NoHistory = saved ≡ None
+IsUngiven saved _ = ⊥
+
 -- the history is refused: its file cannot be read, or does not hold a legal saved text
 abbrev pub IsHistoryRefusal : Option Held → List ℕ → ToolError → Type 0
 IsHistoryRefusal files name e =
     IsFileRefusal files name e
     ⊎ ((bytes : List ℕ) × IsHeld files name bytes × IsSavedTextRefusal bytes e)
+
+-- the given one is
+abbrev pub IsGivenRefusal : Option Held → Option (List ℕ) → ToolError → Type 0
+IsGivenRefusal files None e = ⊥
+IsGivenRefusal files (Some name) e = IsHistoryRefusal files name e
 
 -- the journal's file cannot be opened: another process has it, or it cannot be had
 abbrev pub IsUnopenedJournal : List ℕ → ToolError → Type 0
@@ -155,12 +165,14 @@ IsUnrecovered name bytes (tool.Journal named error) =
     (named.now ≡ name) × IsRightRecovery bytes (Err error)
 IsUnrecovered name bytes _ = ⊥
 
--- the journal is refused: its file cannot be kept or read, or nothing is recovered of its bytes
-abbrev pub IsJournalRefusal : Option Held → List ℕ → ToolError → Type 0
-IsJournalRefusal files name e =
+-- the journal is refused: its file cannot be kept or read, or it holds nothing and no history is
+-- given, or nothing is recovered of its bytes
+abbrev pub IsJournalRefusal : Option Held → List ℕ → Option Saved → ToolError → Type 0
+IsJournalRefusal files name saved e =
     IsUnkept name e
     ⊎ (IsFileRefusal files name e
-    ⊎ ((bytes : List ℕ) × IsHeld files name bytes × IsUnrecovered name bytes e))
+    ⊎ ((IsHeld files name [] × IsUngiven saved e)
+    ⊎ ((bytes : List ℕ) × IsHeld files name bytes × IsUnrecovered name bytes e)))
 
 -- these rings do not resume: one has more events than a ring can resume, or there is no memory
 abbrev pub IsStartRefusal : List SavedRing → ToolError → Type 0
@@ -204,36 +216,15 @@ IsUnfinished permits journal rings was is old new e =
 
 -- with this history: the journal, if one is kept, is refused, and no line is read; or the rings
 -- that begin where they have to are not served to the end
-abbrev pub IsRefusedFrom : Permits → Option Held → Option (List ℕ) → Saved → Option (List ℕ)
-    → Option (List ℕ) → Option (List ℕ) → Option (List ℕ) → ToolError → Type 0
+abbrev pub IsRefusedFrom : Permits → Option Held → Option (List ℕ) → Option Saved
+    → Option (List ℕ) → Option (List ℕ) → Option (List ℕ) → Option (List ℕ) → ToolError → Type 0
 IsRefusedFrom permits files None saved was is old new e =
-    IsUnfinished permits None saved.rings.items was is old new e
+    (IsUnserved was is old new × IsUngiven saved e)
+    ⊎ ((from : Saved)
+    × (saved ≡ Some from)
+    × IsUnfinished permits None from.rings.items was is old new e)
 IsRefusedFrom permits files (Some name) saved was is old new e =
-    (IsUnserved was is old new × IsJournalRefusal files name e)
+    (IsUnserved was is old new × IsJournalRefusal files name saved e)
     ⊎ ((from : Saved)
     × IsNoted files name saved from
     × IsUnfinished permits (Some name) from.rings.items was is old new e)
-
--- All lines were served, and what adds up over the rings is not told: there are 2^32 rings or more,
--- or one of the sums has more than 64 bits, and nothing is told; or standard error failed, and got
--- a prefix of the line.
-abbrev pub IsUntold : List Standing → Option (List ℕ) → Option (List ℕ) → ToolError → Type 0
-IsUntold end early late tool.TotalsTooLarge =
-    (late ≡ early) × ((2 ^ 32 ≤ length end) ⊎ AreTooLarge (totals_of end))
-IsUntold end early late tool.Write =
-    AppendsFront early late (total_line (length end) (totals_of end))
-IsUntold end early late _ = ⊥
-
--- Which refusals `serve` may meet: those of the history, before a line is read, those that come
--- with it, and those that come when all lines have been served.
-abbrev pub IsServeRefusal : ServeWords → World → World → ToolError → Type 0
-IsServeRefusal words was is e =
-    (IsUnserved was.input is.input was.out is.out
-    × IsHistoryRefusal was.files words.history.now e)
-    ⊎ ((saved : Saved)
-    × IsHistory was.files words.history.now saved
-    × (IsRefusedFrom (permits_of words) was.files (journal_of words) saved was.input is.input
-    was.out is.out e
-    ⊎ ((end : List Standing)
-    × IsServedFrom words saved end was.files is.files was.input is.input was.out is.out
-    × IsUntold end was.err is.err e)))

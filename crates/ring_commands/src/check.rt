@@ -1,19 +1,21 @@
 //! `check`: whether a saved text is that of legal histories.
 
-ghost use Rattle.std.specs.Prelude.{false, ◌≡◌, ◌≢◌, None, OnOk, IfOk, IfErr};
+ghost use Rattle.std.specs.Prelude.{false, ◌≡◌, ◌≢◌, None, OnOk, IfOk, IfErr, IfSome};
 ghost use Rattle.std.specs.Io.KnownBytes.{Appends};
 ghost use Rattle.text_lines.specs.Writing.{Writes};
 ghost use Rattle.ring_check.specs.declared.answers.Summary.{Summary};
 ghost use Rattle.ring_check.specs.Legal.{IsLegalText};
 ghost use Rattle.ring_saved.specs.Content.{content};
+ghost use Rattle.ring_commands.specs.Chained.{IsFolder};
 ghost use Rattle.ring_commands.specs.CheckText.{legal_line};
-ghost use Rattle.ring_commands.specs.Checked.{IsLegalSavedText, IsSavedTextRefusal, IsCheckAnswer, IsCheckRefusal, IsCheckRunRefusal};
+ghost use Rattle.ring_commands.specs.Checked.{IsLegalSavedText, IsSavedTextRefusal, IsTextChecked, IsTextRefusal, IsCheckAnswer, IsCheckRefusal, IsCheckRunRefusal};
 ghost use Rattle.ring_commands.specs.Reading.{names_stream};
 ghost use Rattle.ring_commands.specs.Worlds.{world};
 
+use crate::chain::{check_folder, folder_entries};
 use crate::faults::ToolError;
-use crate::reading::read_named;
-use disks::Disk;
+use crate::reading::{names_stream, read_named};
+use disks::{Disk, FolderEntry};
 use itoa::Buffer;
 use ring_check::{Summary, check_saved};
 use ring_requests::CheckWords;
@@ -96,12 +98,54 @@ pub fn check_bytes<W: Write>(
     Ok(())
 }
 
-/// `check`, from its words: reads standard input, or the file, and checks it. No file changes.
+/// Checks the saved text that a word names.
 ///
 /// # Errors
 ///
-/// Those of reading the source that the word names, and those of [`check_bytes`]. Where a file is named, standard input stays as
-/// it was.
+/// Those of reading the source that the word names, and those of [`check_bytes`].
+fn check_text<'a, D: Disk, I: Read, W: Write>(
+    alloc: Global,
+    disk: &D,
+    words: &CheckWords<'a>,
+    input: &mut I,
+    out: &mut W,
+) -> Result<(), ToolError<'a>>
+    ensures ok { OnOk result (IsTextChecked words.now
+        (world (D.holds disk.now) (I.remaining input.old) (W.contents out.old) None)
+        (world (D.holds disk.now) (I.remaining input.new) (W.contents out.new) None)) }
+    ensures err { IfErr result (λ e.
+        IsTextRefusal words.now
+        (world (D.holds disk.now) (I.remaining input.old) (W.contents out.old) None)
+        (world (D.holds disk.now) (I.remaining input.new) (W.contents out.new) None) e) }
+    ensures nothing { IfErr result (λ e. e ≢ ToolError.Write → out.new ≡ out.old) }
+    ensures unread { names_stream words.now.file.now ≡ false → input.new ≡ input.old }
+{
+    let bytes = read_named(alloc, disk, words.file, input)?;
+    match check_bytes(alloc, bytes.as_slice(), out) {
+        Ok(()) => Ok(()),
+        Err(fault) => Err(fault),
+    }
+}
+
+/// The entries of the folder that a word names, if it names one in which there is something.
+pub(crate) fn entries_of<D: Disk>(disk: &D, word: &str) -> Option<Vec<FolderEntry>>
+    ensures { IfSome result (λ entries. (names_stream word.now ≡ false)
+        × IsFolder (D.holds disk.now) word.now entries.items) }
+{
+    if names_stream(word) {
+        None
+    } else {
+        folder_entries(disk, word)
+    }
+}
+
+/// `check`, from its words: if the name leads to a folder in which there is something, it checks the chain of its segments; else
+/// it reads standard input, or the file, and checks the saved text there. No file changes.
+///
+/// # Errors
+///
+/// Those of [`check_folder`]; those of reading the source that the word names, and those of [`check_bytes`]. Where a file is
+/// named, standard input stays as it was.
 pub fn run<'a, D: Disk, I: Read, W: Write>(
     alloc: Global,
     disk: &D,
@@ -119,9 +163,8 @@ pub fn run<'a, D: Disk, I: Read, W: Write>(
     ensures nothing { IfErr result (λ e. e ≢ ToolError.Write → out.new ≡ out.old) }
     ensures unread { names_stream words.now.file.now ≡ false → input.new ≡ input.old }
 {
-    let bytes = read_named(alloc, disk, words.file, input)?;
-    match check_bytes(alloc, bytes.as_slice(), out) {
-        Ok(()) => Ok(()),
-        Err(fault) => Err(fault),
+    match entries_of(disk, words.file) {
+        None => check_text(alloc, disk, words, input, out),
+        Some(entries) => check_folder(alloc, disk, words.file, &entries, out),
     }
 }

@@ -5,8 +5,10 @@ use ring_check::{CheckError, Kind};
 use ring_farm::FarmError;
 use ring_journal::RecoverError;
 use ring_saved::ReadError;
+use ring_segments::SegmentError;
 use ring_settings::{Field, RingCause, SettingsError};
 use ring_state::{ParamsError, StateError};
+use segment_folder::EntryName;
 use std::error::Error;
 use std::fmt;
 use text_lines::WriteFault;
@@ -65,6 +67,8 @@ pub enum ToolError<'a> {
     NoPlace(u32),
     /// More events are to be drawn than a picture may have.
     ManyDrawn,
+    /// No history is given, and no journal tells where the rings stand.
+    NoHistory,
     /// A journal's file is kept by another process.
     InUse(&'a str),
     /// The ring at this place has more events than a ring can resume.
@@ -73,6 +77,22 @@ pub enum ToolError<'a> {
     Journal(&'a str, RecoverError),
     /// The sums over the rings that were served do not fit into 64 bits, or the number of rings does not fit into 32.
     TotalsTooLarge,
+    /// The folder that lines may save in is that of the journal.
+    SavesInJournal(&'a str),
+    /// A folder has no segment.
+    NoSegment(&'a str),
+    /// A name in a folder of segments has no place there.
+    Foreign(&'a str, EntryName),
+    /// The segment of this number in a folder is no regular file.
+    Irregular(&'a str, u64),
+    /// The segment of this number is missing in a folder, between two that are there.
+    Missing(&'a str, u64),
+    /// The file of the segment of this number in a folder cannot be opened or read.
+    UnreadSegment(&'a str, u64),
+    /// It has more bytes than are read.
+    LargeSegment(&'a str, u64),
+    /// It does not follow in the chain of the folder's segments, or is none.
+    Segment(&'a str, u64, SegmentError),
 }
 
 impl ToolError<'_> {
@@ -112,6 +132,7 @@ impl ToolError<'_> {
             ToolError::OutOfMemory => Some("out of memory"),
             ToolError::ManyDrawn => Some("a picture has at most 20000 events"),
             ToolError::TotalsTooLarge => Some("the totals are too large"),
+            ToolError::NoHistory => Some("no history is given, and no journal tells of rings"),
             _ => None,
         }
     }
@@ -136,6 +157,32 @@ impl ToolError<'_> {
         }
     }
 
+    /// Writes the line of a refusal of a folder of segments.
+    fn put_folder_refusal<W: fmt::Write>(&self, f: &mut fmt::Formatter<W>) -> fmt::Result {
+        match self {
+            ToolError::SavesInJournal(name) => write!(f, "{name} is the folder of the journal"),
+            ToolError::NoSegment(folder) => write!(f, "{folder} has no segments"),
+            ToolError::Foreign(folder, name) => write!(f, "{folder}/{name}: foreign"),
+            ToolError::Irregular(folder, number) => {
+                write!(f, "{folder}/{number:010}.ring: not a regular file")
+            }
+            ToolError::Missing(folder, number) => {
+                write!(f, "{folder}/{number:010}.ring: missing")
+            }
+            ToolError::UnreadSegment(folder, number) => {
+                write!(f, "cannot read {folder}/{number:010}.ring")
+            }
+            ToolError::LargeSegment(folder, number) => {
+                write!(f, "{folder}/{number:010}.ring is too large")
+            }
+            ToolError::Segment(folder, number, error) => {
+                write!(f, "{folder}/{number:010}.ring: {error}")
+            }
+            // the lines of the others are written before
+            _ => Ok(()),
+        }
+    }
+
     /// Writes the line of a refusal of a file or a saved text, which has values.
     fn put_file_refusal<W: fmt::Write>(&self, f: &mut fmt::Formatter<W>) -> fmt::Result {
         match self {
@@ -149,31 +196,7 @@ impl ToolError<'_> {
             ToolError::Journal(name, error) => write!(f, "{name}: {error}"),
             ToolError::Full(place) => write!(f, "ring {place}: the history is full"),
             ToolError::NoPlace(place) => write!(f, "the ring has fewer than {place} events"),
-            // the lines of these are written before
-            ToolError::BadList
-            | ToolError::TooFew
-            | ToolError::TooMany
-            | ToolError::FewValues
-            | ToolError::ManyValues
-            | ToolError::Length
-            | ToolError::Value(_)
-            | ToolError::Choice(_)
-            | ToolError::Json
-            | ToolError::Shape(_)
-            | ToolError::Limit(_)
-            | ToolError::Ring(_, _)
-            | ToolError::Script(_, _)
-            | ToolError::Spawn
-            | ToolError::GateShut
-            | ToolError::NoSeat
-            | ToolError::HistoryFull
-            | ToolError::Mismatch
-            | ToolError::Syntax(_)
-            | ToolError::Truncated
-            | ToolError::Write
-            | ToolError::OutOfMemory
-            | ToolError::ManyDrawn
-            | ToolError::TotalsTooLarge => Ok(()),
+            _ => self.put_folder_refusal(f),
         }
     }
 }
@@ -187,7 +210,7 @@ impl fmt::Display for ToolError<'_> {
     }
 }
 
-/// The same line: a derived form would be proved for 30 variants and shown only by tests.
+/// The same line: a derived form would be proved for 40 variants and shown only by tests.
 impl fmt::Debug for ToolError<'_> {
     fn fmt<W: fmt::Write>(&self, f: &mut fmt::Formatter<W>) -> fmt::Result {
         fmt::Display::fmt(self, f)

@@ -4,17 +4,21 @@
 //! is the matter of `ring_cli`: nothing here knows of it, so that these parts are proved, and tried on wrong bodies, without it.
 #![tactic(auto)]
 
+pub mod chain;
 pub mod check;
 pub mod endings;
 pub mod faults;
 pub mod fresh;
 mod handing;
+mod last_segment;
 pub mod lists;
 pub mod picture;
 pub mod reading;
 pub mod recover;
 pub mod requests;
+mod resuming;
 pub mod run;
 pub mod serve;
+pub mod serve_folder;
 pub mod step;
 pub mod upgrade;

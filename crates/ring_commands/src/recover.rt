@@ -8,11 +8,13 @@ ghost use Rattle.ring_journal.specs.Recovery.{IsRecovered};
 ghost use Rattle.ring_commands.specs.Named.{IsApart, IsApartRefusal};
 ghost use Rattle.ring_commands.specs.Ran.{file_of};
 ghost use Rattle.ring_commands.specs.Reading.{names_stream};
-ghost use Rattle.ring_commands.specs.Recovered.{IsRecoveryRefusal, IsRecoverAnswer, IsRecoverRefusal};
+ghost use Rattle.ring_commands.specs.Recovered.{IsRecoveryRefusal, IsJournalRecovered, IsJournalUnrecovered, IsRecoverAnswer, IsRecoverRefusal};
 ghost use Rattle.ring_commands.specs.Worlds.{world};
 
+use crate::check::entries_of;
 use crate::faults::ToolError;
 use crate::handing::hand_over;
+use crate::last_segment::recover_folder;
 use crate::reading::{keep_apart, names_stream, read_named};
 use disks::Disk;
 use ring_check::{Summary, check_saved};
@@ -62,9 +64,8 @@ pub(crate) fn keep_word_apart<'a, D: Disk>(
     }
 }
 
-/// `recover`, from its words: reads the journal, which stays as it is, replaces the other file by the text of the
-/// recovered history, and writes the line of its sums to `out`; where the other is `-`, the text goes to `out` and the line to
-/// `err`.
+/// Recovers a journal: reads it, which stays as it is, replaces the other file by the text of the recovered history, and writes the
+/// line of its sums to `out`; where the other is `-`, the text goes to `out` and the line to `err`.
 ///
 /// # Errors
 ///
@@ -72,6 +73,45 @@ pub(crate) fn keep_word_apart<'a, D: Disk>(
 /// nothing is recovered: no file is made then. `Save` with the other name where that cannot be made, written or put in its place,
 /// and `OutOfMemory`. Every file is as it was then, and nothing is written. `Write` where a writer fails, when the new file is in
 /// its place: the bytes written until then are a prefix.
+fn recover_text<'a, D: Disk, I: Read, W: Write, E: Write>(
+    alloc: Global,
+    disk: &mut D,
+    words: &RecoverWords<'a>,
+    input: &mut I,
+    out: &mut W,
+    err: &mut E,
+) -> Result<(), ToolError<'a>>
+    ensures ok { OnOk result (IsJournalRecovered words.now
+        (world (D.holds disk.old) (I.remaining input.old) (W.contents out.old) (E.contents err.old))
+        (world (D.holds disk.new) (I.remaining input.new) (W.contents out.new)
+        (E.contents err.new))) }
+    ensures err { IfErr result (λ e. IsJournalUnrecovered words.now
+        (world (D.holds disk.old) (I.remaining input.old) (W.contents out.old) (E.contents err.old))
+        (world (D.holds disk.new) (I.remaining input.new) (W.contents out.new)
+        (E.contents err.new)) e) }
+    ensures kept { IfErr result (λ e. e ≢ ToolError.Write → D.holds disk.new ≡ D.holds disk.old) }
+    ensures nothing { IfErr result (λ e. e ≢ ToolError.Write → out.new ≡ out.old) }
+    ensures silent { names_stream words.now.new.now ≡ false → err.new ≡ err.old }
+    ensures unread { names_stream words.now.file.now ≡ false → input.new ≡ input.old }
+{
+    let bytes = read_named(alloc, disk, words.file, input)?;
+    keep_word_apart(disk, words.file, words.new)?;
+    let value = recover_with_sums(alloc, bytes.as_slice())?;
+    match hand_over(alloc, disk, &value, words.new, out, err) {
+        Ok(()) => Ok(()),
+        Err(fault) => Err(fault),
+    }
+}
+
+/// `recover`, from its words: if the name leads to a folder in which there is something, its last segment is recovered, and its
+/// head is written behind the line of the sums; else the journal in standard input, or in the file.
+///
+/// # Errors
+///
+/// Those of [`recover_folder`]; those of a journal: of reading the source that the word names; `SameFile` if both names are of one
+/// file; `Truncated`, `Syntax` or `Bad` if nothing is recovered: no file is made then. `Save` with the other name where that
+/// cannot be made, written or put in its place, and `OutOfMemory`. Every file is as it was then, and nothing is written. `Write`
+/// where a writer fails, when the new file is in its place: the bytes written until then are a prefix.
 pub fn run<'a, D: Disk, I: Read, W: Write, E: Write>(
     alloc: Global,
     disk: &mut D,
@@ -93,11 +133,11 @@ pub fn run<'a, D: Disk, I: Read, W: Write, E: Write>(
     ensures silent { names_stream words.now.new.now ≡ false → err.new ≡ err.old }
     ensures unread { names_stream words.now.file.now ≡ false → input.new ≡ input.old }
 {
-    let bytes = read_named(alloc, disk, words.file, input)?;
-    keep_word_apart(disk, words.file, words.new)?;
-    let value = recover_with_sums(alloc, bytes.as_slice())?;
-    match hand_over(alloc, disk, &value, words.new, out, err) {
-        Ok(()) => Ok(()),
-        Err(fault) => Err(fault),
+    match entries_of(disk, words.file) {
+        None => recover_text(alloc, disk, words, input, out, err),
+        Some(entries) => match recover_folder(alloc, disk, words, &entries, out, err) {
+            Ok(()) => Ok(()),
+            Err(fault) => Err(fault),
+        },
     }
 }

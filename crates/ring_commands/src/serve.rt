@@ -14,41 +14,26 @@ ghost use Rattle.ring_serve.specs.Starting.{AreResumed};
 ghost use Rattle.ring_serve.specs.Totals.{totals_of};
 ghost use Rattle.ring_text.specs.Report.{total_line};
 ghost use Rattle.ring_commands.specs.Ran.{IsSaveRefusal};
-ghost use Rattle.ring_commands.specs.Served.{permits_of, CanBegin, IsHistory, IsNoted, IsServedPlain, IsServedOn, IsServedNoted, IsServedFrom, IsServeAnswer, journal_of, IsUnserved, IsHistoryRefusal, IsUnopenedJournal, IsUnkept, IsJournalRefusal, IsStartRefusal, IsServingFault, IsServedPart, IsUnfinished, IsRefusedFrom, IsUntold, IsServeRefusal};
+ghost use Rattle.ring_commands.specs.Served.{history_of, permits_of, CanBegin, CanBeginWith, IsHistory, IsGivenHistory, IsNoted, IsServedPlain, IsServedOn, IsServedNoted, IsServedFrom, journal_of, IsUnserved, IsHistoryRefusal, IsGivenRefusal, IsUngiven, IsUnopenedJournal, IsUnkept, IsJournalRefusal, IsStartRefusal, IsServingFault, IsServedPart, IsUnfinished, IsRefusedFrom};
+ghost use Rattle.ring_commands.specs.ServeAnswer.{IsServedTo, IsServeAnswer, IsRefusedTo, IsUntold, IsServeRefusal};
 ghost use Rattle.ring_commands.specs.Worlds.{world};
 
-use crate::check::legal_saved;
 use crate::faults::ToolError;
 use crate::handing::save_fault;
-use crate::reading::read_file;
+use crate::resuming::{given_history, needed, resume_rings, value_to_resume};
+use crate::serve_folder::run_in_folder;
 use disks::{Contents, ContentsFault, Disk, replace};
-use ring_journal::{put_first_line, recover_journal};
+use ring_journal::put_first_line;
 use ring_requests::ServeWords;
 use ring_saved::Saved;
-use ring_serve::{Journal, Permits, ServeFault, Served, StartError, serve, write_rings};
+use ring_serve::{Journal, Permits, ServeFault, Served, serve, write_rings};
 use ring_text::put_total_line;
 use std::alloc::Global;
 use std::io::{ErrorKind, Read, Sink, Write};
 use text_lines::WriteFault;
 
-/// Returns the rings of a saved text, as they were in the end.
-///
-/// # Errors
-///
-/// `Full` if one of them has too many events, and `OutOfMemory`.
-fn resume_rings(alloc: Global, saved: &Saved) -> Result<Served, ToolError<'static>>
-    ensures ok { IfOk result (λ served. AreResumed served saved.now.rings.items) }
-    ensures err { IfErr result (λ e. IsStartRefusal saved.now.rings.items e) }
-{
-    match Served::from_saved(alloc, saved) {
-        Ok(served) => Ok(served),
-        Err(StartError::Full(ring)) => Err(ToolError::Full(ring)),
-        Err(StartError::OutOfMemory) => Err(ToolError::OutOfMemory),
-    }
-}
-
 /// Returns the refusal for a fault while lines were served.
-fn serving_refusal<'a>(fault: ServeFault, journal: Option<&'a str>) -> ToolError<'a>
+pub(crate) fn serving_refusal<'a>(fault: ServeFault, journal: Option<&'a str>) -> ToolError<'a>
     ensures { IsServingFault (option_map (λ name. name.now) journal.entry) result }
 {
     match (fault, journal) {
@@ -61,49 +46,8 @@ fn serving_refusal<'a>(fault: ServeFault, journal: Option<&'a str>) -> ToolError
     }
 }
 
-/// The value of the legal saved text that the file of this name holds.
-fn history<'a, D: Disk>(alloc: Global, disk: &D, name: &'a str) -> Result<Saved, ToolError<'a>>
-    ensures ok { IfOk result (λ saved. IsHistory (D.holds disk.now) name.now saved) }
-    ensures rings { IfOk result (λ saved. CanBegin (length saved.rings.items)) }
-    ensures err { IfErr result (λ e. IsHistoryRefusal (D.holds disk.now) name.now e) }
-{
-    let bytes = match read_file(alloc, disk, name) {
-        Ok(bytes) => bytes,
-        Err(fault) => return Err(fault),
-    };
-    match legal_saved(alloc, bytes.as_slice()) {
-        Ok((saved, _)) => Ok(saved),
-        Err(fault) => Err(fault),
-    }
-}
-
-/// Returns the value that is recovered of the journal of this name, if that records something; else the given one.
-fn value_to_resume<'a, D: Disk>(
-    alloc: Global,
-    disk: &D,
-    name: &'a str,
-    saved: Saved,
-) -> Result<Saved, ToolError<'a>>
-    requires rings { CanBegin (length saved.rings.items) }
-    ensures ok { IfOk result (λ now. IsNoted (D.holds disk.now) name.now saved now) }
-    ensures rings { IfOk result (λ now. CanBegin (length now.rings.items)) }
-    ensures err { IfErr result (λ e. IsJournalRefusal (D.holds disk.now) name.now e) }
-{
-    let bytes = match read_file(alloc, disk, name) {
-        Ok(bytes) => bytes,
-        Err(fault) => return Err(fault),
-    };
-    if bytes.is_empty() {
-        return Ok(saved);
-    }
-    match recover_journal(alloc, bytes.as_slice()) {
-        Ok(now) => Ok(now),
-        Err(error) => Err(ToolError::Journal(name, error)),
-    }
-}
-
 /// Opens the journal's file to write at its end.
-fn open_journal<'a, D: Disk>(
+pub(crate) fn open_journal<'a, D: Disk>(
     disk: &mut D,
     name: &'a str,
     synced: bool,
@@ -193,7 +137,7 @@ fn tell_totals<W: Write>(served: &Served, err: &mut W) -> Result<(), ToolError<'
 }
 
 /// What a line may do beside calling the rings.
-fn permits_of<'a>(words: &ServeWords<'a>) -> Permits<'a>
+pub(crate) fn permits_of<'a>(words: &ServeWords<'a>) -> Permits<'a>
     ensures { result ≡ permits_of words.now }
 {
     Permits {
@@ -346,17 +290,46 @@ fn run_with_locked_journal<'a, D: Disk, I: Read, W: Write>(
     }
 }
 
+/// The given rings that are served without a journal, when all lines have been.
+fn run_without<D: Disk, I: Read, W: Write>(
+    alloc: Global,
+    disk: &mut D,
+    saved: Option<Saved>,
+    permits: Permits<'_>,
+    input: &mut I,
+    out: &mut W,
+) -> Result<Served, ToolError<'static>>
+    ensures ok { IfOk result (λ end. (from : Saved)
+        × (saved ≡ Some from)
+        × (start : List Standing)
+        × AreResumed start from.rings.items
+        × IsServedPlain permits.entry start end (D.holds disk.old) (D.holds disk.new)
+        (I.remaining input.old) (I.remaining input.new) (W.contents out.old) (W.contents out.new)) }
+    ensures err { IfErr result (λ e.
+        IsRefusedFrom permits.entry (D.holds disk.old) None saved (I.remaining input.old)
+        (I.remaining input.new) (W.contents out.old) (W.contents out.new) e) }
+{
+    let saved = match needed(saved) {
+        Ok(saved) => saved,
+        Err(fault) => return Err(fault),
+    };
+    match run_plain(alloc, disk, &saved, permits, input, out) {
+        Ok(end) => Ok(end),
+        Err(fault) => Err(fault),
+    }
+}
+
 /// The rings that are served with a journal, when all lines have been. Its file is locked from before it is read.
 fn run_with_journal<'a, D: Disk, I: Read, W: Write>(
     alloc: Global,
     disk: &mut D,
-    saved: Saved,
+    saved: Option<Saved>,
     name: &'a str,
     words: &ServeWords<'a>,
     input: &mut I,
     out: &mut W,
 ) -> Result<Served, ToolError<'a>>
-    requires rings { CanBegin (length saved.rings.items) }
+    requires rings { CanBeginWith saved }
     ensures ok { IfOk result (λ end. (from : Saved)
         × IsNoted (D.holds disk.old) name.now saved from
         × (start : List Standing)
@@ -382,42 +355,72 @@ fn run_with_journal<'a, D: Disk, I: Read, W: Write>(
     end
 }
 
+/// The rings that are served with a journal, when all lines have been: in the segments of a folder, if the name leads to one.
+fn run_kept<'a, D: Disk, I: Read, W: Write>(
+    alloc: Global,
+    disk: &mut D,
+    words: &ServeWords<'a>,
+    name: &'a str,
+    saved: Option<Saved>,
+    input: &mut I,
+    out: &mut W,
+) -> Result<Served, ToolError<'a>>
+    requires rings { CanBeginWith saved }
+    requires named { journal_of words.now ≡ Some name.now }
+    ensures ok { IfOk result (λ end.
+        IsServedTo words.now saved end (D.holds disk.old) (D.holds disk.new)
+        (I.remaining input.old) (I.remaining input.new) (W.contents out.old) (W.contents out.new)) }
+    ensures err { IfErr result (λ e.
+        IsRefusedTo words.now (D.holds disk.old) saved (I.remaining input.old)
+        (I.remaining input.new) (W.contents out.old) (W.contents out.new) e) }
+{
+    if disk.list(name).is_ok() {
+        return match run_in_folder(alloc, disk, words, name, saved, input, out) {
+            Ok(end) => Ok(end),
+            Err(fault) => Err(fault),
+        };
+    }
+    match run_with_journal(alloc, disk, saved, name, words, input, out) {
+        Ok(end) => Ok(end),
+        Err(fault) => Err(fault),
+    }
+}
+
 /// The rings that are served, when all lines have been, with a journal if one is kept.
 fn run_on<'a, D: Disk, I: Read, W: Write>(
     alloc: Global,
     disk: &mut D,
     words: &ServeWords<'a>,
-    saved: Saved,
+    saved: Option<Saved>,
     input: &mut I,
     out: &mut W,
 ) -> Result<Served, ToolError<'a>>
-    requires rings { CanBegin (length saved.rings.items) }
+    requires rings { CanBeginWith saved }
     ensures ok { IfOk result (λ end.
-        IsServedFrom words.now saved end (D.holds disk.old) (D.holds disk.new)
+        IsServedTo words.now saved end (D.holds disk.old) (D.holds disk.new)
         (I.remaining input.old) (I.remaining input.new) (W.contents out.old) (W.contents out.new)) }
     ensures err { IfErr result (λ e.
-        IsRefusedFrom (permits_of words.now) (D.holds disk.old) (journal_of words.now) saved
-        (I.remaining input.old) (I.remaining input.new) (W.contents out.old) (W.contents out.new)
-        e) }
+        IsRefusedTo words.now (D.holds disk.old) saved (I.remaining input.old)
+        (I.remaining input.new) (W.contents out.old) (W.contents out.new) e) }
 {
     match words.journal {
-        None => match run_plain(alloc, disk, &saved, permits_of(words), input, out) {
+        None => match run_without(alloc, disk, saved, permits_of(words), input, out) {
             Ok(end) => Ok(end),
             Err(fault) => Err(fault),
         },
-        Some(name) => match run_with_journal(alloc, disk, saved, name, words, input, out) {
+        Some(name) => match run_kept(alloc, disk, words, name, saved, input, out) {
             Ok(end) => Ok(end),
             Err(fault) => Err(fault),
         },
     }
 }
 
-/// `serve`, from its words: the rings of the history, or of the journal if that records something, answer the lines of `input` on
+/// `serve`, from its words: the rings of the history, or of the journal if that tells something, answer the lines of `input` on
 /// `out`; when all have been, the sums over the rings are reported on `err`.
 ///
 /// # Errors
 ///
-/// Those of reading the history, and its faults; `InUse` if the journal is kept by another process, `Save` if it
+/// Those of reading the history, and its faults; `NoHistory` if none is given and no journal tells something; `InUse` if the journal is kept by another process, `Save` if it
 /// cannot be opened, begun or written, `Journal` if nothing is recovered of it; `Full`, `OutOfMemory`: no line was read then,
 /// unless memory or the journal's file failed while lines were served. `Read` if standard input fails, `Write` if standard output
 /// does. `Write` if standard error fails, and `TotalsTooLarge`, when all lines have been served.
@@ -439,7 +442,7 @@ pub fn run<'a, D: Disk, I: Read, W: Write, E: Write>(
         (world (D.holds disk.new) (I.remaining input.new) (W.contents out.new)
         (E.contents err.new)) e) }
 {
-    let saved = match history(alloc, disk, words.history) {
+    let saved = match given_history(alloc, disk, words.history) {
         Ok(saved) => saved,
         Err(fault) => return Err(fault),
     };

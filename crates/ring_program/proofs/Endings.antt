@@ -7,7 +7,7 @@ use Rattle.disks.specs.Held.{Held}
 use Rattle.ring_requests.specs.declared.requests.Request.{Request}
 use Rattle.ring_requests.specs.declared.requests.Request.TheVariants as asked
 use Rattle.ring_commands.specs.Answered.{IsAnswer, IsRefusal, IsOfLines}
-use Rattle.ring_commands.specs.Served.{IsServeRefusal}
+use Rattle.ring_commands.specs.ServeAnswer.{IsServeRefusal}
 use Rattle.ring_commands.proofs.ServeRefusals.{no_list}
 use Rattle.ring_commands.specs.Faults.{is_bad_list, end_status}
 use Rattle.ring_commands.specs.Worlds.{World, world}
@@ -60,7 +60,16 @@ bad_list tool.ManyDrawn h = absurd (false≢true h)
 bad_list (tool.InUse a) h = absurd (false≢true h)
 bad_list (tool.Full a) h = absurd (false≢true h)
 bad_list (tool.Journal a b) h = absurd (false≢true h)
+bad_list tool.NoHistory h = absurd (false≢true h)
 bad_list tool.TotalsTooLarge h = absurd (false≢true h)
+bad_list (tool.SavesInJournal a) h = absurd (false≢true h)
+bad_list (tool.NoSegment a) h = absurd (false≢true h)
+bad_list (tool.Foreign a b) h = absurd (false≢true h)
+bad_list (tool.Irregular a b) h = absurd (false≢true h)
+bad_list (tool.Missing a b) h = absurd (false≢true h)
+bad_list (tool.UnreadSegment a b) h = absurd (false≢true h)
+bad_list (tool.LargeSegment a b) h = absurd (false≢true h)
+bad_list (tool.Segment a b d) h = absurd (false≢true h)
 
 -- a request that serves lines is not refused for a list
 no_lines : (request : Request) (was is : World) (e : ToolError) → is_bad_list e ≡ true → IsRefusal request was is e → IsOfLines request → ⊥

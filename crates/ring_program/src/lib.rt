@@ -10,5 +10,5 @@ pub use program::{run_tool, run_tool_on};
 pub use ring_cli::VERSION;
 pub use ring_commands::endings::tell;
 pub use ring_commands::faults::ToolError;
-pub use ring_commands::reading::read_limited;
+pub use ring_commands::reading::{ReadFault, read_limited};
 pub use ring_commands::step::step_lines;

@@ -23,7 +23,7 @@ pub struct RunWords<'a> {
 /// The words of `check`.
 #[derive(Clone, Copy)]
 pub struct CheckWords<'a> {
-    /// The file's name; `-` is standard input.
+    /// The name of the file, or of a folder of segments; `-` is standard input.
     pub file: &'a str,
 }
 
@@ -53,7 +53,7 @@ pub struct UpgradeWords<'a> {
 /// The words of `recover`.
 #[derive(Clone, Copy)]
 pub struct RecoverWords<'a> {
-    /// The name of the file with the journal; `-` is standard input.
+    /// The name of the file with the journal, or of a folder of segments; `-` is standard input.
     pub file: &'a str,
     /// The name of the file that is made for the history; `-` is standard output.
     pub new: &'a str,
@@ -78,10 +78,12 @@ pub struct NewWords {
 /// The words of `serve`.
 #[derive(Clone, Copy)]
 pub struct ServeWords<'a> {
-    /// The name of the file with the saved text from which the rings resume.
-    pub history: &'a str,
-    /// The name of the journal's file, if one is kept.
+    /// The name of the file with the saved text from which the rings resume, where no journal tells where they stand.
+    pub history: Option<&'a str>,
+    /// The name of the journal's file, or of the folder of its segments, if one is kept.
     pub journal: Option<&'a str>,
+    /// How many lines a segment has before the next one begins.
+    pub segment: u32,
     /// Whether each call is on the disk before it is answered.
     pub synced: bool,
     /// Whether a line may be a fault.

@@ -8,11 +8,11 @@ module _ (f : File) where
   chained_after l g [] m h w e a = (h, w, subst (λ (x : Option State). Follows (asked x f) f) (sym e) a)
   chained_after l g (k ∷ fs) m h w e a = (h, w, chained_after (Some (state_after l g)) k fs m e.0 e.1 e.2 a)
 
-  chained : (fs : List File) (m : Option State) → LeadTo None fs m → Follows (asked m f) f → AreChained (fs ++ f ∷ [])
+  pub chained : (fs : List File) (m : Option State) → LeadTo None fs m → Follows (asked m f) f → AreChained (fs ++ f ∷ [])
   chained [] m e a = subst (λ (x : Option State). Follows (asked x f) f) (sym e) a
   chained (g ∷ fs) m e a = chained_after None g fs m e.0 e.1 e.2 a
 
-  led_on : (l : Option State) (fs : List File) (m : Option State) → LeadTo l fs m → Follows (asked m f) f → IsWhole f → LeadTo l (fs ++ f ∷ []) (Some (state_after m f))
+  pub led_on : (l : Option State) (fs : List File) (m : Option State) → LeadTo l fs m → Follows (asked m f) f → IsWhole f → LeadTo l (fs ++ f ∷ []) (Some (state_after m f))
   led_on l [] m e a w = (subst (λ (x : Option State). Follows (asked x f) f) (sym e) a, w, ap (λ (x : Option State). Some (state_after x f)) e)
   led_on l (g ∷ fs) m e a w = (e.0, e.1, led_on (Some (state_after l g)) fs m e.2 a w)
 

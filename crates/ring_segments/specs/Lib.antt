@@ -5,3 +5,4 @@ pub mod Files
 pub mod Replays
 pub mod Sums
 pub mod Chain
+pub mod Last

@@ -18,12 +18,12 @@ use text_lines::ReadError;
 
 /// A file as it is read.
 #[derive(Drop)]
-pub(crate) struct Segment {
-    pub(crate) head: SegmentHead,
+pub struct Segment {
+    pub head: SegmentHead,
     /// The history that is recovered of its journal.
-    pub(crate) saved: Saved,
+    pub saved: Saved,
     /// Whether nothing of the journal is left out.
-    pub(crate) whole: bool,
+    pub whole: bool,
 }
 
 /// A refusal of the head.
@@ -89,8 +89,12 @@ fn is_whole(journal: &[u8], saved: &Saved) -> bool
     is_ended(journal) && ends(journal) == lines_of(&saved.rings) + 3
 }
 
-/// Reads a file.
-pub(crate) fn read_segment(alloc: Global, bytes: &[u8]) -> Result<Segment, SegmentError>
+/// Reads a file by itself, as if it were the first of a chain: its head, and the history that is recovered of its journal.
+///
+/// # Errors
+///
+/// `Truncated`, `Syntax`, `Bad` and `OutOfMemory`, as for [`Chain::add`](crate::Chain::add).
+pub fn read_segment(alloc: Global, bytes: &[u8]) -> Result<Segment, SegmentError>
     ensures { IsReadSegment bytes.now result }
 {
     let (head, journal) = match read_head(alloc, bytes) {

@@ -1,5 +1,9 @@
 -- The next segments of rings, and the chain that they make.
-use Rattle.std.proofs.Common.{◌≡◌, ℕ, ◌+◌, ◌<◌, List, [], ◌∷◌, ◌++◌, length, length-append, map, take, get_or, refl, sym, ap, subst, ◌∙◌, arith}
+use Rattle.std.proofs.Common.{◌≡◌, ℕ, ◌+◌, ◌<◌, List, [], ◌∷◌, ◌++◌, length, map, take, get_or, Option, refl, sym, ap, subst, ◌∙◌, arith}
+use Rattle.std.specs.List.{AllByRecursion}
+use Rattle.std.specs.Option.{option_map}
+use Rattle.std.proofs.lemmas.Option.{slice_get_read, slice_get-map}
+use Rattle.ring_chains.specs.Bases.{IsBase}
 use Rattle.std.proofs.lemmas.List.{take_more, map-append}
 use Rattle.ring_model.specs.Ring.{Ring}
 use Rattle.ring_model.specs.History.{State}
@@ -12,11 +16,9 @@ use Rattle.ring_endless.specs.Endless as endless
 use Rattle.ring_endless.proofs.Segments.{surveys_now_are_right}
 use Rattle.ring_endless.proofs.Segments as ends
 use Rattle.ring_serve.specs.Standings.{Standing, standing_of, shifted_survey_now}
-use Rattle.ring_serve.specs.Saved.{IsRight}
 use Rattle.ring_serve.specs.Turns.{answer_of}
-use Rattle.ring_serve.specs.declared.answers.Answer.{Answer}
 use Rattle.ring_serve.specs.declared.answers.Answer.TheVariants as answer
-use Rattle.ring_serve.specs.Segments.{segment_of, IsNext, AreNext, EndsChain, ChainsGrow, AnswersAreOfChains, BlocksAreOfChains, SurveysAreOfChains}
+use Rattle.ring_serve.specs.Segments.{segment_of, IsNext, AreNext, HasRoom, IsFull, EndsChain, ChainsGrow, AnswersAreOfChains, BlocksAreOfChains, SurveysAreOfChains}
 use Rattle.ring_serve.proofs.Making.{state_is}
 
 -- ---- the next ones, ring by ring
@@ -36,6 +38,26 @@ next_more rings n e ss ss' s l is a i grown =
     ap (λ (x : List EndlessView). map standing_of x) (take_more rings n e l ∙ ap (λ (x : EndlessView). take n rings ++ x ∷ []) (sym is)) ∙ map-append standing_of (take n rings) (e ∷ []) in
     subst (λ (x : List Standing). AreNext (map standing_of (take (n + 1) rings)) x) (sym grown)
     (subst (λ (x : List Standing). AreNext x (ss ++ s ∷ [])) (sym more) (next_push (map standing_of (take n rings)) ss (standing_of e) s a i))
+
+-- ---- room for them
+
+room_push : (rs : List Standing) (r : Standing) → AllByRecursion HasRoom rs → HasRoom r → AllByRecursion HasRoom (rs ++ r ∷ [])
+room_push [] r a h = (h, tt)
+room_push (x ∷ rs) r a h = (a.0, room_push rs r a.1 h)
+
+pub room_more : (rings : List EndlessView) (n : ℕ) (e : EndlessView) → n < length rings → e ≡ get_or rings n e → AllByRecursion HasRoom (map standing_of (take n rings)) → HasRoom (standing_of e) → AllByRecursion HasRoom (map standing_of (take (n + 1) rings))
+room_more rings n e l is a h =
+    let more : map standing_of (take (n + 1) rings) ≡ map standing_of (take n rings) ++ standing_of e ∷ [] =
+    ap (λ (x : List EndlessView). map standing_of x) (take_more rings n e l ∙ ap (λ (x : EndlessView). take n rings ++ x ∷ []) (sym is)) ∙ map-append standing_of (take n rings) (e ∷ []) in
+    subst (λ (x : List Standing). AllByRecursion HasRoom x) (sym more) (room_push (map standing_of (take n rings)) (standing_of e) a h)
+
+-- the next one is there, so there was room for it
+pub next_room : (e n : EndlessView) → endless.IsNext e n → IsEndless n → HasRoom (standing_of e)
+next_room e n x k = subst IsBase x.base k.base
+
+pub full_at : (rings : List EndlessView) (n : ℕ) (e : EndlessView) → n < length rings → e ≡ get_or rings n e → ¬ HasRoom (standing_of e) → IsFull (map standing_of rings)
+full_at rings n e l is h =
+    (n, standing_of e, slice_get-map standing_of rings n ∙ ap (λ (x : Option EndlessView). option_map standing_of x) (slice_get_read rings (length rings) n e refl l is), h)
 
 -- ---- the chain
 

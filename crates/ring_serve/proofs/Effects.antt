@@ -18,7 +18,7 @@ use Rattle.ring_blocks.specs.SavedOf.{saved_event}
 use Rattle.ring_serve.specs.Commands.{Command, pass, try, group, corrupt, survey, glance, save, heard, ring_of}
 use Rattle.ring_serve.specs.Standings.{Standing, standing_of, state_of, with_events, with_survey, survey_now, block_now, event_now}
 use Rattle.ring_serve.specs.declared.answers.Refusal.TheVariants as refusal
-use Rattle.ring_serve.specs.Turns.{Turn, events, surveyed, refused, unless, passed, waits, turn_at, turn_among, turn_of, placed, is_off, heard_turn, IsTurnOfLine, bounds_now}
+use Rattle.ring_serve.specs.Turns.{Turn, events, surveyed, refused, unless, passed, waits, turn_at, turn_among, turn_of, placed, is_off, heard_turn, IsTurn, IsTurnOfLine, bounds_now}
 use Rattle.ring_desk.specs.Refusals.{seat_refusal, place_refusal, pass_refusal, corrupt_refusal, group_refusal}
 use Rattle.ring_desk.specs.declared.errors.CallError.{CallError}
 use Rattle.ring_desk.proofs.Refusals.{seat_bounds, pass_bounds, corrupt_bounds, group_bounds}
@@ -220,6 +220,11 @@ among rings command (Some r) all e = go (effect_of r command (right_at rings (ri
     go : Effect (ring_of command) r (turn_at r command) → EffectAmong rings (placed rings (ring_of command) (turn_at r command))
     go (inl kept) = inl (kept.0, ap (λ (x : Standing). slice_set rings (ring_of command) x) kept.1 ∙ set_same rings (ring_of command) r e)
     go (inr changed) = inr (record { ring = ring_of command; was = r; there = e; one = turn_at r command; effect = changed; recorded = refl; leaves = refl })
+
+-- a call of the rings
+pub call_effect : (rings : List Standing) (command : Command) (turn : Turn (List Standing)) → AllByRecursion IsRight rings → IsTurn rings command turn → EffectAmong rings turn
+call_effect rings command turn all (inl e) = subst (λ (t : Turn (List Standing)). EffectAmong rings t) (sym e) (among rings command (slice_get rings (ring_of command)) all refl)
+call_effect rings command turn all (inr e) = subst (λ (t : Turn (List Standing)). EffectAmong rings t) (sym e) (inl (refl, refl))
 
 heard_effect : (faults : Bool) (rings : List Standing) (x : Option Command) → AllByRecursion IsRight rings → EffectAmong rings (heard_turn faults rings x)
 heard_effect faults rings (Some command) all = go (is_off faults command)

@@ -22,14 +22,16 @@ use Rattle.ring_logs.specs.Seats.{receipts_from}
 use Rattle.ring_serve.specs.Standings.{Standing, survey_now, with_events, with_survey}
 use Rattle.ring_serve.specs.Turns.{Turn, RingTrace, events, surveyed}
 use Rattle.ring_serve.specs.Saved.{IsRight, blocks_from, content_of}
-use Rattle.ring_serve.specs.Recording.{calls_of, AreTurns, JournalsAreRight}
+use Rattle.ring_journal.specs.Spelling.{JournalFits}
+use Rattle.ring_journal.specs.Beginnings.{IsRightJournal}
+use Rattle.ring_serve.specs.Recording.{calls_of, journal_of, AreTurns}
 use Rattle.ring_serve.proofs.Effects.{Closes, Grew, Looked, Changed, EffectAmong, turn_effect, changed_right, right_at}
 use Rattle.ring_serve.proofs.RecordedBlocks.{AllTell, all_saved_tell, grown_told, looked_told, right_numbered}
 use Rattle.ring_serve.proofs.Ordering.{all_saved}
 
 -- ---- calls that are open, all but the last
 
-abbrev CloseAt : List JournalLine → Type 0
+abbrev pub CloseAt : List JournalLine → Type 0
 CloseAt [] = ⊥
 CloseAt (r ∷ []) = is_open r.call ≡ false
 CloseAt (r ∷ s ∷ rs) = (is_open r.call ≡ true) × CloseAt (s ∷ rs)
@@ -40,7 +42,7 @@ close_events ring (e ∷ []) c = c
 close_events ring (e ∷ f ∷ es) c = (c.0, close_events ring (f ∷ es) c.1)
 
 -- a prefix of them, which lacks a call, is open
-front_open : (front : List JournalLine) (r : JournalLine) (back : List JournalLine) → CloseAt (front ++ r ∷ back) → are_open front ≡ true
+pub front_open : (front : List JournalLine) (r : JournalLine) (back : List JournalLine) → CloseAt (front ++ r ∷ back) → are_open front ≡ true
 front_open [] r back c = refl
 front_open (x ∷ []) r back c = rw c.0 refl
 front_open (x ∷ y ∷ front) r back c = rw c.0 (front_open (y ∷ front) r back c.1)
@@ -56,7 +58,7 @@ shut x [] c = rw c refl
 shut x (y ∷ rs) c = not_open (is_open x.call) (are_open (y ∷ rs)) (shut y rs c.1)
 
 -- the open members after calls are left out
-whole_front : (rs os : List JournalLine) → are_open os ≡ true → whole (rs ++ os) ≡ whole rs
+pub whole_front : (rs os : List JournalLine) → are_open os ≡ true → whole (rs ++ os) ≡ whole rs
 whole_front [] [] o = refl
 whole_front [] (x ∷ os) o = rw o refl
 whole_front (r ∷ rs) os o =
@@ -107,7 +109,7 @@ pub record Stands (old : List Standing) (done : List JournalLine) (now : List St
   pub many : length now ≡ length old
 
 -- the calls of a turn
-abbrev turned : Turn (List Standing) → List JournalLine
+abbrev pub turned : Turn (List Standing) → List JournalLine
 turned turn = flat_map calls_of turn.recorded
 
 module _ (old : List Standing) (done : List JournalLine) (now : List Standing) (s : Stands old done now) where
@@ -143,7 +145,7 @@ module _ (old : List Standing) (done : List JournalLine) (now : List Standing) (
       go (inr l) = at (surveyed c.ring l.seat (survey_now c.was)) (c.recorded ∙ l.recorded) refl (looked c.ring c.was c.one c.there l)
 
   -- the calls are whole after a turn, too; those of the turn are none, or close
-  turn_stands : (turn : Turn (List Standing)) → EffectAmong now turn → Stands old (done ++ turned turn) turn.leaves × ((turned turn ≡ []) ⊎ CloseAt (turned turn))
+  pub turn_stands : (turn : Turn (List Standing)) → EffectAmong now turn → Stands old (done ++ turned turn) turn.leaves × ((turned turn ≡ []) ⊎ CloseAt (turned turn))
   turn_stands turn (inl kept) =
       let none : turned turn ≡ [] = ap (λ (x : List RingTrace). flat_map calls_of x) kept.0 in
       let same : done ++ turned turn ≡ done = ap (λ (x : List JournalLine). done ++ x) none ∙ append-nil done in (
@@ -193,7 +195,7 @@ cons_some : (xs : List JournalLine) (y : JournalLine) (ys : List JournalLine) �
 cons_some [] y ys e = cons_none y ys e
 cons_some (x ∷ xs) y ys e = cons_none x (xs ++ y ∷ ys) e
 
-begins : (old : List Standing) → AllByRecursion IsRight old → Stands old [] old
+pub begins : (old : List Standing) → AllByRecursion IsRight old → Stands old [] old
 begins old all = record { right = all; tell = all_saved_tell 0 old all; closed = refl; many = refl }
 
 ends : (faults : Bool) (old : List Standing) (lines : List (List ℕ)) (done : List JournalLine) (now : List Standing) (records : List RingTrace) (new : List Standing) → Stands old done now → AreTurns faults now lines records new →
@@ -234,8 +236,9 @@ module _ (legal : (rs : List Standing) → AllByRecursion IsRight rs → IsLegal
       inside turn front r b e (inl none) = absurd (cons_some front r b (sym e ∙ none))
       inside turn front r b e (inr close) = front_open front r b (subst CloseAt e close)
 
-  pub journals_are_right : JournalsAreRight
-  journals_are_right faults old new lines records all t fits = (
+  pub journals_right : (faults : Bool) (old new : List Standing) (lines : List (List ℕ)) (records : List RingTrace) → AllByRecursion IsRight old → AreTurns faults old lines records new → JournalFits (journal_of old records) →
+      IsRightJournal (journal_of old records) × (content_after (content_of old) (flat_map calls_of records) ≡ content_of new)
+  journals_right faults old new lines records all t fits = (
     record { fits = fits; began = legal old all; legal = fronts faults old lines [] old records new (begins old all) t },
     stands_tell old (flat_map calls_of records) new (ends faults old lines [] old records new (begins old all) t),
   )

@@ -23,7 +23,7 @@ whole_starts : (place : ℕ) (rs : List Standing) → All (λ (b : Block). lengt
 whole_starts place [] = λ k d l. absurd (omega arith)
 whole_starts place (r ∷ rs) = All-cons (λ (b : Block). length b.start ≡ b.n) (block_at place r) (blocks_from (place + 1) rs) refl (whole_starts (place + 1) rs)
 
-as_many : (place : ℕ) (rs : List Standing) → length (blocks_from place rs) ≡ length rs
+pub as_many : (place : ℕ) (rs : List Standing) → length (blocks_from place rs) ≡ length rs
 as_many place [] = refl
 as_many place (r ∷ rs) = ap suc (as_many (place + 1) rs)
 

@@ -224,7 +224,7 @@ set_twice [] i x y = refl
 set_twice (r ∷ rs) zero x y = refl
 set_twice (r ∷ rs) (suc i) x y = ap (λ (xs : List Standing). r ∷ xs) (set_twice rs i x y)
 
-set_there : (rs : List Standing) (i : ℕ) (x y : Standing) → slice_get rs i ≡ Some x → slice_get (slice_set rs i y) i ≡ Some y
+pub set_there : (rs : List Standing) (i : ℕ) (x y : Standing) → slice_get rs i ≡ Some x → slice_get (slice_set rs i y) i ≡ Some y
 set_there [] i x y e = absurd (some_none x e)
 set_there (r ∷ rs) zero x y e = refl
 set_there (r ∷ rs) (suc i) x y e = set_there rs i x y e

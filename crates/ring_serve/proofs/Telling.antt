@@ -19,7 +19,7 @@ use Rattle.ring_serve.specs.declared.serving.ServeFault.TheVariants as fault
 use Rattle.ring_serve.specs.Permits.{Terms}
 use Rattle.ring_serve.specs.Standings.{Standing}
 use Rattle.ring_serve.specs.Turns.{Turn, IsTurnOfLine}
-use Rattle.ring_serve.specs.Serving.{IsLine, HasNoEnd, name_in, IsGiven, IsAnswered, Answers, joined_lines, AreAnswered, Written, AreTold, Stops, cut, GoesOn, Rests, IsFaultOf}
+use Rattle.ring_serve.specs.Serving.{IsLine, HasNoEnd, name_in, IsGiven, IsTurnOn, IsAnswered, Answers, joined_lines, AreAnswered, Written, AreTold, Stops, cut, GoesOn, Rests, IsFaultOf}
 use Rattle.ring_serve.proofs.LongLines.{long_refused, whole_line, cut_nil}
 
 -- ---- a line that is too long is answered as its start is
@@ -35,6 +35,14 @@ refused_why faults rings full t l is =
       | inr e ↦ (refusal.OutOfMemory, ap (λ (x : Turn (List Standing)). x.answer) e)
     ]
 
+refused_on : (refusing : Option Refusal) (faults : Bool) (rings : List Standing) (full : List ℕ) (t : Turn (List Standing)) → line_limit < length full → IsTurnOn refusing faults rings (cut full) t → (why : Refusal) × (t.answer ≡ answer.Refused why)
+refused_on None faults rings full t l is = refused_why faults rings full t l is
+refused_on (Some why) faults rings full t l is = (why, ap (λ (x : Turn (List Standing)). x.answer) is)
+
+whole_on : (refusing : Option Refusal) (faults : Bool) (rings : List Standing) (full : List ℕ) (t : Turn (List Standing)) → IsTurnOn refusing faults rings (cut full) t → IsTurnOn refusing faults rings full t
+whole_on None faults rings full t is = whole_line faults rings full t is
+whole_on (Some why) faults rings full t is = is
+
 cut_short : (full : List ℕ) → length full ≤ line_limit → cut full ≡ full
 unfolding cut
 cut_short full l = take_all (line_limit + 1) full (omega arith)
@@ -42,10 +50,10 @@ cut_short full l = take_all (line_limit + 1) full (omega arith)
 pub whole_answer : {terms : Terms} {old new : List Standing} {was is : Option Held} {said noted : List ℕ} (full : List ℕ) → IsAnswered terms old was (cut full) said noted new is → IsAnswered terms old was full said noted new is
 whole_answer {terms} {old} {new} {was} {is} full a =
     let given : IsGiven terms.saves was is (name_in full) new a.turn.answer a.given = elim (cases_lt line_limit (length full)) [
-      | inl l ↦ let why = refused_why terms.faults old full a.turn l a.of_line in any_name terms.saves was is (name_in (cut full)) (name_in full) new a.turn.answer a.given why.0 why.1 a.gives
+      | inl l ↦ let why = refused_on terms.refusing terms.faults old full a.turn l a.of_line in any_name terms.saves was is (name_in (cut full)) (name_in full) new a.turn.answer a.given why.0 why.1 a.gives
       | inr l ↦ subst (λ (x : List ℕ). IsGiven terms.saves was is (name_in x) new a.turn.answer a.given) (cut_short full l) a.gives
     ] in
-    record { turn = a.turn; given = a.given; of_line = whole_line terms.faults old full a.turn a.of_line; gives = given; says = a.says; notes = a.notes; leaves = a.leaves }
+    record { turn = a.turn; given = a.given; goes = a.goes; of_line = whole_on terms.refusing terms.faults old full a.turn a.of_line; gives = given; says = a.says; notes = a.notes; leaves = a.leaves }
 
 -- ---- lines after others
 
@@ -188,8 +196,11 @@ stops_untold {mid = mid} {between = between} {before = before} {after = after} {
 pub goes_stops : {terms : Terms} {old new : List Standing} {was is : Option Held} {before after : Written} {bytes line : List ℕ} {pending : Pending} → GoesOn terms old was before after bytes new is line pending → Stops terms old was before after bytes new is
 goes_stops g = stops_untold g.told g.untold
 
+pub told_stops : {terms : Terms} {old new : List Standing} {was is : Option Held} {before after : Written} {bytes rest : List ℕ} → AreTold terms old was before after bytes rest new is → Stops terms old was before after bytes new is
+told_stops {terms} {new = new} {is = is} {rest = rest} t = stops_untold t (none_answered terms new is rest)
+
 pub rests_stops : {terms : Terms} {old new : List Standing} {was is : Option Held} {before after : Written} {bytes line : List ℕ} → Rests terms old was before after bytes new is line → Stops terms old was before after bytes new is
-rests_stops {terms} {new = new} {is = is} r = stops_untold r.told (none_answered terms new is r.begun)
+rests_stops r = told_stops r.told
 
 -- a line was answered, and not all of that is pending
 pub line_stops : {terms : Terms} {old new new' : List Standing} {was is is' : Option Held} {before after : Written} {bytes line said noted : List ℕ} {pending : Pending} (b : ℕ) (g : GoesOn terms old was before after bytes new is line pending) → b ≡ 10 → IsAnswered terms new is (cut (g.begun ++ b ∷ [])) said noted new' is' →

@@ -1,27 +1,59 @@
 -- What a line may do beside calling the rings (this project's own).
-use Rattle.std.specs.Prelude.{ℕ, List, [], ◌∷◌, ◌++◌, Bool, false, ◌&&◌, ◌||◌, ◌==◌, nat_le, if◌then◌else◌, Option}
+use Rattle.std.specs.Prelude.{◌≡◌, ℕ, List, [], ◌∷◌, ◌++◌, Bool, false, ◌&&◌, ◌||◌, ◌==◌, nat_le, if◌then◌else◌, Option, None, Some}
 use Rattle.std.specs.Option.{option_map, is_some}
 use Rattle.std.specs.List.{list_all}
+use Rattle.ring_serve.specs.declared.answers.Refusal.{Refusal}
 use Rattle.ring_serve.specs.declared.permits.Permits.{Permits}
+use Rattle.ring_serve.specs.declared.serving.Ends.{Ends}
 use Rattle.ring_serve.specs.declared.serving.Rules.{Rules}
+use Rattle.ring_serve.specs.Standings.{Standing}
+use Rattle.ring_serve.specs.Due.{is_due}
 
 -- the terms on which lines are served: whether a journal is kept, whether a line may be a fault,
--- and the folder that one may save all rings in, if there is one
+-- and the folder that one may save all rings in, if there is one; how many lines the journal of a
+-- segment gets until it is due, if segments end; and the refusal of every line while a segment that
+-- is due cannot be ended
 pub record Terms : Type 0 where
   pub noting : Bool
   pub faults : Bool
   pub saves : Option (List ℕ)
+  pub limit : Option ℕ
+  pub refusing : Option Refusal
 
+-- without segments
 abbrev pub terms_of : Bool → Permits → Terms
 terms_of noting permits = record {
   noting = noting;
   faults = permits.faults;
   saves = option_map (λ folder. folder.now) permits.saves;
+  limit = None;
+  refusing = None;
+}
+
+-- in a segment that ends so, if segments do
+abbrev pub terms_in : Bool → Permits → Option Ends → Terms
+terms_in noting permits None = terms_of noting permits
+terms_in noting permits (Some ends) = record {
+  noting = noting;
+  faults = permits.faults;
+  saves = option_map (λ folder. folder.now) permits.saves;
+  limit = Some ends.limit;
+  refusing = ends.refusing;
 }
 
 -- those of these rules
 abbrev pub terms_by : Rules → Terms
-terms_by rules = terms_of (is_some rules.journal) rules.permits
+terms_by rules = record {
+  noting = is_some rules.journal;
+  faults = rules.permits.faults;
+  saves = option_map (λ folder. folder.now) rules.permits.saves;
+  limit = rules.limit;
+  refusing = rules.refusing;
+}
+
+-- Lines are served on these terms: the segment is due exactly if they are refused.
+abbrev pub IsOpen : Terms → List Standing → Type 0
+IsOpen terms rings = is_due terms.limit rings ≡ is_some terms.refusing
 
 -- ---- the files that a line may save in
 

@@ -3,8 +3,9 @@
 use Rattle.std.specs.Prelude.{◌≡◌, ℕ, Bool, List, [], ◌∷◌, ◌++◌, map}
 use Rattle.std.specs.List.{flat_map, AllByRecursion}
 use Rattle.ring_blocks.specs.Journals.{line_of_event, line_of_survey}
+use Rattle.ring_saved.specs.Spelling.{Fits}
 use Rattle.ring_journal.specs.declared.calls.JournalLine.{JournalLine}
-use Rattle.ring_journal.specs.Spelling.{Journal, JournalFits}
+use Rattle.ring_journal.specs.Spelling.{Journal}
 use Rattle.ring_journal.specs.ContentAfter.{content_after}
 use Rattle.ring_journal.specs.Beginnings.{IsRightJournal}
 use Rattle.ring_serve.specs.Standings.{Standing}
@@ -31,13 +32,12 @@ AreTurns faults old (line ∷ lines) records new =
     × (records ≡ turn.recorded ++ more)
     × AreTurns faults turn.leaves lines more new
 
--- Rings that are right answer lines, whatever these are: the journal that begins with the
--- saved rings and has the records of the turns is right at each moment, and records the rings as
--- they are saved at the end.
+-- Rings that are right, and have a text, answer lines, whatever these are: the journal that begins
+-- with the saved rings and has the records of the turns is right at each moment, and records the
+-- rings as they are saved at the end.
 abbrev pub JournalsAreRight : Type 0
 JournalsAreRight =
     (faults : Bool) (old new : List Standing) (lines : List (List ℕ)) (records : List RingTrace)
-    → AllByRecursion IsRight old → AreTurns faults old lines records new
-    → JournalFits (journal_of old records)
+    → AllByRecursion IsRight old → Fits (content_of old) → AreTurns faults old lines records new
     → IsRightJournal (journal_of old records)
     × (content_after (content_of old) (flat_map calls_of records) ≡ content_of new)

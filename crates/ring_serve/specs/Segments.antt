@@ -1,12 +1,12 @@
 -- The segments of served rings, one after the other (this project's own).
-use Rattle.std.specs.Prelude.{◌≡◌, ℕ, ◌+◌, List, [], ◌∷◌, ◌++◌, length}
+use Rattle.std.specs.Prelude.{◌≡◌, ℕ, ◌+◌, List, [], ◌∷◌, ◌++◌, length, map, slice_get, Some}
 use Rattle.ring_model.specs.Ring.{Ring}
 use Rattle.ring_model.specs.History.{reply, after}
 use Rattle.ring_model.specs.Resources.{till}
 use Rattle.ring_model.specs.declared.events.Op.{Op}
 use Rattle.ring_desk.specs.Rings.{AreFresh}
 use Rattle.ring_chains.specs.declared.bases.Base.{Base}
-use Rattle.ring_chains.specs.Bases.{IsAmount, state_from, base_after}
+use Rattle.ring_chains.specs.Bases.{IsBase, IsAmount, state_from, base_after}
 use Rattle.ring_chains.specs.Chains.{Segment, IsChainFrom, chain_history, IsSurveyAfter}
 use Rattle.ring_serve.specs.Standings.{Standing, state_of, shifted_survey_now}
 use Rattle.ring_serve.specs.Saved.{IsRight}
@@ -16,6 +16,10 @@ use Rattle.ring_serve.specs.declared.answers.Answer.TheVariants as answer
 -- the segment of a ring
 abbrev pub segment_of : Standing → Segment
 segment_of r = record { base = r.base; start = r.start; history = r.history }
+
+-- what came before the segment of each ring
+abbrev pub bases_of : List Standing → List Base
+bases_of rings = map (λ (r : Standing). r.base) rings
 
 -- the ring with its next segment, which begins where this one ends: it has no events yet, and the
 -- clients' logs are empty
@@ -30,6 +34,14 @@ abbrev pub AreNext : List Standing → List Standing → Type 0
 AreNext [] new = new ≡ []
 AreNext (r ∷ rs) [] = ⊥
 AreNext (r ∷ rs) (s ∷ ss) = IsNext r s × AreNext rs ss
+
+-- a segment of the ring has room after its own
+abbrev pub HasRoom : Standing → Type 0
+HasRoom r = IsBase (base_after r.base r.start r.history)
+
+-- no segment has room after that of one of the rings
+abbrev pub IsFull : List Standing → Type 0
+IsFull rings = (i : ℕ) × (r : Standing) × (slice_get rings i ≡ Some r) × ¬ HasRoom r
 
 -- ---- laws: where the segments before a ring's and its own are a chain
 

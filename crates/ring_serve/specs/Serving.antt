@@ -1,5 +1,5 @@
 -- Lines that are served one after the other (this project's own).
-use Rattle.std.specs.Prelude.{◌≡◌, ◌≢◌, ℕ, ◌+◌, ◌-◌, ◌^◌, ◌≤◌, true, false, cond, List, [], ◌∷◌, ◌++◌, length, take, drop, Option, None, Some, Result, MatchResult, ◌⊎◌}
+use Rattle.std.specs.Prelude.{◌≡◌, ◌≢◌, ℕ, ◌+◌, ◌-◌, ◌^◌, ◌≤◌, Bool, true, false, cond, List, [], ◌∷◌, ◌++◌, length, take, drop, Option, None, Some, Result, MatchResult, ◌⊎◌}
 use Rattle.std.specs.List.{AllByRecursion}
 use Rattle.std.specs.Io.KnownBytes.{Appends, Consumes, IsAtEnd}
 use Rattle.text_lines.specs.Writing.{Wrote}
@@ -10,15 +10,19 @@ use Rattle.ring_serve.specs.Commands.{line_limit}
 use Rattle.ring_serve.specs.Answers.{answer_line}
 use Rattle.ring_serve.specs.declared.answers.Answer.{Answer}
 use Rattle.ring_serve.specs.declared.answers.Answer.TheVariants as answer
+use Rattle.ring_serve.specs.declared.answers.Refusal.{Refusal}
 use Rattle.ring_serve.specs.declared.answers.Refusal.TheVariants as refusal
 use Rattle.ring_serve.specs.declared.serving.Pending.{Pending}
 use Rattle.ring_serve.specs.declared.serving.Journal.{Journal}
+use Rattle.ring_serve.specs.declared.serving.Ending.{Ending}
+use Rattle.ring_serve.specs.declared.serving.Ending.TheVariants as ending
 use Rattle.ring_serve.specs.declared.serving.ServeFault.{ServeFault}
 use Rattle.ring_serve.specs.declared.serving.ServeFault.TheVariants as fault
-use Rattle.ring_serve.specs.Permits.{Terms, is_plain, file_in}
+use Rattle.ring_serve.specs.Due.{is_due, is_due_at}
+use Rattle.ring_serve.specs.Permits.{Terms, IsOpen, is_plain, file_in}
 use Rattle.ring_serve.specs.Standings.{Standing}
 use Rattle.ring_serve.specs.Saved.{content_of}
-use Rattle.ring_serve.specs.Turns.{Turn, IsTurnOfLine}
+use Rattle.ring_serve.specs.Turns.{Turn, refused, IsTurnOfLine}
 use Rattle.ring_serve.specs.Notes.{notes_of}
 
 -- a line has its LF at its end, and nowhere else
@@ -60,6 +64,12 @@ abbrev pub IsGiven : Option (List ℕ) → Option Held → Option Held → List 
 IsGiven saves was is name rings answer.Saved given = IsSaveGiven saves was is name rings given
 IsGiven saves was is name rings asked given = (given ≡ asked) × (is ≡ was)
 
+-- The turn of a line: its own, or the refusal if every line is refused.
+abbrev pub IsTurnOn : Option Refusal → Bool → List Standing → List ℕ → Turn (List Standing)
+    → Type 0
+IsTurnOn None faults rings line turn = IsTurnOfLine faults rings line turn
+IsTurnOn (Some why) faults rings line turn = turn ≡ refused rings why
+
 -- One line answered, from the rings and the files as they are to those after it: by its turn.
 -- It says the answer's line, and notes, if a journal is kept, the lines of the records of
 -- the turn.
@@ -67,7 +77,8 @@ pub record IsAnswered (terms : Terms) (old : List Standing) (was : Option Held)
     (line said noted : List ℕ) (new : List Standing) (is : Option Held) : Type 0 where
   pub turn : Turn (List Standing)
   pub given : Answer
-  pub of_line : IsTurnOfLine terms.faults old line turn
+  pub goes : IsOpen terms old
+  pub of_line : IsTurnOn terms.refusing terms.faults old line turn
   pub gives : IsGiven terms.saves was is (name_in line) new turn.answer given
   pub says : said ≡ answer_line given
   pub notes : noted ≡ cond terms.noting (notes_of turn.recorded) []
@@ -149,6 +160,11 @@ pub record Stops (terms : Terms) (old : List Standing) (was : Option Held) (befo
 unfoldable pub cut : List ℕ → List ℕ
 cut begun = take (line_limit + 1) begun
 
+-- a line that has begun, and what is kept of it
+pub record HasBegun (begun line : List ℕ) : Type 0 where
+  pub partial : HasNoEnd begun
+  pub kept : line ≡ cut begun
+
 -- All whole lines of the bytes were answered: some were delivered, and the answers and notes of the
 -- others are pending. This is kept of the line that has begun.
 pub record GoesOn (terms : Terms) (old : List Standing) (was : Option Held) (before after : Written)
@@ -165,7 +181,7 @@ pub record GoesOn (terms : Terms) (old : List Standing) (was : Option Held) (bef
   pub kept : line ≡ cut begun
 
 -- it continues, or after an error it has stopped
-abbrev pub Serves : {E : Type 0} → Result (Unit {0}) E → Terms → List Standing → Option Held
+abbrev pub Serves : {A E : Type 0} → Result A E → Terms → List Standing → Option Held
     → Written → Written → List ℕ → List Standing → Option Held → List ℕ → Pending → Type 0
 Serves result terms old was before after bytes new is line pending =
     MatchResult result (λ _. GoesOn terms old was before after bytes new is line pending)
@@ -185,6 +201,47 @@ abbrev pub Tells : {E : Type 0} → Result (Unit {0}) E → Terms → List Stand
 Tells result terms old was before after bytes new is line =
     MatchResult result (λ _. Rests terms old was before after bytes new is line)
     (λ _. Stops terms old was before after bytes new is)
+
+-- Whether the segment is over after a line: it is if it is due and lines are not refused; if not, it
+-- goes on.
+abbrev pub IsOver : Bool → Terms → List Standing → Type 0
+IsOver true terms rings = is_due terms.limit rings ≡ true
+IsOver false terms rings = IsOpen terms rings
+
+-- the same as the code sees it, after a line that called the ring of this number
+abbrev pub is_over_at : Option Refusal → Option ℕ → List Standing → ℕ → Bool
+is_over_at None limit rings ring = is_due_at limit rings ring
+is_over_at (Some why) limit rings ring = false
+
+-- Some bytes of a block were taken, up to the line after which the segment is over, or all of them;
+-- and served as one says.
+abbrev pub IsTaken : Bool → List ℕ → List ℕ → (List ℕ → Type 0) → Type 0
+IsTaken over unread left serves =
+    (taken : List ℕ) × (unread ≡ taken ++ left) × (over ≡ false → left ≡ []) × serves taken
+
+-- A part of the input was served, from the line that had begun and the rest of a block on. All
+-- answers to its lines have left, and this is the rest.
+pub record ServesPart (terms : Terms) (old new : List Standing) (was is : Option Held)
+    (begun unread left line : List ℕ) (input rest : Option (List ℕ)) (before after : Written) :
+    Type 0 where
+  pub read : List ℕ
+  pub taken : List ℕ
+  pub consumed : Consumes input rest read
+  pub split : unread ++ read ≡ taken ++ left
+  pub rests : Rests terms old was before after (begun ++ taken) new is line
+
+-- Why it ended: the input has, or the segment is due.
+abbrev pub IsEnding : Ending → Terms → List Standing → List ℕ → Option (List ℕ) → Type 0
+IsEnding ending.End terms rings left rest = (left ≡ []) × IsAtEnd rest
+IsEnding ending.Due terms rings left rest = is_due terms.limit rings ≡ true
+
+-- Of such a part some lines were answered.
+abbrev pub ServesSomeOf : Terms → List Standing → List Standing → Option Held → Option Held → List ℕ
+    → List ℕ → Option (List ℕ) → Option (List ℕ) → Written → Written → Type 0
+ServesSomeOf terms old new was is begun unread input rest before after =
+    (read : List ℕ)
+    × Consumes input rest read
+    × Stops terms old was before after (begun ++ (unread ++ read)) new is
 
 -- The whole input was served: each whole line of it was delivered, and no line ended after those.
 pub record ServesAll (terms : Terms) (old new : List Standing) (was is : Option Held)

@@ -1,5 +1,6 @@
 //! The laws of turns and of the journal: functions with empty bodies, whose contracts are the laws.
 
+ghost use Rattle.ring_serve.specs.Due.{NeverFull};
 ghost use Rattle.ring_serve.specs.Recording.{JournalsAreRight};
 ghost use Rattle.ring_serve.specs.Segments.{ChainsGrow, AnswersAreOfChains, BlocksAreOfChains, SurveysAreOfChains};
 ghost use Rattle.ring_serve.specs.Turns.{OneTurnIsRight};
@@ -7,6 +8,11 @@ ghost use Rattle.ring_serve.specs.Turns.{OneTurnIsRight};
 /// A line has one turn, memory aside.
 pub fn one_turn_is_right()
     ensures { OneTurnIsRight }
+{}
+
+/// While no ring is short, no line is refused since a history is full.
+pub fn no_line_is_refused_full()
+    ensures { NeverFull }
 {}
 
 /// The records of the turns of lines, after the saved rings from which they began, are a right journal: its history is legal

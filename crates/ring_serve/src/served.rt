@@ -1,18 +1,22 @@
 //! The rings that are served.
 
-ghost use Rattle.std.specs.Prelude.{◌≡◌, [], ◌∷◌, ◌++◌, length, map, drop, slice_get, OnOk, OnErr, Some};
+ghost use Rattle.std.specs.Prelude.{◌≡◌, ℕ, ◌-◌, ◌^◌, nat_lt, min, false, [], ◌∷◌, ◌++◌, length, map, drop, slice_get, OnOk, OnErr, Some};
 ghost use Rattle.ring_serve.specs.declared.answers.Answer.TheVariants as answer;
 ghost use Rattle.ring_serve.specs.declared.turns.Trace.TheVariants as trace;
 ghost use Rattle.ring_serve.specs.Commands.{seen, ring_of};
 ghost use Rattle.ring_endless.specs.Endless.{IsEndless};
 ghost use Rattle.ring_serve.specs.Standings.{standing_of, AreRight};
-ghost use Rattle.ring_serve.specs.Turns.{IsTurn, is_off, IsHeardTurn, IsTurnOfLine, turn_seen_among, history_of};
+ghost use Rattle.ring_serve.specs.Due.{lines_in, lines_of, is_short, has_short, is_due, is_short_at, is_due_at, lines_recorded};
+ghost use Rattle.ring_serve.specs.Counted.{AreCounted};
+ghost use Rattle.ring_serve.specs.Turns.{IsTurn, is_off, IsHeardTurn, IsTurnOfLine, recorded_among, turn_seen_among, history_of};
 
 use crate::answers::Refusal;
 use crate::commands::{Command, LINE_LIMIT, read_command};
-use crate::turns::{CallAnswer, make, refusal_answer};
+use crate::totals::surveys_of;
+use crate::turns::{CallAnswer, Trace, make, refusal_answer};
 use ring_endless::EndlessRing;
 use ring_model::Event;
+use ring_model::limits::{EVENT_LIMIT, MACHINE_LIMIT};
 use std::alloc::{AllocError, Global};
 use std::marker::Model;
 use text_lines::Stop;
@@ -21,17 +25,20 @@ use text_lines::Stop;
 #[derive(Drop)]
 pub struct Served {
     rings: Vec<EndlessRing>,
+    /// How many events and surveys their segments have, up to 2 to the power 64 less 1.
+    lines: u64,
 }
 
 impl Model for Served {
     ghost use Rattle.std.specs.Prelude.{List, map};
-    ghost use Rattle.ring_serve.specs.Standings.{Standing, standing_of, AreRight};
+    ghost use Rattle.ring_serve.specs.Standings.{Standing, standing_of};
+    ghost use Rattle.ring_serve.specs.Counted.{AreCounted};
 
     ghost Value = { List Standing };
 
     ghost view = { λ s. map standing_of s.rings.items };
 
-    ghost invariant = { λ s. AreRight s.rings.items };
+    ghost invariant = { λ s. AreCounted s.rings.items s.lines };
 }
 
 /// A line that was answered: the number of the ring that it calls, and the answer to the call.
@@ -108,6 +115,54 @@ fn add_to(rings: &mut Vec<EndlessRing>, ring: EndlessRing) -> Result<(), AllocEr
     Ok(())
 }
 
+/// How many events and surveys the segment of a ring has, up to 2 to the power 64 less 1.
+fn lines_in(ring: &EndlessRing) -> u64
+    ensures { result ≡ min (lines_in (standing_of ring.now)) (2 ^ 64 - 1) }
+{
+    let events = ring.segment().history().len() as u64;
+    match surveys_of(ring.segment()) {
+        Some(surveys) => events.saturating_add(surveys),
+        None => u64::MAX,
+    }
+}
+
+/// How many lines a call that was made leaves in the journal.
+fn lines_left(rings: &[EndlessRing], ring: u32, trace: Trace) -> u64
+    ensures { result ≡ lines_recorded (recorded_among ring (map standing_of rings.now) trace) }
+{
+    match trace {
+        Trace::Nothing => 0,
+        Trace::Events(from) => events_of(rings, ring as usize, from).len() as u64,
+        Trace::Survey { .. } => 1,
+    }
+}
+
+/// Whether a ring has fewer places left for events than a line may need.
+fn is_short(ring: &EndlessRing) -> bool
+    ensures { result ≡ is_short (standing_of ring.now) }
+{
+    ring.segment().history().len() > EVENT_LIMIT - MACHINE_LIMIT as usize
+}
+
+/// Whether one of these rings has fewer places left for events than a line may need.
+fn has_short(rings: &[EndlessRing]) -> bool
+    ensures { result ≡ has_short (map standing_of rings.now) }
+{
+    for ring in rings {
+        if is_short(ring) {
+            return true;
+        }
+    }
+    false
+}
+
+/// Whether there is a ring of this number, and it has fewer places left for events than a line may need.
+fn is_short_at(rings: &[EndlessRing], ring: usize) -> bool
+    ensures { result ≡ is_short_at (slice_get (map standing_of rings.now) ring) }
+{
+    ring < rings.len() && is_short(&rings[ring])
+}
+
 impl Served {
     /// No ring.
     pub fn none(alloc: Global) -> Served
@@ -115,6 +170,7 @@ impl Served {
     {
         Served {
             rings: Vec::new(alloc),
+            lines: 0,
         }
     }
 
@@ -128,7 +184,13 @@ impl Served {
         ensures ok { OnOk result (self.new ≡ self.old ++ standing_of ring ∷ []) }
         ensures err { OnErr result (self.new ≡ self.old) }
     {
-        add_to(&mut self.rings, ring)
+        let more = lines_in(&ring);
+        match add_to(&mut self.rings, ring) {
+            Ok(()) => {}
+            Err(fault) => return Err(fault),
+        }
+        self.lines = self.lines.saturating_add(more);
+        Ok(())
     }
 
     /// How many rings there are.
@@ -153,19 +215,42 @@ impl Served {
         events_of(self.rings.as_slice(), ring as usize, from)
     }
 
+    /// Whether the segment is due to end: its journal has at least so many lines, one for each event and each survey of all rings,
+    /// or some ring has fewer places left for events than a line may need.
+    pub fn is_due(&self, limit: u64) -> bool
+        ensures { result ≡ is_due (Some limit) self.now }
+    {
+        self.lines >= limit || has_short(self.rings.as_slice())
+    }
+
+    /// The same after a line that called this ring, if the segment was not due before that.
+    pub(crate) fn is_due_at(&self, limit: u64, ring: u32) -> bool
+        ensures { result ≡ is_due_at (Some limit) self.now ring }
+    {
+        self.lines >= limit || is_short_at(self.rings.as_slice(), ring as usize)
+    }
+
     /// Makes a call.
     fn make(&mut self, command: &Command) -> CallAnswer
-        ensures { IsTurn self.old (seen command.now)
+        ensures turn { IsTurn self.old (seen command.now)
             (turn_seen_among (ring_of (seen command.now)) self.new result) }
+        ensures due { (limit : ℕ) → is_due (Some limit) self.old ≡ false
+            → is_due (Some limit) self.new
+            ≡ is_due_at (Some limit) self.new (ring_of (seen command.now)) }
     {
-        make_among(&mut self.rings, command)
+        let answer = make_among(&mut self.rings, command);
+        let more = lines_left(self.rings.as_slice(), ring_of(command), answer.trace);
+        self.lines = self.lines.saturating_add(more);
+        answer
     }
 }
 
 /// Answers a command, if it is permitted.
 fn answer_command(served: &mut Served, faults: bool, command: &Command) -> LineAnswer
-    ensures { IsHeardTurn faults served.old (Some (seen command.now))
+    ensures turn { IsHeardTurn faults served.old (Some (seen command.now))
         (turn_seen_among result.ring served.new result.call) }
+    ensures due { (limit : ℕ) → is_due (Some limit) served.old ≡ false
+        → is_due (Some limit) served.new ≡ is_due_at (Some limit) served.new result.ring }
 {
     if is_off(faults, command) {
         return no_call(Refusal::Off);
@@ -181,8 +266,10 @@ fn answer_command(served: &mut Served, faults: bool, command: &Command) -> LineA
 /// order is 2 to the power 64 or more. `refused memory` can come at any line, and changes nothing. A `save` is answered `saved`:
 /// whether it is permitted, and to save, is the caller's, as in [`serve`](crate::serve).
 pub fn answer_line(alloc: Global, served: &mut Served, faults: bool, line: &[u8]) -> LineAnswer
-    ensures { IsTurnOfLine faults served.old line.now
+    ensures turn { IsTurnOfLine faults served.old line.now
         (turn_seen_among result.ring served.new result.call) }
+    ensures due { (limit : ℕ) → is_due (Some limit) served.old ≡ false
+        → is_due (Some limit) served.new ≡ is_due_at (Some limit) served.new result.ring }
 {
     if line.len() > LINE_LIMIT {
         return no_call(Refusal::Syntax);
@@ -196,7 +283,7 @@ pub fn answer_line(alloc: Global, served: &mut Served, faults: bool, line: &[u8]
 }
 
 /// A line that is not a call.
-fn no_call(why: Refusal) -> LineAnswer
+pub(crate) fn no_call(why: Refusal) -> LineAnswer
     ensures { result
         ≡ record {
           ring = 0;

@@ -3,34 +3,32 @@
 //! The answers to the lines of a block, and their part for the journal, are kept until the block has been read. Then the
 //! journal gets its part, and is flushed; only after that do the answers leave.
 
-ghost use Rattle.std.specs.Prelude.{◌≡◌, ◌≢◌, ℕ, List, Option, Bool, [], ◌∷◌, ◌++◌, OnOk, OnErr, IfErr, Some, is_some, cond, IsTrue};
+ghost use Rattle.std.specs.Prelude.{◌≡◌, ◌≢◌, ◌≤◌, ℕ, List, Option, Bool, [], ◌∷◌, ◌++◌, length, take, drop, false, OnOk, OnErr, IfOk, IfErr, MatchResult, None, Some, is_some, cond, IsTrue};
 ghost use Rattle.disks.specs.Held.{Held};
-ghost use Rattle.std.specs.Io.KnownBytes.{Appends};
+ghost use Rattle.std.specs.Io.KnownBytes.{Appends, Consumes, IsAtEnd, Keeps};
 ghost use Rattle.text_lines.specs.Writing.{Writes, Wrote};
 ghost use Rattle.ring_serve.specs.declared.answers.Answer.TheVariants as answer;
 ghost use Rattle.ring_serve.specs.declared.answers.Refusal.TheVariants as refusal;
 ghost use Rattle.ring_serve.specs.declared.serving.ServeFault.TheVariants as fault;
 ghost use Rattle.ring_serve.specs.Answers.{answer_line};
 ghost use Rattle.ring_serve.specs.Standings.{Standing};
-ghost use Rattle.ring_serve.specs.Permits.{Terms, terms_of, terms_by, file_in};
-ghost use Rattle.ring_serve.specs.Turns.{recorded_among};
+ghost use Rattle.ring_serve.specs.Due.{is_due, is_due_at};
+ghost use Rattle.ring_serve.specs.Permits.{Terms, terms_of, terms_in, terms_by, IsOpen, file_in};
+ghost use Rattle.ring_serve.specs.Turns.{recorded_among, turn_seen_among};
 ghost use Rattle.ring_serve.specs.Notes.{notes_of};
-ghost use Rattle.ring_serve.specs.Serving.{cut, name_in, IsSaved, IsSaveGiven, IsGiven, IsAnswered, Written, GoesOn, Serves, Tells, held_by, IsFaultOf, ServesAll, ServesSome};
+ghost use Rattle.ring_serve.specs.Serving.{cut, name_in, IsSaved, IsSaveGiven, IsGiven, IsTurnOn, IsAnswered, Written, GoesOn, Serves, Rests, Stops, Tells, HasBegun, IsOver, is_over_at, IsTaken, ServesPart, IsEnding, ServesSomeOf, held_by, IsFaultOf, ServesAll, ServesSome};
 
 use crate::answers::{Answer, Refusal};
 use crate::commands::LINE_LIMIT;
 use crate::permits::{Permits, file_in, is_plain};
 use crate::saving::save_rings;
-use crate::served::{LineAnswer, Served, answer_line};
+use crate::served::{LineAnswer, Served, answer_line, no_call};
 use crate::turns::Trace;
 use disks::Disk;
 use ring_blocks::{put_events, put_survey};
 use std::alloc::{AllocError, Global};
-use std::io::{Read, Write};
+use std::io::Write;
 use text_lines::{WriteFault, put};
-
-/// How many bytes are asked for at once.
-const BLOCK: usize = 8192;
 
 /// Why the lines are not served to their end.
 #[derive(Clone, Copy, Debug, PartialEq, Eq)]
@@ -53,15 +51,36 @@ pub struct Journal<'n, J> {
     pub writer: J,
 }
 
-/// The rules by which lines are served: the name of the journal's file, if one is kept, and what is permitted.
+/// When the segment ends in which lines are served.
 #[derive(Clone, Copy)]
-struct Rules<'n> {
-    journal: Option<&'n str>,
-    permits: Permits<'n>,
+pub struct Ends {
+    /// It is due once its journal has so many lines.
+    pub limit: u64,
+    /// What each line is refused with, if the segment is due and cannot be ended.
+    pub refusing: Option<Refusal>,
+}
+
+/// Why a part of the lines ended.
+#[derive(Clone, Copy, Debug, PartialEq, Eq)]
+pub enum Ending {
+    /// The input has ended.
+    End,
+    /// The segment is due.
+    Due,
+}
+
+/// The rules by which lines are served: the name of the journal's file, if one is kept, and what is permitted; after how many
+/// lines a segment is due, if segments end; and the refusal of each line, if all are refused.
+#[derive(Clone, Copy)]
+pub(crate) struct Rules<'n> {
+    pub(crate) journal: Option<&'n str>,
+    pub(crate) permits: Permits<'n>,
+    pub(crate) limit: Option<u64>,
+    pub(crate) refusing: Option<Refusal>,
 }
 
 /// The name of the journal's file, if one is kept.
-fn file_of<'n, J>(journal: &Option<Journal<'n, J>>) -> Option<&'n str>
+pub(crate) fn file_of<'n, J>(journal: &Option<Journal<'n, J>>) -> Option<&'n str>
     ensures { is_some result ≡ is_some journal.now }
 {
     match journal {
@@ -73,8 +92,8 @@ fn file_of<'n, J>(journal: &Option<Journal<'n, J>>) -> Option<&'n str>
 /// The answers to lines, and the journal's part of them, until both leave.
 #[derive(Drop)]
 pub struct Pending {
-    answers: Vec<u8>,
-    notes: Vec<u8>,
+    pub(crate) answers: Vec<u8>,
+    pub(crate) notes: Vec<u8>,
 }
 
 /// Writes the lines of a turn's record.
@@ -198,7 +217,30 @@ fn add_pending(
     }
 }
 
-/// Answers a line: its answer and its notes are pending then.
+/// The turn of a line, which every line has by its refusal if all are refused.
+fn turn_on(alloc: Global, served: &mut Served, rules: Rules<'_>, line: &[u8]) -> LineAnswer
+    ensures turn { IsTurnOn rules.entry.refusing rules.entry.permits.faults served.old line.now
+        (turn_seen_among result.ring served.new result.call) }
+    ensures due { (limit : ℕ) → is_due (Some limit) served.old ≡ false
+        → is_due (Some limit) served.new ≡ is_due_at (Some limit) served.new result.ring }
+{
+    match rules.refusing {
+        Some(why) => no_call(why),
+        None => answer_line(alloc, served, rules.permits.faults, line),
+    }
+}
+
+/// Whether the segment is over after a line that called this ring, if it was not before that.
+fn is_over(served: &Served, rules: Rules<'_>, ring: u32) -> bool
+    ensures { result ≡ is_over_at rules.entry.refusing rules.entry.limit served.now ring }
+{
+    match (rules.refusing, rules.limit) {
+        (None, Some(limit)) => served.is_due_at(limit, ring),
+        (_, _) => false,
+    }
+}
+
+/// Answers a line: its answer and its notes are pending then. Says whether the segment is over.
 fn answer<D: Disk>(
     alloc: Global,
     served: &mut Served,
@@ -206,17 +248,22 @@ fn answer<D: Disk>(
     rules: Rules<'_>,
     line: &[u8],
     pending: &mut Pending,
-) -> Result<(), AllocError>
-    ensures { (said : List ℕ)
+) -> Result<bool, AllocError>
+    requires { IsOpen (terms_by rules) served.old }
+    ensures over { IfOk result (λ over. IsOver over (terms_by rules.entry) served.new) }
+    ensures answered { (said : List ℕ)
         × (noted : List ℕ)
         × IsAnswered (terms_by rules.entry) served.old (D.holds disk.old) line.now said noted
         served.new (D.holds disk.new)
         × OnOk result ((pending.new.answers.items ≡ pending.old.answers.items ++ said)
         × (pending.new.notes.items ≡ pending.old.notes.items ++ noted)) }
 {
-    let turn = answer_line(alloc, served, rules.permits.faults, line);
+    let turn = turn_on(alloc, served, rules, line);
     let given = give(alloc, served, disk, rules, line, turn.call.answer);
-    add_pending(served, turn, given, rules.journal.is_some(), pending)
+    match add_pending(served, turn, given, rules.journal.is_some(), pending) {
+        Ok(()) => Ok(is_over(served, rules, turn.ring)),
+        Err(fault) => Err(fault),
+    }
 }
 
 /// Keeps a byte of a line, unless the line is too long already.
@@ -231,7 +278,7 @@ fn keep(line: &mut Vec<u8>, byte: u8) -> Result<(), AllocError>
     Ok(())
 }
 
-/// Takes a byte more: it is kept, or ends a line, which is answered.
+/// Takes a byte more: it is kept, or ends a line, which is answered. Says whether the segment is over.
 fn take_byte<D: Disk>(
     alloc: Global,
     served: &mut Served,
@@ -240,8 +287,11 @@ fn take_byte<D: Disk>(
     line: &mut Vec<u8>,
     byte: u8,
     pending: &mut Pending,
-) -> Result<(), AllocError>
-    ensures { (old : List Standing) (was : Option Held) (before after : Written) (bytes : List ℕ)
+) -> Result<bool, AllocError>
+    requires { IsOpen (terms_by rules) served.old }
+    ensures over { IfOk result (λ over. IsOver over (terms_by rules.entry) served.new) }
+    ensures serves { (old : List Standing) (was : Option Held) (before after : Written)
+        (bytes : List ℕ)
         → GoesOn (terms_by rules.entry) old was before after bytes served.old (D.holds disk.old)
         line.old.items pending.old
         → Serves result (terms_by rules.entry) old was before after (bytes ++ byte ∷ []) served.new
@@ -249,15 +299,22 @@ fn take_byte<D: Disk>(
 {
     keep(line, byte)?;
     if byte != b'\n' {
-        return Ok(());
+        return Ok(false);
     }
-    answer(alloc, served, disk, rules, line.as_slice(), pending)?;
+    let over = answer(alloc, served, disk, rules, line.as_slice(), pending)?;
     line.clear();
-    Ok(())
+    Ok(over)
 }
 
-/// Takes the bytes of a block, one after the other.
-fn take_block<D: Disk>(
+/// How far a block was taken: how many of its bytes, and whether the segment is over after them.
+#[derive(Clone, Copy)]
+pub(crate) struct Taken {
+    pub(crate) count: usize,
+    pub(crate) over: bool,
+}
+
+/// Takes the bytes of a block, one after the other, up to the line after which the segment is over, if there is one.
+pub(crate) fn take_bytes<D: Disk>(
     alloc: Global,
     served: &mut Served,
     disk: &mut D,
@@ -265,20 +322,36 @@ fn take_block<D: Disk>(
     line: &mut Vec<u8>,
     block: &[u8],
     pending: &mut Pending,
-) -> Result<(), AllocError>
-    ensures { (old : List Standing) (was : Option Held) (before after : Written) (bytes : List ℕ)
+) -> Result<Taken, AllocError>
+    requires { IsOpen (terms_by rules) served.old }
+    ensures over { IfOk result (λ t. IsOver t.over (terms_by rules.entry) served.new) }
+    ensures count { IfOk result
+        (λ t. (t.count ≤ length block.now) × (t.over ≡ false → t.count ≡ length block.now)) }
+    ensures serves { (old : List Standing) (was : Option Held) (before after : Written)
+        (bytes : List ℕ)
         → GoesOn (terms_by rules.entry) old was before after bytes served.old (D.holds disk.old)
         line.old.items pending.old
-        → Serves result (terms_by rules.entry) old was before after (bytes ++ block.now) served.new
-        (D.holds disk.new) line.new.items pending.new }
+        → MatchResult result (λ t. GoesOn (terms_by rules.entry) old was before after
+        (bytes ++ take t.count block.now) served.new (D.holds disk.new) line.new.items pending.new)
+        (λ _. Stops (terms_by rules.entry) old was before after (bytes ++ block.now) served.new
+        (D.holds disk.new)) }
 {
-    for byte in block {
+    for (i, byte) in block.iter().enumerate() {
         match take_byte(alloc, served, disk, rules, line, *byte, pending) {
-            Ok(()) => {}
+            Ok(false) => {}
+            Ok(true) => {
+                return Ok(Taken {
+                    count: i + 1,
+                    over: true,
+                });
+            }
             Err(fault) => return Err(fault),
         }
     }
-    Ok(())
+    Ok(Taken {
+        count: block.len(),
+        over: false,
+    })
 }
 
 /// Writes all of these bytes and flushes the writer, if there is one at least, and says whether it could.
@@ -311,7 +384,7 @@ fn put_notes<J: Write>(journal: &mut Option<Journal<'_, J>>, bytes: &[u8]) -> bo
 }
 
 /// Writes the pending bytes: the journal's part first.
-fn put_pending<J: Write, W: Write>(
+pub(crate) fn put_pending<J: Write, W: Write>(
     pending: &mut Pending,
     journal: &mut Option<Journal<'_, J>>,
     out: &mut W,
@@ -337,75 +410,4 @@ fn put_pending<J: Write, W: Write>(
     pending.notes.clear();
     pending.answers.clear();
     Ok(())
-}
-
-/// Serves the lines of a reader to its end: each line is answered by one line on the writer. The bytes after the last LF are
-/// not a line, and are not answered.
-///
-/// If there is a journal, it gets the lines of what each turn recorded, and no `save` replaces its file. Before more is read the
-/// journal is flushed, and then the writer: no answer leaves whose call is not in the journal.
-///
-/// # Errors
-///
-/// The first error of the reader, of the journal or of the writer; `OutOfMemory` where there was none for what a block is
-/// answered; `TooLong` where no more blocks are counted. The lines before were answered; the writer holds a beginning of their
-/// answers, and the journal the notes of each that was told.
-pub fn serve<D: Disk, I: Read, J: Write, W: Write>(
-    alloc: Global,
-    served: &mut Served,
-    disk: &mut D,
-    journal: &mut Option<Journal<'_, J>>,
-    permits: Permits<'_>,
-    input: &mut I,
-    out: &mut W,
-) -> Result<(), ServeFault>
-    ensures ok { OnOk result (ServesAll (terms_of (is_some journal.old) permits.entry)
-        served.old served.new (D.holds disk.old) (D.holds disk.new) (I.remaining input.old)
-        (I.remaining input.new)
-        (record { journal = held_by J.contents journal.old; out = W.contents out.old })
-        (record { journal = held_by J.contents journal.new; out = W.contents out.new })) }
-    ensures err { OnErr result (ServesSome (terms_of (is_some journal.old) permits.entry)
-        served.old served.new (D.holds disk.old) (D.holds disk.new) (I.remaining input.old)
-        (I.remaining input.new)
-        (record { journal = held_by J.contents journal.old; out = W.contents out.old })
-        (record { journal = held_by J.contents journal.new; out = W.contents out.new })) }
-    ensures long { IfErr result (λ e.
-        IsFaultOf e (I.remaining input.old) (I.remaining input.new)) }
-    ensures kept { is_some journal.new ≡ is_some journal.old }
-{
-    let rules = Rules {
-        journal: file_of(journal),
-        permits,
-    };
-    let mut line = Vec::new(alloc);
-    let mut pending = Pending {
-        answers: Vec::new(alloc),
-        notes: Vec::new(alloc),
-    };
-    let mut block = [0u8; BLOCK];
-    'rounds: for round in 0..u64::MAX {
-        let Ok(count) = input.read(&mut block) else {
-            return Err(ServeFault::Read);
-        };
-        if count == 0 {
-            return Ok(());
-        }
-        match take_block(
-            alloc,
-            served,
-            disk,
-            rules,
-            &mut line,
-            &block[..count],
-            &mut pending,
-        ) {
-            Ok(()) => {}
-            Err(AllocError) => return Err(ServeFault::OutOfMemory),
-        }
-        match put_pending(&mut pending, journal, out) {
-            Ok(()) => {}
-            Err(fault) => return Err(fault),
-        }
-    }
-    Err(ServeFault::TooLong)
 }

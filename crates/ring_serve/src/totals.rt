@@ -11,7 +11,7 @@ use ring_desk::OneThreadRing;
 use ring_endless::EndlessRing;
 
 /// How many surveys the clients of a ring were given; none if they are 2 to the power 64 or more.
-fn surveys_of(ring: &OneThreadRing<Till>) -> Option<u64>
+pub(crate) fn surveys_of(ring: &OneThreadRing<Till>) -> Option<u64>
     ensures some { IfSome result (λ count. count ≡ surveys_among ring.now.clients) }
     ensures none { IsNone result → 2 ^ 64 ≤ surveys_among ring.now.clients }
 {

@@ -8,3 +8,5 @@ pub mod Permitted
 pub mod Unnoted
 pub mod Traced
 pub mod Unchained
+pub mod Gapped
+pub mod Emptied

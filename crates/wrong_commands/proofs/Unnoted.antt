@@ -1,5 +1,5 @@
 -- A line that is granted is noted.
-use Rattle.std.proofs.Common.{◌≡◌, ◌∙◌, ℕ, ◌<◌, ◌≤◌, List, [], ◌∷◌, ◌++◌, length, get_or, Bool, true, false, if◌then◌else◌, Option, None, Some, inl, inr, refl, sym, ap, subst, arith}
+use Rattle.std.proofs.Common.{◌≡◌, ◌∙◌, ℕ, ◌<◌, ◌≤◌, List, [], ◌∷◌, ◌++◌, length, length-append, get_or, Bool, true, false, if◌then◌else◌, Option, None, Some, inl, inr, refl, sym, ap, subst, arith}
 use Rattle.disks.specs.Held.{Held}
 use Rattle.ring_model.specs.Ring.{is_privileged}
 use Rattle.ring_model.specs.declared.events.Event.{Event}
@@ -19,6 +19,7 @@ use Rattle.ring_serve.specs.declared.permits.Permits.{Permits}
 use Rattle.ring_serve.specs.Permits.{terms_of}
 use Rattle.ring_serve.specs.Notes.{notes_of}
 use Rattle.ring_serve.specs.Serving.{name_in, IsSaveGiven, IsGiven, IsAnswered, Answers, ServesAll}
+use Rattle.ring_serve.specs.Recovered.{AnsweredCallsAreRecovered}
 
 some_front : (a b : List ℕ) → 1 ≤ length a → 1 ≤ length (a ++ b)
 some_front [] b h = absurd (omega arith)
@@ -171,3 +172,18 @@ unnoted permits old new was is unread rest journal out y e some g h =
     let many = first_noted permits old was t.answered.lines t.said t.noted new is t.answered.answers (subst (λ (x : List ℕ). head x ≡ 103) said (starts out y e some g)) in
     let none = same_length journal t.noted t.wrote_notes in
     absurd (omega arith)
+
+head_more : (xs ys : List ℕ) → 0 < length xs → head (xs ++ ys) ≡ head xs
+head_more [] ys some = absurd (omega (arith, some))
+head_more (x ∷ xs) ys some = refl
+
+-- nor does such a journal keep its answer
+pub unkept : (permits : Permits) (old new : List Standing) (was is : Option Held) (unread rest : Option (List ℕ)) (journal out : List ℕ) (y : ℕ) → y ≡ get_or out 0 y → 0 < length out → y ≡ 103
+    → AnsweredCallsAreRecovered (terms_of true permits) old new was is unread rest (record { journal = Some journal; out = Some [] }) (record { journal = Some journal; out = Some out }) → ⊥
+unkept permits old new was is unread rest journal out y e some g h =
+    let s = h.ended in
+    let said : s.said ≡ out ++ s.left = s.wrote.1 ∙ ap (λ (x : List ℕ). x ++ s.left) (sym s.wrote.2) in
+    let begins : head s.said ≡ 103 = ap (λ (x : List ℕ). head x) said ∙ (head_more out s.left some ∙ starts out y e some g) in
+    let many = first_noted permits old was s.told.lines s.said s.noted s.mid s.between s.told.answers begins in
+    let none = same_length journal (s.noted ++ s.front) s.wrote_notes in
+    absurd (omega (arith, many, none, length-append s.noted s.front))

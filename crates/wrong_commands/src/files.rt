@@ -9,7 +9,7 @@ ghost use Rattle.ring_saved.specs.Spelling.{text};
 ghost use Rattle.ring_text.specs.Report.{entries_in};
 ghost use Rattle.ring_text.specs.SavedOf.{saved_of};
 ghost use Rattle.ring_commands.specs.CheckText.{legal_line};
-ghost use Rattle.ring_commands.specs.Checked.{IsLegalSavedText, IsCheckAnswer};
+ghost use Rattle.ring_commands.specs.Checked.{IsLegalSavedText, IsTextChecked};
 ghost use Rattle.ring_commands.specs.Handed.{IsHanded};
 ghost use Rattle.ring_commands.specs.Named.{IsHeld, IsApart};
 ghost use Rattle.ring_commands.specs.Pictured.{IsDrawing, IsPictureApart, picture_of};
@@ -149,7 +149,7 @@ pub fn check_of_a_constant<D: Disk, W: Write>(
     requires held { IsHeld (D.holds _disk.now) _words.now.file.now _held.now }
     requires bad { (sums : Summary) → IsLegalSavedText _held.now sums → ⊥ }
     ensures wrong { OnOk result ((was : Option (List ℕ)) (is : Option (List ℕ))
-        → IsCheckAnswer _words.now
+        → IsTextChecked _words.now
         (world (D.holds _disk.now) was (W.contents out.old) None)
         (world (D.holds _disk.now) is (W.contents out.new) None) → ⊥) }
 {

@@ -2,6 +2,7 @@
 
 ghost use Rattle.std.specs.Prelude.{[], true, Some, IfSome};
 ghost use Rattle.ring_serve.specs.Permits.{terms_of};
+ghost use Rattle.ring_serve.specs.Recovered.{AnsweredCallsAreRecovered};
 ghost use Rattle.ring_serve.specs.Serving.{ServesAll};
 
 use disks::Disk;
@@ -21,6 +22,11 @@ pub fn answers_before_the_journal<D: Disk, I: Read>(
     journal: &mut Vec<u8>,
 ) -> Option<Vec<u8>>
     ensures wrong { IfSome result (λ out. ServesAll (terms_of true permits.entry)
+        served.old served.new (D.holds disk.old) (D.holds disk.new) (I.remaining input.old)
+        (I.remaining input.new)
+        (record { journal = Some journal.old.items; out = Some [] })
+        (record { journal = Some journal.new.items; out = Some out.items }) → ⊥) }
+    ensures lost { IfSome result (λ out. AnsweredCallsAreRecovered (terms_of true permits.entry)
         served.old served.new (D.holds disk.old) (D.holds disk.new) (I.remaining input.old)
         (I.remaining input.new)
         (record { journal = Some journal.old.items; out = Some [] })

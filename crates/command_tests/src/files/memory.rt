@@ -98,6 +98,9 @@ fn a_folder_has_the_files_with_its_name_before_a_slash(rt: HostRuntime) -> Resul
     assert_eq!(rt; names.next(), Some(("a", true)));
     assert_eq!(rt; names.next(), Some(("b", true)));
     assert_eq!(rt; names.next(), None);
-    assert!(rt; disk.list("h")?.is_empty());
+    let Err(fault) = disk.list("h") else {
+        panic!(rt; "a folder with nothing in it");
+    };
+    assert!(rt; fault.kind() == ErrorKind::NotFound);
     Ok(())
 }

@@ -1,6 +1,11 @@
 //! Rings whose segments end: the answers count on, and what is saved begins anew.
 
 use super::served;
+use ring_book::Till;
+use ring_chains::Base;
+use ring_desk::OneThreadRing;
+use ring_endless::{EndlessRing, NextError};
+use ring_model::limits::EVENT_LIMIT;
 use ring_serve::{Served, answer_line, write_rings};
 use std::alloc::Global;
 use std::process::Abort;
@@ -53,4 +58,49 @@ fn answers_count_on_over_the_end_of_a_segment(rt: HostRuntime) {
         Some(all) => assert!(rt; all.events == 5 && all.granted == 3 && all.surveys == 1),
         None => panic!(rt; "the sums are small"),
     }
+}
+
+/// The greatest number of events after which a segment has room.
+const LAST: u64 = u64::MAX - EVENT_LIMIT as u64;
+
+/// A ring like the first, after so many events.
+fn serve_another(rt: &impl Abort, alloc: Global, served: &mut Served, events: u64) {
+    let base = Base {
+        events,
+        grants: 0,
+        amount: 0,
+        calm: 0,
+    };
+    assert!(rt; base.has_room());
+    let Ok(ring) = OneThreadRing::open(alloc, 3, 3, &[0, 2, 0], 1, Till::new()) else {
+        panic!(rt; "the ring is opened");
+    };
+    assert!(rt; served.add(EndlessRing::after(base, ring)).is_ok());
+}
+
+#[test]
+fn a_segment_ends_only_if_the_next_has_room(rt: HostRuntime) {
+    let alloc = rt.alloc();
+    let mut rings = served(&rt, alloc);
+    serve_another(&rt, alloc, &mut rings, LAST - 1);
+    expect(
+        &rt,
+        alloc,
+        &mut rings,
+        &[("pass 1 0 0 5\n", "granted 1 5\n")],
+    );
+    let Ok(mut next) = rings.next(alloc) else {
+        panic!(rt; "the last segment has room");
+    };
+    let at_last = [("glance 1\n", "survey 18446744073705551615 2 1 1 3\n")];
+    expect(&rt, alloc, &mut next, &at_last);
+    expect(&rt, alloc, &mut rings, &[("pass 1 0 0 1\n", "waits\n")]);
+    assert!(rt;
+        rings
+            .next(alloc)
+            .is_err_and(|error| error == NextError::Full)
+    );
+    let after_last = [("glance 1\n", "survey 18446744073705551616 2 1 1 3\n")];
+    expect(&rt, alloc, &mut rings, &after_last);
+    assert!(rt; rings.count() == 2);
 }

@@ -1,7 +1,7 @@
 //! Saved texts that are read, value by value.
 
 use super::worked::{GROUP, LATER_PASSES, LATER_TWO_RINGS, PASSES, TWO_CLIENTS, TWO_RINGS};
-use ring_saved::{ReadError, Saved, SavedEvent, SavedRing, SavedSurvey, read_saved};
+use ring_text::{ReadError, Saved, SavedEvent, SavedRing, SavedSurvey, read_saved};
 use std::process::Abort;
 
 /// The part that is read of a ring.

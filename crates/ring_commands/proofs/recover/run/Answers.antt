@@ -1,40 +1,5 @@
-use Rattle.std.proofs.Common.{None, inl, inr, sym, subst}
-use Rattle.std.proofs.lemmas.Result.{err_from_is_err_and}
-use Rattle.ring_saved.specs.Content.{content}
-use Rattle.ring_saved.specs.Spelling.{text}
-use Rattle.ring_commands.specs.CheckText.{legal_line}
-use Rattle.ring_commands.specs.Handed.{IsHanded, IsHandRefusal}
-use Rattle.ring_commands.specs.Named.{IsNamed}
-use Rattle.ring_commands.specs.Worlds.{world}
+use Rattle.std.proofs.Common.{inr}
 use Rattle.ring_commands.proofs.recover.run.Goals as goal
 
-pub returns-in_err-keep_word_apart-clause-err : goal.returns-in_err-keep_word_apart-clause-err
-returns-in_err-keep_word_apart-clause-err g c =
-    let named = c.in_ok-bytes.ensures.ok in
-    let p = err_from_is_err_and c.from_residual-in_err-keep_word_apart.result c.from_residual-in_err-keep_word_apart.ensures.1 in
-    rw (p.1, p.2) (inr (_, named, inl c.in_err-keep_word_apart.ensures.err))
-
-pub returns-in_err-value-clause-err : goal.returns-in_err-value-clause-err
-returns-in_err-value-clause-err g c =
-    let named = subst (λ t. IsNamed c.args.words.now.file.now (g.D.Disk.holds c.args.disk.now) (g.I.Read.remaining c.args.input.now) (g.I.Read.remaining c.read_named.new.input) t)
-    (sym c.as_slice.ensures.value) c.in_ok-bytes.ensures.ok in
-    let p = err_from_is_err_and c.from_residual-in_err-value.result c.from_residual-in_err-value.ensures.1 in
-    rw (p.1, p.2) (inr (_, named, inr (inl c.in_err-value.ensures.err)))
-
 pub returns-in-Ok-clause-ok : goal.returns-in-Ok-clause-ok
-returns-in-Ok-clause-ok g c =
-    let named = subst (λ t. IsNamed c.args.words.now.file.now (g.D.Disk.holds c.args.disk.now) (g.I.Read.remaining c.args.input.now) (g.I.Read.remaining c.read_named.new.input) t)
-    (sym c.as_slice.ensures.value) c.in_ok-bytes.ensures.ok in
-    let v = content c.in_ok-value.value.0 in
-    let handed = subst (λ s. IsHanded c.args.words.now.new.now (text v) (legal_line s) (world (g.D.Disk.holds c.args.disk.now) None (g.W.Write.contents c.args.out.now) (g.E.Write.contents c.args.err.now))
-    (world (g.D.Disk.holds c.hand_over.new.disk) None (g.W.Write.contents c.hand_over.new.out) (g.E.Write.contents c.hand_over.new.err))) c.in_ok-value.ensures.sums c.in-Ok.ensures.ok in
-    (_, v, named, c.in_ok-keep_word_apart.ensures.ok, c.in_ok-value.ensures.ok, record { to_file = handed.to_file; to_output = handed.to_output })
-
-pub returns-clause-err : goal.returns-clause-err
-returns-clause-err g c =
-    let named = subst (λ t. IsNamed c.args.words.now.file.now (g.D.Disk.holds c.args.disk.now) (g.I.Read.remaining c.args.input.now) (g.I.Read.remaining c.read_named.new.input) t)
-    (sym c.as_slice.ensures.value) c.in_ok-bytes.ensures.ok in
-    let v = content c.in_ok-value.value.0 in
-    let refused = subst (λ s. IsHandRefusal c.args.words.now.new.now (text v) (legal_line s) (world (g.D.Disk.holds c.args.disk.now) None (g.W.Write.contents c.args.out.now) (g.E.Write.contents c.args.err.now))
-    (world (g.D.Disk.holds c.hand_over.new.disk) None (g.W.Write.contents c.hand_over.new.out) (g.E.Write.contents c.hand_over.new.err)) c.in-Err.fault) c.in_ok-value.ensures.sums c.in-Err.ensures.err in
-    inr (_, named, inr (inr (v, c.in_ok-value.ensures.ok, record { to_file = refused.to_file; to_output = refused.to_output })))
+returns-in-Ok-clause-ok g c = inr (c.in-Some.ensures.0, c.in-Ok.ensures.ok (g.I.Read.remaining c.args.input.now) (g.I.Read.remaining c.args.input.now))

@@ -9,7 +9,7 @@ use Rattle.ring_commands.specs.Served.{permits_of, IsNoted, IsServedNoted, IsUns
 use Rattle.ring_commands.proofs.serve.run_with_journal.Goals as goal
 
 -- the files were as they are while the journal was opened
-journaled : (permits : Permits) (r : Result (List Standing) ToolError) (name : List ℕ) (given from : Saved) (before mid after : Option Held) (was is old new : Option (List ℕ)) → mid ≡ before → IsNoted mid name given from →
+journaled : (permits : Permits) (r : Result (List Standing) ToolError) (name : List ℕ) (given : Option Saved) (from : Saved) (before mid after : Option Held) (was is old new : Option (List ℕ)) → mid ≡ before → IsNoted mid name given from →
     IfOk r (λ end. (start : List Standing) × AreResumed start from.rings.items × IsServedNoted permits name start end mid after was is old new) →
     IfOk r (λ end. (x : Saved) × IsNoted before name given x × (start : List Standing) × AreResumed start x.rings.items × IsServedNoted permits name start end before after was is old new)
 journaled permits (Err e) name given from before mid after was is old new same f h = tt
@@ -26,7 +26,7 @@ returns-clause-ok g c =
     journaled (permits_of c.args.words.now) c.run_with_locked_journal-end.result c.args.name.now c.args.saved c.in-Ok-value_to_resume.saved (g.D.Disk.holds c.args.disk.now) (g.D.Disk.holds c.open_journal.new.disk) (g.D.Disk.holds c.run_with_locked_journal-end.new.disk)
     (g.I.Read.remaining c.args.input.now) (g.I.Read.remaining c.run_with_locked_journal-end.new.input) (g.W.Write.contents c.args.out.now) (g.W.Write.contents c.run_with_locked_journal-end.new.out) c.open_journal.ensures.kept c.in-Ok-value_to_resume.ensures.ok c.run_with_locked_journal-end.ensures.ok
 
-refused : (permits : Permits) (r : Result (List Standing) ToolError) (name : List ℕ) (given from : Saved) (before mid : Option Held) (was is old new : Option (List ℕ)) → mid ≡ before → IsNoted mid name given from →
+refused : (permits : Permits) (r : Result (List Standing) ToolError) (name : List ℕ) (given : Option Saved) (from : Saved) (before mid : Option Held) (was is old new : Option (List ℕ)) → mid ≡ before → IsNoted mid name given from →
     IfErr r (λ e. (IsUnserved was is old new × IsUnkept name e) ⊎ IsUnfinished permits (Some name) from.rings.items was is old new e) →
     IfErr r (λ e. IsRefusedFrom permits before (Some name) given was is old new e)
 refused permits (Ok end) name given from before mid was is old new same f h = tt
@@ -39,4 +39,4 @@ returns-clause-err g c =
     (g.I.Read.remaining c.args.input.now) (g.I.Read.remaining c.run_with_locked_journal-end.new.input) (g.W.Write.contents c.args.out.now) (g.W.Write.contents c.run_with_locked_journal-end.new.out) c.open_journal.ensures.kept c.in-Ok-value_to_resume.ensures.ok c.run_with_locked_journal-end.ensures.err
 
 pub returns-in-Err-value_to_resume-clause-err : goal.returns-in-Err-value_to_resume-clause-err
-returns-in-Err-value_to_resume-clause-err g c = inl ((refl, refl), subst (λ (x : Option Held). IsJournalRefusal x c.args.name.now c.in-Err-value_to_resume.fault) c.open_journal.ensures.kept c.in-Err-value_to_resume.ensures.err)
+returns-in-Err-value_to_resume-clause-err g c = inl ((refl, refl), subst (λ (x : Option Held). IsJournalRefusal x c.args.name.now c.args.saved c.in-Err-value_to_resume.fault) c.open_journal.ensures.kept c.in-Err-value_to_resume.ensures.err)

@@ -1,6 +1,15 @@
-use Rattle.ring_serve.proofs.Legality.{content_legal}
-use Rattle.ring_serve.proofs.Journaling.{journals_are_right}
+use Rattle.std.proofs.Common.{ℕ, subst, sym}
+use Rattle.std.specs.List.{AllByRecursion, flat_map}
+use Rattle.ring_saved.specs.Versions.{latest_version}
+use Rattle.ring_journal.specs.Spelling.{JournalLineFits}
+use Rattle.ring_serve.specs.Recording.{calls_of}
+use Rattle.ring_serve.proofs.Legality.{content_legal, as_many}
+use Rattle.ring_serve.proofs.Journaling.{journals_right}
+use Rattle.ring_serve.proofs.RecordedFits.{turns_fit}
 use Rattle.ring_serve.proofs.laws.journals_are_right.Goals as goal
 
 pub returns : goal.returns
-returns c = journals_are_right content_legal
+returns c = λ faults old new lines records all fits t. journals_right content_legal faults old new lines records all t (record {
+  began = fits;
+  calls = subst (λ (n : ℕ). AllByRecursion (JournalLineFits latest_version n) (flat_map calls_of records)) (sym (as_many 0 old)) (turns_fit faults old lines records new all fits.rings_said t);
+})

@@ -1,20 +1,35 @@
 use Rattle.std.proofs.Common.{◌≡◌, Bool, [], ◌++◌, cond, refl, subst}
-use Rattle.std.specs.Prelude.{OnOk, is_some}
+use Rattle.std.specs.Prelude.{is_some}
 use Rattle.ring_serve.specs.Answers.{answer_line}
 use Rattle.ring_serve.specs.Notes.{notes_of}
+use Rattle.ring_serve.specs.Permits.{terms_by}
 use Rattle.ring_serve.specs.Turns.{recorded_among, turn_seen_among}
-use Rattle.ring_serve.proofs.Telling.{both_ok}
+use Rattle.ring_serve.proofs.Parting.{over_after}
 use Rattle.ring_serve.proofs.serving.answer.Goals as goal
 
-pub returns : goal.returns
-returns g c =
-    let t = c.answer_line-turn.result in
-    let new = c.answer_line-turn.new.served in
+pub returns-in-Ok-clause-over : goal.returns-in-Ok-clause-over
+returns-in-Ok-clause-over g c =
+    let t = c.turn_on-turn.result in
+    over_after (terms_by c.args.rules) c.args.served.now c.turn_on-turn.new.served c.args.line.now t.ring t.call c.is_over.result c.requires c.turn_on-turn.ensures.turn c.turn_on-turn.ensures.due c.is_over.ensures
+
+pub returns-in-Ok-clause-answered : goal.returns-in-Ok-clause-answered
+returns-in-Ok-clause-answered g c =
+    let t = c.turn_on-turn.result in
+    let new = c.turn_on-turn.new.served in
     let all = notes_of (recorded_among t.ring new t.call.trace) in
-    let notes = subst (λ (k : Bool). OnOk c.add_pending.result (c.add_pending.new.pending.notes.items ≡ c.args.pending.now.notes.items ++ cond k all [])) c.is_some.ensures c.add_pending.ensures.notes in (
+    let notes = subst (λ (k : Bool). c.add_pending.new.pending.notes.items ≡ c.args.pending.now.notes.items ++ cond k all []) c.is_some.ensures c.in-Ok.ensures.notes in (
       answer_line c.give-given.result,
       cond (is_some c.args.rules.journal) all [],
-      record { turn = turn_seen_among t.ring new t.call; given = c.give-given.result; of_line = c.answer_line-turn.ensures; gives = c.give-given.ensures; says = refl; notes = refl; leaves = refl },
-      both_ok c.add_pending.result (c.add_pending.new.pending.answers.items ≡ c.args.pending.now.answers.items ++ answer_line c.give-given.result) (c.add_pending.new.pending.notes.items ≡ c.args.pending.now.notes.items ++ cond (is_some c.args.rules.journal) all [])
-          c.add_pending.ensures.answers notes,
+      record { turn = turn_seen_among t.ring new t.call; given = c.give-given.result; goes = c.requires; of_line = c.turn_on-turn.ensures.turn; gives = c.give-given.ensures; says = refl; notes = refl; leaves = refl },
+      (c.in-Ok.ensures.answers, notes),
+    )
+
+pub returns-in-Err-clause-answered : goal.returns-in-Err-clause-answered
+returns-in-Err-clause-answered g c =
+    let t = c.turn_on-turn.result in
+    let new = c.turn_on-turn.new.served in (
+      answer_line c.give-given.result,
+      cond (is_some c.args.rules.journal) (notes_of (recorded_among t.ring new t.call.trace)) [],
+      record { turn = turn_seen_among t.ring new t.call; given = c.give-given.result; goes = c.requires; of_line = c.turn_on-turn.ensures.turn; gives = c.give-given.ensures; says = refl; notes = refl; leaves = refl },
+      tt,
     )

@@ -18,6 +18,6 @@ returns-in-Granted c = record {
   wrong = λ h.
       let t = c.answer_line-ring.result in
       let is = c.in-Granted.is in
-      another_answer c.args.faults c.args.served.now c.answer_line-ring.new.served c.args.line.now t.ring t.call (answer.Granted 1 c.in-Granted.result) c.answer_line-ring.ensures h
+      another_answer c.args.faults c.args.served.now c.answer_line-ring.new.served c.args.line.now t.ring t.call (answer.Granted 1 c.in-Granted.result) c.answer_line-ring.ensures.turn h
       (λ e. later_apart c.in-Granted.number c.in-Granted.result c.if-number-gt1.true (sym is ∙ e)) (λ e. granted_had c.in-Granted.number c.in-Granted.result (sym is ∙ e)) (granted_had 1 c.in-Granted.result);
 }

@@ -12,5 +12,5 @@ returns-in-NoMachine c =
     let same = c.in-Refused-Nothing.why-is in
     let a : t.call.answer ≡ answer.Refused refusal.NoMachine = cc in
     record {
-      wrong = λ h. no_trace c.args.faults c.args.served.now c.answer_line-ring.new.served c.args.line.now t.ring t.call c.args.seat c.args.survey c.answer_line-ring.ensures h c.in-Refused-Nothing.is-1 a;
+      wrong = λ h. no_trace c.args.faults c.args.served.now c.answer_line-ring.new.served c.args.line.now t.ring t.call c.args.seat c.args.survey c.answer_line-ring.ensures.turn h c.in-Refused-Nothing.is-1 a;
     }

@@ -18,6 +18,6 @@ returns-in-Waits c = record {
   wrong = λ h.
       let t = c.answer_line-ring.result in
       let is = c.in-Waits.is in
-      another_answer c.args.faults c.args.served.now c.answer_line-ring.new.served c.args.line.now t.ring t.call (answer.Granted c.args.number c.args.told) c.answer_line-ring.ensures h
+      another_answer c.args.faults c.args.served.now c.answer_line-ring.new.served c.args.line.now t.ring t.call (answer.Granted c.args.number c.args.told) c.answer_line-ring.ensures.turn h
       (λ e. waits_apart c.args.number c.args.told (sym is ∙ e)) (λ e. waits_had (sym is ∙ e)) (granted_had c.args.number c.args.told);
 }

@@ -1,0 +1,6 @@
+pub mod Digested
+pub mod Texts
+pub mod Segments
+pub mod Service
+pub mod Beginning
+pub mod Recovered

@@ -1,0 +1,68 @@
+-- Answered calls in the history that is recovered of the last segment (this project's own).
+use Rattle.std.specs.Prelude.{◌≡◌, ℕ, List, [], ◌∷◌, ◌++◌, Option}
+use Rattle.std.specs.List.{AllByRecursion}
+use Rattle.std.specs.Io.KnownBytes.{Appends, Consumes}
+use Rattle.text_lines.specs.Writing.{Wrote}
+use Rattle.ring_saved.specs.Spelling.{Fits}
+use Rattle.ring_journal.specs.Spelling.{head_text as journal_text}
+use Rattle.ring_journal.specs.Recovery.{IsRecovered}
+use Rattle.ring_serve.specs.Standings.{Standing}
+use Rattle.ring_serve.specs.Saved.{content_of}
+use Rattle.ring_serve.specs.Recovered.{IsPrefix, HaveGrown, AreCallsIn}
+use Rattle.chain_serve.specs.declared.segments.SegmentRules.{SegmentRules}
+use Rattle.chain_serve.specs.Segments.{Moment}
+use Rattle.chain_serve.specs.Service.{part_terms, Part, AreParts, all_lines, all_said}
+
+-- the notes of all parts
+abbrev pub all_noted : List Part → List ℕ
+all_noted [] = []
+all_noted (p ∷ ps) = p.noted ++ all_noted ps
+
+-- the parts are in the segment of this number
+abbrev pub AreIn : ℕ → List Part → Type 0
+AreIn number parts = AllByRecursion (λ p. p.from.number ≡ number) parts
+
+-- The lines of a part were answered, and the call of each is in these rings with that answer.
+abbrev pub HasCallsIn : SegmentRules → List Standing → Part → Type 0
+HasCallsIn s rings p =
+    AreCallsIn (part_terms s p.refusing) p.from.rings p.from.files p.lines p.said rings
+
+-- Of these bytes rings are recovered that have the call of each line of these parts, with the
+-- answer that was told. From there the rings have only grown.
+pub record AreRecovered (s : SegmentRules) (parts : List Part) (bytes : List ℕ)
+    (new : List Standing) : Type 0 where
+  pub rings : List Standing
+  pub recovered : IsRecovered bytes (content_of rings)
+  pub calls : AllByRecursion (HasCallsIn s rings) parts
+  pub grown : HaveGrown rings new
+
+-- The file of the last segment has, behind its head, the rings with which its first part began, and
+-- the notes of its parts, and then perhaps more. Of whatever is kept of that, if it has the notes
+-- of these parts, rings are recovered that have the call of each of their lines.
+abbrev pub KeepsLast : SegmentRules → List Part → List ℕ → List Standing → Type 0
+KeepsLast s parts more new =
+    (earlier : List Part) (first : Part) (others : List Part) (kept lost : List ℕ)
+    → parts ≡ earlier ++ first ∷ others → AreIn first.from.number others
+    → Fits (content_of first.from.rings)
+    → kept ++ lost
+    ≡ journal_text (content_of first.from.rings) ++ (all_noted (first ∷ others) ++ more)
+    → IsPrefix (journal_text (content_of first.from.rings) ++ all_noted (first ∷ others)) kept
+    → AreRecovered s (first ∷ others) kept new
+
+-- Wherever serving ended: these parts were told, the output has a prefix of their answers and
+-- nothing else, and the file of the last segment got their notes, and then perhaps more: it keeps
+-- the answers to its lines.
+pub record AnsweredCallsAreRecovered (s : SegmentRules) (a : Moment) (new : List Standing)
+    (input rest out after journal : Option (List ℕ)) : Type 0 where
+  pub parts : List Part
+  pub mid : Moment
+  pub bytes : List ℕ
+  pub behind : List ℕ
+  pub left : List ℕ
+  pub more : List ℕ
+  pub told : AreParts s a parts mid
+  pub read : Consumes input rest bytes
+  pub split : bytes ≡ all_lines parts ++ behind
+  pub wrote : Wrote out after (all_said parts) left
+  pub wrote_notes : Appends mid.journal journal more
+  pub recovered : KeepsLast s parts more new

@@ -1,0 +1,91 @@
+-- How a segment ends and the next begins, in files (this project's own).
+use Rattle.std.specs.Prelude.{◌≡◌, ℕ, ◌+◌, true, false, List, Option, None, Some, IfSome, ◌⊎◌, string_bytes}
+use Rattle.disks.specs.Held.{Held, Replaces}
+use Rattle.segment_folder.specs.Names.{segment_file}
+use Rattle.ring_segments.specs.Spelling.{digest_of}
+use Rattle.ring_serve.specs.declared.answers.Refusal.{Refusal}
+use Rattle.ring_serve.specs.declared.answers.Refusal.TheVariants as refusal
+use Rattle.ring_serve.specs.Standings.{Standing}
+use Rattle.ring_serve.specs.Segments.{AreNext}
+use Rattle.ring_serve.specs.Due.{is_due}
+use Rattle.chain_serve.specs.Texts.{segment_text}
+use Rattle.sha2.specs.Hashers.{Holds256}
+use Rattle.chain_serve.specs.declared.segments.SegmentRules.{SegmentRules}
+use Rattle.chain_serve.specs.declared.segments.OpenSegment.{OpenSegment}
+use Rattle.chain_serve.specs.declared.ending.NextSegment.{NextSegment}
+
+-- a moment between two lines: the rings, the content of files, and the segment that is being
+-- written, with its number and what its writer holds
+pub record Moment : Type 0 where
+  pub rings : List Standing
+  pub files : Option Held
+  pub number : ℕ
+  pub journal : Option (List ℕ)
+
+-- the file of the segment of this number
+abbrev pub file_of : SegmentRules → ℕ → List ℕ
+file_of s number = segment_file s.folder.now number
+
+abbrev pub moment_of : List Standing → Option Held → ℕ → Option (List ℕ) → Moment
+moment_of rings files number journal = record {
+  rings = rings;
+  files = files;
+  number = number;
+  journal = journal;
+}
+
+-- The segment has ended, and the next one begun: the whole file before was settled; then the file
+-- of the next one was put there, with the digest of the file before and the rings as they begin.
+pub record HasEnded (s : SegmentRules) (a b : Moment) : Type 0 where
+  pub behind : List ℕ
+  pub between : Option Held
+  pub rings : AreNext a.rings b.rings
+  pub number : b.number ≡ a.number + 1
+  pub digest : IfSome a.journal (λ bytes. behind ≡ digest_of bytes)
+  pub settled : Replaces a.files between (file_of s a.number) a.journal
+  pub begun : Replaces between b.files (file_of s b.number)
+      (Some (segment_text b.number behind b.rings))
+  pub journal : IfSome between (λ _. b.journal ≡ Some (segment_text b.number behind b.rings))
+
+-- It could not be ended, and goes on: the rings are as they were, and its file holds what it held,
+-- settled or not.
+pub record IsKept (s : SegmentRules) (a b : Moment) : Type 0 where
+  pub rings : b.rings ≡ a.rings
+  pub number : b.number ≡ a.number
+  pub file : ((b.files ≡ a.files) × (b.journal ≡ a.journal))
+      ⊎ (Replaces a.files b.files (file_of s a.number) a.journal
+      × IfSome a.files (λ _. IfSome a.journal (λ bytes. b.journal ≡ Some bytes)))
+
+-- the reasons: a file could not be made or written, there is no memory, or no segment has room
+-- after this one
+abbrev pub IsCause : Refusal → Type 0
+IsCause refusal.File = Unit {0}
+IsCause refusal.OutOfMemory = Unit {0}
+IsCause refusal.HistoryFull = Unit {0}
+IsCause _ = ⊥
+
+-- Before lines are answered: a segment that is due has ended, or it goes on and every line is
+-- refused for that reason. One that is not due stays.
+abbrev pub IsReady : SegmentRules → Option Refusal → Moment → Moment → Type 0
+IsReady s None a b =
+    ((is_due (Some s.limit) a.rings ≡ false) × (b ≡ a))
+    ⊎ ((is_due (Some s.limit) a.rings ≡ true) × HasEnded s a b)
+IsReady s (Some why) a b = (is_due (Some s.limit) a.rings ≡ true) × IsCause why × IsKept s a b
+
+-- ---- what is made before the file is closed
+
+-- the rings with their next segments, the number and the name of the next segment's file, and the
+-- text with which that begins
+pub record IsPrepared (rings : List Standing) (number : ℕ) (journal : Option (List ℕ))
+    (folder : List ℕ) (next : NextSegment) : Type 0 where
+  pub behind : List ℕ
+  pub next_rings : AreNext rings next.served
+  pub next_number : next.number ≡ number + 1
+  pub name : string_bytes next.name ≡ segment_file folder next.number
+  pub digest : IfSome journal (λ bytes. behind ≡ digest_of bytes)
+  pub text : next.text.items ≡ segment_text next.number behind next.served
+  pub hashes : Holds256 next.hasher next.text.items
+
+-- the name is that of the segment's file
+abbrev pub IsNamed : {W : Type 0} → List ℕ → OpenSegment W → Type 0
+IsNamed folder segment = string_bytes segment.name ≡ segment_file folder segment.number

@@ -1,0 +1,14 @@
+-- The text with which the file of a segment begins (this project's own).
+use Rattle.std.specs.Prelude.{ℕ, List, ◌++◌}
+use Rattle.ring_journal.specs.Spelling.{head_text as journal_text}
+use Rattle.ring_segments.specs.Spelling.{head_text}
+use Rattle.ring_serve.specs.Standings.{Standing}
+use Rattle.ring_serve.specs.Segments.{bases_of}
+use Rattle.ring_serve.specs.Saved.{content_of}
+
+-- the head, with the number of the segment, the digest of the file before and the bases of the
+-- rings; and the beginning of a journal of the rings
+abbrev pub segment_text : ℕ → List ℕ → List Standing → List ℕ
+segment_text number behind rings =
+    head_text (record { number = number; behind = behind; bases = bases_of rings })
+    ++ journal_text (content_of rings)

@@ -1,0 +1,45 @@
+use Rattle.std.proofs.Common.{List, ℕ, inl, inr, refl, sym, subst}
+use Rattle.segment_folder.specs.Names.{segment_file}
+use Rattle.ring_commands.specs.Named.{IsHeld}
+use Rattle.ring_commands.specs.SegmentRecovered.{file_as}
+use Rattle.ring_commands.proofs.last_segment.recover_folder.Goals as goal
+
+pub returns-in-Err-keep_segment_apart-clause-err : goal.returns-in-Err-keep_segment_apart-clause-err
+returns-in-Err-keep_segment_apart-clause-err g c early late =
+    (c.args.entries.now, c.requires, inr (c.in-Ok.numbers, c.in-Ok.ensures.ok, inr (c.in-Ok-segment_bytes.bytes.items, c.in-Ok-segment_bytes.ensures.ok, inl c.in-Err-keep_segment_apart.ensures.err)))
+
+pub returns-in-Err-recovered_segment-clause-err : goal.returns-in-Err-recovered_segment-clause-err
+returns-in-Err-recovered_segment-clause-err g c early late =
+    let held = subst (λ (t : List ℕ). IsHeld (g.D.Disk.holds c.args.disk.now) (segment_file c.args.words.now.file.now c.in-Ok.numbers.last) t) (sym c.as_slice.ensures.value) c.in-Ok-segment_bytes.ensures.ok in
+    (c.args.entries.now, c.requires, inr (c.in-Ok.numbers, c.in-Ok.ensures.ok, inr (c.as_slice.result.now, held, inr (inl c.in-Err-recovered_segment.ensures.err))))
+
+pub returns-in-Ok-hand_out_segment-clause-ok : goal.returns-in-Ok-hand_out_segment-clause-ok
+returns-in-Ok-hand_out_segment-clause-ok g c early late =
+    let held = subst (λ (t : List ℕ). IsHeld (g.D.Disk.holds c.args.disk.now) (segment_file c.args.words.now.file.now c.in-Ok.numbers.last) t) (sym c.as_slice.ensures.value) c.in-Ok-segment_bytes.ensures.ok in (
+      c.args.entries.now,
+      c.in-Ok.numbers,
+      file_as c.as_slice.result.now c.in-Ok-recovered_segment.recovered,
+      c.requires,
+      c.in-Ok.ensures.ok,
+      held,
+      c.in-Ok-keep_segment_apart.ensures.ok,
+      c.in-Ok-recovered_segment.ensures.file,
+      c.in-Ok-hand_out_segment.ensures.ok c.as_slice.result.now early late,
+    )
+
+pub returns-clause-err : goal.returns-clause-err
+returns-clause-err g c early late =
+    let held = subst (λ (t : List ℕ). IsHeld (g.D.Disk.holds c.args.disk.now) (segment_file c.args.words.now.file.now c.in-Ok.numbers.last) t) (sym c.as_slice.ensures.value) c.in-Ok-segment_bytes.ensures.ok in (
+      c.args.entries.now,
+      c.requires,
+      inr (
+        c.in-Ok.numbers,
+        c.in-Ok.ensures.ok,
+        inr (
+          c.as_slice.result.now,
+          held,
+          inr
+              (inr (file_as c.as_slice.result.now c.in-Ok-recovered_segment.recovered, refl, c.in-Ok-recovered_segment.ensures.file, c.in-Err-hand_out_segment.ensures.err c.as_slice.result.now early late)),
+        ),
+      ),
+    )

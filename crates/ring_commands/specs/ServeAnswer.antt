@@ -1,0 +1,67 @@
+-- The answer of `serve`: without a journal, with a journal in a file, or in a folder of segments.
+use Rattle.std.specs.Prelude.{◌≡◌, ℕ, ◌⊎◌, ◌≤◌, ◌^◌, List, length, Option, Some}
+use Rattle.std.specs.Io.KnownBytes.{Appends}
+use Rattle.disks.specs.Held.{Held}
+use Rattle.ring_saved.specs.declared.saved.Saved.{Saved}
+use Rattle.ring_text.specs.Report.{total_line}
+use Rattle.ring_serve.specs.Standings.{Standing}
+use Rattle.ring_serve.specs.Totals.{totals_of, AreTooLarge}
+use Rattle.ring_commands.specs.Served.{history_of, journal_of, permits_of, IsGivenHistory, IsServedFrom, IsUnserved, IsGivenRefusal, IsRefusedFrom}
+use Rattle.ring_commands.specs.ServedFolder.{IsServedIn, IsRefusedIn}
+use Rattle.ring_commands.specs.Worlds.{World}
+use Rattle.ring_commands.specs.Written.{AppendsFront}
+use Rattle.ring_requests.specs.declared.requests.ServeWords.{ServeWords}
+use Rattle.ring_commands.specs.declared.faults.ToolError.{ToolError}
+use Rattle.ring_commands.specs.declared.faults.ToolError.TheVariants as tool
+
+-- all lines were served: without a journal or with one in a file, or in the segments of a folder
+abbrev pub IsServedTo : ServeWords → Option Saved → List Standing → Option Held → Option Held
+    → Option (List ℕ) → Option (List ℕ) → Option (List ℕ) → Option (List ℕ) → Type 0
+IsServedTo words saved end before after was is old new =
+    IsServedFrom words saved end before after was is old new
+    ⊎ ((folder : List ℕ)
+    × (journal_of words ≡ Some folder)
+    × IsServedIn words folder saved end before after was is old new)
+
+-- The history was read, if one is given, the rings began there or where their journal ended, all
+-- lines of standard input were served, and the sums over the rings are reported on standard error.
+pub record IsServeAnswer (words : ServeWords) (was is : World) : Type 0 where
+  pub saved : Option Saved
+  pub history : IsGivenHistory was.files (history_of words) saved
+  pub end : List Standing
+  pub served : IsServedTo words saved end was.files is.files was.input is.input was.out is.out
+  pub told : Appends was.err is.err (total_line (length end) (totals_of end))
+
+-- ---- refusals
+
+-- the lines were not served, or not to their end
+abbrev pub IsRefusedTo : ServeWords → Option Held → Option Saved → Option (List ℕ)
+    → Option (List ℕ) → Option (List ℕ) → Option (List ℕ) → ToolError → Type 0
+IsRefusedTo words files saved was is old new e =
+    IsRefusedFrom (permits_of words) files (journal_of words) saved was is old new e
+    ⊎ ((folder : List ℕ)
+    × (journal_of words ≡ Some folder)
+    × IsRefusedIn words folder saved files was is old new e)
+
+-- All lines were served, and what adds up over the rings is not told: there are 2^32 rings or more,
+-- or one of the sums has more than 64 bits, and nothing is told; or standard error failed, and got
+-- a prefix of the line.
+abbrev pub IsUntold : List Standing → Option (List ℕ) → Option (List ℕ) → ToolError → Type 0
+IsUntold end early late tool.TotalsTooLarge =
+    (late ≡ early) × ((2 ^ 32 ≤ length end) ⊎ AreTooLarge (totals_of end))
+IsUntold end early late tool.Write =
+    AppendsFront early late (total_line (length end) (totals_of end))
+IsUntold end early late _ = ⊥
+
+-- Which refusals `serve` may meet: those of the history, before a line is read, those that come
+-- with it, and those that come when all lines have been served.
+abbrev pub IsServeRefusal : ServeWords → World → World → ToolError → Type 0
+IsServeRefusal words was is e =
+    (IsUnserved was.input is.input was.out is.out
+    × IsGivenRefusal was.files (history_of words) e)
+    ⊎ ((saved : Option Saved)
+    × IsGivenHistory was.files (history_of words) saved
+    × (IsRefusedTo words was.files saved was.input is.input was.out is.out e
+    ⊎ ((end : List Standing)
+    × IsServedTo words saved end was.files is.files was.input is.input was.out is.out
+    × IsUntold end was.err is.err e)))

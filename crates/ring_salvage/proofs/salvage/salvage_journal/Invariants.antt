@@ -1,0 +1,11 @@
+use Rattle.ring_salvage.specs.Salvaging.{AreLeftOut, IsFirstRefusal}
+use Rattle.ring_salvage.proofs.salvage.salvage_journal.Given as goal
+
+abbrev pub invariant-cuts : goal.invariant-cuts
+invariant-cuts l = record {
+  left_out : AreLeftOut l.bytes l.kept l.line;
+  first : IsFirstRefusal l.bytes l.kept l.first;
+}
+
+abbrev pub decreases-cuts : goal.decreases-cuts
+decreases-cuts l = l.kept

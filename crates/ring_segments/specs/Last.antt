@@ -1,0 +1,18 @@
+-- The file that a chain ends with, as it is opened to go on from (this project's own).
+use Rattle.std.specs.Prelude.{ℕ, true, List, None, Result, Ok, Err}
+use Rattle.ring_saved.specs.Content.{content}
+use Rattle.ring_segments.specs.declared.last.LastSegment.{LastSegment}
+use Rattle.ring_segments.specs.declared.errors.SegmentError.{SegmentError}
+use Rattle.ring_segments.specs.Spelling.{head_of}
+use Rattle.ring_segments.specs.Files.{File, opening_link, Follows}
+use Rattle.ring_segments.specs.Chain.{IsRightRefusal}
+
+-- the file with these bytes, as it was read
+abbrev pub last_file : List ℕ → LastSegment → File
+last_file bytes s = record { bytes = bytes; head = head_of s.head; content = content s.saved }
+
+-- The right answer: a file with which a chain may begin and end, what it says of those before it
+-- taken on trust; or the right refusal of it.
+abbrev pub IsRightLast : List ℕ → Result LastSegment SegmentError → Type 0
+IsRightLast bytes (Ok s) = Follows (opening_link (last_file bytes s)) (last_file bytes s)
+IsRightLast bytes (Err e) = IsRightRefusal None bytes true e

@@ -1,0 +1,4 @@
+pub mod Naming
+pub mod Parts
+pub mod Ranges
+pub mod Entries

@@ -1,0 +1,10 @@
+//! The segments of a folder: the names of their files, and which of them are there.
+#![tactic(auto)]
+
+mod errors;
+mod names;
+mod numbers;
+
+pub use errors::{EntryName, FolderError};
+pub use names::segment_file;
+pub use numbers::{SegmentNumbers, numbers_among, numbers_in};

@@ -1,0 +1,65 @@
+//! Wrong answers for a folder of segments: each accepts one that is refused, or leaves a file out.
+
+ghost use Rattle.std.specs.Prelude.{◌≡◌, ◌≤◌, ◌+◌, List, IfSome, IfOk};
+ghost use Rattle.ring_segments.specs.Spelling.{no_digest};
+ghost use Rattle.ring_segments.specs.Files.{File};
+ghost use Rattle.segment_folder.specs.Numbers.{IsRightNumbers};
+ghost use Rattle.ring_commands.specs.Chained.{IsChainIn, sums_of, last_digest};
+
+use disks::{Disk, FolderEntry};
+use ring_commands::chain::chain_in;
+use ring_commands::faults::ToolError;
+use ring_segments::{ChainSums, DIGEST_DIGITS};
+use segment_folder::{FolderError, SegmentNumbers, numbers_among};
+use std::alloc::Global;
+
+/// Between two segments none is missing: here a gap is accepted, whichever the first and the last are said to be.
+pub fn accepts_a_gap(
+    alloc: Global,
+    entries: &[FolderEntry],
+    numbers: SegmentNumbers,
+) -> Option<Result<Option<SegmentNumbers>, FolderError>>
+    ensures wrong { IfSome result (λ answer. IsRightNumbers entries.now answer → ⊥) }
+{
+    match numbers_among(alloc, entries) {
+        Err(FolderError::Missing(_)) => Some(Ok(Some(numbers))),
+        _ => None,
+    }
+}
+
+/// Each name has its place in a folder of segments: here a foreign one is accepted.
+pub fn accepts_a_foreign_name(
+    alloc: Global,
+    entries: &[FolderEntry],
+    numbers: Option<SegmentNumbers>,
+) -> Option<Result<Option<SegmentNumbers>, FolderError>>
+    ensures wrong { IfSome result (λ answer. IsRightNumbers entries.now answer → ⊥) }
+{
+    match numbers_among(alloc, entries) {
+        Err(FolderError::Foreign(_)) => Some(Ok(numbers)),
+        _ => None,
+    }
+}
+
+/// The sums are those of all segments of the folder: here the first one is left out.
+pub fn skips_the_first_file<'a, D: Disk>(
+    alloc: Global,
+    disk: &D,
+    folder: &'a str,
+    numbers: SegmentNumbers,
+) -> Result<(ChainSums, [u8; DIGEST_DIGITS]), ToolError<'a>>
+    requires some { numbers.first + 1 ≤ numbers.last }
+    ensures wrong { IfOk result (λ x. (fs : List File)
+        × IsChainIn (D.holds disk.now) folder.now numbers fs
+        × (x.0 ≡ sums_of fs)
+        × (x.1 ≡ last_digest no_digest fs) → ⊥) }
+{
+    let later = SegmentNumbers {
+        first: numbers.first + 1,
+        last: numbers.last,
+    };
+    match chain_in(alloc, disk, folder, later) {
+        Ok(found) => Ok(found),
+        Err(fault) => Err(fault),
+    }
+}
