@@ -2,7 +2,8 @@
 
 Of each page (README, CHANGELOG, docs/, each crate's README):
 
-- a link leads to a file, and to a heading of it; the page of a crate tells each function that the crate hands out;
+- a link leads to a file, and to a heading of it; the page of a crate tells each function that the crate hands out, and
+  docs/LIMITS.md the number of each constant that is a limit;
 - a name in backticks stands in the sources, a path is a file: NAME in capitals stands for any; in a table of promises a
   clause is one of the functions that its row names;
 - a block of commands (rt, ring_tool, bench/..) is run as far as it is the program's, in a copy of the tree's data, and the
@@ -11,7 +12,9 @@ Of each page (README, CHANGELOG, docs/, each crate's README):
 - `<!-- run: COMMAND -->` before a block says what prints it, `<!-- file: PATH -->` where its lines stand, in order;
 - a block that begins with `ringfarm 1` or `ringfarm 2` is a legal history, one that begins with `legal rings` what `check`
   says of the last one; one of settings is run;
-- `<!-- order: DEFINITION -->` before a table says that it is the one of reading_order.py;
+- `<!-- order: DEFINITIONS -->` before a table says that it is the one of reading_order.py;
+- a block that begins with `ringjournal 1` is recovered; `<!-- journal: N -->` before a table says that each of its rows adds
+  lines to the first N of that block, and what `recover` says then;
 - a table headed Words, Text, Status is run row by row, one headed "`check` says" with the last history and a changed line.
 """
 
@@ -32,7 +35,7 @@ PLACEHOLDER = re.compile(r"\b[A-Z][A-Z_]+\b|[][|]|\.\.\.|\b[A-Z]\b")
 IDENTIFIER = re.compile(r"[A-Za-z_][A-Za-z0-9_]*(?:(?:::|\.)(?:[A-Za-z_][A-Za-z0-9_]*|\*))*(?:\(\))?!?$")
 FILE_ENDS = (".rt", ".antt", ".md", ".sh", ".py", ".c", ".rs", ".json", ".txt", ".svg", ".png", ".edit")
 COMMIT = re.compile(r"[0-9a-f]{7,40}$")
-KIT = os.path.dirname(os.path.dirname(os.path.realpath(shutil.which("rt") or sys.exit("there is no rt"))))
+KIT = reading_order.KIT
 
 # what is made and not kept, or lies elsewhere; names of tools that no script here calls
 OTHERS = ("perf",)
@@ -66,7 +69,8 @@ class Page:
         self.folder = os.path.dirname(f"{top}/{path}")
         with open(f"{top}/{path}", encoding="utf-8") as file:
             self.lines = file.read().split("\n")
-        self.blocks, self.tables, self.prose, self.headings, self.orders = [], [], [], [], []
+        self.blocks, self.tables, self.prose, self.headings = [], [], [], []
+        self.orders, self.journals = [], []
         self.read()
 
     def read(self):
@@ -91,9 +95,10 @@ class Page:
                 block.lines.append("")
             else:
                 block = None
-                found = re.match(r"<!-- ((?:run|file|order): .*) -->$", line)
-                if mark and mark.startswith("order: ") and line.startswith("|"):
-                    self.orders.append((number, mark[len("order: "):]))
+                found = re.match(r"<!-- ((?:run|file|order|journal): .*) -->$", line)
+                if mark and line.startswith("|"):
+                    kind, _, word = mark.partition(": ")
+                    {"order": self.orders, "journal": self.journals}.get(kind, []).append((number, word))
                 mark = found[1] if found else mark if not line.strip() else None
                 if line.startswith("#"):
                     section = line
@@ -135,7 +140,7 @@ class Sources:
         if "/" not in path and any(it.endswith(f"/{path}") for it in self.files):
             return True
         below = ("", "/crates", "/crates/*", "/crates/*/src", "/bench", "/docs", "/examples")
-        roots = (page.folder, KIT, *(f"{self.top}{it}" for it in below))
+        roots = (page.folder, KIT, f"{KIT}/rattle", *(f"{self.top}{it}" for it in below))
         return any(glob.glob(f"{root}/{it}", recursive=True) for root in roots for it in (path.rstrip("/"), pattern))
 
     def read_clauses(self):
@@ -209,11 +214,15 @@ class Trial:
             self.look_crates_up(page)
         if page.path == "docs/TESTING.md":
             self.look_scripts_up(page)
+        if page.path == "docs/LIMITS.md":
+            self.look_limits_up(page)
         self.play_blocks(page)
         for table in page.tables:
             self.play_table(page, table)
         for number, word in page.orders:
             self.compare_order(page, number, word)
+        for number, word in page.journals:
+            self.play_journal(page, number, int(word))
 
     def follow_links(self, page):
         for number, line in page.prose:
@@ -265,6 +274,17 @@ class Trial:
             name = f"bench/{os.path.basename(path)}"
             if name != "bench/common.sh" and not any(f"`{name}" in line for line in page.lines):
                 self.differs(page, 1, f"the script `{name}` is not told")
+
+    def look_limits_up(self, page):
+        """Each constant of the sources that is a limit has its number on the page."""
+        for path in self.sources.files:
+            if re.match(r"crates/(?!wrong_|ticket_|\w+_tests).*\.rt$", path):
+                with open(f"{self.top}/{path}", encoding="utf-8") as file:
+                    found = re.findall(r"const (\w*LIMIT|MOST_\w+|DRAWN|PART_NAMES): \w+ = ([0-9_]+);", file.read())
+                for name, value in found:
+                    self.counts["names"] += 1
+                    if not re.search(rf"(?<![\d,]){int(value):,}(?![\d,]*\d)", "\n".join(page.lines)):
+                        self.differs(page, 1, f"the limit `{name}`, {int(value):,}, is not told")
 
     def look_crates_up(self, page):
         with open(f"{self.top}/crates.txt", encoding="utf-8") as file:
@@ -339,6 +359,11 @@ class Trial:
             _, status, fault = self.run("ring_tool check -", self.place, text)
             if status:
                 self.differs(page, block.number, f"the history is not legal: {fault}")
+        elif text.startswith("ringjournal 1\n"):
+            self.counts["commands"] += 1
+            _, status, fault = self.run("ring_tool recover - -", self.place, text)
+            if status:
+                self.differs(page, block.number, f"the journal is refused: {fault}")
         elif block.kind == "json" and '"rings"' in text:
             self.counts["commands"] += 1
             _, status, fault = self.run("ring_tool run -", self.place, text)
@@ -399,10 +424,23 @@ class Trial:
     def compare_order(self, page, number, word):
         """A table of reading_order.py: which files, how many definitions and lines."""
         self.counts["outputs"] += 1
-        wanted = reading_order.table(self.top, word)
+        wanted = reading_order.table(self.top, *word.split())
         there = page.lines[number - 1:number - 1 + len(wanted)]
         if [cells(it)[:3] for it in there] != [cells(it)[:3] for it in wanted]:
             self.differs(page, number, "the reading order is\n" + "\n".join(wanted))
+
+    def play_journal(self, page, number, count):
+        """The rows of a table: lines that are added to the first lines of the journal before it, and what `recover` says."""
+        journal = [it for it in page.blocks if it.number < number and it.text().startswith("ringjournal 1\n")][-1]
+        for place in range(number + 1, len(page.lines)):
+            if not page.lines[place].startswith("|"):
+                return
+            self.counts["rows"] += 1
+            row = cells(page.lines[place])
+            text = "\n".join(journal.lines[:count] + re.findall(r"`([^`]+)`", row[0])) + "\n"
+            said, _, fault = self.run("ring_tool recover - recovered.txt", self.tree, text)
+            if (said or fault).strip() != row[1].strip("`"):
+                self.differs(page, place + 1, f"recover says {(said or fault).strip()}")
 
     def play_table(self, page, table):
         if is_of_words(table):

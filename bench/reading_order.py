@@ -1,13 +1,18 @@
-"""Prints which definitions a reader has to believe who reads one of them: file by file, lowest first, as a table. Words: the
-definition, as crate.File.Name, and the top of the tree. For docs/THEORY.md and bench/documents.py.
+"""Prints which definitions a reader has to believe who reads some of them: file by file, lowest first, as a table. Words: the
+definitions, each as crate.File.Name, and the top of the tree. For docs/THEORY.md and bench/documents.py.
 
-A definition stands on each that its text names, in its own file or by an import from another crate's specs/; what std and the
-types of the sources (`declared`) say is not counted. A line counts if it is a definition's, without its comment. In a section,
-`module _ {..} (..) where`, each definition stands on what the section's head names, which is no line of its own."""
+A definition stands on each that its text names, in its own file or by an import from another crate's specs/, also of a crate of
+the toolchain; what std and the types of the sources (`declared`) say is not counted, and any other file that is not found is a
+fault. A line counts if it is a definition's, without its comment. In a section, `module _ {..} (..) where`, each definition
+stands on what the section's head names, which is no line of its own."""
 
 import os
 import re
+import shutil
 import sys
+
+# The toolchain's folder.
+KIT = os.path.dirname(os.path.dirname(os.path.realpath(shutil.which("rt") or sys.exit("there is no rt"))))
 
 HEAD = re.compile(r"^(?:(?:abbrev|unfoldable|opaque) )*pub (?:(?:record|data) )?([^\s:(]+)")
 SECTION = re.compile(r"^module _ (.*) where$")
@@ -52,13 +57,22 @@ class File:
                 yield self.imports[word]
 
 
-def files_below(top, crate, module, name):
+def path_of(top, crate, module):
+    """The file of a module, of this repository or of the toolchain; none if it is not counted."""
+    if crate == "std" or module.split(".")[0] == "declared":
+        return None
+    name = f"{crate}/specs/{module.replace('.', '/')}.antt"
+    found = [it for it in (f"{top}/crates/{name}", f"{KIT}/rattle/{name}") if os.path.exists(it)]
+    return found[0] if found else sys.exit(f"there is no file of {crate}.{module}")
+
+
+def files_below(top, words):
     """Of each file the definitions that are needed; files by (crate, module)."""
-    files, needed, queue = {}, {}, [(crate, module, name)]
+    files, needed, queue = {}, {}, [tuple(it.split(".")) for it in words]
     while queue:
         crate, module, name = queue.pop()
-        path = f"{top}/crates/{crate}/specs/{module}.antt"
-        if not os.path.exists(path):
+        path = path_of(top, crate, module)
+        if not path:
             continue
         file = files.setdefault((crate, module), None) or File(path)
         files[crate, module] = file
@@ -67,11 +81,14 @@ def files_below(top, crate, module, name):
             continue
         names.add(name)
         queue += [(other or crate, where or module, it) for other, where, it in file.below(name)]
+    for crate, module, name in (it.split(".") for it in words):
+        if name not in needed.get((crate, module), ()):
+            sys.exit(f"there is no {crate}.{module}.{name}")
     return files, {place: names for place, names in needed.items() if names}
 
 
 def in_order(top, files, needed):
-    """The files, each behind those that it imports from; crates in the order of crates.txt."""
+    """The files, each behind those that it imports from: the toolchain's crates, then those of crates.txt in its order."""
     with open(f"{top}/crates.txt", encoding="utf-8") as file:
         crates = re.findall(r"^(\w+)", file.read(), re.M)
     ordered = []
@@ -83,14 +100,16 @@ def in_order(top, files, needed):
                     visit(other)
             ordered.append(place)
 
-    for place in sorted(needed, key=lambda it: (crates.index(it[0]), it[1])):
+    def rank(place):
+        return crates.index(place[0]) if place[0] in crates else -1
+
+    for place in sorted(needed, key=lambda it: (rank(it), it)):
         visit(place)
     return ordered
 
 
-def table(top, word):
-    crate, module, name = word.split(".")
-    files, needed = files_below(top, crate, module, name)
+def table(top, *words):
+    files, needed = files_below(top, words)
     rows, sums = ["| File | Definitions | Lines | Says |", "|---|---|---|---|"], [0, 0]
     for place in in_order(top, files, needed):
         lines = sum(len(files[place].lines_of[it]) for it in needed[place])
@@ -102,4 +121,4 @@ def table(top, word):
 
 
 if __name__ == "__main__":
-    print("\n".join(table(sys.argv[2], sys.argv[1])))
+    print("\n".join(table(sys.argv[-1], *sys.argv[1:-1])))

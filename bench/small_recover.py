@@ -82,20 +82,28 @@ def surveys_of(surveys, calls, ring):
     return [said for _, said in sorted(zip(seats, mine), key=lambda it: it[0])]
 
 
+def judged(began, calls):
+    """The history of a saved text and the calls behind it, and what the checker says of it."""
+    text = told(began, calls)
+    return (text, *check(text.encode("latin-1")))
+
+
 def answer(data):
-    """What is to be printed of these bytes."""
+    """What is to be printed of these bytes: the whole is judged, and only if it is not legal the lines one after the other."""
     try:
         began, lines = split(data.decode("latin-1"))
         rings = sum(line.startswith("ring ") for line in began)
         calls = [call_of(line, began[0], rings) for line in lines]
         if None in calls:
             raise NotLegal(f"line {len(began) + 2 + calls.index(None)}: syntax")
-        for count in range(len(calls) + 1):
-            text = told(began, calls[:count])
-            said, is_legal = check(text.encode("latin-1"))
+        said, is_legal = judged(began, [])[1:]
+        if not is_legal:
+            raise NotLegal(later(said))
+        text, said, is_legal = judged(began, calls)
+        for count in range(1, len(calls) + 1) if not is_legal else ():
+            said, is_legal = judged(began, calls[:count])[1:]
             if not is_legal:
-                kind = said.split(" ")[2]
-                raise NotLegal(f"line {len(began) + 1 + count}: {kind}" if count > 0 else later(said))
+                raise NotLegal(f"line {len(began) + 1 + count}: {said.split(' ')[2]}")
         return text + said + "\n"
     except NotLegal as refusal:
         return f"{refusal}\n"
