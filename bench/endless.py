@@ -109,6 +109,12 @@ class Segment:
         return sum(base[0] for base in self.bases) + sum(map(len, self.events))
 
 
+def recorded(folder):
+    """How many calls the folder tells: none, if no segment is there yet."""
+    last = segments(folder)[-1:]
+    return Segment(f"{folder}/journal/{last[0]}").calls() if last else 0
+
+
 def reply(base, line):
     """The number and the answer that an event of a segment is told with, counted from the first of all."""
     words = line.split()
@@ -180,7 +186,7 @@ def main(tool, folder, calls="1000000", kills="20", segment="100000"):
             served += time.time() - process.begun
             slowest = max(slowest, (process.first_answer or process.begun) - process.begun)
             memory[min(9, at * 10 // calls)] = max(memory[min(9, at * 10 // calls)], process.memory)
-            now = Segment(f"{folder}/journal/{segments(folder)[-1]}").calls()
+            now = recorded(folder)
             assert at + process.told <= now <= process.sent, f"{process.told} told from {at} on, {now} recorded, {process.sent} sent"
             known.append((at, process.told))
             at = now
