@@ -13,7 +13,7 @@ pub struct GrantBook {
     total: u64,
     each: Vec<u64>,
     settled: Vec<u64>,
-    // No count of the settled run is above 0, so nothing has to be cleared when a settled run ends.
+    // Set exactly where no count of the settled run is above 0: then nothing has to be cleared when a settled run ends.
     settled_is_clear: bool,
 }
 
@@ -72,6 +72,7 @@ impl GrantBook {
     }
 
     /// Counts a grant of `machine`, in the settled run too where that continues: there the grants go round.
+    #[tactic(auto, using(crate::proofs::Marks::raised_not_clear))]
     pub(crate) fn add(&mut self, machine: u32, settled: bool)
         requires machine { machine < length self.old.each }
         requires fits { self.old.total + 1 < 2 ^ 64 }

@@ -48,9 +48,9 @@ fn run_named<N: Name + Send + Sync, G: Gate + Sync, W: Threads + Wait + Sync>(
             return Err(refusal);
         }
     };
-    if room.reserve_entries(&mut seats).is_err() {
+    if let Err(fault) = room.reserve_entries(&mut seats) {
         end(ring, rt, alloc);
-        return Err(want_of_memory());
+        return Err(fault);
     }
     let seats = match run_threads(rt, alloc, &ring, gate, number, plans, seats) {
         Ok(seats) => seats,

@@ -3,14 +3,13 @@ ghost use Rattle.std.specs.Prelude.{◌≡◌, ◌≤◌, [], IfErr, OnOk};
 ghost use Rattle.ring_model.specs.Limits.{event_limit};
 ghost use Rattle.ring_farm.specs.Promises.{AreUnchanged};
 
-use crate::faults::FarmError;
+use crate::faults::{FarmError, want_of_memory};
 use crate::workers::fault_of;
 use ring_book::{Book, Till};
 use ring_model::limits::{EVENT_LIMIT, SEAT_LIMIT};
 use ring_settings::limits::RING_LIMIT;
 use ring_settings::{Action, Plan};
 use ring_shared::{Name, Seat};
-use std::alloc::AllocError;
 
 /// The room that one ring needs: for its events, and for the entries of each seat's log.
 #[derive(Clone, Copy)]
@@ -49,17 +48,17 @@ impl Room {
     ///
     /// # Errors
     ///
-    /// If there is no memory for one of them.
-    pub(crate) fn reserve_entries<N: Name>(
-        &self,
-        seats: &mut Vec<Seat<N>>,
-    ) -> Result<(), AllocError>
-        ensures { AreUnchanged seats.old.items seats.new.items }
+    /// Only if memory runs out.
+    pub(crate) fn reserve_entries<N: Name>(&self, seats: &mut Vec<Seat<N>>) -> Result<(), FarmError>
+        ensures same { AreUnchanged seats.old.items seats.new.items }
+        ensures err { IfErr result (λ e. e ≡ FarmError.OutOfMemory) }
     {
         for i in 0..seats.len() {
             let seat = &mut seats[i];
             if let Some(entries) = self.entries.get(seat.number() as usize) {
-                seat.reserve(*entries as usize)?;
+                if seat.reserve(*entries as usize).is_err() {
+                    return Err(want_of_memory());
+                }
             }
         }
         Ok(())

@@ -114,11 +114,7 @@ impl<N: Name, R: Resource + Drop> Ring<N, R> {
             × AreOfSeats N.seats f.book.history
             × (f.seats.items ≡ seats.items)) }
     {
-        let Ring {
-            shared,
-            door: _door,
-            seats: all,
-        } = self;
+        let Ring { shared, seats: all } = self;
         let (book, front, writer) = shared.into_inner().into_parts();
         writer.take(rt); // nobody looks now
         let logs = match room_for_logs(alloc, &book, all, seats.as_slice()) {

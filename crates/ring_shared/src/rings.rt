@@ -19,9 +19,8 @@ ghost use Rattle.ring_shared.specs.Stepping.{stepped};
 use crate::front::{Front, Opened};
 use crate::locked::Locked;
 use crate::names::Name;
-use crate::seats::{RingWriter, Seat};
+use crate::seats::{RingReader, RingWriter, Seat};
 use crate::shown::{Operation, Shown};
-use crossbeam_utils::Backoff;
 use left_right::Absorb;
 use left_right::writer::Writer;
 use ring_book::{Book, BookError, GroupError, GroupReceipt, Resource};
@@ -117,28 +116,6 @@ impl<N: Name, R: Resource + Drop> OpenFault<N, R> {
     }
 }
 
-/// How often the call at the door tries for the lock before it sleeps.
-const TRIES: u32 = 100;
-
-/// Waits for the lock: at the door awake for a while, as the only one, and then asleep, with the door given back. So a
-/// holder that runs is soon followed without a call of the kernel, and for one that was put aside all sleep.
-fn acquire<'a, T, W: Wait>(rt: &W, door: &Mutex<()>, lock: &'a Mutex<T>) -> MutexGuard<'a, T> {
-    if let Some(guard) = lock.try_lock() {
-        return guard;
-    }
-    let first = door.lock(rt);
-    let backoff = Backoff::new();
-    for _ in 0..TRIES {
-        if let Some(guard) = lock.try_lock() {
-            MutexGuard::unlock(first);
-            return guard;
-        }
-        backoff.snooze();
-    }
-    MutexGuard::unlock(first);
-    lock.lock(rt)
-}
-
 /// A ring that threads share. It ends by `close`, and by nothing else.
 ///
 /// A pass, a group pass or a corruption waits for the lock; its work after that is one critical section. A survey and a
@@ -149,8 +126,6 @@ fn acquire<'a, T, W: Wait>(rt: &W, door: &Mutex<()>, lock: &'a Mutex<T>) -> Mute
 /// has seen the whole list of events, and since the places for what is shown are taken when the ring is opened.
 pub struct Ring<N: Name, R: Resource + Drop> {
     pub(crate) shared: Mutex<Locked<N, R>>,
-    /// One call at most waits awake for the lock; those after it sleep at this one.
-    pub(crate) door: Mutex<()>,
     pub(crate) seats: u32,
 }
 
@@ -162,6 +137,20 @@ impl<N: Name, R: Resource + Drop> Model for Ring<N, R> {
     ghost view = { λ r. tt };
 
     ghost invariant = { λ r. IsRingOf R.works R.first N.start N.seats N.legal r.seats };
+}
+
+/// A place to look from.
+///
+/// # Errors
+///
+/// Only if the pair of copies has no place left.
+fn reader_of<N: Name>(writer: &RingWriter<N>) -> Result<RingReader<N>, OpenReason>
+    ensures { IfErr result (λ e. e ≡ OpenReason.NoSeat) }
+{
+    match writer.factory().reader() {
+        Ok(reader) => Ok(reader),
+        Err(_) => Err(OpenReason::NoSeat),
+    }
 }
 
 /// A seat that has called nothing and seen nothing.
@@ -177,9 +166,7 @@ fn seat_of<N: Name>(
     requires start { start.now ≡ N.start }
     ensures { IfOk result (IsFreshClient number) }
 {
-    let Ok(reader) = writer.factory().reader() else {
-        return Err(OpenReason::NoSeat);
-    };
+    let reader = reader_of(writer)?;
     let Ok(start) = start.try_copy(alloc) else {
         return Err(OpenReason::OutOfMemory);
     };
@@ -317,7 +304,6 @@ impl<N: Name, R: Resource + Drop> Ring<N, R> {
             Ok((writer, seats)) => {
                 let ring = Ring {
                     shared: Mutex::new(Locked::new(alloc, book, head, front, writer)),
-                    door: Mutex::new(()),
                     seats: count,
                 };
                 Ok((ring, seats))
@@ -359,7 +345,7 @@ impl<N: Name, R: Resource + Drop> Ring<N, R> {
         ensures later { IsPrefix seat.old.seen seat.new.seen }
         ensures err { OnErr result (IsUnchanged seat.old seat.new) }
     {
-        let mut locked = acquire(rt, &self.door, &self.shared);
+        let mut locked = self.shared.lock(rt);
         let result = locked.call(rt, seat, Op::Pass { machine, order });
         MutexGuard::unlock(locked);
         result
@@ -386,7 +372,7 @@ impl<N: Name, R: Resource + Drop> Ring<N, R> {
         ensures later { IsPrefix seat.old.seen seat.new.seen }
         ensures err { OnErr result (IsUnchanged seat.old seat.new) }
     {
-        let mut locked = acquire(rt, &self.door, &self.shared);
+        let mut locked = self.shared.lock(rt);
         let result = locked.call(rt, seat, Op::Corrupt { machine, value });
         MutexGuard::unlock(locked);
         result
@@ -421,7 +407,7 @@ impl<N: Name, R: Resource + Drop> Ring<N, R> {
             → length machines.now ≡ length N.start.values }
         ensures err { OnErr result (IsUnchanged seat.old seat.new) }
     {
-        let mut locked = acquire(rt, &self.door, &self.shared);
+        let mut locked = self.shared.lock(rt);
         let result = locked.pass_group(rt, seat, machines, order);
         MutexGuard::unlock(locked);
         result

@@ -39,4 +39,4 @@ run_threads-requires-clause-fresh g c κs within =
     let of_plans = c.requires.count in
     let seats : g.N.Name.seats ≡ length c.args.plans.now.items = omega arith in
     subst (λ (n : ℕ). AreFresh n c.reserve_entries.new.seats.items) seats
-    (still_all_fresh g.N.Name.seats _ c.reserve_entries.new.seats.items c.in-Ok.ensures.ok c.reserve_entries.ensures)
+    (still_all_fresh g.N.Name.seats _ c.reserve_entries.new.seats.items c.in-Ok.ensures.ok c.reserve_entries.ensures.same)
