@@ -8,10 +8,15 @@
  *      `wozgirt_close` ends it, and nobody else writes it. No other function takes a ring that is not open.
  *   2. A ring is not thread-safe: threads that share one hold a mutex around each call. Different rings, and
  *      `wozgirt_check`, need none.
- *   3. Pointers are not null and point to as many elements as their length says, which nobody else writes during the
- *      call, and the written memory is apart from the memory that is read. For an empty list any address that is
- *      not null serves.
+ *   3. Pointers are not null, are aligned for their type, and point to as many elements as their length says, which
+ *      nobody else writes during the call, and the written memory is apart from the memory that is read. For an empty
+ *      list any address that is not null serves.
  *   4. malloc, realloc and free are one allocator's.
+ *   5. No call is made in a signal's handler, since calls allocate. After fork() one of the two processes goes on with
+ *      a ring: if both do, they give the same grant numbers twice.
+ *
+ * The numbers of grants begin at 1 with `wozgirt_open` and `wozgirt_open_idle`: who uses them as fencing tokens has to
+ * save a ring and go on by `wozgirt_open_saved`, which goes on with the numbers. A till stops at 2^64 - 1.
  *
  * Each number is checked: a seat, machine, value or group that a ring does not have is refused, and then nothing has
  * changed. Each function returns a code of `enum wozgirt_code`, if nothing else is said.
@@ -26,7 +31,7 @@ extern "C" {
 
 enum wozgirt_code {
     WOZGIRT_DONE = 0,           /* granted, written, opened, answered, saved, legal */
-    WOZGIRT_WAITS = 1,          /* the machine is not privileged: the pass was recorded, and did no work */
+    WOZGIRT_WAITS = 1,          /* the machine is not privileged: a pass was recorded, and did no work; a try was not */
     /* a call is refused, and nothing has changed */
     WOZGIRT_NO_SEAT = 16,
     WOZGIRT_NO_MACHINE = 17,
@@ -145,6 +150,11 @@ uint32_t wozgirt_open_saved(struct wozgirt_ring *ring, const uint8_t *text, size
 /* A seat asks for a machine's pass: WOZGIRT_DONE where it was granted, WOZGIRT_WAITS where the machine is not privileged. */
 uint32_t wozgirt_pass(struct wozgirt_ring *ring, uint32_t seat, uint32_t machine, uint64_t order,
                       struct wozgirt_answer *answer);
+
+/* The same, but where the machine is not privileged nothing is recorded, and the answer is not written: the call to ask
+ * with again and again, since each WOZGIRT_WAITS of `wozgirt_pass` is an event of the history, which can be full. */
+uint32_t wozgirt_try(struct wozgirt_ring *ring, uint32_t seat, uint32_t machine, uint64_t order,
+                     struct wozgirt_answer *answer);
 
 /* A seat asks for the passes of machines whose numbers rise, all at once: all are granted, or none. */
 uint32_t wozgirt_pass_group(struct wozgirt_ring *ring, uint32_t seat, const uint32_t *machines, size_t count, uint64_t order,

@@ -37,6 +37,8 @@ static void called(struct wozgirt_ring *ring)
     const uint32_t falling[2] = {2, 1}, past[1] = {3}, whole[3] = {0, 1, 2}, zero[2] = {0, 1}, last[1] = {2};
     expect("seat 1", wozgirt_pass(ring, 1, 0, 5, &answer), WOZGIRT_NO_SEAT);
     expect("machine 3", wozgirt_pass(ring, 0, 3, 5, &answer), WOZGIRT_NO_MACHINE);
+    expect("a try's seat", wozgirt_try(ring, 1, 0, 5, &answer), WOZGIRT_NO_SEAT);
+    expect("a try's machine", wozgirt_try(ring, 0, 3, 5, &answer), WOZGIRT_NO_MACHINE);
     expect("a fault's seat", wozgirt_corrupt(ring, 1, 0, 0, &answer), WOZGIRT_NO_SEAT);
     expect("a fault's machine", wozgirt_corrupt(ring, 0, 3, 0, &answer), WOZGIRT_NO_MACHINE);
     expect("a fault's value", wozgirt_corrupt(ring, 0, 0, 3, &answer), WOZGIRT_NO_VALUE);
@@ -51,6 +53,10 @@ static void called(struct wozgirt_ring *ring)
     expect("its number and answer", answer.number * 100 + answer.result, 105);
     expect("its machine again", wozgirt_pass(ring, 0, 0, 5, &answer), WOZGIRT_WAITS);
     expect("its place", answer.position, 1);
+    answer.position = 7;
+    expect("a try of it", wozgirt_try(ring, 0, 0, 5, &answer), WOZGIRT_WAITS);
+    expect("is not written", answer.position, 7);
+    expect("and not recorded", wozgirt_history_length(ring), 2);
     expect("a group with it", wozgirt_pass_group(ring, 0, zero, 2, 5, &group), WOZGIRT_NOT_PRIVILEGED);
     expect("the machine is told", group.machine, 0);
     expect("a group", wozgirt_pass_group(ring, 0, last, 1, 4, &group), WOZGIRT_DONE);

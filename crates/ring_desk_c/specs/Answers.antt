@@ -1,6 +1,6 @@
 -- The answers of calls on the ring that C holds: the clauses of a ring that is called by numbers,
 -- over either resource (this project's own).
-use Rattle.std.specs.Prelude.{◌≡◌, ℕ, List, [], ◌∷◌, length, drop, Result, Ok, Err, IfOk, OnErr}
+use Rattle.std.specs.Prelude.{◌≡◌, ℕ, List, [], ◌∷◌, length, drop, Option, Result, Ok, Err, IfOk, OnErr}
 use Rattle.ring_model.specs.Resources.{till}
 use Rattle.ring_model.specs.History.{Works, opening}
 use Rattle.ring_model.specs.HistoryLaws.{Settlement}
@@ -15,8 +15,8 @@ use Rattle.ring_book.specs.GroupView.{IsGroupRecorded}
 use Rattle.ring_book.specs.IdleWorks.{idle}
 use Rattle.ring_book.specs.declared.books.groups.GroupReceipt.{GroupReceipt}
 use Rattle.ring_logs.specs.Seats.{receipts_from}
-use Rattle.ring_desk.specs.Rings.{RingView, IsOneThreadRing, told_more}
-use Rattle.ring_desk.specs.Refusals.{IsDecided, bounds_of, seat_refusal, pass_refusal, corrupt_refusal, group_refusal}
+use Rattle.ring_desk.specs.Rings.{RingView, IsOneThreadRing, IsTried, told_more}
+use Rattle.ring_desk.specs.Refusals.{IsDecided, bounds_of, seat_refusal, pass_refusal, try_refusal, corrupt_refusal, group_refusal}
 use Rattle.ring_desk.specs.Texts.{IsTextOf}
 use Rattle.ring_desk.specs.declared.errors.CallError.{CallError}
 use Rattle.std_alloc.specs.declared.vec.Vec.{Vec}
@@ -36,6 +36,14 @@ pub record IsPassed {C : Type 0} (w : Works C) (first : C) (d e : RingView C)
   pub settlement : Settlement w (opening e.book.start first) e.book.history
   pub same : OnErr answer (e ≡ d)
   pub refused : IsDecided (pass_refusal (bounds_of d) seat machine) answer
+
+-- A try by a seat: a pass if the machine is privileged, and else nothing changes.
+pub record IsTriedBy {C : Type 0} (w : Works C) (first : C) (d e : RingView C)
+    (seat machine order : ℕ) (answer : Result (Option Receipt) CallError) : Type 0 where
+  pub ok : IfOk answer (λ r. IsTried w d e seat machine order r)
+  pub ring : IsOneThreadRing w first e
+  pub same : OnErr answer (e ≡ d)
+  pub refused : IsDecided (try_refusal (bounds_of d) seat machine) answer
 
 -- A fault by a seat, in the same way.
 pub record IsCorrupted {C : Type 0} (w : Works C) (first : C) (d e : RingView C)
@@ -79,6 +87,13 @@ IsPassAnswer (Till d) (Till e) seat machine order answer =
 IsPassAnswer (Idle d) (Idle e) seat machine order answer =
     IsPassed idle (record {}) d e seat machine order answer
 IsPassAnswer _ _ seat machine order answer = ⊥
+
+abbrev pub IsTryAnswer : Kept → Kept → ℕ → ℕ → ℕ → Result (Option Receipt) CallError → Type 0
+IsTryAnswer (Till d) (Till e) seat machine order answer =
+    IsTriedBy till 0 d e seat machine order answer
+IsTryAnswer (Idle d) (Idle e) seat machine order answer =
+    IsTriedBy idle (record {}) d e seat machine order answer
+IsTryAnswer _ _ seat machine order answer = ⊥
 
 abbrev pub IsCorruptAnswer : Kept → Kept → ℕ → ℕ → ℕ → Result Receipt CallError → Type 0
 IsCorruptAnswer (Till d) (Till e) seat machine value answer =

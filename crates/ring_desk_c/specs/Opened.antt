@@ -40,10 +40,10 @@ abbrev pub IsOpenedIdle : ℕ → ℕ → List ℕ → ℕ → Kept → Type 0
 IsOpenedIdle n k start seats (Idle d) = IsOpened idle (record {}) n k start seats d
 IsOpenedIdle n k start seats (Till d) = ⊥
 
--- the code of the first fault of the numbers, or out of memory
+-- the code of the first fault of the numbers, and out of memory only where there is none
 abbrev pub IsOpenRefused : Size → List ℕ → ℕ → ℕ → Type 0
 IsOpenRefused size start seats code =
-    (code ≡ no_memory) ⊎ ((e : OpenError) × IsOpenFault size start seats e × (code ≡ open_code e))
+    (e : OpenError) × IsOpenFault size start seats e × (code ≡ open_code e)
 
 -- The ring resumes the one at this place of the saved text that the bytes are: it has n
 -- seats, it started so, its history is that one, and it has the same surveys.

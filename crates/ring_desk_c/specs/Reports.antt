@@ -1,6 +1,6 @@
 -- The form of an answer for C: a code, and the values written to the struct that C lends (this
 -- project's own).
-use Rattle.std.specs.Prelude.{◌≡◌, ℕ, ◌<◌, ◌≤◌, List, ◌++◌, length, drop, Result, Ok, Err, IfOk}
+use Rattle.std.specs.Prelude.{◌≡◌, ℕ, ◌<◌, ◌≤◌, List, ◌++◌, length, drop, Option, Some, None, Result, Ok, Err, IfOk}
 use Rattle.ring_model.specs.declared.events.Reply.{Reply}
 use Rattle.ring_model.specs.declared.events.Reply.TheVariants.{Granted, NotPrivileged, Corrupted}
 use Rattle.ring_model.specs.declared.events.Receipt.{Receipt}
@@ -40,6 +40,12 @@ IsReplyReport position (Corrupted old) code out =
 abbrev pub IsCallReport : Result Receipt CallError → ℕ → Answer → Answer → Type 0
 IsCallReport (Ok r) code old new = IsReplyReport r.position r.event.reply code new
 IsCallReport (Err e) code old new = (code ≡ call_code e) × (new ≡ old)
+
+-- of a try: that of the pass; where the machine is not privileged 1, and nothing is written
+abbrev pub IsTryReport : Result (Option Receipt) CallError → ℕ → Answer → Answer → Type 0
+IsTryReport (Ok (Some r)) code old new = IsReplyReport r.position r.event.reply code new
+IsTryReport (Ok None) code old new = (code ≡ 1) × (new ≡ old)
+IsTryReport (Err e) code old new = (code ≡ call_code e) × (new ≡ old)
 
 -- of a group: its block's first place and how many members it has, or the least machine that is not
 -- privileged

@@ -1,7 +1,7 @@
 //! The answers to C.
 
 ghost use Rattle.std.specs.Prelude.{◌≡◌};
-ghost use Rattle.ring_desk_c.specs.Reports.{IsCallReport, IsReplyReport, IsGroupReport, IsSightReport, IsSaveReport, IsTextReport, IsCheckReport, line_of};
+ghost use Rattle.ring_desk_c.specs.Reports.{IsCallReport, IsTryReport, IsReplyReport, IsGroupReport, IsSightReport, IsSaveReport, IsTextReport, IsCheckReport, line_of};
 
 use crate::codes::{NO_MEMORY, TOO_SMALL, call_code, kind_code, text_code};
 use crate::kept::TextError;
@@ -92,6 +92,17 @@ pub(crate) fn report_call(answer: Result<Receipt, CallError>, out: &mut Answer) 
 {
     match answer {
         Ok(receipt) => report_reply(receipt.position, receipt.event.reply, out),
+        Err(error) => call_code(error),
+    }
+}
+
+/// The answer of a try.
+pub(crate) fn report_try(answer: Result<Option<Receipt>, CallError>, out: &mut Answer) -> u32
+    ensures { IsTryReport answer result out.old out.new }
+{
+    match answer {
+        Ok(Some(receipt)) => report_reply(receipt.position, receipt.event.reply, out),
+        Ok(None) => 1,
         Err(error) => call_code(error),
     }
 }

@@ -1,14 +1,14 @@
 //! The calls of a ring that C holds.
 
-ghost use Rattle.std.specs.Prelude.{◌≡◌, true, length, Ok, Result};
+ghost use Rattle.std.specs.Prelude.{◌≡◌, true, length, Ok, Option, Result};
 ghost use Rattle.ring_model.specs.declared.events.Receipt.{Receipt};
 ghost use Rattle.ring_model.specs.declared.events.Survey.{Survey};
 ghost use Rattle.ring_book.specs.declared.books.groups.GroupReceipt.{GroupReceipt};
 ghost use Rattle.ring_desk.specs.declared.errors.CallError.{CallError};
-ghost use Rattle.ring_desk_c.specs.Answers.{IsPassAnswer, IsCorruptAnswer, IsGroupAnswer, IsSurveyAnswer, IsGlance, history_of};
-ghost use Rattle.ring_desk_c.specs.Reports.{IsCallReport, IsGroupReport, IsSightReport, sight_of};
+ghost use Rattle.ring_desk_c.specs.Answers.{IsPassAnswer, IsTryAnswer, IsCorruptAnswer, IsGroupAnswer, IsSurveyAnswer, IsGlance, history_of};
+ghost use Rattle.ring_desk_c.specs.Reports.{IsCallReport, IsTryReport, IsGroupReport, IsSightReport, sight_of};
 
-use crate::answers::{Answer, Group, Sight, report_call, report_group, report_sight};
+use crate::answers::{Answer, Group, Sight, report_call, report_group, report_sight, report_try};
 use crate::handle::{Handle, hold, loosen};
 use crate::kept;
 use crate::loose::Loose;
@@ -45,6 +45,40 @@ pub extern "C" fn wozgirt_pass(
 {
     let answer = replace_with(ring, (seat, machine, order), pass_by_handle);
     report_call(answer, out)
+}
+
+/// A try of a ring that C holds.
+fn try_by_handle(
+    handle: Handle,
+    call: (u32, u32, u64),
+) -> (Handle, Result<Option<Receipt>, CallError>)
+    requires { handle.full ≡ true }
+    ensures full { result.0.full ≡ true }
+    ensures is { IsTryAnswer handle.value result.0.value call.0 call.1 call.2 result.1 }
+{
+    let mut kept = loosen(handle).into_box();
+    let answer = kept::try_pass(&mut kept, call.0, call.1, call.2);
+    (hold(Loose::of(kept)), answer)
+}
+
+/// A pass by a machine, for a seat, if the machine is privileged: 0 where it was granted, 1 where the machine is not privileged,
+/// and then nothing is recorded or written; else why it was refused.
+#[unsafe(no_mangle)]
+pub extern "C" fn wozgirt_try(
+    ring: &mut Handle,
+    seat: u32,
+    machine: u32,
+    order: u64,
+    out: &mut Answer,
+) -> u32
+    requires { ring.old.full ≡ true }
+    ensures full { ring.new.full ≡ true }
+    ensures reported { (answer : Result (Option Receipt) CallError)
+        × IsTryAnswer ring.old.value ring.new.value seat machine order answer
+        × IsTryReport answer result out.old out.new }
+{
+    let answer = replace_with(ring, (seat, machine, order), try_by_handle);
+    report_try(answer, out)
 }
 
 /// A fault of a ring that C holds.

@@ -1,6 +1,6 @@
 //! The ring that C holds, over one of the two resources.
 
-ghost use Rattle.ring_desk_c.specs.Answers.{IsPassAnswer, IsCorruptAnswer, IsGroupAnswer, IsSurveyAnswer, IsGlance, IsTextAnswer, history_of};
+ghost use Rattle.ring_desk_c.specs.Answers.{IsPassAnswer, IsTryAnswer, IsCorruptAnswer, IsGroupAnswer, IsSurveyAnswer, IsGlance, IsTextAnswer, history_of};
 ghost use Rattle.std.specs.Prelude.{◌≡◌, length};
 
 use ring_book::{GroupReceipt, Idle, Till};
@@ -35,6 +35,21 @@ pub(crate) fn pass(
     match kept {
         Kept::Till(ring) => ring.pass(seat, machine, order),
         Kept::Idle(ring) => ring.pass(seat, machine, order),
+    }
+}
+
+/// A pass, if the machine is privileged.
+pub(crate) fn try_pass(
+    kept: &mut Kept,
+    seat: u32,
+    machine: u32,
+    order: u64,
+) -> Result<Option<Receipt>, CallError>
+    ensures { IsTryAnswer kept.old kept.new seat machine order result }
+{
+    match kept {
+        Kept::Till(ring) => ring.try_pass(seat, machine, order),
+        Kept::Idle(ring) => ring.try_pass(seat, machine, order),
     }
 }
 
