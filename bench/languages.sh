@@ -1,7 +1,7 @@
 #!/bin/sh
 # Builds the static library for other languages and the examples in C, Python and Rust, runs them, and has `ring_tool check`
 # judge each history that they saved; with -v it prints what the C program measures, too. Word: a `ring_tool` that judges in
-# place of one that is proved and built here. Needs rt, a C and a C++ compiler with their sanitizers, Python 3.8 and cargo.
+# place of one that is proved and built here. Needs rt, a C and a C++ compiler with their sanitizers, Python 3.9 and cargo.
 set -eu
 . "$(dirname "$0")/common.sh"
 measure=
@@ -55,7 +55,7 @@ done
 echo "$((number - 1)) requests for memory refused in turn"
 
 cc -shared -o "$folder/libwozgirt.so" -Wl,--whole-archive "$folder/libring_desk_c.a" -Wl,--no-whole-archive "$folder/liblibc_c.a"
-WOZGIRT_LIBRARY=$folder/libwozgirt.so PYTHONDONTWRITEBYTECODE=1 python3 "$top/examples/python/four_threads.py" "$folder/python.txt"
+WOZGIRT_LIBRARY=$folder/libwozgirt.so PYTHONPATH=$top/python PYTHONDONTWRITEBYTECODE=1 python3 "$top/examples/python/four_threads.py" "$folder/python.txt"
 judge python
 
 rm -rf "$folder/rust"

@@ -3,7 +3,7 @@
 import sys
 import threading
 
-from wozgirt import Code, NotLegal, Refused, Ring, check
+from wozgirt.ring import Code, NotLegal, Refused, Ring, check
 
 MACHINES, VALUES, THREADS, CALLS = 5, 6, 4, 5000
 

@@ -1,0 +1,89 @@
+//! etcd: the lock service, over its JSON gateway.
+
+use crate::Peer;
+use std::io::{BufRead, BufReader, Read, Write};
+use std::net::TcpStream;
+
+pub struct Etcd {
+    stream: BufReader<TcpStream>,
+    lock: String,
+    key: String,
+}
+
+fn base64(bytes: &[u8]) -> String {
+    const TABLE: &[u8] = b"ABCDEFGHIJKLMNOPQRSTUVWXYZabcdefghijklmnopqrstuvwxyz0123456789+/";
+    let mut text = String::new();
+    for part in bytes.chunks(3) {
+        let word = part.iter().fold(0u32, |w, &b| w << 8 | u32::from(b)) << (8 * (3 - part.len()));
+        for i in 0..4 {
+            text.push(if i <= part.len() { TABLE[(word >> (18 - 6 * i) & 63) as usize] as char } else { '=' });
+        }
+    }
+    text
+}
+
+fn field(text: &str, name: &str) -> String {
+    let from = text.find(&format!("\"{name}\":\"")).unwrap_or_else(|| panic!("{text}")) + name.len() + 4;
+    text[from..].split('"').next().unwrap().into()
+}
+
+impl Etcd {
+    pub fn open(address: &str, l: usize) -> Etcd {
+        let stream = TcpStream::connect(address).unwrap();
+        stream.set_nodelay(true).unwrap();
+        let mut it = Etcd { stream: BufReader::new(stream), lock: String::new(), key: String::new() };
+        let lease = field(&it.post("/v3/lease/grant", "{\"TTL\":60}"), "ID");
+        it.lock = format!("{{\"name\":\"{}\",\"lease\":\"{lease}\"}}", base64(format!("lock{l}").as_bytes()));
+        it
+    }
+
+    fn post(&mut self, path: &str, body: &str) -> String {
+        let text = format!(
+            "POST {path} HTTP/1.1\r\nHost: x\r\nContent-Type: application/json\r\nContent-Length: {}\r\n\r\n{body}",
+            body.len()
+        );
+        self.stream.get_mut().write_all(text.as_bytes()).unwrap();
+        let (mut length, mut chunked) = (0, false);
+        loop {
+            let mut line = String::new();
+            self.stream.read_line(&mut line).unwrap();
+            let line = line.trim_end().to_lowercase();
+            if line.is_empty() {
+                break;
+            }
+            if let Some(value) = line.strip_prefix("content-length: ") {
+                length = value.parse().unwrap();
+            }
+            chunked |= line == "transfer-encoding: chunked";
+        }
+        let mut bytes = Vec::new();
+        loop {
+            if chunked {
+                let mut line = String::new();
+                self.stream.read_line(&mut line).unwrap();
+                length = usize::from_str_radix(line.trim_end(), 16).unwrap();
+            }
+            let begin = bytes.len();
+            bytes.resize(begin + length + if chunked { 2 } else { 0 }, 0);
+            self.stream.read_exact(&mut bytes[begin..]).unwrap();
+            bytes.truncate(begin + length);
+            if !chunked || length == 0 {
+                return String::from_utf8_lossy(&bytes).into_owned();
+            }
+        }
+    }
+}
+
+impl Peer for Etcd {
+    fn acquire(&mut self) -> u64 {
+        let lock = self.lock.clone();
+        self.key = field(&self.post("/v3/lock/lock", &lock), "key");
+        0
+    }
+
+    fn release(&mut self) {
+        let key = format!("{{\"key\":\"{}\"}}", self.key);
+        let answer = self.post("/v3/lock/unlock", &key);
+        assert!(answer.contains("header"), "{answer}");
+    }
+}

@@ -1,0 +1,251 @@
+"""The clients with a server and the engine's double."""
+
+import asyncio
+import logging
+import os
+import sys
+import threading
+import time
+import unittest
+
+sys.path.insert(0, os.path.join(os.path.dirname(os.path.abspath(__file__)), "..", "..", "server", "tests"))
+
+from harness import Server, needs_programs  # noqa: E402
+from wozgirt import (Circle, Client, Holds, Lock, LockLost, NoSuchLock, NotHolder, NotInTime, TooMany, Waits,  # noqa: E402
+                     aio)
+
+logging.getLogger("asyncio").setLevel(logging.ERROR)  # that a server is started in between takes long
+
+
+@needs_programs
+class Threads(unittest.TestCase):
+    def test_exclusion_and_tokens(self):
+        with Server() as server:
+            inside, most, tokens = [0], [0], []
+
+            def work():
+                with Client(server.path) as client:
+                    for _ in range(200):
+                        with Lock(client, "a", label=7) as token:
+                            inside[0] += 1
+                            most[0] = max(most[0], inside[0])
+                            tokens.append(token)
+                            inside[0] -= 1
+            threads = [threading.Thread(target=work) for _ in range(6)]
+            [t.start() for t in threads]
+            [t.join() for t in threads]
+            self.assertEqual(most, [1])
+            self.assertEqual(tokens, list(range(1, 1201)))
+
+    def test_not_in_time_and_try(self):
+        with Server() as server, Client(server.path) as one, Client(server.path) as two:
+            token = one.acquire("a")
+            self.assertIsNone(two.try_acquire("a"))
+            begun = time.monotonic()
+            with self.assertRaises(NotInTime):
+                two.acquire("a", wait=0.2)
+            self.assertLess(time.monotonic() - begun, 5)
+            self.assertEqual(server.waiters("a"), 0)
+            one.release("a", token)
+            later = two.acquire("a", wait=5)
+            self.assertGreater(later, token)
+            two.release("a", later)
+
+    def test_errors_by_name(self):
+        with Server("--waiters", "0") as server, Client(server.path) as one, Client(server.path) as two:
+            token = one.acquire("a")
+            with self.assertRaises(Holds):
+                one.acquire("a")
+            with self.assertRaises(NotHolder):
+                two.release("a", token)
+            with self.assertRaises(NoSuchLock):
+                two.acquire("nothing")
+            with self.assertRaises(TooMany):
+                two.acquire("a")
+
+    def test_circle(self):
+        with Server() as server, Client(server.path) as one, Client(server.path) as two:
+            one.acquire("a")
+            two.acquire("b")
+            got = []
+            thread = threading.Thread(target=lambda: got.append(one.acquire("b")))
+            thread.start()
+            server.wait_for_waiters("b", 1)
+            with self.assertRaises(Circle):
+                two.acquire("a")
+            two.leave()
+            thread.join(10)
+            self.assertEqual(got, [2])
+
+    def test_status(self):
+        with Server(locks="a,b") as server, Client(server.path) as client:
+            token = client.acquire("b", label=77)
+            free, held = client.status()
+            self.assertEqual((free.name, free.state, free.token, free.waiting), ("a", "free", None, 0))
+            self.assertEqual((held.name, held.state, held.label, held.token, held.grants), ("b", "held", 77, token, 1))
+
+    def test_lease_is_kept_while_nothing_is_said(self):
+        with Server(lease="0.8") as server, Client(server.path, lease=0.8) as client, Client(server.path) as other:
+            client.acquire("a")
+            time.sleep(2)
+            client.check()
+            self.assertIsNone(other.try_acquire("a"))
+
+    def test_lease_is_kept_while_waiting(self):
+        with Server(lease="0.8") as server, Client(server.path, lease=0.8) as one, Client(server.path, lease=0.8) as two:
+            token = one.acquire("a")
+            got = []
+            thread = threading.Thread(target=lambda: got.append(two.acquire("a")))
+            thread.start()
+            time.sleep(2)
+            one.release("a", token)
+            thread.join(10)
+            self.assertEqual(got, [2])
+
+    def test_a_stopped_server_is_noticed_by_the_clock(self):
+        with Server(lease="0.8") as server, Client(server.path, lease=0.8) as client:
+            client.acquire("a")
+            server.process.send_signal(19)
+            try:
+                with self.assertRaises(LockLost):
+                    end = time.monotonic() + 5
+                    while time.monotonic() < end:
+                        client.check()
+                        time.sleep(0.01)
+            finally:
+                server.process.send_signal(18)
+
+    def test_a_stopped_server_is_noticed_while_waiting(self):
+        with Server(lease="0.8") as server, Client(server.path) as one, Client(server.path, lease=0.8) as two:
+            one.acquire("a")
+            errors = []
+
+            def work():
+                try:
+                    two.acquire("a")
+                except LockLost as lost:
+                    errors.append(lost)
+            thread = threading.Thread(target=work)
+            thread.start()
+            server.wait_for_waiters("a", 1)
+            server.process.send_signal(19)
+            try:
+                thread.join(10)
+            finally:
+                server.process.send_signal(18)
+            self.assertEqual(len(errors), 1)
+
+    def test_a_lost_lock(self):
+        with Server(lease="0.3") as server:
+            with self.assertRaises(LockLost):
+                with Lock(server.path, "a") as token:
+                    server.kill_engine()
+            with Lock(server.path, "a", wait=10) as later:
+                self.assertGreater(later, token)
+
+    def test_the_body_s_error_is_the_one_that_is_raised(self):
+        with Server() as server:
+            with self.assertRaises(ZeroDivisionError):
+                with Lock(server.path, "a"):
+                    server.kill_engine()
+                    raise ZeroDivisionError
+
+    def test_tcp(self):
+        with Server("--tcp", "127.0.0.1:0") as server:
+            port = int(server.text_of_log().split("clients at 127.0.0.1:")[1].split("\n")[0])
+            with Lock(("127.0.0.1", port), "a") as token:
+                self.assertEqual(token, 1)
+                with Client(server.path) as other:
+                    self.assertIsNone(other.try_acquire("a"))
+
+
+@needs_programs
+class Tasks(unittest.IsolatedAsyncioTestCase):
+    async def test_exclusion(self):
+        with Server() as server:
+            inside, tokens = 0, []
+
+            async def work():
+                nonlocal inside
+                async with await aio.Client.connect(server.path) as client:
+                    for _ in range(50):
+                        async with aio.Lock(client, "a") as token:
+                            inside += 1
+                            self.assertEqual(inside, 1)
+                            tokens.append(token)
+                            await asyncio.sleep(0)
+                            inside -= 1
+            await asyncio.gather(*(work() for _ in range(8)))
+            self.assertEqual(tokens, list(range(1, 401)))
+
+    async def test_not_in_time_and_errors(self):
+        with Server() as server:
+            one, two = await aio.Client.connect(server.path), await aio.Client.connect(server.path)
+            token = await one.acquire("a", label=5)
+            with self.assertRaises(NotInTime):
+                await two.acquire("a", wait=0.1)
+            self.assertIsNone(await two.try_acquire("a"))
+            with self.assertRaises(NoSuchLock):
+                await two.acquire("nothing")
+            waits = asyncio.create_task(two.acquire("a"))
+            await asyncio.to_thread(server.wait_for_waiters, "a", 1)
+            with self.assertRaises(Waits):
+                await two.acquire("a")
+            held = (await one.status())[0]
+            self.assertEqual((held.label, held.token, held.waiting), (5, token, 1))
+            await one.leave()
+            self.assertEqual(await waits, 2)
+            await one.close()
+            await two.close()
+
+    async def test_cancelled_at_each_moment(self):
+        with Server() as server:
+            one, two = await aio.Client.connect(server.path), await aio.Client.connect(server.path)
+            token = await one.acquire("a")
+            for i in range(200):
+                task = asyncio.create_task(two.acquire("a"))
+                for _ in range(i % 7):
+                    await asyncio.sleep(0)
+                release = asyncio.create_task(one.release("a", token))
+                for _ in range(i // 7 % 9):
+                    await asyncio.sleep(0)
+                task.cancel()
+                try:
+                    await two.release("a", await task)
+                except asyncio.CancelledError:
+                    pass
+                await release
+                token = await one.acquire("a", wait=10)  # so nothing is held that nobody knows of
+            self.assertEqual(server.waiters("a"), 0)
+            await one.close()
+            await two.close()
+
+    async def test_lost(self):
+        with Server() as server:
+            client = await aio.Client.connect(server.path)
+            await client.acquire("a")
+            waits = await aio.Client.connect(server.path, lease=20)
+            task = asyncio.create_task(waits.acquire("a"))
+            await asyncio.to_thread(server.wait_for_waiters, "a", 1)
+            server.process.kill()
+            server.process.wait()
+            with self.assertRaises(LockLost):
+                await task
+
+            def is_lost():
+                try:
+                    client.check()
+                    return False
+                except LockLost:
+                    return True
+            for _ in range(500):
+                if is_lost():
+                    break
+                await asyncio.sleep(0.01)
+            self.assertTrue(is_lost())
+            await client.close()
+            await waits.close()
+
+
+if __name__ == "__main__":
+    unittest.main()

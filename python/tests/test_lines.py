@@ -1,0 +1,108 @@
+"""Lines, without a server."""
+
+import os
+import subprocess
+import sys
+import tempfile
+import unittest
+import zipfile
+
+PYTHON = os.path.dirname(os.path.dirname(os.path.abspath(__file__)))
+sys.path.insert(0, PYTHON)
+
+import build_backend  # noqa: E402
+import wozgirt  # noqa: E402
+from wozgirt import lines, ring  # noqa: E402
+
+
+class Lines(unittest.TestCase):
+    def test_what_is_said(self):
+        self.assertEqual(lines.acquire("deploy", 7), b"acquire deploy 7\n")
+        self.assertEqual(lines.acquire("deploy", 7, "try"), b"try deploy 7\n")
+        self.assertEqual(lines.release("a", 2 ** 64 - 1), b"release a 18446744073709551615\n")
+        self.assertEqual(lines.cancel("a"), b"cancel a\n")
+        self.assertEqual(lines.lease(1.5), b"lease 1500\n")
+        self.assertEqual(lines.lease(0.0001), b"lease 1\n")
+
+    def test_what_is_never_said(self):
+        for name in ("", "a b", "a\nleave", "\u00e9", "a\t"):
+            with self.assertRaises(ValueError):
+                lines.acquire(name, 0)
+        for number in (-1, 2 ** 64):
+            with self.assertRaises(ValueError):
+                lines.acquire("a", number)
+        with self.assertRaises(TypeError):
+            lines.acquire("a", 1.5)
+        for time in (0, -1, float("nan"), float("inf")):
+            with self.assertRaises(ValueError):
+                lines.lease(time)
+
+    def test_refusals_have_their_class(self):
+        for word, kind in (("holds", wozgirt.Holds), ("waits", wozgirt.Waits), ("circle", wozgirt.Circle),
+                           ("holder", wozgirt.NotHolder), ("waiter", wozgirt.NotWaiter), ("lock", wozgirt.NoSuchLock),
+                           ("permission", wozgirt.NotPermitted), ("waiters", wozgirt.TooMany), ("other", wozgirt.Refused)):
+            error = lines.refusal(["refused", word, "a"])
+            self.assertIs(type(error), kind)
+            self.assertEqual((error.why, error.lock), (word, "a"))
+            self.assertIsInstance(error, wozgirt.LockError)
+        self.assertIsNone(lines.refusal(["granted", "a", "1"]))
+
+    def test_status(self):
+        it = lines.status("lock deploy held 7 77 12 1500 2 250 9 3000".split())
+        self.assertEqual(it, wozgirt.LockStatus("deploy", "held", 7, 77, 12, 1.5, 2, 0.25, 9, 3.0))
+        self.assertIsNone(lines.status("lock a free - - - - 0 0 0 0".split()).token)
+        for text in ("lock a", "lock a held x 7 1 1 1 1 1 1"):
+            with self.assertRaises(wozgirt.LockLost):
+                lines.status(text.split())
+
+
+class RingNumbers(unittest.TestCase):
+    """Without the library: a number that its types cannot hold never gets there."""
+
+    def test_range(self):
+        with self.assertRaises(ValueError):
+            ring.Ring(3, 3, [0, 2, 2 ** 32], 1)
+        with self.assertRaises(ValueError):
+            ring.Ring(2 ** 32 + 3, 3, [0, 2, 0], 1)
+        with self.assertRaises(ValueError):
+            ring.Ring.from_saved(b"", -1, 1)
+        with self.assertRaises(TypeError):
+            ring.Ring(3, 3, [0, 2, 1.5], 1)
+
+    def test_range_of_a_call(self):
+        it = ring.Ring.__new__(ring.Ring)
+        for call in (lambda: it.pass_(2 ** 32, 0, 1), lambda: it.pass_(0, -1, 1), lambda: it.pass_(0, 0, 2 ** 64),
+                     lambda: it.pass_group(0, [1, 2 ** 32], 1), lambda: it.corrupt(0, 0, 2 ** 32), lambda: it.survey(-1)):
+            with self.assertRaises(ValueError):
+                call()
+
+
+class RingCalls(unittest.TestCase):
+    @unittest.skipUnless(os.environ.get("WOZGIRT_LIBRARY"), "WOZGIRT_LIBRARY names no library")
+    def test_a_ring(self):
+        with ring.Ring(3, 3, [0, 2, 0], 2) as it:
+            self.assertEqual(it.pass_(0, 0, 5), ring.Grant(0, 1, 5))
+            self.assertIsNone(it.pass_(0, 0, 1))
+            with self.assertRaises(ring.Refused):
+                it.pass_(2, 0, 1)
+            self.assertEqual(ring.check(it.save()).granted, 1)
+
+
+class Wheel(unittest.TestCase):
+    def test_it_has_the_package_and_its_record(self):
+        with tempfile.TemporaryDirectory() as folder:
+            name = build_backend.build_wheel(folder)
+            self.assertEqual(name, f"wozgirt-{wozgirt.__version__}-py3-none-any.whl")
+            with zipfile.ZipFile(os.path.join(folder, name)) as wheel:
+                self.assertIsNone(wheel.testzip())
+                names = wheel.namelist()
+                record = wheel.read(f"wozgirt-{wozgirt.__version__}.dist-info/RECORD").decode()
+            self.assertEqual([line.split(",")[0] for line in record.splitlines()], names)
+            self.assertLessEqual({"wozgirt/__init__.py", "wozgirt/aio.py", "wozgirt/ring.py", "wozgirt/py.typed"}, set(names))
+            code = f"import sys; sys.path.insert(0, {os.path.join(folder, name)!r}); import wozgirt; print(wozgirt.__file__)"
+            found = subprocess.run([sys.executable, "-Sc", code], capture_output=True, text=True, cwd="/", check=True)
+            self.assertIn(".whl/", found.stdout)
+
+
+if __name__ == "__main__":
+    unittest.main()

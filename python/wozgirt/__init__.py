@@ -1,0 +1,21 @@
+"""Locks of a wozgirt-server, on the standard library alone.
+
+    from wozgirt import Lock
+
+    with Lock("/run/wozgirt/lock.sock", "deploy", wait=5) as token:
+        ...  # the token is greater than that of every hold before: give it to whatever you write to
+
+A client is one connection. It waits for one lock at a time; a program that waits for several at once has several clients.
+If the connection goes, the server lets others have what it held. `LockLost` says so here, and the token says so to a
+storage that refuses tokens that are older than one it has seen.
+
+`wozgirt.aio` has the same for asyncio, and `wozgirt.ring` has token rings inside a program.
+"""
+
+from .client import Client, Lock
+from .lines import (Circle, Holds, LockError, LockLost, LockStatus, NoSuchLock, NotHolder, NotInTime, NotPermitted, NotWaiter,
+                    Place, Refused, TooMany, Waits)
+
+__all__ = ["Circle", "Client", "Holds", "Lock", "LockError", "LockLost", "LockStatus", "NoSuchLock", "NotHolder", "NotInTime",
+           "NotPermitted", "NotWaiter", "Place", "Refused", "TooMany", "Waits"]
+__version__ = "0.1.0"

@@ -1,0 +1,160 @@
+"""What is said to the server and what it answers: shared by both clients, without any input or output."""
+
+from __future__ import annotations
+
+import operator
+from dataclasses import dataclass
+from typing import Optional, Tuple, Union
+
+#: Where a server is: the path of its socket, or host and port.
+Place = Union[str, Tuple[str, int]]
+
+MOST = 1 << 64
+LONGEST_LEASE = 365 * 24 * 3600.0
+
+
+class LockError(Exception):
+    """What can go wrong with a lock."""
+
+
+class LockLost(LockError, ConnectionError):
+    """The connection is gone, or was silent for too long: others may hold what this client held."""
+
+
+class NotInTime(LockError, TimeoutError):
+    """The lock was not granted within the time, and nothing waits for it any longer."""
+
+
+class Refused(LockError):
+    """The server or the engine refused, and nothing has changed. `why` is the word of the protocol."""
+
+    def __init__(self, why: str, lock: Optional[str] = None):
+        super().__init__(why if lock is None else f"{why}: {lock}")
+        self.why, self.lock = why, lock
+
+
+class NoSuchLock(Refused):
+    """There is no lock of this name."""
+
+
+class NotPermitted(Refused):
+    """This user may not use the lock."""
+
+
+class Holds(Refused):
+    """This client holds the lock already."""
+
+
+class Waits(Refused):
+    """This client waits for a lock already."""
+
+
+class Circle(Refused):
+    """The lock's holder waits, over one step or several, for this client: it would wait for itself."""
+
+
+class NotHolder(Refused):
+    """This client does not hold the lock with this token."""
+
+
+class NotWaiter(Refused):
+    """This client does not wait for the lock."""
+
+
+class TooMany(Refused):
+    """There are too many connections, or too many clients wait for the lock."""
+
+
+_BY_WORD = {"lock": NoSuchLock, "permission": NotPermitted, "holds": Holds, "waits": Waits, "circle": Circle,
+            "holder": NotHolder, "waiter": NotWaiter, "connections": TooMany, "waiters": TooMany}
+
+
+@dataclass(frozen=True)
+class LockStatus:
+    """How a lock is, as the server knows. Times are in seconds."""
+
+    name: str
+    #: `free`, `held`, or `before`: held by a client of an engine that ended
+    state: str
+    client: Optional[int]
+    label: Optional[int]
+    token: Optional[int]
+    age: Optional[float]
+    waiting: int
+    oldest_wait: float
+    grants: int
+    longest_wait: float
+
+
+def checked_name(name: str) -> str:
+    """The name of a lock, if it can be one."""
+    if not name or not name.isascii() or not name.isprintable() or " " in name:
+        raise ValueError(f"no name of a lock: {name!r}")
+    return name
+
+
+def checked_number(number: int) -> int:
+    """A label or a token, if it can be one."""
+    number = operator.index(number)
+    if not 0 <= number < MOST:
+        raise ValueError(f"not 0 to 2 ** 64 - 1: {number}")
+    return number
+
+
+def acquire(name: str, label: int, verb: str = "acquire") -> bytes:
+    """The line that asks for a lock."""
+    return f"{verb} {checked_name(name)} {checked_number(label)}\n".encode()
+
+
+def release(name: str, token: int) -> bytes:
+    """The line that gives a lock back."""
+    return f"release {checked_name(name)} {checked_number(token)}\n".encode()
+
+
+def cancel(name: str) -> bytes:
+    """The line that waits no longer."""
+    return f"cancel {checked_name(name)}\n".encode()
+
+
+def lease(seconds: float) -> bytes:
+    """The line that asks for a lease."""
+    if not 0 < seconds <= LONGEST_LEASE:
+        raise ValueError(f"no lease: {seconds}")
+    return f"lease {max(1, round(seconds * 1000))}\n".encode()
+
+
+def words_of(line: bytes) -> list[str]:
+    """The words of an answer."""
+    words = line.decode("ascii", "replace").split()
+    if not words:
+        raise LockLost("the server sent an empty line")
+    return words
+
+
+def refusal(words: list[str]) -> Optional[Refused]:
+    """The error in an answer, if it is a refusal."""
+    if words[0] != "refused":
+        return None
+    why = words[1] if len(words) > 1 else "?"
+    return _BY_WORD.get(why, Refused)(why, words[2] if len(words) > 2 else None)
+
+
+def number(words: list[str], place: int) -> int:
+    """The number at this place of an answer."""
+    try:
+        return int(words[place])
+    except (IndexError, ValueError):
+        raise LockLost(f"the server sent {' '.join(words)!r}") from None
+
+
+def status(words: list[str]) -> LockStatus:
+    """One line of the answer to `status`."""
+    if len(words) != 11 or words[0] != "lock":
+        raise LockLost(f"the server sent {' '.join(words)!r}")
+
+    def known(place: int) -> Optional[int]:
+        return None if words[place] == "-" else number(words, place)
+
+    age = known(6)
+    return LockStatus(words[1], words[2], known(3), known(4), known(5), None if age is None else age / 1000,
+                      number(words, 7), number(words, 8) / 1000, number(words, 9), number(words, 10) / 1000)

@@ -1,0 +1,156 @@
+//! What the engine is asked.
+
+use crate::words::{lock, Words};
+use crate::{decimal, Client, Label, Lock, NotALine, Token};
+use std::fmt;
+use std::str::FromStr;
+
+/// One input of a client.
+#[derive(Clone, Copy, Debug, PartialEq, Eq)]
+pub enum Input {
+    /// To hold the lock, at once or later.
+    Acquire {
+        /// The lock.
+        lock: Lock,
+        /// What the journal keeps of the hold.
+        label: Label,
+    },
+    /// To hold the lock at once or not at all.
+    Try {
+        /// The lock.
+        lock: Lock,
+        /// What the journal keeps of the hold.
+        label: Label,
+    },
+    /// To end the hold with this token.
+    Release {
+        /// The lock.
+        lock: Lock,
+        /// The token of the hold.
+        token: Token,
+    },
+    /// To wait for the lock no longer.
+    Cancel {
+        /// The lock.
+        lock: Lock,
+    },
+    /// To end all holds and to wait for nothing. The one input without an answer.
+    Leave,
+    /// A fault.
+    Corrupt {
+        /// The lock.
+        lock: Lock,
+        /// The machine of its ring.
+        machine: u64,
+        /// What is written into the machine.
+        value: u64,
+    },
+    /// How the lock is.
+    Stats {
+        /// The lock.
+        lock: Lock,
+    },
+}
+
+impl fmt::Display for Input {
+    fn fmt(&self, f: &mut fmt::Formatter<'_>) -> fmt::Result {
+        match self {
+            Input::Acquire { lock, label } => write!(f, "acquire {lock} {label}"),
+            Input::Try { lock, label } => write!(f, "try {lock} {label}"),
+            Input::Release { lock, token } => write!(f, "release {lock} {token}"),
+            Input::Cancel { lock } => write!(f, "cancel {lock}"),
+            Input::Leave => f.write_str("leave"),
+            Input::Corrupt { lock, machine, value } => write!(f, "corrupt {lock} {machine} {value}"),
+            Input::Stats { lock } => write!(f, "stats {lock}"),
+        }
+    }
+}
+
+/// An input, with who asks.
+#[derive(Clone, Copy, Debug, PartialEq, Eq)]
+pub struct Asked {
+    /// Who asks.
+    pub client: Client,
+    /// What is asked.
+    pub input: Input,
+}
+
+impl fmt::Display for Asked {
+    fn fmt(&self, f: &mut fmt::Formatter<'_>) -> fmt::Result {
+        write!(f, "{} {}", self.client, self.input)
+    }
+}
+
+impl FromStr for Asked {
+    type Err = NotALine;
+
+    fn from_str(line: &str) -> Result<Asked, NotALine> {
+        let mut words = Words::of(line);
+        let client = decimal(words.word()?)?;
+        let input = match words.word()? {
+            "acquire" => {
+                let [l, label] = words.numbers()?;
+                Input::Acquire { lock: lock(l)?, label }
+            }
+            "try" => {
+                let [l, label] = words.numbers()?;
+                Input::Try { lock: lock(l)?, label }
+            }
+            "release" => {
+                let [l, token] = words.numbers()?;
+                Input::Release { lock: lock(l)?, token }
+            }
+            "cancel" => {
+                let [l] = words.numbers()?;
+                Input::Cancel { lock: lock(l)? }
+            }
+            "leave" => {
+                let [] = words.numbers()?;
+                Input::Leave
+            }
+            "corrupt" => {
+                let [l, machine, value] = words.numbers()?;
+                Input::Corrupt { lock: lock(l)?, machine, value }
+            }
+            "stats" => {
+                let [l] = words.numbers()?;
+                Input::Stats { lock: lock(l)? }
+            }
+            _ => return Err(NotALine::Syntax),
+        };
+        Ok(Asked { client, input })
+    }
+}
+
+#[cfg(test)]
+mod tests {
+    use super::*;
+
+    #[test]
+    fn each_input_is_written_and_read() {
+        let lines = [
+            ("1 acquire 0 77", Input::Acquire { lock: 0, label: 77 }),
+            ("1 try 3 18446744073709551615", Input::Try { lock: 3, label: u64::MAX }),
+            ("1 release 0 1", Input::Release { lock: 0, token: 1 }),
+            ("1 cancel 9", Input::Cancel { lock: 9 }),
+            ("1 leave", Input::Leave),
+            ("1 corrupt 0 2 5", Input::Corrupt { lock: 0, machine: 2, value: 5 }),
+            ("1 stats 4", Input::Stats { lock: 4 }),
+        ];
+        for (line, input) in lines {
+            let asked = Asked { client: 1, input };
+            assert_eq!(asked.to_string(), line);
+            assert_eq!(line.parse(), Ok(asked));
+        }
+    }
+
+    #[test]
+    fn refusals_name_the_first_fault() {
+        for line in ["", "1", "x acquire 0 1", "1 jump 0", "1 acquire 0", "1 acquire 0 1 2", "1 leave 0", "1  leave"] {
+            assert_eq!(line.parse::<Asked>(), Err(NotALine::Syntax), "{line:?}");
+        }
+        assert_eq!("1 acquire 0 18446744073709551616".parse::<Asked>(), Err(NotALine::Number));
+        assert_eq!("1 acquire 18446744073709551616 x".parse::<Asked>(), Err(NotALine::Syntax));
+        assert_eq!("18446744073709551616 leave".parse::<Asked>(), Err(NotALine::Number));
+    }
+}

@@ -1,0 +1,34 @@
+//! The calls of the system that the standard library has no stable form of, each behind a safe function.
+//!
+//! This is the only crate of the workspace with unsafe code; all others forbid it. What is called:
+//!
+//! | Call | For |
+//! |---|---|
+//! | `getsockopt` | who is at the other end of a Unix socket ([`peer_of`]) |
+//! | `epoll_create1`, `epoll_ctl`, `epoll_wait` | one thread that serves all connections ([`Poller`]) |
+//! | `sigemptyset`, `sigaddset`, `pthread_sigmask`, `signalfd` | signals as a file that is read ([`Signals`]) |
+//! | `kill` | the end of a command, asked for ([`send_signal`]) |
+//! | `fcntl` | a file that a command inherits ([`inherit`]), a pipe that is not waited for ([`never_wait`]) |
+//!
+//! Every file is an `OwnedFd` or a `BorrowedFd`, so none is used after it was closed. Linux only.
+
+mod peers;
+mod polling;
+mod processes;
+mod signals;
+
+pub use peers::{peer_of, Peer};
+pub use polling::{Event, Interest, Poller};
+pub use processes::{inherit, never_wait, send_signal};
+pub use signals::{Signal, Signals};
+
+use std::io;
+
+/// The result of a call that answers -1 where it fails.
+fn checked(result: i32) -> io::Result<i32> {
+    if result == -1 {
+        Err(io::Error::last_os_error())
+    } else {
+        Ok(result)
+    }
+}

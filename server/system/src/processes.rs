@@ -1,0 +1,78 @@
+//! Processes that are asked to end, and what they inherit.
+
+use crate::{checked, Signal};
+use std::io;
+use std::os::fd::{AsFd, AsRawFd};
+
+const F_GETFD: i32 = 1;
+const F_SETFD: i32 = 2;
+const F_GETFL: i32 = 3;
+const F_SETFL: i32 = 4;
+const O_NONBLOCK: i32 = 0o4_000;
+const FD_CLOEXEC: i32 = 1;
+
+extern "C" {
+    fn kill(process: i32, signal: i32) -> i32;
+    fn fcntl(file: i32, command: i32, argument: i32) -> i32;
+}
+
+/// Sends a signal to a child that was not waited for yet, so that its number is still its own; or, with `is_group`, to
+/// all processes of the group that has the child's number.
+pub fn send_signal(child: &std::process::Child, signal: Signal, is_group: bool) -> io::Result<()> {
+    let process = i32::try_from(child.id()).map_err(io::Error::other)?;
+    // SAFETY: no memory is passed.
+    checked(unsafe { kill(if is_group { -process } else { process }, signal.number()) }).map(drop)
+}
+
+/// Lets the programs that this one starts from now on have this file too.
+pub fn inherit(file: impl AsFd) -> io::Result<()> {
+    let file = file.as_fd().as_raw_fd();
+    // SAFETY: no memory is passed, and the file is open.
+    let flags = checked(unsafe { fcntl(file, F_GETFD, 0) })?;
+    // SAFETY: as above.
+    checked(unsafe { fcntl(file, F_SETFD, flags & !FD_CLOEXEC) }).map(drop)
+}
+
+/// From now on nobody waits who reads or writes this end of a pipe. The other end stays as it is.
+pub fn never_wait(pipe: impl AsFd) -> io::Result<()> {
+    let file = pipe.as_fd().as_raw_fd();
+    // SAFETY: no memory is passed, and the file is open.
+    let flags = checked(unsafe { fcntl(file, F_GETFL, 0) })?;
+    // SAFETY: as above.
+    checked(unsafe { fcntl(file, F_SETFL, flags | O_NONBLOCK) }).map(drop)
+}
+
+#[cfg(test)]
+mod tests {
+    use super::*;
+    use std::os::unix::process::ExitStatusExt;
+    use std::process::Command;
+
+    #[test]
+    fn a_child_ends_by_the_signal() {
+        let mut child = Command::new("sleep").arg("60").spawn().unwrap();
+        send_signal(&child, Signal::Terminate, false).unwrap();
+        assert_eq!(child.wait().unwrap().signal(), Some(15));
+    }
+
+    #[test]
+    fn an_inherited_file_is_there() {
+        let (one, _other) = std::os::unix::net::UnixStream::pair().unwrap();
+        let path = format!("/dev/fd/{}", one.as_fd().as_raw_fd());
+        let is_there = || Command::new("test").args(["-e", &path]).status().unwrap().success();
+        assert!(!is_there());
+        inherit(&one).unwrap();
+        assert!(is_there());
+    }
+
+    #[test]
+    fn a_pipe_that_has_nothing_is_not_waited_for() {
+        use std::io::Read;
+        let mut child = Command::new("sleep").arg("60").stdout(std::process::Stdio::piped()).spawn().unwrap();
+        let mut pipe = child.stdout.take().unwrap();
+        never_wait(&pipe).unwrap();
+        assert_eq!(pipe.read(&mut [0]).unwrap_err().kind(), io::ErrorKind::WouldBlock);
+        child.kill().unwrap();
+        child.wait().unwrap();
+    }
+}

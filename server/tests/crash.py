@@ -1,0 +1,161 @@
+#!/usr/bin/env python3
+"""crash.py [SECONDS [SEED]]: clients take and release locks while the engine or the server is killed at random moments, or a
+fault is written. Then the journal is judged:
+
+- nobody is inside while another is, across restarts too;
+- tokens rise, across restarts, and each that was told is a grant of the journal, with the client's label;
+- in the journal each grant of a hold is followed by its end before the next one;
+- `bench/small_recover.py`, which knows nothing of this program, finds the history legal (for a journal in one segment).
+"""
+
+import os
+import random
+import signal
+import subprocess
+import sys
+import tempfile
+import threading
+import time
+
+from harness import TOP, Server
+
+from wozgirt import Client, LockError
+
+NAMES, MACHINES, CLIENTS, LEASE = "ab", 5, 8, "0.3"
+
+
+class Trial:
+    """What the clients saw."""
+
+    def __init__(self, path):
+        self.path = path
+        self.stop = threading.Event()
+        self.mutex = threading.Lock()
+        self.inside, self.told, self.faults, self.losses = {}, [], [], 0
+
+    def work(self, number):
+        draw = random.Random(number)
+        while not self.stop.is_set():
+            try:
+                with Client(self.path) as client:
+                    while not self.stop.is_set():
+                        self.hold(client, draw, number)
+            except (LockError, OSError):
+                with self.mutex:
+                    self.losses += 1
+                time.sleep(0.01)
+
+    def hold(self, client, draw, number):
+        name = draw.choice(NAMES)
+        token = client.acquire(name, label=number)
+        with self.mutex:
+            if name in self.inside:
+                self.faults.append(f"{number} is inside {name} while {self.inside[name]} is")
+            self.inside[name] = number
+            self.told.append((name, token, number))
+        try:
+            for _ in range(draw.randrange(3)):
+                time.sleep(0.001)
+                client.check()
+        finally:
+            with self.mutex:
+                self.inside.pop(name, None)
+        client.release(name, token)
+
+
+def disturb(server, draw):
+    """One disturbance: the server, which may be a new one, and what was done."""
+    what = draw.choice(["server", "engine", "engine", "fault", "fault"])
+    if what == "server":
+        server.process.send_signal(signal.SIGKILL)
+        server.process.wait()
+        server = Server(folder=server.folder, locks=",".join(f"{name}:{MACHINES}" for name in NAMES), lease=LEASE)
+    elif what == "engine":
+        try:
+            server.kill_engine()
+        except (TypeError, ProcessLookupError):
+            what = "nothing"  # it is being started again
+    else:
+        try:
+            server.operate(f"corrupt {draw.choice(NAMES)} {draw.randrange(MACHINES)} {draw.randrange(MACHINES)}")
+        except OSError:
+            what = "nothing"
+    return server, what
+
+
+def judge_holds(calls, told):
+    """What is wrong with the holds of the journal, and with what the clients were told of them."""
+    wrong, open_, grants = [], {}, {}
+    for line in calls:
+        words = line.split(" ")
+        ring, kind, seat = words[:3]
+        if kind == "p" and seat == "0":
+            if open_.get(ring):
+                wrong.append("granted while a hold is open: " + line)
+            open_[ring] = True
+            grants[NAMES[int(ring)], int(words[6])] = int(words[4])
+        elif kind == "s" and seat in "12":
+            if not open_.get(ring):
+                wrong.append("an end of no hold: " + line)
+            open_[ring] = False
+    last = dict.fromkeys(NAMES, 0)
+    for name, token, label in told:
+        if token <= last[name]:
+            wrong.append(f"token {token} of {name} does not rise")
+        last[name] = token
+        if grants.get((name, token)) != label:
+            wrong.append(f"token {token} of {name} is not in the journal as {label}'s")
+    return wrong
+
+
+def judge_history(server):
+    """What the second checker says of the journal's history, or nothing if it cannot be asked."""
+    segments = sorted(name for name in os.listdir(server.journal) if name.endswith(".ring"))
+    if segments != ["0000000001.ring"]:
+        return None
+    with open(os.path.join(server.journal, segments[0]), encoding="ascii") as file:
+        text = file.read()
+    with tempfile.TemporaryDirectory() as folder:
+        journal = os.path.join(folder, "journal.txt")
+        with open(journal, "w", encoding="ascii") as file:
+            file.write(text[text.index("ringjournal"):])
+        judged = subprocess.run([sys.executable, os.path.join(TOP, "bench", "small_recover.py"), journal],
+                                capture_output=True, text=True, check=False)
+    # the recovered history, with the line of the verdict
+    return next((line for line in judged.stdout.splitlines() if line.startswith("legal ")), judged.stdout[-200:] + judged.stderr)
+
+
+def main():
+    seconds = float(sys.argv[1]) if len(sys.argv) > 1 else 30
+    seed = int(sys.argv[2]) if len(sys.argv) > 2 else random.randrange(1 << 32)
+    draw, done = random.Random(seed), {}
+    with tempfile.TemporaryDirectory(prefix="wozgirt-crash-") as folder:
+        server = Server(folder=folder, locks=",".join(f"{name}:{MACHINES}" for name in NAMES), lease=LEASE)
+        trial = Trial(server.path)
+        threads = [threading.Thread(target=trial.work, args=(number,), daemon=True) for number in range(1, CLIENTS + 1)]
+        for thread in threads:
+            thread.start()
+        end = time.monotonic() + seconds
+        while time.monotonic() < end:
+            time.sleep(draw.uniform(0.2, 0.9))
+            server, what = disturb(server, draw)
+            done[what] = done.get(what, 0) + 1
+        trial.stop.set()
+        for thread in threads:
+            thread.join(30)
+        server.stop()
+        wrong = trial.faults + judge_holds(server.calls(), trial.told)
+        verdict = judge_history(server)
+        if verdict is not None and not verdict.startswith("legal"):
+            wrong.append("the history: " + verdict)
+    kills = ", ".join(f"{what} {count}" for what, count in sorted(done.items()))
+    print(f"seed {seed} seconds {seconds:.0f} disturbed: {kills}; connections lost {trial.losses}, grants told {len(trial.told)}; "
+          f"verdict {verdict}")
+    for line in wrong[:10]:
+        print(line)
+    print("2 passed, 0 failed" if not wrong and trial.told else "0 passed, 2 failed")
+    return 1 if wrong or not trial.told else 0
+
+
+if __name__ == "__main__":
+    sys.exit(main())

@@ -1,0 +1,236 @@
+//! The machine of locks: who holds, who waits. Written from its description, and not the proved one.
+
+use crate::ring::{Ring, LEFT, RELEASED};
+use std::collections::{BTreeSet, HashMap, VecDeque};
+use std::fmt::Write as _;
+use wozgirt_engine::{Answer, Answered, Asked, Client, Input, Label, Refusal, Stats, Token, NOBODY};
+
+struct Waiter {
+    client: Client,
+    label: Label,
+}
+
+#[derive(Clone, Copy)]
+pub struct Holder {
+    pub client: Client,
+    pub token: Token,
+}
+
+pub struct Lock {
+    pub ring: Ring,
+    pub holder: Option<Holder>,
+    line: VecDeque<Waiter>,
+}
+
+impl Lock {
+    fn is_held_by(&self, client: Client) -> bool {
+        self.holder.is_some_and(|holder| holder.client == client)
+    }
+
+    /// Takes the client out of the line: whether it stood there.
+    fn give_up(&mut self, client: Client) -> bool {
+        let place = self.line.iter().position(|waiter| waiter.client == client);
+        place.and_then(|place| self.line.remove(place)).is_some()
+    }
+}
+
+pub struct Locks {
+    pub locks: Vec<Lock>,
+    /// The locks that a client may hold or wait for.
+    touched: HashMap<Client, BTreeSet<usize>>,
+    waits_for: HashMap<Client, usize>,
+    permits_faults: bool,
+    pub answers: String,
+    pub journal: String,
+}
+
+impl Locks {
+    pub fn new(sizes: &[(usize, u64)], permits_faults: bool) -> Locks {
+        let ring = |(number, &(n, k))| Lock { ring: Ring::new(number, n, k), holder: None, line: VecDeque::new() };
+        Locks {
+            locks: sizes.iter().enumerate().map(ring).collect(),
+            touched: HashMap::new(),
+            waits_for: HashMap::new(),
+            permits_faults,
+            answers: String::new(),
+            journal: String::new(),
+        }
+    }
+
+    /// After the journal was read: repairs, and what is held is nobody's that is there.
+    pub fn begin(&mut self) {
+        for lock in &mut self.locks {
+            lock.ring.repair(&mut self.journal);
+        }
+        let held = (0..self.locks.len()).filter(|&l| self.locks[l].holder.is_some()).collect();
+        self.touched.insert(NOBODY, held);
+    }
+
+    fn answer(&mut self, client: Client, answer: Answer) {
+        let _ = writeln!(self.answers, "{}", Answered { client, answer });
+    }
+
+    /// One line of standard input.
+    pub fn line(&mut self, line: &str) {
+        match line.parse::<Asked>() {
+            Ok(Asked { client, input }) => {
+                if let Err((why, lock)) = self.input(client, input) {
+                    self.answer(client, Answer::Refused { why, lock });
+                }
+            }
+            Err(fault) => {
+                let client = line.split(' ').next().and_then(|word| word.parse().ok()).unwrap_or(NOBODY);
+                let _ = writeln!(self.answers, "{client} refused {fault}");
+            }
+        }
+    }
+
+    fn input(&mut self, client: Client, input: Input) -> Result<(), (Refusal, Option<usize>)> {
+        let lock = match input {
+            Input::Leave => {
+                self.leave(client);
+                return Ok(());
+            }
+            Input::Acquire { lock, .. } | Input::Try { lock, .. } | Input::Release { lock, .. } => lock,
+            Input::Cancel { lock } | Input::Corrupt { lock, .. } | Input::Stats { lock } => lock,
+        };
+        if lock >= self.locks.len() {
+            return Err((Refusal::Lock, None));
+        }
+        let done = match input {
+            Input::Leave => Ok(()),
+            Input::Acquire { label, .. } => self.acquire(client, lock, label),
+            Input::Try { label, .. } => self.attempt(client, lock, label),
+            Input::Release { token, .. } => self.release(client, lock, token),
+            Input::Cancel { .. } => self.cancel(client, lock),
+            Input::Corrupt { machine, value, .. } => self.corrupt(client, lock, machine, value),
+            Input::Stats { .. } => self.stats(client, lock),
+        };
+        done.map_err(|why| if why == Refusal::Off { (why, None) } else { (why, Some(lock)) })
+    }
+
+    fn grant(&mut self, client: Client, l: usize, label: Label) {
+        let lock = &mut self.locks[l];
+        let token = lock.ring.grant(label, &mut self.journal);
+        lock.holder = Some(Holder { client, token });
+        self.touched.entry(client).or_default().insert(l);
+        self.answer(client, Answer::Granted { lock: l, token });
+    }
+
+    fn end_hold(&mut self, l: usize, seat: u64) {
+        let lock = &mut self.locks[l];
+        lock.holder = None;
+        lock.ring.survey(seat, &mut self.journal);
+    }
+
+    fn advance(&mut self, l: usize) {
+        if let Some(head) = self.locks[l].line.pop_front() {
+            self.waits_for.remove(&head.client);
+            self.grant(head.client, l, head.label);
+        }
+    }
+
+    /// Would the client, if it waited for lock l, wait step by step for itself?
+    fn closes_circle(&self, client: Client, mut l: usize) -> bool {
+        while let Some(holder) = self.locks[l].holder {
+            if holder.client == client {
+                return true;
+            }
+            match self.waits_for.get(&holder.client) {
+                Some(&next) => l = next,
+                None => return false,
+            }
+        }
+        false
+    }
+
+    fn acquire(&mut self, client: Client, l: usize, label: Label) -> Result<(), Refusal> {
+        if self.locks[l].is_held_by(client) {
+            return Err(Refusal::Holds);
+        }
+        if self.waits_for.contains_key(&client) {
+            return Err(Refusal::Waits);
+        }
+        if self.locks[l].holder.is_none() {
+            self.grant(client, l, label);
+            return Ok(());
+        }
+        if self.closes_circle(client, l) {
+            return Err(Refusal::Circle);
+        }
+        let before = self.locks[l].line.len() as u64;
+        self.locks[l].line.push_back(Waiter { client, label });
+        self.waits_for.insert(client, l);
+        self.touched.entry(client).or_default().insert(l);
+        self.answer(client, Answer::Waiting { lock: l, before });
+        Ok(())
+    }
+
+    fn attempt(&mut self, client: Client, l: usize, label: Label) -> Result<(), Refusal> {
+        if self.locks[l].is_held_by(client) {
+            return Err(Refusal::Holds);
+        }
+        if self.waits_for.get(&client) == Some(&l) {
+            return Err(Refusal::Waits);
+        }
+        if self.locks[l].holder.is_some() {
+            self.answer(client, Answer::Busy { lock: l });
+        } else {
+            self.grant(client, l, label);
+        }
+        Ok(())
+    }
+
+    fn release(&mut self, client: Client, l: usize, token: Token) -> Result<(), Refusal> {
+        if !self.locks[l].holder.is_some_and(|holder| holder.client == client && holder.token == token) {
+            return Err(Refusal::Holder);
+        }
+        self.end_hold(l, RELEASED);
+        self.answer(client, Answer::Released { lock: l });
+        self.advance(l);
+        Ok(())
+    }
+
+    fn cancel(&mut self, client: Client, l: usize) -> Result<(), Refusal> {
+        if !self.locks[l].give_up(client) {
+            return Err(Refusal::Waiter);
+        }
+        self.waits_for.remove(&client);
+        self.answer(client, Answer::Cancelled { lock: l });
+        Ok(())
+    }
+
+    fn leave(&mut self, client: Client) {
+        self.waits_for.remove(&client);
+        for l in self.touched.remove(&client).unwrap_or_default() {
+            self.locks[l].give_up(client);
+            if self.locks[l].is_held_by(client) {
+                self.end_hold(l, LEFT);
+                self.advance(l);
+            }
+        }
+    }
+
+    fn corrupt(&mut self, client: Client, l: usize, machine: u64, value: u64) -> Result<(), Refusal> {
+        if !self.permits_faults {
+            return Err(Refusal::Off);
+        }
+        let ring = &mut self.locks[l].ring;
+        let machine = usize::try_from(machine).ok().filter(|&machine| machine < ring.n()).ok_or(Refusal::Machine)?;
+        if value >= ring.k {
+            return Err(Refusal::Value);
+        }
+        let old = ring.corrupt(machine, value, &mut self.journal);
+        self.answer(client, Answer::Corrupted { lock: l, old });
+        Ok(())
+    }
+
+    fn stats(&mut self, client: Client, l: usize) -> Result<(), Refusal> {
+        let lock = &self.locks[l];
+        let Holder { client: holder, token } = lock.holder.unwrap_or(Holder { client: NOBODY, token: 0 });
+        let (machines, waiters) = (lock.ring.n() as u64, lock.line.len() as u64);
+        let stats = Stats { lock: l, machines, waiters, passes: lock.ring.passes, holder, token };
+        self.answer(client, Answer::Stats(stats));
+        Ok(())
+    }
+}

@@ -1,0 +1,194 @@
+"""The command `wozgirt` with a server."""
+
+import os
+import signal
+import subprocess
+import time
+import unittest
+
+from harness import COMMAND, Server, needs_programs, say, wait_until
+
+
+def run(server, *words, **more):
+    return subprocess.run([COMMAND, *words], capture_output=True, text=True, timeout=60,
+                          env=dict(os.environ, WOZGIRT_SOCKET=server.path), **more)
+
+
+def start(server, *words):
+    return subprocess.Popen([COMMAND, *words], stdout=subprocess.PIPE, stderr=subprocess.PIPE, text=True,
+                            env=dict(os.environ, WOZGIRT_SOCKET=server.path))
+
+
+def close(process):
+    process.stdout.close()
+    process.stderr.close()
+
+
+@needs_programs
+class LockCommand(unittest.TestCase):
+    def test_statuses(self):
+        with Server() as server:
+            done = run(server, "lock", "a", "--", "sh", "-c", "echo $WOZGIRT_LOCK $WOZGIRT_TOKEN; exit 7")
+            self.assertEqual((done.returncode, done.stdout), (7, "a 1\n"))
+            self.assertEqual(run(server, "lock", "a", "true").returncode, 0)
+            self.assertEqual(run(server, "lock", "a", "--", "sh", "-c", "kill -9 $$").returncode, 137)
+            self.assertEqual(run(server, "lock", "a", "--", "/no/such").returncode, 69)
+            self.assertEqual(run(server, "lock", "a").returncode, 64)
+            self.assertEqual(run(server, "lock", "--wait", "x", "a", "--", "true").returncode, 64)
+            refused = run(server, "lock", "nothing", "--", "true")
+            self.assertEqual((refused.returncode, refused.stderr), (76, "wozgirt: refused: lock nothing\n"))
+            with server.raw() as sock:
+                say(sock, "acquire a 1\n")
+                self.assertEqual(run(server, "lock", "--no-wait", "a", "--", "true").returncode, 1)
+                self.assertEqual(run(server, "try", "a", "--", "true").returncode, 1)
+                self.assertEqual(run(server, "lock", "-E", "9", "-w", "0.1", "a", "--", "true").returncode, 9)
+                self.assertEqual(server.waiters("a"), 0)
+            self.assertEqual(run(server, "lock", "-w", "10", "a", "--", "true").returncode, 0)
+            server.stop()
+            self.assertEqual(run(server, "lock", "a", "--", "true").returncode, 69)
+
+    def test_it_waits_and_the_journal_has_the_label(self):
+        with Server() as server, server.raw() as sock:
+            say(sock, "acquire a 1\n")
+            it = start(server, "lock", "--label", "4711", "a", "--", "echo", "in")
+            server.wait_for_waiters("a", 1)
+            say(sock, "release a 1\n")
+            self.assertEqual(it.wait(10), 0)
+            self.assertEqual(it.stdout.read(), "in\n")
+            close(it)
+            server.stop()
+            self.assertEqual(server.calls()[2].split()[:5], ["0", "p", "0", "1", "4711"])
+            self.assertEqual(server.calls()[3].split()[:3], ["0", "s", "1"])  # released, not left
+
+    def test_killed_while_the_command_runs(self):
+        with Server() as server, server.raw() as sock:
+            it = start(server, "lock", "a", "--", "sh", "-c", "echo $$; exec sleep 1.5")
+            it.stdout.readline()
+            it.kill()
+            it.wait()
+            self.assertEqual(say(sock, "try a 1\n"), ["busy a"])  # the command lives, and so does its hold
+            self.assertEqual(say(sock, "acquire a 1\n", 2), ["waiting a 0", "granted a 2"])
+            close(it)
+
+    def test_killed_with_close(self):
+        with Server() as server, server.raw() as sock:
+            it = start(server, "lock", "-o", "a", "--", "sh", "-c", "echo $$; exec sleep 30")
+            command = int(it.stdout.readline())
+            it.kill()
+            it.wait()
+            self.assertEqual(say(sock, "acquire a 1\n")[0].split()[0], "granted")
+            os.kill(command, signal.SIGKILL)
+            close(it)
+
+    def test_killed_while_it_waits(self):
+        with Server() as server, server.raw() as sock:
+            say(sock, "acquire a 1\n")
+            it = start(server, "lock", "a", "--", "true")
+            server.wait_for_waiters("a", 1)
+            it.terminate()
+            self.assertEqual(it.wait(10), -signal.SIGTERM)
+            server.wait_for_waiters("a", 0)
+            close(it)
+
+    def test_signals_are_passed_on(self):
+        with Server() as server:
+            it = start(server, "lock", "a", "--", "sh", "-c", "trap 'echo heard; exit 3' TERM; echo up; while :; do sleep 0.05; done")
+            self.assertEqual(it.stdout.readline(), "up\n")
+            it.terminate()
+            self.assertEqual(it.wait(10), 3)
+            self.assertEqual(it.stdout.read(), "heard\n")
+            close(it)
+
+    def lose(self, server, it):
+        self.assertEqual(it.stdout.readline(), "up\n")
+        begun = time.monotonic()
+        server.kill_engine()
+        self.assertEqual(it.wait(10), 75)
+        self.assertIn("the lock is lost", it.stderr.read())
+        close(it)
+        return time.monotonic() - begun
+
+    def test_a_lost_lock_ends_the_command(self):
+        with Server() as server:
+            took = self.lose(server, start(server, "lock", "a", "--", "sh", "-c", "echo up; exec sleep 30"))
+            self.assertLess(took, 3)
+
+    def test_a_command_that_does_not_end_is_killed(self):
+        with Server() as server:
+            words = ("sh", "-c", "trap '' TERM; echo up; while :; do sleep 0.05; done")
+            took = self.lose(server, start(server, "lock", "--kill-after", "0.5", "a", "--", *words))
+            self.assertTrue(0.5 <= took < 5, took)
+
+    def test_a_group_ends_as_one(self):
+        with Server() as server:
+            it = start(server, "lock", "--group", "a", "--", "sh", "-c", "sleep 30 & echo up $!; wait")
+            sleeper = int(it.stdout.readline().split()[1])
+            server.kill_engine()
+            self.assertEqual(it.wait(10), 75)
+            wait_until(lambda: not os.path.exists(f"/proc/{sleeper}"))
+            close(it)
+
+    def test_a_lease_is_kept_and_lost_before_it_ends(self):
+        with Server() as server:
+            it = start(server, "lock", "--lease", "0.8", "a", "--", "sh", "-c", "echo up; exec sleep 30")
+            self.assertEqual(it.stdout.readline(), "up\n")
+            time.sleep(2)
+            self.assertIsNone(it.poll())
+            server.process.send_signal(signal.SIGSTOP)  # as if no line got through
+            begun = time.monotonic()
+            self.assertEqual(it.wait(10), 75)
+            self.assertLess(time.monotonic() - begun, 0.8)
+            server.process.send_signal(signal.SIGCONT)
+            close(it)
+
+    def test_a_stopped_server_is_noticed_while_waiting(self):
+        with Server() as server, server.raw() as sock:
+            say(sock, "acquire a 1\n")
+            it = start(server, "lock", "--lease", "0.8", "a", "--", "true")
+            server.wait_for_waiters("a", 1)
+            server.process.send_signal(signal.SIGSTOP)
+            self.assertEqual(it.wait(10), 69)
+            server.process.send_signal(signal.SIGCONT)
+            close(it)
+
+    def test_over_tcp(self):
+        with Server("--tcp", "127.0.0.1:0") as server:
+            address = server.text_of_log().split("clients at 127.0.0.1:")[1].split("\n")[0]
+            done = run(server, "lock", "--socket", f"tcp:127.0.0.1:{address}", "a", "--", "sh", "-c", "echo $WOZGIRT_TOKEN")
+            self.assertEqual((done.returncode, done.stdout), (0, "1\n"))
+
+
+@needs_programs
+class Looks(unittest.TestCase):
+    def test_status(self):
+        with Server(locks="a,b") as server, server.raw() as one, server.raw() as two:
+            say(one, "acquire b 77\n")
+            say(two, "acquire b 78\n")
+            rows = [line.split() for line in run(server, "status").stdout.splitlines()]
+            self.assertEqual(rows[0][:3], ["LOCK", "STATE", "CLIENT"])
+            self.assertEqual(rows[1], ["a", "free", "-", "-", "-", "-", "0", "0", "0", "ms"])
+            self.assertEqual((rows[2][:2], rows[2][3:5], rows[2][-4]), (["b", "held"], ["77", "1"], "1"))
+
+    def test_watch(self):
+        with Server() as server:
+            it = start(server, "watch", "--every", "0.05")
+            heads = [line for line in (it.stdout.readline() for _ in range(12)) if line.startswith("LOCK")]
+            self.assertEqual(len(heads), 3)
+            it.terminate()
+            it.wait(10)
+            close(it)
+
+    def test_bench(self):
+        with Server() as server:
+            done = run(server, "bench", "4", "2", "0.2")
+            self.assertRegex(done.stdout, r"^clients 4 locks 2 seconds 0\.\d+ handovers/s \d+ acquire p50 .* ratio \d+\.\d+\n$")
+            self.assertEqual(run(server, "bench", "1", "9", "0.1").stderr, "wozgirt: the server has 3 locks\n")
+
+    def test_help_and_version(self):
+        with Server() as server:
+            self.assertIn("wozgirt lock NAME", run(server, "--help").stdout)
+            self.assertRegex(run(server, "--version").stdout, r"^wozgirt \d+\.\d+\.\d+\n$")
+
+
+if __name__ == "__main__":
+    unittest.main()

@@ -1,0 +1,140 @@
+"""The page and the metrics, read with parsers."""
+
+import html.parser
+import http.client
+import re
+import socket
+import unittest
+
+from harness import Server, needs_programs, say, wait_until
+
+METRIC = re.compile(r'^([a-z_]+)(?:\{([a-z]+)="([^"\\\n]*)"\})? (-?[0-9.]+(?:e[+-]?[0-9]+)?)$')
+
+
+def with_page(test):
+    def run(self):
+        with Server("--page", "127.0.0.1:0", locks="deploy,gpu/0") as server:
+            self.port = int(server.text_of_log().split("page at 127.0.0.1:")[1].split("\n")[0])
+            test(self, server)
+    return run
+
+
+class Table(html.parser.HTMLParser):
+    """The cells of the page's table, and whether every element is closed in its order."""
+
+    ALONE = {"meta", "br"}
+
+    def __init__(self):
+        super().__init__()
+        self.open, self.rows, self.scripts = [], [], 0
+
+    def handle_starttag(self, tag, attrs):
+        self.scripts += tag == "script"
+        if tag not in self.ALONE:
+            self.open.append(tag)
+        if tag == "tr":
+            self.rows.append([])
+        if tag in ("td", "th"):
+            self.rows[-1].append("")
+
+    def handle_endtag(self, tag):
+        assert self.open.pop() == tag, tag
+
+    def handle_data(self, data):
+        if "td" in self.open or "th" in self.open:
+            self.rows[-1][-1] += data
+
+
+@needs_programs
+class Pages(unittest.TestCase):
+    def ask(self, method, target, **headers):
+        connection = http.client.HTTPConnection("127.0.0.1", self.port, timeout=10)
+        connection.request(method, target, headers=headers)
+        answer = connection.getresponse()
+        body = answer.read().decode()
+        connection.close()
+        return answer, body
+
+    def metrics(self):
+        answer, body = self.ask("GET", "/metrics")
+        self.assertEqual((answer.status, answer.getheader("Content-Type")), (200, "text/plain; version=0.0.4; charset=utf-8"))
+        values, kinds = {}, {}
+        for line in body.splitlines():
+            if line.startswith("# TYPE "):
+                _, _, name, kind = line.split(" ")
+                self.assertNotIn(name, kinds)
+                kinds[name] = kind
+            elif not line.startswith("# HELP "):
+                match = METRIC.match(line)
+                self.assertIsNotNone(match, line)
+                name, _, of, value = match.groups()
+                self.assertIn(name, kinds)
+                self.assertEqual(kinds[name] == "counter", name.endswith("_total"), name)
+                self.assertNotIn((name, of), values)
+                values[name, of] = float(value)
+        return values
+
+    @with_page
+    def test_the_page(self, server):
+        with server.raw() as one, server.raw() as two:
+            say(one, "acquire gpu/0 77\n")
+            say(two, "acquire gpu/0 78\n")
+            server.operate("corrupt deploy 1 3")
+            answer, body = self.ask("GET", "/")
+            self.assertEqual((answer.status, answer.getheader("Content-Type")), (200, "text/html; charset=utf-8"))
+            table = Table()
+            table.feed(body)
+            table.close()
+            self.assertEqual((table.open, table.scripts), ([], 0))
+            head, deploy, gpu = table.rows
+            self.assertEqual(head[:4], ["Lock", "Held by", "Label", "Token"])
+            self.assertEqual(deploy[:2], ["deploy", "free"])
+            self.assertIn("machine 1, 3 over 0; repaired", deploy[-1])
+            self.assertEqual((gpu[0], gpu[2], gpu[3]), ("gpu/0", "77", "1"))
+            self.assertRegex(gpu[1], r"^client \d+$")
+            self.assertRegex(gpu[5], r"^1client \d+ label 78 for ")
+            self.assertIn('http-equiv="refresh"', body)
+
+    @with_page
+    def test_the_metrics(self, server):
+        with server.raw() as one, server.raw() as two:
+            say(one, "acquire deploy 1\nrelease deploy 1\nacquire deploy 2\nacquire none 1\n", 4)
+            say(two, "acquire deploy 1\n")
+            values = self.metrics()
+            self.assertEqual(values["wozgirt_engine_up", None], 1)
+            self.assertEqual(values["wozgirt_grants_total", "deploy"], 2)
+            self.assertEqual(values["wozgirt_grants_total", "gpu/0"], 0)
+            self.assertEqual((values["wozgirt_held", "deploy"], values["wozgirt_waiting", "deploy"]), (1, 1))
+            self.assertEqual(values["wozgirt_refusals_total", "lock"], 1)
+            self.assertEqual(values["wozgirt_connections", None], 2)
+            self.assertGreater(values["wozgirt_journal_bytes", None], 100)
+            two.close()
+            wait_until(lambda: self.metrics()["wozgirt_waiting", "deploy"] == 0)
+            self.assertEqual(self.metrics()["wozgirt_engine_starts_total", None], 1)
+
+    @with_page
+    def test_what_is_refused(self, server):
+        for method, target, headers, status in (("GET", "/x", {}, 404), ("POST", "/", {}, 405), ("GET", "/", {"Host": "a.example"}, 421)):
+            self.assertEqual(self.ask(method, target, **headers)[0].status, status)
+        self.assertEqual(self.ask("HEAD", "/metrics")[1], "")
+        with socket.create_connection(("127.0.0.1", self.port), 10) as sock:
+            sock.sendall(b"x" * 9000)
+            self.assertTrue(sock.recv(100).startswith(b"HTTP/1.1 400 "))
+
+    @with_page
+    def test_visitors_that_say_nothing_keep_nobody_out(self, server):
+        idle = [socket.create_connection(("127.0.0.1", self.port), 10) for _ in range(20)]
+        with server.raw() as sock:
+            self.assertEqual(say(sock, "acquire deploy 1\n"), ["granted deploy 1"])
+        [sock.close() for sock in idle]
+        wait_until(lambda: self.answers())
+
+    def answers(self):
+        try:
+            return self.ask("GET", "/")[0].status == 200
+        except (http.client.HTTPException, OSError):
+            return False
+
+
+if __name__ == "__main__":
+    unittest.main()

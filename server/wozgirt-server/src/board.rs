@@ -1,0 +1,244 @@
+//! What the engine told about each lock, for those who look: `status`, the page, the metrics. Nothing is decided by it,
+//! but how many may wait.
+
+use crate::log::Utc;
+use std::collections::VecDeque;
+use std::time::{Duration, Instant};
+use wozgirt_engine::{Client, Label, Lock, Stats, Token, NOBODY};
+
+/// Who holds a lock.
+#[derive(Debug, Clone, Copy, PartialEq, Eq)]
+pub struct Holder {
+    /// The client; [`NOBODY`] for a hold from before the engine's start.
+    pub client: Client,
+    /// The token.
+    pub token: Token,
+    /// The label, if it is known here.
+    pub label: Option<Label>,
+    /// Since when, as this server knows.
+    pub since: Instant,
+}
+
+/// Who waits for a lock.
+#[derive(Debug, Clone, Copy, PartialEq, Eq)]
+pub struct Waiter {
+    /// The client.
+    pub client: Client,
+    /// The label for its hold.
+    pub label: Label,
+    /// Since when.
+    pub since: Instant,
+}
+
+/// A fault that an operator wrote. The engine repairs it before it answers.
+#[derive(Debug, Clone, Copy, PartialEq, Eq)]
+pub struct Fault {
+    /// When it was answered.
+    pub at: Utc,
+    /// The machine.
+    pub machine: u64,
+    /// The value that was written, and the one before.
+    pub value: u64,
+    /// The value that was there.
+    pub old: u64,
+}
+
+/// One lock, as far as it is known here.
+#[derive(Debug, Default)]
+pub struct Sight {
+    /// How many machines its ring has, or 0 as long as the engine did not say.
+    pub machines: u64,
+    /// Who holds it.
+    pub holder: Option<Holder>,
+    /// Who waits, in the order of the line.
+    pub line: VecDeque<Waiter>,
+    /// How often it was granted since the server started.
+    pub grants: u64,
+    /// How long those who were granted it had waited, together and at most.
+    pub waited: Duration,
+    /// The longest of these waits.
+    pub longest_wait: Duration,
+    /// How many faults were written since the server started.
+    pub faults: u64,
+    /// The last of them.
+    pub last_fault: Option<Fault>,
+    /// How many acquires the engine has not answered yet.
+    asked: usize,
+}
+
+impl Sight {
+    /// Whether one more who asks might be one too many in the line. The first who asks for a free lock does not wait.
+    pub fn is_full(&self, most: usize) -> bool {
+        let waiting = self.line.len() + self.asked;
+        waiting >= most.saturating_add(usize::from(self.holder.is_none()))
+    }
+
+    fn take_waiter(&mut self, client: Client) -> Option<Waiter> {
+        // the one who is granted stands first
+        let place = self.line.iter().position(|waiter| waiter.client == client)?;
+        self.line.remove(place)
+    }
+}
+
+/// All locks.
+#[derive(Debug)]
+pub struct Board {
+    locks: Vec<Sight>,
+}
+
+impl Board {
+    /// Of so many locks, of which nothing is known.
+    pub fn new(locks: usize) -> Board {
+        Board { locks: (0..locks).map(|_| Sight::default()).collect() }
+    }
+
+    /// Each lock, in order.
+    pub fn locks(&self) -> &[Sight] {
+        &self.locks
+    }
+
+    /// One lock.
+    pub fn lock(&self, lock: Lock) -> Option<&Sight> {
+        self.locks.get(lock)
+    }
+
+    fn with(&mut self, lock: Lock, change: impl FnOnce(&mut Sight)) {
+        if let Some(sight) = self.locks.get_mut(lock) {
+            change(sight);
+        }
+    }
+
+    /// An acquire goes to the engine.
+    pub fn asked(&mut self, lock: Lock) {
+        self.with(lock, |sight| sight.asked += 1);
+    }
+
+    /// An acquire was answered, or its client is gone.
+    pub fn asked_no_longer(&mut self, lock: Lock) {
+        self.with(lock, |sight| sight.asked = sight.asked.saturating_sub(1));
+    }
+
+    /// The client stands at the end of the line.
+    pub fn waits(&mut self, lock: Lock, client: Client, label: Label, now: Instant) {
+        self.with(lock, |sight| sight.line.push_back(Waiter { client, label, since: now }));
+    }
+
+    /// The client waits no longer.
+    pub fn waits_no_longer(&mut self, lock: Lock, client: Client) {
+        self.with(lock, |sight| {
+            sight.take_waiter(client);
+        });
+    }
+
+    /// The client holds the lock. The label of one who waited is known.
+    pub fn granted(&mut self, lock: Lock, client: Client, token: Token, label: Option<Label>, now: Instant) {
+        self.with(lock, |sight| {
+            let waiter = sight.take_waiter(client);
+            let waited = waiter.map_or(Duration::ZERO, |waiter| now.saturating_duration_since(waiter.since));
+            sight.holder = Some(Holder { client, token, label: label.or(waiter.map(|it| it.label)), since: now });
+            sight.grants += 1;
+            sight.waited += waited;
+            sight.longest_wait = sight.longest_wait.max(waited);
+        });
+    }
+
+    /// The client's hold ended.
+    pub fn released(&mut self, lock: Lock, client: Client) {
+        self.with(lock, |sight| {
+            sight.holder.take_if_held_by(client);
+        });
+    }
+
+    /// The hold ended without a release: whether there was one.
+    pub fn left(&mut self, lock: Lock, client: Client) -> bool {
+        self.locks.get_mut(lock).is_some_and(|sight| sight.holder.take_if_held_by(client))
+    }
+
+    /// A fault was written and repaired.
+    pub fn fault(&mut self, lock: Lock, machine: u64, value: u64, old: u64) {
+        self.with(lock, |sight| {
+            sight.faults += 1;
+            sight.last_fault = Some(Fault { at: Utc::now(), machine, value, old });
+        });
+    }
+
+    /// The engine ended: nothing is known of holds and lines.
+    pub fn forget(&mut self) {
+        for sight in &mut self.locks {
+            sight.holder = None;
+            sight.line.clear();
+            sight.asked = 0;
+        }
+    }
+
+    /// What the engine says of a lock when it starts: whether it is held from before.
+    pub fn begin(&mut self, stats: &Stats, now: Instant) -> bool {
+        let is_held = stats.lock < self.locks.len() && stats.token > 0 && stats.holder == NOBODY;
+        self.with(stats.lock, |sight| {
+            sight.machines = stats.machines;
+            if is_held {
+                sight.holder = Some(Holder { client: NOBODY, token: stats.token, label: None, since: now });
+            }
+        });
+        is_held
+    }
+}
+
+/// A holder that may be taken away.
+trait TakeIfHeldBy {
+    /// Takes it away if it is this client: whether it was.
+    fn take_if_held_by(&mut self, client: Client) -> bool;
+}
+
+impl TakeIfHeldBy for Option<Holder> {
+    fn take_if_held_by(&mut self, client: Client) -> bool {
+        let is_held = self.is_some_and(|holder| holder.client == client);
+        if is_held {
+            *self = None;
+        }
+        is_held
+    }
+}
+
+#[cfg(test)]
+mod tests {
+    use super::*;
+
+    #[test]
+    fn a_hand_over() {
+        let (mut board, start) = (Board::new(2), Instant::now());
+        board.granted(0, 1, 1, Some(77), start);
+        board.asked(0);
+        assert!(board.locks()[0].is_full(1) && !board.locks()[0].is_full(2));
+        assert!(!board.locks()[1].is_full(0));
+        board.asked_no_longer(0);
+        board.waits(0, 2, 78, start);
+        board.waits(0, 3, 79, start);
+        board.released(0, 2); // does not hold it
+        assert_eq!(board.locks()[0].holder.unwrap().client, 1);
+        board.released(0, 1);
+        assert_eq!(board.locks()[0].holder, None);
+        board.granted(0, 2, 2, None, start + Duration::from_millis(5));
+        let sight = &board.locks()[0];
+        let holder = Holder { client: 2, token: 2, label: Some(78), since: start + Duration::from_millis(5) };
+        assert_eq!(sight.holder, Some(holder));
+        assert_eq!((sight.grants, sight.longest_wait, sight.line.len()), (2, Duration::from_millis(5), 1));
+        assert!(board.left(0, 2) && !board.left(0, 2) && !board.left(7, 2));
+        board.waits_no_longer(0, 3);
+        assert_eq!((board.locks()[0].holder, board.locks()[0].line.len()), (None, 0));
+    }
+
+    #[test]
+    fn a_restart() {
+        let (mut board, now) = (Board::new(1), Instant::now());
+        board.granted(0, 5, 9, Some(1), now);
+        board.waits(0, 6, 1, now);
+        board.forget();
+        let stats = Stats { lock: 0, machines: 8, waiters: 0, passes: 9, holder: NOBODY, token: 9 };
+        assert!(board.begin(&stats, now));
+        assert_eq!(board.locks()[0].holder.unwrap().client, NOBODY);
+        assert!(board.left(0, NOBODY));
+        assert!(!board.begin(&Stats { token: 0, ..stats }, now));
+        assert!(!board.begin(&Stats { lock: 7, ..stats }, now));
+    }
+}

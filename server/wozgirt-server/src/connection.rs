@@ -1,0 +1,251 @@
+//! One connection: what it said and was not answered yet, and what it was told and did not read yet.
+
+use crate::log::End;
+use crate::outbox::Outbox;
+use crate::requests::LONGEST_LINE;
+use crate::stream::Stream;
+use std::collections::VecDeque;
+use std::io::{self, ErrorKind, Read};
+use std::time::{Duration, Instant};
+use wozgirt_engine::{Client, Input, Lock};
+use wozgirt_system::{Interest, Peer};
+
+/// How much is read of a connection before the others have their turn.
+pub const SHARE: usize = 4 << 10;
+/// How many lines of a connection may wait for the engine's answer: then no more is read of it.
+const MOST_PENDING: usize = 128;
+/// With more bytes unread than this, no more is read of a connection.
+const MOST_UNREAD: usize = 64 << 10;
+
+/// How many shares are read of a connection that is to be closed.
+const MOST_DRAINED: usize = 16;
+
+/// The door through which a connection came.
+#[derive(Debug, Clone, Copy, PartialEq, Eq)]
+pub enum Door {
+    /// The clients' socket.
+    Clients,
+    /// The operators' socket.
+    Operators,
+    /// TCP.
+    Network,
+}
+
+/// A line that has its place among the answers.
+#[derive(Debug)]
+pub enum Pending {
+    /// The engine answers it.
+    Asked(Input),
+    /// A leave, which the engine does not answer; another input behind it shows when it is done.
+    Left,
+    /// The server has answered it, and that is told when all before it is answered.
+    Told(Vec<u8>),
+}
+
+/// What came of reading.
+#[derive(Debug, PartialEq, Eq)]
+pub enum Reading {
+    /// There was something, or nothing yet.
+    Open,
+    /// The other end said all that it will say.
+    Ended,
+}
+
+/// One connection.
+#[derive(Debug)]
+pub struct Connection {
+    /// Its number.
+    pub client: Client,
+    /// Its door.
+    pub door: Door,
+    /// Who is at the other end, if the system knows.
+    pub peer: Option<Peer>,
+    /// The same for a reader.
+    pub who: String,
+    /// Lines without an answer, the oldest first.
+    pub pending: VecDeque<Pending>,
+    /// The lock for which it waits, as far as the engine told.
+    pub waits_for: Option<Lock>,
+    /// The locks that it holds, as far as the engine told.
+    pub holds: Vec<Lock>,
+    /// The silence after which it is taken for dead.
+    pub lease: Option<Duration>,
+    /// Why it is to be closed when it was told all, if it is.
+    pub ending: Option<End>,
+    /// The other end says nothing more; it may still read.
+    pub has_said_all: bool,
+    /// Something is to be written to it at the end of this round.
+    pub is_dirty: bool,
+    /// When it was last heard.
+    heard: Instant,
+    /// Since when it takes nothing of what it is told.
+    stuck: Option<Instant>,
+    stream: Stream,
+    interest: Interest,
+    input: Vec<u8>,
+    outbox: Outbox,
+}
+
+impl Connection {
+    /// A new connection.
+    pub fn new(
+        client: Client,
+        door: Door,
+        peer: Option<Peer>,
+        who: String,
+        stream: Stream,
+        now: Instant,
+    ) -> Connection {
+        Connection {
+            client,
+            door,
+            peer,
+            who,
+            pending: VecDeque::new(),
+            waits_for: None,
+            holds: Vec::new(),
+            lease: None,
+            ending: None,
+            has_said_all: false,
+            is_dirty: false,
+            heard: now,
+            stuck: None,
+            stream,
+            interest: Interest::READS,
+            input: Vec::new(),
+            outbox: Outbox::default(),
+        }
+    }
+
+    /// Its socket.
+    pub fn stream(&self) -> &Stream {
+        &self.stream
+    }
+
+    /// Reads its share.
+    pub fn read(&mut self, buffer: &mut [u8; SHARE], now: Instant) -> io::Result<Reading> {
+        match self.stream.read(buffer) {
+            Ok(0) => Ok(Reading::Ended),
+            Ok(count) => {
+                self.heard = now;
+                self.input.extend_from_slice(&buffer[..count]);
+                Ok(Reading::Open)
+            }
+            Err(fault) if matches!(fault.kind(), ErrorKind::WouldBlock | ErrorKind::Interrupted) => Ok(Reading::Open),
+            Err(fault) => Err(fault),
+        }
+    }
+
+    /// Reads a little of what it still says, unheard: a socket that is closed with something unread may take back what
+    /// was told last.
+    pub fn drain(&mut self, buffer: &mut [u8; SHARE]) {
+        for _ in 0..MOST_DRAINED {
+            if !matches!(self.stream.read(buffer), Ok(count) if count > 0) {
+                return;
+            }
+        }
+    }
+
+    /// What was read and not taken yet, out of the connection for a while; the rest goes back.
+    pub fn take_input(&mut self) -> Vec<u8> {
+        std::mem::take(&mut self.input)
+    }
+
+    /// Gives back what was taken, without its first bytes.
+    pub fn put_back(&mut self, mut input: Vec<u8>, taken: usize) {
+        input.drain(..taken);
+        self.input = input;
+    }
+
+    /// Whether a line is there that may be taken now.
+    pub fn has_line(&self) -> bool {
+        self.takes_more() && self.input.contains(&b'\n')
+    }
+
+    /// Whether a line has begun that can have no end.
+    pub fn has_endless_line(&self) -> bool {
+        self.input.len() >= LONGEST_LINE && !self.input[..LONGEST_LINE].contains(&b'\n')
+    }
+
+    /// Whether more of its lines may be taken: not as long as many are unanswered, or the answers unread.
+    pub fn takes_more(&self) -> bool {
+        self.ending.is_none() && self.pending.len() < MOST_PENDING && self.outbox.len() < MOST_UNREAD
+    }
+
+    /// Tells it something that the server says itself, after the answers to what it said before.
+    pub fn tell_in_order(&mut self, line: impl std::fmt::Display) {
+        match self.pending.back_mut() {
+            None => self.tell(line),
+            Some(Pending::Told(lines)) => put_line(lines, line),
+            Some(_) => {
+                let mut lines = Vec::new();
+                put_line(&mut lines, line);
+                self.pending.push_back(Pending::Told(lines));
+            }
+        }
+    }
+
+    /// Tells it something at once.
+    pub fn tell(&mut self, line: impl std::fmt::Display) {
+        put_line(self.outbox.bytes(), line);
+    }
+
+    /// Tells what waited only for the answers that are told now.
+    pub fn tell_what_waited(&mut self) {
+        while let Some(Pending::Told(lines)) = self.pending.front() {
+            self.outbox.bytes().extend_from_slice(lines);
+            self.pending.pop_front();
+        }
+    }
+
+    /// Writes what it takes.
+    pub fn write(&mut self, now: Instant) -> io::Result<()> {
+        let is_any = self.outbox.write_to(&mut self.stream)?;
+        if self.outbox.is_empty() {
+            self.stuck = None;
+        } else if is_any || self.stuck.is_none() {
+            self.stuck = Some(now);
+        }
+        Ok(())
+    }
+
+    /// Why it is to be closed now: it was told all that it asked for.
+    pub fn is_over(&self) -> Option<End> {
+        let is_told_all = self.pending.is_empty() && self.outbox.is_empty();
+        match self.ending {
+            Some(end) => is_told_all.then_some(end),
+            None => (self.has_said_all && is_told_all && !self.has_line()).then_some(End::Closed),
+        }
+    }
+
+    /// What is to be waited for at its socket, if that has changed.
+    pub fn new_interest(&mut self, is_engine_there: bool) -> Option<Interest> {
+        let reads = is_engine_there && !self.has_said_all && self.takes_more() && self.input.len() < SHARE;
+        let interest = Interest { reads, writes: !self.outbox.is_empty() };
+        let is_new = interest != self.interest;
+        self.interest = interest;
+        is_new.then_some(interest)
+    }
+
+    /// As long as nothing is read of it because the server has not answered, it cannot be heard.
+    pub fn excuse(&mut self, now: Instant) {
+        if !self.interest.reads && self.outbox.is_empty() {
+            self.heard = now;
+        }
+    }
+
+    /// Whether it was silent for longer than its lease.
+    pub fn is_silent(&self, now: Instant) -> bool {
+        self.lease.is_some_and(|lease| now.saturating_duration_since(self.heard) > lease)
+    }
+
+    /// Whether it left what it was told unread for longer than this.
+    pub fn is_deaf(&self, now: Instant, longest: Duration) -> bool {
+        self.stuck.is_some_and(|since| now.saturating_duration_since(since) > longest)
+    }
+}
+
+fn put_line(lines: &mut Vec<u8>, line: impl std::fmt::Display) {
+    use std::io::Write;
+    let _ = writeln!(lines, "{line}"); // a list takes whatever is written
+}

@@ -1,0 +1,289 @@
+//! Between the connections and the engine: lines of a connection become inputs, and answers become lines.
+
+use crate::board::Board;
+use crate::connection::{Connection, Door, Pending};
+use crate::engine::Engine;
+use crate::log::{End, Event, Log};
+use crate::names::Names;
+use crate::requests::{parse, BadRequest, Request, Verb, LONGEST_LINE};
+use crate::rules::Rules;
+use crate::settings::Settings;
+use crate::status::Status;
+use crate::sums::Sums;
+use std::time::{Duration, Instant};
+use wozgirt_engine::{Answer, Asked, Input, Lock, NotALine};
+
+/// What is left to do after some lines.
+#[derive(Debug, PartialEq, Eq)]
+pub enum Then {
+    /// Nothing.
+    Wait,
+    /// To end the connection.
+    End(End),
+    /// To tell an operator who is connected.
+    Clients,
+    /// To end the server.
+    Stop,
+}
+
+/// An answer that nobody asked for.
+#[derive(Debug)]
+pub struct Unasked;
+
+/// Everything but the connections.
+pub struct Desk {
+    /// The words of the command line.
+    pub settings: Settings,
+    /// The names of locks.
+    pub names: Names,
+    /// Who may use them.
+    pub rules: Rules,
+    /// The engine.
+    pub engine: Engine,
+    /// What it told.
+    pub board: Board,
+    /// What is counted.
+    pub sums: Sums,
+    /// The log.
+    pub log: Log,
+    /// The time of this round.
+    pub now: Instant,
+}
+
+impl Desk {
+    /// Takes lines of the connection as long as it may say more.
+    pub fn take_lines(&mut self, connection: &mut Connection) -> Then {
+        let input = connection.take_input();
+        let (mut taken, mut then) = (0, Then::Wait);
+        while then == Then::Wait && connection.takes_more() {
+            let Some(length) = input[taken..].iter().take(LONGEST_LINE).position(|&b| b == b'\n') else { break };
+            then = match std::str::from_utf8(&input[taken..taken + length]) {
+                Ok(line) => self.take(connection, line),
+                Err(_) => self.refuse(connection, &BadRequest::Word),
+            };
+            taken += length + 1;
+        }
+        connection.put_back(input, taken);
+        if then == Then::Wait && connection.has_endless_line() && connection.takes_more() {
+            connection.tell_in_order("refused line");
+            return Then::End(End::Line);
+        }
+        then
+    }
+
+    fn take(&mut self, connection: &mut Connection, line: &str) -> Then {
+        match parse(line, connection.door == Door::Operators) {
+            Ok(Request::Of(name, verb)) => self.ask(connection, name, verb),
+            Ok(Request::Leave) => self.ask_to_leave(connection),
+            Ok(Request::Ping) => connection.tell_in_order("pong"),
+            Ok(Request::Lease(asked)) => {
+                let longest = self.settings.longest_lease;
+                let lease = if asked.is_zero() { longest } else { asked.min(longest) };
+                connection.lease = Some(lease);
+                connection.tell_in_order(format_args!("lease {}", lease.as_millis()));
+            }
+            Ok(Request::Status) => {
+                let (peer, is_operator) = (connection.peer.clone(), connection.door == Door::Operators);
+                let is_shown = |lock| is_operator || self.rules.permits(lock, peer.as_ref());
+                let status = Status::new(&self.board, &self.names, self.now, is_shown);
+                connection.tell_in_order(status);
+            }
+            Ok(Request::Clients) => return Then::Clients,
+            Ok(Request::Stop) => {
+                connection.tell_in_order("stopping");
+                return Then::Stop;
+            }
+            Err(fault) => return self.refuse(connection, &fault),
+        }
+        Then::Wait
+    }
+
+    /// A line that is no request. If not even its first word is, the connection ends: a web page that makes a browser
+    /// send lines to a port ends in this way too.
+    fn refuse(&mut self, connection: &mut Connection, fault: &BadRequest) -> Then {
+        self.sums.refused(&fault.to_string());
+        connection.tell_in_order(format_args!("refused {fault}"));
+        match fault {
+            BadRequest::Word => Then::End(End::Syntax),
+            BadRequest::Rest(NotALine::Syntax | NotALine::Number) => Then::Wait,
+        }
+    }
+
+    fn ask(&mut self, connection: &mut Connection, name: &str, verb: Verb) {
+        let input = match self.input(connection, name, verb) {
+            Ok(input) => input,
+            Err(why) => {
+                self.sums.refused(why);
+                connection.tell_in_order(format_args!("refused {why} {name}"));
+                return;
+            }
+        };
+        if let Input::Acquire { lock, .. } = input {
+            self.board.asked(lock);
+        }
+        self.sums.inputs += 1;
+        self.engine.ask(Asked { client: connection.client, input });
+        connection.pending.push_back(Pending::Asked(input));
+    }
+
+    /// The engine's input, or why the server refuses it.
+    fn input(&self, connection: &Connection, name: &str, verb: Verb) -> Result<Input, &'static str> {
+        let lock = self.names.number(name).ok_or("lock")?;
+        if connection.door != Door::Operators && !self.rules.permits(lock, connection.peer.as_ref()) {
+            return Err("permission");
+        }
+        match verb {
+            Verb::Acquire(label) => {
+                let is_full = self.board.lock(lock).is_some_and(|sight| sight.is_full(self.settings.waiters));
+                if is_full && !connection.holds.contains(&lock) {
+                    return Err("waiters");
+                }
+                Ok(Input::Acquire { lock, label })
+            }
+            Verb::Try(label) => Ok(Input::Try { lock, label }),
+            Verb::Release(token) => Ok(Input::Release { lock, token }),
+            Verb::Cancel => Ok(Input::Cancel { lock }),
+            Verb::Stats => Ok(Input::Stats { lock }),
+            Verb::Corrupt { .. } if !self.settings.permits_faults => Err("off"),
+            Verb::Corrupt { machine, value } => Ok(Input::Corrupt { lock, machine, value }),
+        }
+    }
+
+    /// The engine does not answer a leave: a question behind it shows when it is done.
+    fn ask_to_leave(&mut self, connection: &mut Connection) {
+        self.sums.inputs += 1;
+        for input in [Input::Leave, Input::Stats { lock: 0 }] {
+            self.engine.ask(Asked { client: connection.client, input });
+        }
+        connection.pending.push_back(Pending::Left);
+    }
+
+    /// Tells the connection an answer of the engine.
+    pub fn tell_answer(&mut self, connection: &mut Connection, answer: Answer) -> Result<(), Unasked> {
+        if let (Answer::Granted { lock, token }, Some(waits_for)) = (&answer, connection.waits_for) {
+            if *lock == waits_for {
+                connection.waits_for = None;
+                connection.holds.push(*lock);
+                self.board.granted(*lock, connection.client, *token, None, self.now);
+                self.tell(connection, &answer);
+                return Ok(());
+            }
+        }
+        match (connection.pending.pop_front(), &answer) {
+            (Some(Pending::Left), Answer::Stats(_)) => {
+                self.forget(connection);
+                connection.tell("left");
+            }
+            // an engine that refuses every line for a while has not done the leave either
+            (Some(Pending::Left), Answer::Refused { .. }) => self.tell(connection, &answer),
+            (Some(Pending::Asked(input)), _) => {
+                self.note(connection, input, &answer)?;
+                self.tell(connection, &answer);
+            }
+            _ => return Err(Unasked),
+        }
+        connection.tell_what_waited();
+        Ok(())
+    }
+
+    /// What the answer to an input changes on the board and at the connection.
+    fn note(&mut self, connection: &mut Connection, input: Input, answer: &Answer) -> Result<(), Unasked> {
+        let client = connection.client;
+        if let Input::Acquire { lock, .. } = input {
+            self.board.asked_no_longer(lock);
+        }
+        match (input, answer) {
+            (Input::Acquire { lock, label } | Input::Try { lock, label }, Answer::Granted { lock: l, token })
+                if lock == *l =>
+            {
+                connection.holds.push(lock);
+                self.board.granted(lock, client, *token, Some(label), self.now);
+            }
+            (Input::Acquire { lock, label }, Answer::Waiting { lock: l, .. }) if lock == *l => {
+                connection.waits_for = Some(lock);
+                self.board.waits(lock, client, label, self.now);
+            }
+            (Input::Release { lock, .. }, Answer::Released { lock: l }) if lock == *l => {
+                connection.holds.retain(|held| *held != lock);
+                self.board.released(lock, client);
+            }
+            (Input::Cancel { lock }, Answer::Cancelled { lock: l }) if lock == *l => {
+                connection.waits_for = None;
+                self.board.waits_no_longer(lock, client);
+            }
+            (Input::Corrupt { lock, machine, value }, Answer::Corrupted { lock: l, old }) if lock == *l => {
+                self.board.fault(lock, machine, value, *old);
+                let (who, name) = (connection.who.as_str(), self.names.name(lock));
+                self.log.say(&Event::Fault { client, who, lock: name, machine, value, old: *old });
+            }
+            (Input::Try { lock, .. }, Answer::Busy { lock: l }) if lock == *l => {}
+            (Input::Stats { lock }, Answer::Stats(stats)) if lock == stats.lock => {}
+            (_, Answer::Refused { why, .. }) => self.sums.refused(why.word()),
+            _ => return Err(Unasked),
+        }
+        Ok(())
+    }
+
+    fn tell(&self, connection: &mut Connection, answer: &Answer) {
+        let name = |lock: &Lock| self.names.name(*lock);
+        match answer {
+            Answer::Granted { lock, token } => connection.tell(format_args!("granted {} {token}", name(lock))),
+            Answer::Waiting { lock, before } => connection.tell(format_args!("waiting {} {before}", name(lock))),
+            Answer::Busy { lock } => connection.tell(format_args!("busy {}", name(lock))),
+            Answer::Released { lock } => connection.tell(format_args!("released {}", name(lock))),
+            Answer::Cancelled { lock } => connection.tell(format_args!("cancelled {}", name(lock))),
+            Answer::Corrupted { lock, old } => connection.tell(format_args!("corrupted {} {old}", name(lock))),
+            Answer::Stats(s) => connection.tell(format_args!(
+                "stats {} {} {} {} {} {}",
+                name(&s.lock),
+                s.machines,
+                s.waiters,
+                s.passes,
+                s.holder,
+                s.token
+            )),
+            Answer::Refused { why, lock: None } => connection.tell(format_args!("refused {why}")),
+            Answer::Refused { why, lock: Some(lock) } => connection.tell(format_args!("refused {why} {}", name(lock))),
+        }
+    }
+
+    /// The client holds nothing and waits for nothing. Returns what it held, as a list of names.
+    fn forget(&mut self, connection: &mut Connection) -> String {
+        let client = connection.client;
+        if let Some(lock) = connection.waits_for.take() {
+            self.board.waits_no_longer(lock, client);
+        }
+        let held = std::mem::take(&mut connection.holds);
+        let held: Vec<&str> =
+            held.into_iter().filter(|&lock| self.board.left(lock, client)).map(|lock| self.names.name(lock)).collect();
+        held.join(",")
+    }
+
+    /// The connection is gone: the engine hears it, and the log.
+    pub fn part(&mut self, connection: &mut Connection, end: End) {
+        for pending in std::mem::take(&mut connection.pending) {
+            if let Pending::Asked(Input::Acquire { lock, .. }) = pending {
+                self.board.asked_no_longer(lock);
+            }
+        }
+        let held = self.forget(connection);
+        if !matches!(end, End::Engine | End::Stop) {
+            self.engine.ask(Asked { client: connection.client, input: Input::Leave });
+        }
+        self.sums.ended(end);
+        let is_wanted = !held.is_empty() || !matches!(end, End::Closed | End::Stop);
+        if is_wanted || self.settings.logs_connections {
+            self.log.say(&Event::Went { client: connection.client, who: &connection.who, end, held: &held });
+        }
+    }
+
+    /// The lease of a new connection.
+    pub fn first_lease(&self, door: Door) -> Option<Duration> {
+        let has_one = match door {
+            Door::Network => true,
+            Door::Clients => self.settings.is_lease_for_all,
+            Door::Operators => false,
+        };
+        has_one.then_some(self.settings.longest_lease)
+    }
+}

@@ -1,0 +1,145 @@
+//! Sockets that are listened to.
+
+use crate::accounts::Accounts;
+use crate::settings::Named;
+use std::fmt;
+use std::fs::{self, Permissions};
+use std::io;
+use std::net::{SocketAddr, TcpListener};
+use std::os::unix::fs::{chown, FileTypeExt, PermissionsExt};
+use std::os::unix::net::{UnixListener, UnixStream};
+use std::path::{Path, PathBuf};
+
+/// Why a socket cannot be listened to.
+#[derive(Debug)]
+pub struct CannotListen {
+    place: String,
+    why: Why,
+}
+
+#[derive(Debug)]
+enum Why {
+    InUse,
+    NoSocket,
+    Group(String),
+    System(io::Error),
+}
+
+impl fmt::Display for CannotListen {
+    fn fmt(&self, f: &mut fmt::Formatter<'_>) -> fmt::Result {
+        write!(f, "cannot listen at {}: ", self.place)?;
+        match &self.why {
+            Why::InUse => f.write_str("somebody listens there"),
+            Why::NoSocket => f.write_str("a file has this name, and is no socket"),
+            Why::Group(group) => write!(f, "there is no group {group}"),
+            Why::System(fault) => fault.fmt(f),
+        }
+    }
+}
+
+impl std::error::Error for CannotListen {}
+
+/// A socket with a name, which goes with it.
+pub struct UnixDoor {
+    /// The socket.
+    pub listener: UnixListener,
+    path: PathBuf,
+}
+
+impl UnixDoor {
+    /// Listens there. The socket has its name only when it has its mode and group. One that nobody listens to is replaced.
+    pub fn open(named: &Named, accounts: &Accounts) -> Result<UnixDoor, CannotListen> {
+        let cannot = |why| CannotListen { place: named.path.display().to_string(), why };
+        is_free(&named.path).map_err(cannot)?;
+        let group = match &named.group {
+            None => None,
+            Some(group) => Some(accounts.group(group).ok_or_else(|| cannot(Why::Group(group.clone())))?),
+        };
+        let listener = bind(&named.path, named.mode, group).map_err(|fault| cannot(Why::System(fault)))?;
+        Ok(UnixDoor { listener, path: named.path.clone() })
+    }
+}
+
+impl Drop for UnixDoor {
+    fn drop(&mut self) {
+        let _ = fs::remove_file(&self.path); // it may be gone
+    }
+}
+
+fn is_free(path: &Path) -> Result<(), Why> {
+    match fs::symlink_metadata(path) {
+        Err(fault) if fault.kind() == io::ErrorKind::NotFound => Ok(()),
+        Err(fault) => Err(Why::System(fault)),
+        Ok(data) if !data.file_type().is_socket() => Err(Why::NoSocket),
+        Ok(_) if UnixStream::connect(path).is_ok() => Err(Why::InUse),
+        Ok(_) => Ok(()),
+    }
+}
+
+fn bind(path: &Path, mode: u32, group: Option<u32>) -> io::Result<UnixListener> {
+    let mut part = path.as_os_str().to_owned();
+    part.push(".part");
+    let part = PathBuf::from(part);
+    let _ = fs::remove_file(&part); // of a start that was interrupted
+    let listener = UnixListener::bind(&part)?;
+    let prepared = fs::set_permissions(&part, Permissions::from_mode(0o600))
+        .and_then(|()| group.map_or(Ok(()), |group| chown(&part, None, Some(group))))
+        .and_then(|()| fs::set_permissions(&part, Permissions::from_mode(mode)))
+        .and_then(|()| fs::rename(&part, path))
+        .and_then(|()| listener.set_nonblocking(true));
+    if let Err(fault) = prepared {
+        let _ = fs::remove_file(&part);
+        return Err(fault);
+    }
+    Ok(listener)
+}
+
+/// Listens at an address.
+pub fn open_tcp(address: SocketAddr) -> Result<TcpListener, CannotListen> {
+    TcpListener::bind(address)
+        .and_then(|listener| listener.set_nonblocking(true).map(|()| listener))
+        .map_err(|fault| CannotListen { place: address.to_string(), why: Why::System(fault) })
+}
+
+#[cfg(test)]
+mod tests {
+    use super::*;
+
+    fn folder(name: &str) -> PathBuf {
+        let folder = std::env::temp_dir().join(format!("wozgirt-doors-{name}-{}", std::process::id()));
+        let _ = fs::remove_dir_all(&folder);
+        fs::create_dir(&folder).unwrap();
+        folder
+    }
+
+    #[test]
+    fn a_socket_has_its_mode_and_goes() {
+        let folder = folder("mode");
+        let named = Named { path: folder.join("s"), mode: 0o660, group: Some("0".into()) };
+        let accounts = Accounts::default();
+        let door = UnixDoor::open(&named, &accounts).unwrap();
+        assert_eq!(fs::metadata(&named.path).unwrap().permissions().mode() & 0o777, 0o660);
+        let again = UnixDoor::open(&named, &accounts).err().unwrap().to_string();
+        assert!(again.ends_with("somebody listens there"), "{again}");
+        drop(door);
+        assert!(!named.path.exists());
+        fs::remove_dir_all(folder).unwrap();
+    }
+
+    #[test]
+    fn what_is_no_socket_stays() {
+        let folder = folder("file");
+        let named = Named { path: folder.join("s"), mode: 0o600, group: None };
+        fs::write(&named.path, "mine").unwrap();
+        let fault = UnixDoor::open(&named, &Accounts::default()).err().unwrap().to_string();
+        assert!(fault.ends_with("a file has this name, and is no socket"), "{fault}");
+        assert_eq!(fs::read_to_string(&named.path).unwrap(), "mine");
+        fs::remove_file(&named.path).unwrap();
+        drop(UnixListener::bind(&named.path).unwrap()); // nobody listens any more
+        assert!(UnixDoor::open(&named, &Accounts::default()).is_ok());
+        let named = Named { group: Some("nobody-has-this".into()), ..named };
+        let fault = UnixDoor::open(&named, &Accounts::default()).err().unwrap().to_string();
+        assert!(fault.ends_with("there is no group nobody-has-this"), "{fault}");
+        fs::remove_dir_all(folder).unwrap();
+    }
+}

@@ -1,0 +1,269 @@
+//! The engine's process: started, asked, heard, and started again when it ended.
+
+use crate::outbox::Outbox;
+use std::fmt;
+use std::io::{self, ErrorKind, Read};
+use std::process::{Child, ChildStdin, ChildStdout, Command, ExitStatus, Stdio};
+use std::time::{Duration, Instant};
+use wozgirt_engine::{Answered, Asked, NotALine};
+use wozgirt_system::{never_wait, Interest, Signals};
+
+/// How much is read of its answers at once. No answer is longer.
+const ROOM: usize = 64 << 10;
+/// An engine that ends before it is ready, so many times in a row, is not started again.
+const MOST_FAILURES: u32 = 6;
+/// How long the next start waits after one that did not last; twice as long after each other one in a row, up to 32 times.
+const FIRST_PAUSE: Duration = Duration::from_millis(50);
+const MOST_DOUBLINGS: u32 = 5;
+/// A start that lasts so long is none of these.
+const LASTING: Duration = Duration::from_secs(1);
+/// How long the engine may take to end when its input has ended, or its output.
+const LONGEST_END: Duration = Duration::from_secs(10);
+/// How often is looked whether it has ended.
+const LOOK: Duration = Duration::from_millis(5);
+
+/// The engine.
+pub struct Engine {
+    program: String,
+    words: Vec<String>,
+    state: State,
+    inputs: Outbox,
+    /// Room for answers, and how much of it was read.
+    answers: Box<[u8]>,
+    have: usize,
+    /// Whether it is waited for that it takes more.
+    is_awaited: bool,
+    /// How many starts in a row ended before the engine was ready, and how many did not last.
+    failures: u32,
+    short_starts: u32,
+    is_ready: bool,
+    started: Instant,
+    /// How often it was started.
+    pub starts: u64,
+}
+
+enum State {
+    /// To be started at this time.
+    Away(Instant),
+    /// It runs; these are its input, until that ended, and its output.
+    Running(Child, Option<ChildStdin>, ChildStdout),
+    /// It says nothing more, and should end until this time.
+    Ending(Child, Instant),
+    /// It is not started any more.
+    Over,
+}
+
+/// Why no answers are read any more.
+#[derive(Debug)]
+pub enum Unheard {
+    /// Its output ended.
+    Ended,
+    /// It said what is no answer.
+    Unreadable(String, NotALine),
+}
+
+/// What became of an engine that was to end.
+pub enum Outcome {
+    /// It has not ended yet.
+    NotYet,
+    /// It ended, and will be started again.
+    Again(ExitStatus),
+    /// It ended, and is not started any more.
+    Over(ExitStatus),
+}
+
+/// Why there is no engine.
+#[derive(Debug)]
+pub enum CannotStart {
+    /// The program cannot be run.
+    Program(String, io::Error),
+    /// The system gives no pipes.
+    Pipes(io::Error),
+}
+
+impl fmt::Display for CannotStart {
+    fn fmt(&self, f: &mut fmt::Formatter<'_>) -> fmt::Result {
+        match self {
+            CannotStart::Program(program, fault) => write!(f, "cannot run the engine {program}: {fault}"),
+            CannotStart::Pipes(fault) => write!(f, "cannot make pipes for the engine: {fault}"),
+        }
+    }
+}
+
+impl std::error::Error for CannotStart {}
+
+impl Engine {
+    /// An engine that is to be started now.
+    pub fn new(program: String, words: Vec<String>, now: Instant) -> Engine {
+        Engine {
+            program,
+            words,
+            state: State::Away(now),
+            inputs: Outbox::default(),
+            answers: vec![0; ROOM].into(),
+            have: 0,
+            is_awaited: false,
+            failures: 0,
+            short_starts: 0,
+            is_ready: false,
+            started: now,
+            starts: 0,
+        }
+    }
+
+    /// Whether it takes inputs.
+    pub fn is_running(&self) -> bool {
+        matches!(self.state, State::Running(..))
+    }
+
+    /// Whether it ended for good.
+    pub fn is_over(&self) -> bool {
+        matches!(self.state, State::Over)
+    }
+
+    /// Its output, if it runs.
+    pub fn output(&self) -> Option<&ChildStdout> {
+        match &self.state {
+            State::Running(_, _, output) => Some(output),
+            _ => None,
+        }
+    }
+
+    /// Its input, if it takes some, and what is now to be waited for there, if that has changed.
+    pub fn awaited_input(&mut self) -> Option<(&ChildStdin, Interest)> {
+        let State::Running(_, Some(input), _) = &self.state else { return None };
+        let writes = !self.inputs.is_empty();
+        let is_new = std::mem::replace(&mut self.is_awaited, writes) != writes;
+        is_new.then_some((input, Interest { reads: false, writes }))
+    }
+
+    /// Its input, if it takes some.
+    pub fn input(&self) -> Option<&ChildStdin> {
+        match &self.state {
+            State::Running(_, input, _) => input.as_ref(),
+            _ => None,
+        }
+    }
+
+    /// It has answered how all locks are.
+    pub fn note_ready(&mut self) {
+        self.is_ready = true;
+    }
+
+    /// When something is to be done at it without being told.
+    pub fn next_look(&self, now: Instant) -> Option<Instant> {
+        match self.state {
+            State::Away(start) => Some(start),
+            State::Ending(..) => Some(now + LOOK),
+            _ => None,
+        }
+    }
+
+    /// Starts it if it is time: the number of its process.
+    pub fn start(&mut self, now: Instant) -> Result<Option<u32>, CannotStart> {
+        if !matches!(self.state, State::Away(start) if start <= now) {
+            return Ok(None);
+        }
+        let mut command = Command::new(&self.program);
+        command.args(&self.words).stdin(Stdio::piped()).stdout(Stdio::piped());
+        Signals::hear_all(&mut command).map_err(CannotStart::Pipes)?;
+        let mut child = command.spawn().map_err(|fault| CannotStart::Program(self.program.clone(), fault))?;
+        let (input, Some(output)) = (child.stdin.take(), child.stdout.take()) else { return Ok(None) };
+        input.as_ref().map_or(Ok(()), never_wait).and_then(|()| never_wait(&output)).map_err(CannotStart::Pipes)?;
+        let process = child.id();
+        self.state = State::Running(child, input, output);
+        self.inputs.clear();
+        self.have = 0;
+        self.is_awaited = false;
+        self.is_ready = false;
+        self.started = now;
+        self.starts += 1;
+        Ok(Some(process))
+    }
+
+    /// Puts an input among those that are written at the end of the round.
+    pub fn ask(&mut self, asked: Asked) {
+        use io::Write;
+        if self.is_running() {
+            let _ = writeln!(self.inputs.bytes(), "{asked}"); // a list takes whatever is written
+        }
+    }
+
+    /// Writes what it takes. That it is gone shows where it is read.
+    pub fn write(&mut self) {
+        if let State::Running(_, Some(input), _) = &mut self.state {
+            if !self.inputs.is_empty() && self.inputs.write_to(input).is_err() {
+                self.inputs.clear();
+            }
+        }
+    }
+
+    /// Reads answers that are there, in their order.
+    pub fn read(&mut self, answered: &mut Vec<Answered>) -> Result<(), Unheard> {
+        let State::Running(_, _, output) = &mut self.state else { return Ok(()) };
+        match output.read(&mut self.answers[self.have..]) {
+            Ok(0) if self.have == ROOM => {
+                return Err(Unheard::Unreadable("a line without an end".into(), NotALine::Syntax))
+            }
+            Ok(0) => return Err(Unheard::Ended),
+            Ok(count) => self.have += count,
+            Err(fault) if matches!(fault.kind(), ErrorKind::WouldBlock | ErrorKind::Interrupted) => return Ok(()),
+            Err(_) => return Err(Unheard::Ended),
+        }
+        let end = self.answers[..self.have].iter().rposition(|&b| b == b'\n').map_or(0, |i| i + 1);
+        let text = String::from_utf8_lossy(&self.answers[..end]);
+        for line in text.lines() {
+            let answer =
+                line.parse().map_err(|fault| Unheard::Unreadable(line.escape_debug().take(100).collect(), fault))?;
+            answered.push(answer);
+        }
+        self.answers.copy_within(end..self.have, 0);
+        self.have -= end;
+        Ok(())
+    }
+
+    /// Ends its input when all is written: it answers what it was asked, and ends. One that does not run stays so.
+    pub fn end(&mut self) {
+        match &mut self.state {
+            State::Running(_, input, _) if self.inputs.is_empty() => *input = None,
+            State::Away(_) => self.state = State::Over,
+            _ => {}
+        }
+    }
+
+    /// It is heard no more, and is to end.
+    pub fn give_up(&mut self, is_ended: bool, now: Instant) {
+        let state = std::mem::replace(&mut self.state, State::Over);
+        self.state = match state {
+            State::Running(mut child, _, _) => {
+                if !is_ended {
+                    let _ = child.kill(); // it may be gone
+                }
+                State::Ending(child, now + LONGEST_END)
+            }
+            other => other,
+        };
+        self.inputs.clear();
+    }
+
+    /// Looks whether it has ended. It is started again, unless the server ends or it keeps failing.
+    pub fn look(&mut self, is_stopping: bool, now: Instant) -> io::Result<Outcome> {
+        let State::Ending(child, latest) = &mut self.state else { return Ok(Outcome::NotYet) };
+        let Some(status) = child.try_wait()? else {
+            if now > *latest {
+                child.kill()?;
+            }
+            return Ok(Outcome::NotYet);
+        };
+        self.failures = if self.is_ready { 0 } else { self.failures + 1 };
+        let is_short = !self.is_ready || now.saturating_duration_since(self.started) < LASTING;
+        self.short_starts = if is_short { self.short_starts + 1 } else { 0 };
+        if is_stopping || self.failures == MOST_FAILURES {
+            self.state = State::Over;
+            return Ok(Outcome::Over(status));
+        }
+        let doublings = self.short_starts.checked_sub(1).map(|count| count.min(MOST_DOUBLINGS));
+        self.state = State::Away(now + doublings.map_or(Duration::ZERO, |doublings| FIRST_PAUSE * 2u32.pow(doublings)));
+        Ok(Outcome::Again(status))
+    }
+}

@@ -1,0 +1,26 @@
+//! The server in front of the lock engine: sockets, connections, leases, a log, a page. It decides nothing about locks.
+//!
+//! One thread serves all: a round takes what is there of every connection and of the engine, each no more than its
+//! share, and ends with one write to the engine and one to each connection that was told something. So a hand-over costs
+//! one wake-up, and many inputs go in one write if many come.
+
+pub mod accounts;
+pub mod board;
+mod connection;
+mod desk;
+mod doors;
+mod engine;
+mod journal;
+pub mod log;
+pub mod names;
+mod outbox;
+mod pages;
+pub mod requests;
+pub mod rules;
+mod server;
+pub mod settings;
+mod status;
+mod stream;
+mod sums;
+
+pub use server::{CannotServe, Server};

@@ -1,0 +1,208 @@
+//! The log: one line on standard error for each event that an operator wants to know of.
+
+use std::fmt;
+use std::io::Write;
+use std::sync::mpsc::{sync_channel, SyncSender};
+use std::thread::{self, JoinHandle};
+use std::time::{Duration, SystemTime, UNIX_EPOCH};
+use wozgirt_engine::{Client, NotALine};
+
+/// How many lines may wait to be written. The server never waits for its log.
+const ROOM: usize = 4096;
+
+/// Why a connection ended.
+#[derive(Debug, Clone, Copy, PartialEq, Eq, Hash, PartialOrd, Ord)]
+pub enum End {
+    /// The other end closed it, or is gone.
+    Closed,
+    /// It was silent for longer than its lease.
+    Lease,
+    /// It left its answers unread.
+    Deaf,
+    /// It said what no client says.
+    Syntax,
+    /// It sent a line that is too long.
+    Line,
+    /// The engine ended, and with it all that was held.
+    Engine,
+    /// The server ends.
+    Stop,
+}
+
+impl End {
+    /// Each of them.
+    pub const ALL: [End; 7] = [End::Closed, End::Lease, End::Deaf, End::Syntax, End::Line, End::Engine, End::Stop];
+
+    /// One word for it.
+    pub fn word(self) -> &'static str {
+        match self {
+            End::Closed => "closed",
+            End::Lease => "lease",
+            End::Deaf => "deaf",
+            End::Syntax => "syntax",
+            End::Line => "line",
+            End::Engine => "engine",
+            End::Stop => "stop",
+        }
+    }
+}
+
+/// Something that happened.
+#[allow(missing_docs)] // the texts below say what they are
+pub enum Event<'a> {
+    Started { version: &'a str, locks: usize },
+    Listening { what: &'a str, place: &'a dyn fmt::Display },
+    EngineStarted { process: u32, grace: Duration },
+    EngineReady { held: usize },
+    EngineEnded { status: String },
+    EngineUnreadable { line: String, fault: Option<NotALine> },
+    GraceOver,
+    Came { client: Client, who: &'a str },
+    Went { client: Client, who: &'a str, end: End, held: &'a str },
+    TooMany { who: &'a str },
+    Fault { client: Client, who: &'a str, lock: &'a str, machine: u64, value: u64, old: u64 },
+    Visitor { address: &'a str, why: &'static str },
+    Stopping { why: &'a str },
+    CannotAccept { fault: &'a std::io::Error },
+    Stopped,
+}
+
+impl fmt::Display for Event<'_> {
+    fn fmt(&self, f: &mut fmt::Formatter<'_>) -> fmt::Result {
+        match self {
+            Event::Started { version, locks } => write!(f, "wozgirt-server {version}, {locks} locks"),
+            Event::Listening { what, place } => write!(f, "{what} at {place}"),
+            Event::EngineStarted { process, grace } => {
+                write!(f, "engine started, process {process}; what was held stays held for {} s", grace.as_secs_f64())
+            }
+            Event::EngineReady { held } => write!(f, "engine ready, {held} locks held from before"),
+            Event::EngineEnded { status } => write!(f, "engine ended: {status}"),
+            Event::EngineUnreadable { line, fault: Some(fault) } => {
+                write!(f, "engine said what is no answer ({fault}): {line}")
+            }
+            Event::EngineUnreadable { line, fault: None } => write!(f, "engine answered what nobody asked: {line}"),
+            Event::GraceOver => f.write_str("grace over: what was held from before is free"),
+            Event::Came { client, who } => write!(f, "client {client} came: {who}"),
+            Event::Went { client, who, end, held } => {
+                write!(f, "client {client} went ({}): {who}", end.word())?;
+                if held.is_empty() {
+                    Ok(())
+                } else {
+                    write!(f, "; it held {held}")
+                }
+            }
+            Event::TooMany { who } => write!(f, "refused, too many connections: {who}"),
+            Event::Fault { client, who, lock, machine, value, old } => {
+                write!(f, "fault by client {client} ({who}): lock {lock}, machine {machine}, {value} over {old}")
+            }
+            Event::Visitor { address, why } => write!(f, "visitor {address} refused: {why}"),
+            Event::Stopping { why } => write!(f, "stopping: {why}"),
+            Event::CannotAccept { fault } => write!(f, "cannot accept a connection: {fault}"),
+            Event::Stopped => f.write_str("stopped"),
+        }
+    }
+}
+
+/// The log's own thread, and the way to it.
+pub struct Log {
+    lines: Option<SyncSender<String>>,
+    thread: Option<JoinHandle<()>>,
+    lost: u64,
+}
+
+impl Log {
+    /// Starts the thread that writes.
+    pub fn start() -> std::io::Result<Log> {
+        let (lines, written) = sync_channel::<String>(ROOM);
+        let write = move || {
+            for line in written {
+                let _ = std::io::stderr().write_all(line.as_bytes()); // nobody can be told
+            }
+        };
+        let thread = thread::Builder::new().name("log".into()).spawn(write)?;
+        Ok(Log { lines: Some(lines), thread: Some(thread), lost: 0 })
+    }
+
+    /// Logs the event. If the log is far behind, only that something was lost is logged later.
+    pub fn say(&mut self, event: &Event<'_>) {
+        let time = Utc::now();
+        let Some(lines) = &self.lines else { return };
+        if self.lost > 0 && lines.try_send(format!("{time} {} lines of the log are lost\n", self.lost)).is_ok() {
+            self.lost = 0;
+        }
+        if lines.try_send(format!("{time} {event}\n")).is_err() {
+            self.lost += 1;
+        }
+    }
+}
+
+impl Drop for Log {
+    /// What was said is written first.
+    fn drop(&mut self) {
+        self.lines = None;
+        if let Some(thread) = self.thread.take() {
+            let _ = thread.join();
+        }
+    }
+}
+
+/// A time, to be written as `2026-11-26T10:15:00Z`.
+#[derive(Debug, Clone, Copy, PartialEq, Eq)]
+pub struct Utc(u64);
+
+impl Utc {
+    /// The time now.
+    pub fn now() -> Utc {
+        Utc(SystemTime::now().duration_since(UNIX_EPOCH).map_or(0, |since| since.as_secs()))
+    }
+
+    /// Seconds since the beginning of 1970.
+    pub fn seconds(self) -> u64 {
+        self.0
+    }
+}
+
+impl fmt::Display for Utc {
+    fn fmt(&self, f: &mut fmt::Formatter<'_>) -> fmt::Result {
+        let (days, second) = (self.0 / 86_400, self.0 % 86_400);
+        // years begin with March here, so that a leap day is the last of its year; 400 years have 146,097 days
+        let day = days + 719_468;
+        let (era, of_era) = (day / 146_097, day % 146_097);
+        let year_of_era = (of_era - of_era / 1_460 + of_era / 36_524 - of_era / 146_096) / 365;
+        let of_year = of_era - (365 * year_of_era + year_of_era / 4 - year_of_era / 100);
+        let march = (5 * of_year + 2) / 153;
+        let day_of_month = of_year - (153 * march + 2) / 5 + 1;
+        let month = if march < 10 { march + 3 } else { march - 9 };
+        let year = year_of_era + era * 400 + u64::from(month <= 2);
+        let (hour, minute) = (second / 3600, second / 60 % 60);
+        write!(f, "{year:04}-{month:02}-{day_of_month:02}T{hour:02}:{minute:02}:{:02}Z", second % 60)
+    }
+}
+
+#[cfg(test)]
+mod tests {
+    use super::*;
+
+    #[test]
+    fn times() {
+        for (seconds, text) in [
+            (0, "1970-01-01T00:00:00Z"),
+            (951_782_399, "2000-02-28T23:59:59Z"),
+            (951_782_400, "2000-02-29T00:00:00Z"),
+            (951_868_800, "2000-03-01T00:00:00Z"),
+            (1_735_689_599, "2024-12-31T23:59:59Z"),
+            (1_795_688_100, "2026-11-26T10:15:00Z"),
+            (4_107_542_400, "2100-03-01T00:00:00Z"),
+        ] {
+            assert_eq!(Utc(seconds).to_string(), text);
+        }
+    }
+
+    #[test]
+    fn a_line_for_each_event() {
+        let went = Event::Went { client: 7, who: "alice, process 12", end: End::Lease, held: "deploy" };
+        assert_eq!(went.to_string(), "client 7 went (lease): alice, process 12; it held deploy");
+        let went = Event::Went { client: 7, who: "alice, process 12", end: End::Closed, held: "" };
+        assert_eq!(went.to_string(), "client 7 went (closed): alice, process 12");
+    }
+}

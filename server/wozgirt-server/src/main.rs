@@ -1,0 +1,33 @@
+//! The server's program: see `--help`.
+
+use std::process::ExitCode;
+use wozgirt_server::settings::{parse, Words, USAGE};
+use wozgirt_server::Server;
+
+/// Wrong words, as `sysexits.h` has it.
+const USAGE_STATUS: u8 = 64;
+
+fn main() -> ExitCode {
+    let settings = match parse(std::env::args().skip(1)) {
+        Ok(Words::Run(settings)) => *settings,
+        Ok(Words::Help) => {
+            println!("{USAGE}");
+            return ExitCode::SUCCESS;
+        }
+        Ok(Words::Version) => {
+            println!("wozgirt-server {}", env!("CARGO_PKG_VERSION"));
+            return ExitCode::SUCCESS;
+        }
+        Err(fault) => {
+            eprintln!("wozgirt-server: {fault}\nTry --help.");
+            return ExitCode::from(USAGE_STATUS);
+        }
+    };
+    match Server::open(settings).and_then(Server::run) {
+        Ok(()) => ExitCode::SUCCESS,
+        Err(fault) => {
+            eprintln!("wozgirt-server: {fault}");
+            ExitCode::FAILURE
+        }
+    }
+}

@@ -1,0 +1,180 @@
+//! `GET /`: one page without a script, which a browser asks for again every other second.
+
+use super::View;
+use crate::board::{Holder, Sight};
+use std::fmt::Write;
+use std::time::{Duration, Instant};
+use wozgirt_engine::NOBODY;
+
+const HEAD: &str = "<!doctype html>
+<html lang=\"en\"><head><meta charset=\"utf-8\"><meta http-equiv=\"refresh\" content=\"2\">
+<meta name=\"viewport\" content=\"width=device-width\"><title>Wozgirt: locks</title><style>
+body { font: 15px/1.5 system-ui, sans-serif; margin: 2em auto; max-width: 70em; padding: 0 1em; color: #222; }
+table { border-collapse: collapse; width: 100%; font-variant-numeric: tabular-nums; }
+th, td { text-align: left; padding: .3em .8em .3em 0; border-bottom: 1px solid #ddd; vertical-align: top; }
+td.n, th.n { text-align: right; } .free { color: #777; } .held { color: #063; font-weight: 600; }
+.before { color: #a40; font-weight: 600; } .down { color: #b00; font-weight: 600; }
+@media (prefers-color-scheme: dark) { body { background: #181818; color: #ddd; } th, td { border-color: #444; }
+.held { color: #6d9; } .before { color: #fb6; } .free { color: #999; } .down { color: #f77; } }
+</style></head><body>
+";
+
+/// How many of a line are named.
+const NAMED: usize = 5;
+
+/// The page. Names of locks need no escapes (see `names.rs`), and everything else is a number.
+pub fn page(view: &View<'_>) -> String {
+    let mut text = String::from(HEAD);
+    summary(&mut text, view);
+    text.push_str(
+        "<table><thead><tr><th>Lock</th><th>Held by</th><th class=\"n\">Label</th><th class=\"n\">Token</th>\
+         <th class=\"n\">For</th><th>Line</th><th class=\"n\">Hand-overs</th><th class=\"n\">Longest wait</th>\
+         <th>Last fault</th></tr></thead><tbody>\n",
+    );
+    for (lock, sight) in view.board.locks().iter().enumerate() {
+        row(&mut text, view.names.name(lock), sight, view.now);
+    }
+    text.push_str("</tbody></table>\n<p>This page shows what the server was told by the engine. What was granted stands in the journal.</p>\n</body></html>\n");
+    text
+}
+
+fn summary(text: &mut String, view: &View<'_>) {
+    let engine = if view.is_engine_ready { "answers" } else { "<span class=\"down\">is away</span>" };
+    let held = view.board.locks().iter().filter(|sight| sight.holder.is_some()).count();
+    let waiting: usize = view.board.locks().iter().map(|sight| sight.line.len()).sum();
+    let _ = writeln!(
+        text,
+        "<h1>Locks</h1>\n<p>The engine {engine} (start {}). {} clients, {held} of {} locks held, {waiting} waiting. \
+         Up for {}. Journal: {} bytes in {} segments, the last is {}.</p>",
+        view.engine_starts,
+        view.connected,
+        view.board.locks().len(),
+        time(view.now.saturating_duration_since(view.started)),
+        view.journal.bytes,
+        view.journal.segments,
+        if view.journal.last.is_empty() { "none" } else { escaped(&view.journal.last) },
+    );
+}
+
+/// A file's name, if it is one of a segment.
+fn escaped(name: &str) -> &str {
+    let is_plain = name.bytes().all(|b| b.is_ascii_alphanumeric() || b == b'.');
+    if is_plain {
+        name
+    } else {
+        "?"
+    }
+}
+
+fn row(text: &mut String, name: &str, sight: &Sight, now: Instant) {
+    let _ = write!(text, "<tr><td>{name}</td>");
+    match sight.holder {
+        None => text.push_str("<td class=\"free\">free</td><td></td><td></td><td></td>"),
+        Some(holder) => held(text, &holder, now),
+    }
+    let _ = write!(text, "<td>{}", sight.line.len());
+    for waiter in sight.line.iter().take(NAMED) {
+        let _ = write!(
+            text,
+            "<br>client {} label {} for {}",
+            waiter.client,
+            waiter.label,
+            time(now.saturating_duration_since(waiter.since))
+        );
+    }
+    if sight.line.len() > NAMED {
+        text.push_str("<br>..");
+    }
+    let _ =
+        write!(text, "</td><td class=\"n\">{}</td><td class=\"n\">{}</td><td>", sight.grants, time(sight.longest_wait));
+    if let Some(fault) = sight.last_fault {
+        let _ = write!(
+            text,
+            "{}: machine {}, {} over {}; repaired before it was answered",
+            fault.at, fault.machine, fault.value, fault.old
+        );
+    }
+    text.push_str("</td></tr>\n");
+}
+
+fn held(text: &mut String, holder: &Holder, now: Instant) {
+    if holder.client == NOBODY {
+        text.push_str("<td class=\"before\">a client of before</td>");
+    } else {
+        let _ = write!(text, "<td class=\"held\">client {}</td>", holder.client);
+    }
+    let label = holder.label.map(|label| label.to_string()).unwrap_or_default();
+    let age = time(now.saturating_duration_since(holder.since));
+    let _ = write!(text, "<td class=\"n\">{label}</td><td class=\"n\">{}</td><td class=\"n\">{age}</td>", holder.token);
+}
+
+fn time(time: Duration) -> String {
+    match time.as_secs() {
+        0 => format!("{:.1} ms", time.as_secs_f64() * 1000.0),
+        1..=119 => format!("{:.1} s", time.as_secs_f64()),
+        seconds @ 120..=7199 => format!("{} min", seconds / 60),
+        seconds => format!("{} h {} min", seconds / 3600, seconds / 60 % 60),
+    }
+}
+
+#[cfg(test)]
+mod tests {
+    use super::*;
+    use crate::board::Board;
+    use crate::journal::JournalSize;
+    use crate::names::Names;
+    use crate::pages::metrics;
+    use crate::sums::Sums;
+
+    fn shown(show: fn(&View<'_>) -> String) -> String {
+        let (mut board, started, mut sums) = (Board::new(2), Instant::now(), Sums::default());
+        board.granted(0, 7, 12, Some(77), started);
+        board.waits(0, 8, 78, started + Duration::from_secs(1));
+        board.fault(0, 2, 1, 0);
+        sums.refused("circle");
+        show(&View {
+            names: &Names::parse("deploy,gpu").unwrap(),
+            board: &board,
+            sums: &sums,
+            connected: 2,
+            engine_starts: 1,
+            is_engine_ready: true,
+            journal: JournalSize { bytes: 99, segments: 1, last: "0000000001.ring".into() },
+            started,
+            now: started + Duration::from_secs(3),
+        })
+    }
+
+    #[test]
+    fn the_page_has_holder_line_and_fault() {
+        let page = shown(page);
+        for part in [
+            "client 7</td><td class=\"n\">77</td><td class=\"n\">12</td><td class=\"n\">3.0 s</td>",
+            "<td>1<br>client 8 label 78 for 2.0 s</td><td class=\"n\">1</td>",
+            "machine 2, 1 over 0; repaired",
+            "<td>gpu</td><td class=\"free\">free</td>",
+            "99 bytes in 1 segments, the last is 0000000001.ring",
+        ] {
+            assert!(page.contains(part), "{part} in {page}");
+        }
+        assert!(!page.contains("<script"));
+    }
+
+    #[test]
+    fn the_metrics_have_a_value_for_each_lock() {
+        let text = shown(metrics::text);
+        for line in [
+            "wozgirt_engine_up 1",
+            "wozgirt_refusals_total{reason=\"circle\"} 1",
+            "wozgirt_held{lock=\"deploy\"} 1",
+            "wozgirt_held{lock=\"gpu\"} 0",
+            "wozgirt_held_seconds{lock=\"deploy\"} 3",
+            "wozgirt_oldest_wait_seconds{lock=\"deploy\"} 2",
+            "wozgirt_grants_total{lock=\"deploy\"} 1",
+            "wozgirt_faults_total{lock=\"deploy\"} 1",
+            "# TYPE wozgirt_grants_total counter",
+        ] {
+            assert!(text.lines().any(|it| it == line), "{line} in {text}");
+        }
+    }
+}

@@ -1,0 +1,93 @@
+//! `GET /metrics`: the text format of Prometheus.
+
+use super::View;
+use crate::board::Sight;
+use crate::log::End;
+use std::fmt::{Display, Write};
+
+/// A family of values, with its help and type in front.
+struct Family<'a> {
+    text: &'a mut String,
+    name: &'a str,
+}
+
+impl<'a> Family<'a> {
+    fn new(text: &'a mut String, name: &'a str, kind: &str, help: &str) -> Family<'a> {
+        let _ = writeln!(text, "# HELP {name} {help}\n# TYPE {name} {kind}");
+        Family { text, name }
+    }
+
+    fn value(&mut self, value: impl Display) {
+        let _ = writeln!(self.text, "{} {value}", self.name);
+    }
+
+    /// Names of locks and reasons need no escapes: see `names.rs` and `answers.rs`.
+    fn labelled(&mut self, label: &str, of: &str, value: impl Display) {
+        let _ = writeln!(self.text, "{}{{{label}=\"{of}\"}} {value}", self.name);
+    }
+}
+
+/// The text.
+pub fn text(view: &View<'_>) -> String {
+    let mut text = String::new();
+    server(&mut text, view);
+    each_lock(&mut text, view);
+    text
+}
+
+fn server(text: &mut String, view: &View<'_>) {
+    let uptime = view.now.saturating_duration_since(view.started).as_secs_f64();
+    let values: [(&str, &str, &str, &dyn Display); 9] = [
+        ("wozgirt_uptime_seconds", "gauge", "Seconds since the server started.", &uptime),
+        ("wozgirt_engine_up", "gauge", "1 if the engine answers.", &u8::from(view.is_engine_ready)),
+        ("wozgirt_engine_starts_total", "counter", "How often the engine was started.", &view.engine_starts),
+        ("wozgirt_connections", "gauge", "Open connections.", &view.connected),
+        ("wozgirt_connections_total", "counter", "Connections that were let in.", &view.sums.connections),
+        ("wozgirt_connections_refused_total", "counter", "Connections over the limit.", &view.sums.turned_away),
+        ("wozgirt_inputs_total", "counter", "Inputs that went to the engine.", &view.sums.inputs),
+        ("wozgirt_journal_bytes", "gauge", "Size of the journal.", &view.journal.bytes),
+        ("wozgirt_journal_segments", "gauge", "Files of the journal.", &view.journal.segments),
+    ];
+    for (name, kind, help, value) in values {
+        Family::new(text, name, kind, help).value(value);
+    }
+    let mut refusals = Family::new(text, "wozgirt_refusals_total", "counter", "Refusals by their reason.");
+    for (why, count) in view.sums.refusals() {
+        refusals.labelled("reason", why, count);
+    }
+    let mut ends =
+        Family::new(text, "wozgirt_connections_ended_total", "counter", "Ends of connections by their reason.");
+    for end in End::ALL {
+        ends.labelled("reason", end.word(), view.sums.ends(end));
+    }
+}
+
+/// One value of each lock.
+type Value = fn(&Sight, &View<'_>) -> f64;
+
+fn each_lock(text: &mut String, view: &View<'_>) {
+    let families: [(&str, &str, &str, Value); 8] = [
+        ("wozgirt_held", "gauge", "1 if the lock is held.", |it, _| f64::from(u8::from(it.holder.is_some()))),
+        ("wozgirt_held_seconds", "gauge", "Age of the hold.", |it, view| {
+            it.holder.map_or(0.0, |holder| view.now.saturating_duration_since(holder.since).as_secs_f64())
+        }),
+        ("wozgirt_waiting", "gauge", "Clients that wait.", |it, _| it.line.len() as f64),
+        ("wozgirt_oldest_wait_seconds", "gauge", "How long the first of the line has waited.", |it, view| {
+            it.line.front().map_or(0.0, |waiter| view.now.saturating_duration_since(waiter.since).as_secs_f64())
+        }),
+        ("wozgirt_grants_total", "counter", "Grants.", |it, _| it.grants as f64),
+        ("wozgirt_waited_seconds_total", "counter", "Time that was waited for grants.", |it, _| {
+            it.waited.as_secs_f64()
+        }),
+        ("wozgirt_longest_wait_seconds", "gauge", "The longest wait for a grant.", |it, _| {
+            it.longest_wait.as_secs_f64()
+        }),
+        ("wozgirt_faults_total", "counter", "Faults that were written.", |it, _| it.faults as f64),
+    ];
+    for (name, kind, help, value) in families {
+        let mut family = Family::new(text, name, kind, help);
+        for (lock, sight) in view.board.locks().iter().enumerate() {
+            family.labelled("lock", view.names.name(lock), value(sight, view));
+        }
+    }
+}

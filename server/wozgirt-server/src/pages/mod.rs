@@ -1,0 +1,36 @@
+//! What a browser and Prometheus are shown: read only, and closed after each answer.
+
+mod html;
+mod http;
+mod metrics;
+mod visitor;
+
+pub use visitor::{Next, Visitor};
+
+use crate::board::Board;
+use crate::journal::JournalSize;
+use crate::names::Names;
+use crate::sums::Sums;
+use std::time::Instant;
+
+/// What there is to show.
+pub struct View<'a> {
+    /// The locks' names.
+    pub names: &'a Names,
+    /// The locks.
+    pub board: &'a Board,
+    /// The sums.
+    pub sums: &'a Sums,
+    /// How many are connected.
+    pub connected: usize,
+    /// How often the engine was started, and whether it answers.
+    pub engine_starts: u64,
+    /// Whether it answers.
+    pub is_engine_ready: bool,
+    /// Its journal.
+    pub journal: JournalSize,
+    /// When the server started.
+    pub started: Instant,
+    /// The time.
+    pub now: Instant,
+}

@@ -1,0 +1,166 @@
+//! What a connection says: one line, with the lock's name.
+
+use std::fmt;
+use std::time::Duration;
+use wozgirt_engine::{decimal, Label, NotALine, Token};
+
+/// The longest line, with its end.
+pub const LONGEST_LINE: usize = 256;
+
+/// One line of a client or of an operator.
+#[derive(Debug, PartialEq, Eq)]
+pub enum Request<'a> {
+    /// What is about one lock, which has this name.
+    Of(&'a str, Verb),
+    /// To give up all that is held and waited for.
+    Leave,
+    /// To be heard.
+    Ping,
+    /// To be taken for dead after such a silence; of 0, the longest that there may be.
+    Lease(Duration),
+    /// How all locks are.
+    Status,
+    /// Of an operator: who is connected.
+    Clients,
+    /// Of an operator: that the server ends.
+    Stop,
+}
+
+/// What is asked of a lock.
+#[derive(Debug, Clone, Copy, PartialEq, Eq)]
+pub enum Verb {
+    /// To hold it.
+    Acquire(Label),
+    /// To hold it at once or not at all.
+    Try(Label),
+    /// To end the hold.
+    Release(Token),
+    /// To wait no longer.
+    Cancel,
+    /// How it is.
+    Stats,
+    /// Of an operator: a fault.
+    Corrupt {
+        /// The machine.
+        machine: u64,
+        /// The value that is written.
+        value: u64,
+    },
+}
+
+/// Why a line is not a request.
+#[derive(Debug, PartialEq, Eq)]
+pub enum BadRequest {
+    /// Its first word is none: who says that is no client of this server.
+    Word,
+    /// The rest is not as it has to be.
+    Rest(NotALine),
+}
+
+impl From<NotALine> for BadRequest {
+    fn from(fault: NotALine) -> BadRequest {
+        BadRequest::Rest(fault)
+    }
+}
+
+impl fmt::Display for BadRequest {
+    fn fmt(&self, f: &mut fmt::Formatter<'_>) -> fmt::Result {
+        match self {
+            BadRequest::Word => f.write_str("syntax"),
+            BadRequest::Rest(fault) => fault.fmt(f),
+        }
+    }
+}
+
+/// The request in a line, without its end. `is_operator`: those of operators are read too.
+pub fn parse(line: &str, is_operator: bool) -> Result<Request<'_>, BadRequest> {
+    let (word, rest) = line.split_once(' ').map_or((line, None), |(word, rest)| (word, Some(rest)));
+    match word {
+        "acquire" => of_lock_and_number(rest, Verb::Acquire),
+        "try" => of_lock_and_number(rest, Verb::Try),
+        "release" => of_lock_and_number(rest, Verb::Release),
+        "cancel" => Ok(Request::Of(only_name(rest)?, Verb::Cancel)),
+        "stats" => Ok(Request::Of(only_name(rest)?, Verb::Stats)),
+        "leave" => alone(rest, Request::Leave),
+        "ping" => alone(rest, Request::Ping),
+        "status" => alone(rest, Request::Status),
+        "lease" => Ok(Request::Lease(Duration::from_millis(decimal(rest.unwrap_or(""))?))),
+        "clients" if is_operator => alone(rest, Request::Clients),
+        "stop" if is_operator => alone(rest, Request::Stop),
+        "corrupt" if is_operator => {
+            let (name, numbers) = rest.and_then(|rest| rest.split_once(' ')).ok_or(NotALine::Syntax)?;
+            let (machine, value) = numbers.split_once(' ').ok_or(NotALine::Syntax)?;
+            Ok(Request::Of(name, Verb::Corrupt { machine: decimal(machine)?, value: decimal(value)? }))
+        }
+        _ => Err(BadRequest::Word),
+    }
+}
+
+fn of_lock_and_number(rest: Option<&str>, verb: fn(u64) -> Verb) -> Result<Request<'_>, BadRequest> {
+    let (name, number) = rest.and_then(|rest| rest.split_once(' ')).ok_or(NotALine::Syntax)?;
+    Ok(Request::Of(name, verb(decimal(number)?)))
+}
+
+fn only_name(rest: Option<&str>) -> Result<&str, NotALine> {
+    rest.filter(|name| !name.is_empty() && !name.contains(' ')).ok_or(NotALine::Syntax)
+}
+
+fn alone<'a>(rest: Option<&str>, request: Request<'a>) -> Result<Request<'a>, BadRequest> {
+    rest.map_or(Ok(request), |_| Err(NotALine::Syntax.into()))
+}
+
+#[cfg(test)]
+mod tests {
+    use super::*;
+
+    #[test]
+    fn each_request() {
+        let lines = [
+            ("acquire deploy 7", Request::Of("deploy", Verb::Acquire(7))),
+            ("try deploy 0", Request::Of("deploy", Verb::Try(0))),
+            ("release deploy 18446744073709551615", Request::Of("deploy", Verb::Release(u64::MAX))),
+            ("cancel deploy", Request::Of("deploy", Verb::Cancel)),
+            ("stats deploy", Request::Of("deploy", Verb::Stats)),
+            ("leave", Request::Leave),
+            ("ping", Request::Ping),
+            ("status", Request::Status),
+            ("lease 1500", Request::Lease(Duration::from_millis(1500))),
+            ("clients", Request::Clients),
+            ("stop", Request::Stop),
+            ("corrupt deploy 1 2", Request::Of("deploy", Verb::Corrupt { machine: 1, value: 2 })),
+        ];
+        for (line, request) in lines {
+            assert_eq!(parse(line, true), Ok(request));
+        }
+    }
+
+    #[test]
+    fn what_only_operators_say() {
+        for line in ["corrupt deploy 1 2", "clients", "stop"] {
+            assert_eq!(parse(line, false), Err(BadRequest::Word));
+        }
+    }
+
+    #[test]
+    fn refusals() {
+        let rest = |fault| Err(BadRequest::Rest(fault));
+        for line in [
+            "acquire",
+            "acquire a",
+            "acquire a x",
+            "acquire a 1 2",
+            "cancel",
+            "cancel ",
+            "cancel a b",
+            "ping 1",
+            "lease",
+            "lease -1",
+        ] {
+            assert_eq!(parse(line, false), rest(NotALine::Syntax), "{line:?}");
+        }
+        assert_eq!(parse("acquire a 18446744073709551616", false), rest(NotALine::Number));
+        for line in ["", " ", "GET / HTTP/1.1", "acquire\ta 1", "Acquire a 1"] {
+            assert_eq!(parse(line, true), Err(BadRequest::Word), "{line:?}");
+        }
+    }
+}

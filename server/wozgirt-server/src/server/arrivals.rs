@@ -1,0 +1,182 @@
+//! Who comes: clients, operators, and visitors of the page.
+
+use super::{Server, CLIENTS, CONNECTIONS, NETWORK, OPERATORS, PAGE, VISITORS};
+use super::{MOST_COMERS, MOST_VISITORS, PLACES_OF_OPERATORS, SHUT};
+use crate::accounts::Accounts;
+use crate::connection::{Connection, Door};
+use crate::doors::{open_tcp, UnixDoor};
+use crate::journal::JournalSize;
+use crate::log::{Event, Log};
+use crate::pages::{Next, View, Visitor};
+use crate::settings::Settings;
+use crate::stream::Stream;
+use crate::CannotServe;
+use std::io;
+use std::net::TcpListener;
+use wozgirt_system::{peer_of, Interest, Poller};
+
+/// The sockets that are listened to.
+#[derive(Default)]
+pub(super) struct Doors {
+    clients: Option<UnixDoor>,
+    operators: Option<UnixDoor>,
+    tcp: Option<TcpListener>,
+    page: Option<TcpListener>,
+}
+
+impl Doors {
+    pub(super) fn open(settings: &Settings, poller: &Poller, log: &mut Log) -> Result<Doors, CannotServe> {
+        let accounts = Accounts::of_the_system();
+        let clients = UnixDoor::open(&settings.clients, &accounts)?;
+        poller.add(&clients.listener, CLIENTS, Interest::READS)?;
+        log.say(&Event::Listening { what: "clients", place: &settings.clients.path.display() });
+        let mut doors = Doors { clients: Some(clients), ..Doors::default() };
+        if let Some(named) = &settings.operators {
+            let door = UnixDoor::open(named, &accounts)?;
+            poller.add(&door.listener, OPERATORS, Interest::READS)?;
+            log.say(&Event::Listening { what: "operators", place: &named.path.display() });
+            doors.operators = Some(door);
+        }
+        for (what, address, key) in [("clients", settings.tcp, NETWORK), ("page", settings.page, PAGE)] {
+            let Some(address) = address else { continue };
+            let listener = open_tcp(address)?;
+            poller.add(&listener, key, Interest::READS)?;
+            log.say(&Event::Listening { what, place: &listener.local_addr()? });
+            *(if key == NETWORK { &mut doors.tcp } else { &mut doors.page }) = Some(listener);
+        }
+        Ok(doors)
+    }
+
+    /// Who comes in at this door, if somebody does.
+    fn accept(&self, key: u64) -> io::Result<Option<(Stream, String)>> {
+        let unix = |door: &Option<UnixDoor>| {
+            let Some(door) = door else { return Ok(None) };
+            door.listener.accept().and_then(|(stream, _)| Ok(Some((Stream::unix(stream)?, String::new()))))
+        };
+        let accepted = match key {
+            CLIENTS => unix(&self.clients),
+            OPERATORS => unix(&self.operators),
+            _ => match if key == NETWORK { &self.tcp } else { &self.page } {
+                None => Ok(None),
+                Some(listener) => {
+                    listener.accept().and_then(|(stream, from)| Ok(Some((Stream::tcp(stream)?, from.to_string()))))
+                }
+            },
+        };
+        match accepted {
+            Err(fault) if matches!(fault.kind(), io::ErrorKind::WouldBlock | io::ErrorKind::ConnectionAborted) => {
+                Ok(None)
+            }
+            other => other,
+        }
+    }
+}
+
+impl Server {
+    pub(super) fn let_in(&mut self, key: u64) {
+        for _ in 0..MOST_COMERS {
+            let (stream, from) = match self.doors.accept(key) {
+                Ok(Some(come)) => come,
+                Ok(None) => return,
+                Err(fault) => return self.shut_doors(&fault),
+            };
+            let door = match key {
+                CLIENTS => Door::Clients,
+                OPERATORS => Door::Operators,
+                _ => Door::Network,
+            };
+            let peer = if door == Door::Network { None } else { peer_of(&stream).ok() };
+            let who = match &peer {
+                Some(peer) => format!("{}, process {}", self.accounts.user_name(peer.user), peer.process),
+                None => from,
+            };
+            self.last_client += 1;
+            let mut connection = Connection::new(self.last_client, door, peer, who, stream, self.desk.now);
+            connection.lease = self.desk.first_lease(door);
+            self.welcome(connection);
+        }
+    }
+
+    pub(super) fn welcome(&mut self, mut connection: Connection) {
+        let extra = if connection.door == Door::Operators { PLACES_OF_OPERATORS } else { 0 };
+        if self.connections.len() >= self.desk.settings.connections + extra || self.stopping.is_some() {
+            connection.tell("refused connections");
+            let _ = connection.write(self.desk.now); // it is told if it takes it at once
+            self.desk.sums.turned_away += 1;
+            self.desk.log.say(&Event::TooMany { who: &connection.who });
+            return;
+        }
+        let client = connection.client;
+        if self.poller.add(connection.stream(), CONNECTIONS + client, Interest::READS).is_err() {
+            return; // no memory: the connection is closed
+        }
+        self.desk.sums.connections += 1;
+        if self.desk.settings.logs_connections {
+            self.desk.log.say(&Event::Came { client, who: &connection.who });
+        }
+        self.connections.insert(client, connection);
+        self.touch(client);
+    }
+
+    /// The system has no place for one more: others have to close first, and the door would tell of it without an end.
+    pub(super) fn shut_doors(&mut self, fault: &io::Error) {
+        self.desk.log.say(&Event::CannotAccept { fault });
+        self.set_doors(false);
+        self.shut_until = Some(self.desk.now + SHUT);
+    }
+
+    pub(super) fn set_doors(&self, reads: bool) {
+        let interest = Interest { reads, writes: false };
+        let unix = [(&self.doors.clients, CLIENTS), (&self.doors.operators, OPERATORS)];
+        for (door, key) in unix.into_iter().filter_map(|(door, key)| Some((door.as_ref()?, key))) {
+            let _ = self.poller.change(&door.listener, key, interest); // it was added, and is open
+        }
+        let tcp = [(&self.doors.tcp, NETWORK), (&self.doors.page, PAGE)];
+        for (door, key) in tcp.into_iter().filter_map(|(door, key)| Some((door.as_ref()?, key))) {
+            let _ = self.poller.change(door, key, interest); // the same
+        }
+    }
+
+    pub(super) fn let_visitors_in(&mut self) {
+        for _ in 0..MOST_VISITORS {
+            let (stream, address) = match self.doors.accept(PAGE) {
+                Ok(Some(come)) => come,
+                Ok(None) => return,
+                Err(fault) => return self.shut_doors(&fault),
+            };
+            if self.visitors.len() >= MOST_VISITORS {
+                self.desk.log.say(&Event::Visitor { address: &address, why: "there are too many" });
+                continue;
+            }
+            self.last_visitor += 1;
+            let key = VISITORS + self.last_visitor;
+            let visitor = Visitor::new(stream, self.desk.now);
+            if self.poller.add(visitor.stream(), key, Interest::READS).is_ok() {
+                self.visitors.insert(key, visitor);
+            }
+        }
+    }
+
+    pub(super) fn visit(&mut self, key: u64) {
+        let Some(mut visitor) = self.visitors.remove(&key) else { return };
+        if let Next::Wait(interest) = visitor.go_on(|| self.view()) {
+            if self.poller.change(visitor.stream(), key, interest).is_ok() {
+                self.visitors.insert(key, visitor);
+            }
+        }
+    }
+
+    pub(super) fn view(&self) -> View<'_> {
+        View {
+            names: &self.desk.names,
+            board: &self.desk.board,
+            sums: &self.desk.sums,
+            connected: self.connections.len(),
+            engine_starts: self.desk.engine.starts,
+            is_engine_ready: self.is_engine_ready(),
+            journal: JournalSize::of(&self.desk.settings.journal),
+            started: self.started,
+            now: self.desk.now,
+        }
+    }
+}

@@ -1,0 +1,120 @@
+//! The engine: started, heard, lost.
+
+use super::{Server, ENGINE, ENGINE_INPUT};
+use crate::engine::{Outcome, Unheard};
+use crate::log::{End, Event};
+use crate::CannotServe;
+use wozgirt_engine::{Answer, Answered, Asked, Input, NOBODY};
+use wozgirt_system::Interest;
+
+impl Server {
+    pub(super) fn hear_engine(&mut self) {
+        let mut answered = Vec::new();
+        let heard = self.desk.engine.read(&mut answered);
+        for it in answered {
+            if !self.answer(it) {
+                return;
+            }
+        }
+        match heard {
+            Ok(()) => {}
+            Err(Unheard::Ended) => self.lose_engine(true),
+            Err(Unheard::Unreadable(line, fault)) => {
+                self.desk.log.say(&Event::EngineUnreadable { line, fault: Some(fault) });
+                self.lose_engine(false);
+            }
+        }
+    }
+
+    /// One answer. False if nobody asked, and the engine is given up.
+    pub(super) fn answer(&mut self, Answered { client, answer }: Answered) -> bool {
+        let line = if client == NOBODY {
+            match self.answer_own(&answer) {
+                true => return true,
+                false => answer,
+            }
+        } else {
+            let Some(connection) = self.connections.get_mut(&client) else { return true };
+            let kept = answer.clone();
+            match self.desk.tell_answer(connection, answer) {
+                Ok(()) => {
+                    if connection.has_line() {
+                        self.backlog.push_back(client);
+                    }
+                    self.touch(client);
+                    return true;
+                }
+                Err(_) => kept,
+            }
+        };
+        let line = Answered { client, answer: line }.to_string();
+        self.desk.log.say(&Event::EngineUnreadable { line, fault: None });
+        self.lose_engine(false);
+        false
+    }
+
+    /// How a lock is, which was asked when the engine started.
+    pub(super) fn answer_own(&mut self, answer: &Answer) -> bool {
+        let Answer::Stats(stats) = answer else { return false };
+        if self.own.pop_front() != Some(stats.lock) {
+            return false;
+        }
+        if self.desk.board.begin(stats, self.desk.now) {
+            self.held_before.push(stats.lock);
+        }
+        if self.own.is_empty() {
+            self.desk.engine.note_ready();
+            self.desk.log.say(&Event::EngineReady { held: self.held_before.len() });
+            self.touch_all();
+        }
+        true
+    }
+
+    /// The engine ended, or has to: all that was held is its past, and every connection hears that by its end.
+    pub(super) fn lose_engine(&mut self, is_ended: bool) {
+        self.desk.engine.give_up(is_ended, self.desk.now);
+        self.part_all(if self.stopping.is_some() { End::Stop } else { End::Engine });
+        self.desk.board.forget();
+        self.own.clear();
+        self.held_before.clear();
+        self.grace_until = None;
+    }
+
+    pub(super) fn look_at_engine(&mut self) -> Result<(), CannotServe> {
+        let now = self.desk.now;
+        match self.desk.engine.look(self.stopping.is_some(), now)? {
+            Outcome::NotYet => {}
+            Outcome::Again(status) => self.desk.log.say(&Event::EngineEnded { status: status.to_string() }),
+            Outcome::Over(status) => {
+                self.desk.log.say(&Event::EngineEnded { status: status.to_string() });
+                return if self.stopping.is_some() { Ok(()) } else { Err(CannotServe::EngineEnds(status)) };
+            }
+        }
+        if self.stopping.is_some() {
+            return Ok(());
+        }
+        let Some(process) = self.desk.engine.start(now).map_err(CannotServe::Engine)? else { return Ok(()) };
+        let grace = self.desk.settings.grace;
+        self.desk.log.say(&Event::EngineStarted { process, grace });
+        if let (Some(input), Some(output)) = (self.desk.engine.input(), self.desk.engine.output()) {
+            self.poller.add(output, ENGINE, Interest::READS)?;
+            self.poller.add(input, ENGINE_INPUT, Interest { reads: false, writes: false })?;
+        }
+        self.grace_until = Some(now + grace);
+        for lock in 0..self.desk.names.count() {
+            self.own.push_back(lock);
+            self.desk.engine.ask(Asked { client: NOBODY, input: Input::Stats { lock } });
+        }
+        Ok(())
+    }
+
+    /// Who held a lock when the engine ended has heard by now that it lost it, or its lease is over.
+    pub(super) fn end_grace(&mut self) {
+        self.grace_until = None;
+        self.desk.engine.ask(Asked { client: NOBODY, input: Input::Leave });
+        for lock in std::mem::take(&mut self.held_before) {
+            self.desk.board.left(lock, NOBODY);
+        }
+        self.desk.log.say(&Event::GraceOver);
+    }
+}

@@ -1,0 +1,256 @@
+//! The loop: rounds of what happened, and what time brings.
+
+mod arrivals;
+mod engine_side;
+mod opening;
+mod talks;
+
+pub use opening::CannotServe;
+
+use crate::accounts::Accounts;
+use crate::board::Board;
+use crate::connection::{Connection, SHARE};
+use crate::desk::Desk;
+use crate::engine::Engine;
+use crate::log::{End, Event, Log};
+use crate::pages::Visitor;
+use crate::settings::Settings;
+use crate::sums::Sums;
+use arrivals::Doors;
+use opening::{check_files, read_names, read_rules};
+use std::collections::{HashMap, VecDeque};
+use std::time::{Duration, Instant};
+use wozgirt_engine::{Client, Lock, NOBODY};
+use wozgirt_system::{Event as Ready, Interest, Poller, Signal, Signals};
+
+/// Keys of the poller: what is there once, then connections, then visitors.
+const SIGNALS: u64 = 0;
+const ENGINE: u64 = 1;
+const ENGINE_INPUT: u64 = 6;
+const CLIENTS: u64 = 2;
+const OPERATORS: u64 = 3;
+const NETWORK: u64 = 4;
+const PAGE: u64 = 5;
+const CONNECTIONS: u64 = 16;
+const VISITORS: u64 = 1 << 63;
+
+/// How many come in at one door in one round.
+const MOST_COMERS: usize = 64;
+/// Operators are let in even if the clients have taken all places.
+const PLACES_OF_OPERATORS: usize = 16;
+/// How many visitors the page has at once.
+const MOST_VISITORS: usize = 16;
+/// Files that are open besides connections.
+const OTHER_FILES: usize = 32;
+/// How long an end in good order may take.
+const LONGEST_STOP: Duration = Duration::from_secs(10);
+/// How long a door is shut when the system has no place for a connection.
+const SHUT: Duration = Duration::from_millis(50);
+
+/// The server.
+pub struct Server {
+    desk: Desk,
+    poller: Poller,
+    signals: Signals,
+    doors: Doors,
+    accounts: Accounts,
+    connections: HashMap<Client, Connection>,
+    visitors: HashMap<u64, Visitor>,
+    last_client: Client,
+    last_visitor: u64,
+    /// Who is told something at the end of this round.
+    dirty: Vec<Client>,
+    /// Who has said more than was taken.
+    backlog: VecDeque<Client>,
+    /// What the server itself asked the engine, as client 0: how each lock is.
+    own: VecDeque<Lock>,
+    /// The locks that were held when the engine started.
+    held_before: Vec<Lock>,
+    /// When these are given up.
+    grace_until: Option<Instant>,
+    /// When connections are looked through for those who are silent or deaf.
+    next_sweep: Instant,
+    /// Until when doors are shut, since the system has no place.
+    shut_until: Option<Instant>,
+    /// Until when an end in good order has to be done.
+    stopping: Option<Instant>,
+    started: Instant,
+}
+
+impl Server {
+    /// Reads names and rules, checks limits, and listens. No thread may have been started before.
+    pub fn open(settings: Settings) -> Result<Server, CannotServe> {
+        let now = Instant::now();
+        let signals = Signals::new(&[Signal::Terminate, Signal::Interrupt, Signal::HangUp])?;
+        let mut log = Log::start()?;
+        let accounts = Accounts::of_the_system();
+        let names = read_names(&settings)?;
+        let rules = read_rules(&settings, &names, &accounts)?;
+        check_files(&settings)?;
+        log.say(&Event::Started { version: env!("CARGO_PKG_VERSION"), locks: names.count() });
+        let poller = Poller::new()?;
+        poller.add(&signals, SIGNALS, Interest::READS)?;
+        let doors = Doors::open(&settings, &poller, &mut log)?;
+        let engine = Engine::new(settings.engine.clone(), settings.engine_words(), now);
+        let board = Board::new(names.count());
+        let desk = Desk { settings, names, rules, engine, board, sums: Sums::default(), log, now };
+        Ok(Server {
+            desk,
+            poller,
+            signals,
+            doors,
+            accounts,
+            connections: HashMap::new(),
+            visitors: HashMap::new(),
+            last_client: NOBODY,
+            last_visitor: 0,
+            dirty: Vec::new(),
+            backlog: VecDeque::new(),
+            own: VecDeque::new(),
+            held_before: Vec::new(),
+            grace_until: None,
+            next_sweep: now,
+            shut_until: None,
+            stopping: None,
+            started: now,
+        })
+    }
+
+    /// Serves until it is told to end.
+    pub fn run(mut self) -> Result<(), CannotServe> {
+        let mut events = Vec::new();
+        let mut buffer = [0; SHARE];
+        self.look_at_engine()?;
+        while !self.desk.engine.is_over() {
+            let before = Instant::now();
+            let is_all = self.poller.wait(Some(self.next_time()), &mut events)?;
+            self.desk.now = Instant::now();
+            for event in &events {
+                self.happened(event, &mut buffer)?;
+            }
+            self.take_backlog();
+            self.pass_time(is_all.then_some(before))?;
+            self.write_all(&mut buffer)?;
+        }
+        self.desk.log.say(&Event::Stopped);
+        Ok(())
+    }
+
+    fn happened(&mut self, event: &Ready, buffer: &mut [u8; SHARE]) -> Result<(), CannotServe> {
+        match event.key {
+            SIGNALS => {
+                while let Some(signal) = self.signals.next_signal() {
+                    self.hear(signal);
+                }
+            }
+            ENGINE => self.hear_engine(),
+            ENGINE_INPUT => {} // what it takes is written at the end of each round
+            CLIENTS | OPERATORS | NETWORK => self.let_in(event.key),
+            PAGE => self.let_visitors_in(),
+            key if key >= VISITORS => self.visit(key),
+            key => self.read(key - CONNECTIONS, event, buffer),
+        }
+        Ok(())
+    }
+
+    /// Whether the engine has answered how all locks are.
+    fn is_engine_ready(&self) -> bool {
+        self.desk.engine.is_running() && self.own.is_empty()
+    }
+
+    fn touch(&mut self, client: Client) {
+        if let Some(connection) = self.connections.get_mut(&client) {
+            if !std::mem::replace(&mut connection.is_dirty, true) {
+                self.dirty.push(client);
+            }
+        }
+    }
+
+    fn touch_all(&mut self) {
+        for client in self.connections.keys().copied().collect::<Vec<_>>() {
+            self.touch(client);
+        }
+    }
+
+    fn next_time(&self) -> Duration {
+        if !self.backlog.is_empty() {
+            return Duration::ZERO;
+        }
+        let now = self.desk.now;
+        let grace = self.grace_until.filter(|_| self.is_engine_ready());
+        let times = [self.desk.engine.next_look(now), grace, self.shut_until, self.stopping];
+        let next = times.into_iter().flatten().fold(self.next_sweep, Instant::min);
+        next.saturating_duration_since(now)
+    }
+
+    /// `seen`: everything that had come by then was seen. This server may have been stopped since, so nothing else tells who
+    /// is silent.
+    fn pass_time(&mut self, seen: Option<Instant>) -> Result<(), CannotServe> {
+        let now = self.desk.now;
+        self.look_at_engine()?;
+        if self.is_engine_ready() && self.grace_until.is_some_and(|until| until <= now) {
+            self.end_grace();
+        }
+        if self.shut_until.is_some_and(|until| until <= now) {
+            self.shut_until = None;
+            self.set_doors(true);
+        }
+        if let Some(seen) = seen.filter(|_| self.next_sweep <= now) {
+            self.sweep(seen);
+        }
+        self.go_on_stopping();
+        Ok(())
+    }
+
+    /// Lets those go who are silent for longer than their lease, or do not read.
+    fn sweep(&mut self, seen: Instant) {
+        let now = self.desk.now;
+        let deaf = self.desk.settings.deaf;
+        let mut gone = Vec::new();
+        for (client, connection) in &mut self.connections {
+            connection.excuse(now);
+            if connection.is_silent(seen) {
+                gone.push((*client, End::Lease));
+            } else if connection.is_deaf(seen, deaf) {
+                gone.push((*client, End::Deaf));
+            }
+        }
+        for (client, end) in gone {
+            self.part(client, end);
+        }
+        self.visitors.retain(|_, visitor| !visitor.is_late(now));
+        let shortest = self.desk.settings.longest_lease.min(deaf);
+        self.next_sweep = now + (shortest / 20).clamp(Duration::from_millis(5), Duration::from_millis(250));
+    }
+
+    fn hear(&mut self, signal: Signal) {
+        match signal {
+            Signal::Terminate => self.stop("SIGTERM"),
+            Signal::Interrupt => self.stop("SIGINT"),
+            _ => {} // the terminal is gone, which changes nothing
+        }
+    }
+
+    /// From now on nobody is let in and nothing is read; what was asked is answered.
+    fn stop(&mut self, why: &str) {
+        if self.stopping.is_some() {
+            return;
+        }
+        self.desk.log.say(&Event::Stopping { why });
+        self.stopping = Some(self.desk.now + LONGEST_STOP);
+        self.doors = Doors::default();
+        self.backlog.clear();
+        self.touch_all();
+        if !self.desk.engine.is_running() {
+            self.part_all(End::Stop);
+        }
+    }
+
+    fn go_on_stopping(&mut self) {
+        let Some(until) = self.stopping else { return };
+        if until <= self.desk.now {
+            self.lose_engine(false);
+        }
+        self.desk.engine.end();
+    }
+}

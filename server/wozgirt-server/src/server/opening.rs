@@ -1,0 +1,105 @@
+//! What is read and checked before the server serves.
+
+use super::{MOST_VISITORS, OTHER_FILES, PLACES_OF_OPERATORS};
+use crate::accounts::Accounts;
+use crate::doors::CannotListen;
+use crate::engine::CannotStart;
+use crate::names::{BadNames, Names};
+use crate::rules::{BadRule, Rules};
+use crate::settings::Settings;
+use std::fmt;
+use std::fs;
+use std::io;
+use std::path::PathBuf;
+use std::process::ExitStatus;
+
+/// Why the server does not serve.
+#[derive(Debug)]
+pub enum CannotServe {
+    /// The file of locks in the engine's folder cannot be read, and no locks were named.
+    Locks(PathBuf, io::Error),
+    /// The locks are not named well.
+    Names(BadNames),
+    /// The rules cannot be read.
+    Rules(PathBuf, io::Error),
+    /// The rules are wrong.
+    Rule(PathBuf, BadRule),
+    /// Fewer files may be open than there may be connections.
+    Files {
+        /// How many may be.
+        limit: u64,
+        /// How many are needed.
+        needed: u64,
+    },
+    /// A socket cannot be listened to.
+    Listen(CannotListen),
+    /// There is no engine.
+    Engine(CannotStart),
+    /// The engine keeps ending before it is ready.
+    EngineEnds(ExitStatus),
+    /// The system refused something else.
+    System(io::Error),
+}
+
+impl fmt::Display for CannotServe {
+    fn fmt(&self, f: &mut fmt::Formatter<'_>) -> fmt::Result {
+        match self {
+            CannotServe::Locks(path, fault) => write!(f, "--locks is missing, and {}: {fault}", path.display()),
+            CannotServe::Names(fault) => write!(f, "--locks: {fault}"),
+            CannotServe::Rules(path, fault) => write!(f, "{}: {fault}", path.display()),
+            CannotServe::Rule(path, fault) => write!(f, "{}: {fault}", path.display()),
+            CannotServe::Files { limit, needed } => {
+                write!(
+                    f,
+                    "{limit} files may be open, and {needed} are needed: raise that limit, or lower --connections"
+                )
+            }
+            CannotServe::Listen(fault) => fault.fmt(f),
+            CannotServe::Engine(fault) => fault.fmt(f),
+            CannotServe::EngineEnds(status) => write!(f, "the engine keeps ending before it is ready: {status}"),
+            CannotServe::System(fault) => fault.fmt(f),
+        }
+    }
+}
+
+impl std::error::Error for CannotServe {}
+
+impl From<io::Error> for CannotServe {
+    fn from(fault: io::Error) -> CannotServe {
+        CannotServe::System(fault)
+    }
+}
+
+impl From<CannotListen> for CannotServe {
+    fn from(fault: CannotListen) -> CannotServe {
+        CannotServe::Listen(fault)
+    }
+}
+
+pub(super) fn read_names(settings: &Settings) -> Result<Names, CannotServe> {
+    let list = match &settings.locks {
+        Some(list) => list.clone(),
+        None => {
+            let path = settings.journal.join("locks");
+            fs::read_to_string(&path).map_err(|fault| CannotServe::Locks(path, fault))?
+        }
+    };
+    Names::parse(&list).map_err(CannotServe::Names)
+}
+
+pub(super) fn read_rules(settings: &Settings, names: &Names, accounts: &Accounts) -> Result<Rules, CannotServe> {
+    let Some(path) = &settings.rules else { return Ok(Rules::default()) };
+    let text = fs::read_to_string(path).map_err(|fault| CannotServe::Rules(path.clone(), fault))?;
+    Rules::parse(&text, names, accounts).map_err(|fault| CannotServe::Rule(path.clone(), fault))
+}
+
+/// The system's limit of open files, as it tells this process.
+pub(super) fn check_files(settings: &Settings) -> Result<(), CannotServe> {
+    let needed = (settings.connections + PLACES_OF_OPERATORS + MOST_VISITORS + OTHER_FILES) as u64;
+    let text = fs::read_to_string("/proc/self/limits").unwrap_or_default();
+    let limit = text.lines().find_map(|line| line.strip_prefix("Max open files"));
+    match limit.and_then(|limit| limit.split_whitespace().next()).and_then(|word| word.parse().ok()) {
+        Some(limit) if limit < needed => Err(CannotServe::Files { limit, needed }),
+        _ => Ok(()),
+    }
+}

@@ -1,0 +1,380 @@
+//! The words of the command line.
+
+use std::fmt;
+use std::net::SocketAddr;
+use std::path::PathBuf;
+use std::time::Duration;
+
+/// The help's text.
+pub const USAGE: &str = "\
+wozgirt-server --journal FOLDER [--locks NAME[:N[:K]],..] [OPTION ..]
+
+Gives the locks of one engine to clients on sockets. It decides nothing about locks: the engine does.
+
+The engine, which is run as `PROGRAM locks --journal FOLDER [--locks ..] ..`:
+  --engine PROGRAM         the program of the engine [ring_tool]
+  --journal FOLDER         where the engine keeps its journal
+  --locks NAME[:N[:K]],..  the locks; without it those of FOLDER
+  --segment LINES          how many lines a file of the journal has
+  --no-sync                answers do not wait for the disk
+  --faults                 operators may write faults
+
+Sockets:
+  --socket PATH            for clients [/run/wozgirt/lock.sock]
+  --mode OCTAL             its mode [600]
+  --group NAME             its group
+  --operators PATH         for operators; without it there is none
+  --operators-mode OCTAL   its mode [600]
+  --operators-group NAME   its group
+  --tcp ADDRESS:PORT       for clients, who are not asked who they are
+  --page ADDRESS:PORT      `GET /` is a page, `GET /metrics` is for Prometheus
+  --listen-anywhere        the last two may be other addresses than this machine's own
+
+Limits:
+  --rules FILE             who may use which lock
+  --longest-lease SECONDS  the longest lease of a client, and of each over TCP that asks for none [30]
+  --lease-for-all          clients on the Unix socket who ask for none have it too
+  --grace SECONDS          how long what was held when the engine ended stays held [the longest lease]
+  --connections COUNT      how many clients at once [1000]
+  --waiters COUNT          how many wait for one lock at once [10000]
+  --deaf SECONDS           how long a client may leave its answers unread [30]
+
+Other:
+  --log-connections        a line in the log for each client that comes and goes
+  --help, --version";
+
+/// How a socket is made that has a name.
+#[derive(Debug, Clone, PartialEq, Eq)]
+pub struct Named {
+    /// Its name.
+    pub path: PathBuf,
+    /// Its mode.
+    pub mode: u32,
+    /// Its group, by name or number.
+    pub group: Option<String>,
+}
+
+/// What the words ask for.
+#[derive(Debug, Clone, PartialEq, Eq)]
+pub struct Settings {
+    /// The program of the engine.
+    pub engine: String,
+    /// The folder of its journal.
+    pub journal: PathBuf,
+    /// The list of locks, if it is given.
+    pub locks: Option<String>,
+    /// How many lines a segment has, if it is given.
+    pub segment: Option<u64>,
+    /// Whether answers wait for the disk.
+    pub is_synced: bool,
+    /// Whether operators may write faults.
+    pub permits_faults: bool,
+    /// The socket of clients.
+    pub clients: Named,
+    /// The socket of operators.
+    pub operators: Option<Named>,
+    /// The address of clients over TCP.
+    pub tcp: Option<SocketAddr>,
+    /// The address of the page.
+    pub page: Option<SocketAddr>,
+    /// The file of rules.
+    pub rules: Option<PathBuf>,
+    /// The longest silence of a client.
+    pub longest_lease: Duration,
+    /// Whether a client on a Unix socket has a lease that did not ask for one.
+    pub is_lease_for_all: bool,
+    /// How long open holds stay held after the engine started.
+    pub grace: Duration,
+    /// How many clients there may be.
+    pub connections: usize,
+    /// How many may wait for one lock.
+    pub waiters: usize,
+    /// How long answers may stay unread.
+    pub deaf: Duration,
+    /// Whether connections are logged.
+    pub logs_connections: bool,
+}
+
+/// What the words are, if they are not wrong.
+#[derive(Debug, PartialEq, Eq)]
+pub enum Words {
+    /// Run so.
+    Run(Box<Settings>),
+    /// Print the help.
+    Help,
+    /// Print the version.
+    Version,
+}
+
+/// What is wrong with the words.
+#[derive(Debug, PartialEq, Eq)]
+pub enum BadWords {
+    /// There is no such word.
+    Unknown(String),
+    /// It needs a value.
+    NoValue(String),
+    /// This is no value of it.
+    Value(String, String),
+    /// This one has to be there.
+    Missing(&'static str),
+    /// The address is not this machine's own.
+    Anywhere(SocketAddr),
+    /// The grace is shorter than the longest lease.
+    Grace,
+}
+
+impl fmt::Display for BadWords {
+    fn fmt(&self, f: &mut fmt::Formatter<'_>) -> fmt::Result {
+        match self {
+            BadWords::Unknown(word) => write!(f, "there is no option {word}"),
+            BadWords::NoValue(word) => write!(f, "{word} needs a value"),
+            BadWords::Value(word, value) => write!(f, "{word}: bad value `{value}`"),
+            BadWords::Missing(word) => write!(f, "{word} is missing"),
+            BadWords::Anywhere(address) => {
+                write!(f, "{address} can be reached from other machines, and nobody is asked who it is: see --listen-anywhere")
+            }
+            BadWords::Grace => f.write_str("--grace is shorter than --longest-lease"),
+        }
+    }
+}
+
+impl std::error::Error for BadWords {}
+
+/// Reads the words after the program's name.
+pub fn parse(words: impl IntoIterator<Item = String>) -> Result<Words, BadWords> {
+    let mut reading = Reading::default();
+    let mut words = words.into_iter();
+    while let Some(word) = words.next() {
+        match word.as_str() {
+            "--help" | "-h" => return Ok(Words::Help),
+            "--version" | "-V" => return Ok(Words::Version),
+            _ => {}
+        }
+        if !reading.flag(&word) {
+            let value = words.next();
+            reading.value(word, value)?;
+        }
+    }
+    reading.settings().map(|settings| Words::Run(Box::new(settings)))
+}
+
+/// What was read so far.
+#[derive(Default)]
+struct Reading {
+    engine: Option<String>,
+    journal: Option<PathBuf>,
+    locks: Option<String>,
+    segment: Option<u64>,
+    is_not_synced: bool,
+    permits_faults: bool,
+    sockets: [(Option<PathBuf>, Option<u32>, Option<String>); 2],
+    tcp: Option<SocketAddr>,
+    page: Option<SocketAddr>,
+    listens_anywhere: bool,
+    rules: Option<PathBuf>,
+    longest_lease: Option<Duration>,
+    is_lease_for_all: bool,
+    grace: Option<Duration>,
+    connections: Option<usize>,
+    waiters: Option<usize>,
+    deaf: Option<Duration>,
+    logs_connections: bool,
+}
+
+impl Reading {
+    fn flag(&mut self, word: &str) -> bool {
+        let flag = match word {
+            "--no-sync" => &mut self.is_not_synced,
+            "--faults" => &mut self.permits_faults,
+            "--listen-anywhere" => &mut self.listens_anywhere,
+            "--lease-for-all" => &mut self.is_lease_for_all,
+            "--log-connections" => &mut self.logs_connections,
+            _ => return false,
+        };
+        *flag = true;
+        true
+    }
+
+    fn value(&mut self, word: String, value: Option<String>) -> Result<(), BadWords> {
+        if !VALUED.contains(&word.as_str()) {
+            return Err(BadWords::Unknown(word));
+        }
+        let value = value.ok_or_else(|| BadWords::NoValue(word.clone()))?;
+        self.put(&word, &value).ok_or(BadWords::Value(word, value))
+    }
+
+    /// Nothing if it is not a value of this word.
+    fn put(&mut self, word: &str, value: &str) -> Option<()> {
+        match word {
+            "--engine" => self.engine = Some(value.into()),
+            "--journal" => self.journal = Some(value.into()),
+            "--locks" => self.locks = Some(value.into()),
+            "--segment" => self.segment = Some(value.parse().ok().filter(|&lines| lines > 0)?),
+            "--socket" => self.sockets[0].0 = Some(value.into()),
+            "--mode" => self.sockets[0].1 = Some(mode(value)?),
+            "--group" => self.sockets[0].2 = Some(value.into()),
+            "--operators" => self.sockets[1].0 = Some(value.into()),
+            "--operators-mode" => self.sockets[1].1 = Some(mode(value)?),
+            "--operators-group" => self.sockets[1].2 = Some(value.into()),
+            "--tcp" => self.tcp = Some(value.parse().ok()?),
+            "--page" => self.page = Some(value.parse().ok()?),
+            "--rules" => self.rules = Some(value.into()),
+            "--longest-lease" => self.longest_lease = Some(seconds(value).filter(|time| !time.is_zero())?),
+            "--grace" => self.grace = Some(seconds(value)?),
+            "--connections" => self.connections = Some(value.parse().ok().filter(|&count| count > 0)?),
+            "--waiters" => self.waiters = Some(value.parse().ok()?),
+            "--deaf" => self.deaf = Some(seconds(value).filter(|time| !time.is_zero())?),
+            _ => return None,
+        }
+        Some(())
+    }
+
+    fn settings(self) -> Result<Settings, BadWords> {
+        let longest_lease = self.longest_lease.unwrap_or(Duration::from_secs(30));
+        let grace = self.grace.unwrap_or(longest_lease);
+        if grace < longest_lease {
+            return Err(BadWords::Grace);
+        }
+        for address in [self.tcp, self.page].into_iter().flatten() {
+            if !address.ip().is_loopback() && !self.listens_anywhere {
+                return Err(BadWords::Anywhere(address));
+            }
+        }
+        let [clients, operators] = self.sockets;
+        let named = |path, mode: Option<u32>, group| Named { path, mode: mode.unwrap_or(0o600), group };
+        Ok(Settings {
+            engine: self.engine.unwrap_or_else(|| "ring_tool".into()),
+            journal: self.journal.ok_or(BadWords::Missing("--journal"))?,
+            locks: self.locks,
+            segment: self.segment,
+            is_synced: !self.is_not_synced,
+            permits_faults: self.permits_faults,
+            clients: named(clients.0.unwrap_or_else(|| "/run/wozgirt/lock.sock".into()), clients.1, clients.2),
+            operators: operators.0.map(|path| named(path, operators.1, operators.2)),
+            tcp: self.tcp,
+            page: self.page,
+            rules: self.rules,
+            longest_lease,
+            is_lease_for_all: self.is_lease_for_all,
+            grace,
+            connections: self.connections.unwrap_or(1000),
+            waiters: self.waiters.unwrap_or(10_000),
+            deaf: self.deaf.unwrap_or(Duration::from_secs(30)),
+            logs_connections: self.logs_connections,
+        })
+    }
+}
+
+/// The options that have a value.
+const VALUED: [&str; 18] = [
+    "--engine",
+    "--journal",
+    "--locks",
+    "--segment",
+    "--socket",
+    "--mode",
+    "--group",
+    "--operators",
+    "--operators-mode",
+    "--operators-group",
+    "--tcp",
+    "--page",
+    "--rules",
+    "--longest-lease",
+    "--grace",
+    "--connections",
+    "--waiters",
+    "--deaf",
+];
+
+fn mode(value: &str) -> Option<u32> {
+    u32::from_str_radix(value, 8).ok().filter(|&mode| mode <= 0o777)
+}
+
+/// A time of at most a year.
+fn seconds(value: &str) -> Option<Duration> {
+    let seconds: f64 = value.parse().ok()?;
+    (0.0..=31_536_000.0).contains(&seconds).then(|| Duration::from_secs_f64(seconds))
+}
+
+impl Settings {
+    /// The words with which the engine is run.
+    pub fn engine_words(&self) -> Vec<String> {
+        let mut words = vec!["locks".into(), "--journal".into(), self.journal.to_string_lossy().into_owned()];
+        if let Some(locks) = &self.locks {
+            words.extend(["--locks".into(), locks.clone()]);
+        }
+        if let Some(segment) = self.segment {
+            words.extend(["--segment".into(), segment.to_string()]);
+        }
+        words.push(if self.is_synced { "--sync".into() } else { "--no-sync".into() });
+        if self.permits_faults {
+            words.push("--faults".into());
+        }
+        words
+    }
+}
+
+#[cfg(test)]
+mod tests {
+    use super::*;
+
+    fn read(words: &str) -> Result<Settings, BadWords> {
+        match parse(words.split_whitespace().map(String::from))? {
+            Words::Run(settings) => Ok(*settings),
+            other => panic!("{other:?}"),
+        }
+    }
+
+    #[test]
+    fn few_words() {
+        let settings = read("--journal /j").unwrap();
+        assert_eq!(settings.engine_words(), ["locks", "--journal", "/j", "--sync"]);
+        assert_eq!(settings.engine, "ring_tool");
+        assert_eq!(settings.clients, Named { path: "/run/wozgirt/lock.sock".into(), mode: 0o600, group: None });
+        assert_eq!((settings.operators, settings.tcp, settings.page), (None, None, None));
+        assert_eq!((settings.longest_lease, settings.grace), (Duration::from_secs(30), Duration::from_secs(30)));
+    }
+
+    #[test]
+    fn all_words() {
+        let settings = read(
+            "--engine e --journal j --locks a,b:3 --segment 9 --no-sync --faults --socket s --mode 660 --group g \
+             --operators o --operators-mode 640 --operators-group h --tcp 127.0.0.1:1 --page [::1]:2 --rules r \
+             --longest-lease 0.5 --lease-for-all --grace 2 --connections 7 --waiters 8 --deaf 9 --log-connections",
+        )
+        .unwrap();
+        let words = ["locks", "--journal", "j", "--locks", "a,b:3", "--segment", "9", "--no-sync", "--faults"];
+        assert_eq!(settings.engine_words(), words);
+        assert_eq!(settings.clients, Named { path: "s".into(), mode: 0o660, group: Some("g".into()) });
+        assert_eq!(settings.operators, Some(Named { path: "o".into(), mode: 0o640, group: Some("h".into()) }));
+        assert_eq!(settings.tcp, Some("127.0.0.1:1".parse().unwrap()));
+        assert_eq!(settings.page, Some("[::1]:2".parse().unwrap()));
+        assert_eq!((settings.longest_lease, settings.grace), (Duration::from_millis(500), Duration::from_secs(2)));
+        assert_eq!((settings.connections, settings.waiters, settings.deaf.as_secs()), (7, 8, 9));
+        assert!(settings.is_lease_for_all && settings.logs_connections);
+    }
+
+    #[test]
+    fn refusals() {
+        let texts = [
+            ("", "--journal is missing"),
+            ("--journal", "--journal needs a value"),
+            ("--journal j --jump", "there is no option --jump"),
+            ("--journal j --mode 8", "--mode: bad value `8`"),
+            ("--journal j --mode 1777", "--mode: bad value `1777`"),
+            ("--journal j --grace -1", "--grace: bad value `-1`"),
+            ("--journal j --grace inf", "--grace: bad value `inf`"),
+            ("--journal j --deaf 0", "--deaf: bad value `0`"),
+            ("--journal j --tcp localhost:1", "--tcp: bad value `localhost:1`"),
+            ("--journal j --longest-lease 10 --grace 9", "--grace is shorter than --longest-lease"),
+        ];
+        for (words, why) in texts {
+            assert_eq!(read(words).unwrap_err().to_string(), why);
+        }
+        assert!(matches!(read("--journal j --tcp 0.0.0.0:1"), Err(BadWords::Anywhere(_))));
+        assert!(read("--journal j --tcp 0.0.0.0:1 --listen-anywhere").is_ok());
+        assert_eq!(parse(["--help".into()]), Ok(Words::Help));
+        assert_eq!(parse(["--version".into()]), Ok(Words::Version));
+    }
+}

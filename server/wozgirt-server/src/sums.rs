@@ -1,0 +1,46 @@
+//! What is counted since the server started.
+
+use crate::log::End;
+use std::collections::BTreeMap;
+
+/// The most reasons of refusals that are told apart.
+const MOST_REASONS: usize = 64;
+
+/// Sums.
+#[derive(Debug, Default)]
+pub struct Sums {
+    /// Connections that were let in.
+    pub connections: u64,
+    /// Connections that were not, since there were too many.
+    pub turned_away: u64,
+    /// Inputs that went to the engine.
+    pub inputs: u64,
+    refusals: BTreeMap<Box<str>, u64>,
+    ends: BTreeMap<End, u64>,
+}
+
+impl Sums {
+    /// Something was refused.
+    pub fn refused(&mut self, why: &str) {
+        if let Some(count) = self.refusals.get_mut(why) {
+            *count += 1;
+        } else if self.refusals.len() < MOST_REASONS {
+            self.refusals.insert(why.into(), 1);
+        }
+    }
+
+    /// A connection ended.
+    pub fn ended(&mut self, end: End) {
+        *self.ends.entry(end).or_default() += 1;
+    }
+
+    /// How often each reason was given.
+    pub fn refusals(&self) -> impl Iterator<Item = (&str, u64)> {
+        self.refusals.iter().map(|(why, count)| (&**why, *count))
+    }
+
+    /// How many connections ended so.
+    pub fn ends(&self, end: End) -> u64 {
+        self.ends.get(&end).copied().unwrap_or(0)
+    }
+}

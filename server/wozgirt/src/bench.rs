@@ -1,0 +1,146 @@
+//! `wozgirt bench`: clients that take and release locks without a pause.
+
+use crate::client::{token, unexpected, Client, Fault};
+use crate::words::{Load, Place};
+use std::sync::atomic::{AtomicBool, AtomicU64, Ordering};
+use std::sync::Barrier;
+use std::thread;
+use std::time::{Duration, Instant};
+
+const STACK: usize = 256 << 10;
+
+/// One lock: who is inside, and its last token.
+#[derive(Default)]
+struct Inside {
+    count: AtomicU64,
+    token: AtomicU64,
+}
+
+/// What went wrong, if something did.
+#[derive(Debug)]
+pub enum Wrong {
+    /// The server.
+    Server(Fault),
+    /// There are fewer locks.
+    Locks(usize),
+    /// Two were inside at once, or a token did not rise: the lock's name.
+    Broken(String),
+}
+
+impl std::fmt::Display for Wrong {
+    fn fmt(&self, f: &mut std::fmt::Formatter<'_>) -> std::fmt::Result {
+        match self {
+            Wrong::Server(fault) => fault.fmt(f),
+            Wrong::Locks(count) => write!(f, "the server has {count} locks"),
+            Wrong::Broken(name) => write!(f, "two hold {name}, or its token does not rise"),
+        }
+    }
+}
+
+impl std::error::Error for Wrong {}
+
+impl From<Fault> for Wrong {
+    fn from(fault: Fault) -> Wrong {
+        Wrong::Server(fault)
+    }
+}
+
+/// Measures, and prints one line.
+pub fn run(place: &Place, load: &Load) -> Result<(), Wrong> {
+    let lines = Client::open(place)?.status()?;
+    let names: Vec<&str> = lines.iter().filter_map(|line| line.split(' ').nth(1)).collect();
+    if names.len() < load.locks {
+        return Err(Wrong::Locks(names.len()));
+    }
+    let clients = (0..load.clients).map(|_| Client::open(place)).collect::<Result<Vec<_>, _>>()?;
+    let inside: Vec<Inside> = (0..load.locks).map(|_| Inside::default()).collect();
+    let (is_over, barrier) = (AtomicBool::new(false), Barrier::new(load.clients + 1));
+    let (each, took) = thread::scope(|scope| {
+        let mut threads = Vec::new();
+        for (c, client) in clients.into_iter().enumerate() {
+            let (l, is_over, barrier) = (c % load.locks, &is_over, &barrier);
+            let (name, inside) = (names[l], &inside[l]);
+            let work = move || {
+                barrier.wait();
+                hand_over(client, name, c, inside, is_over)
+            };
+            let thread = thread::Builder::new().stack_size(STACK).spawn_scoped(scope, work);
+            threads.push(thread.map_err(|fault| Wrong::Server(Fault::System(fault)))?);
+        }
+        barrier.wait();
+        let begun = Instant::now();
+        thread::sleep(load.time);
+        is_over.store(true, Ordering::Relaxed);
+        let each: Result<Vec<_>, Wrong> =
+            threads.into_iter().map(|it| it.join().unwrap_or(Err(Wrong::Locks(0)))).collect();
+        Ok::<_, Wrong>((each?, begun.elapsed()))
+    })?;
+    println!("{}", summary(load, &each, took));
+    Ok(())
+}
+
+/// The times of one client's acquires, in tenths of microseconds.
+fn hand_over(
+    mut client: Client,
+    name: &str,
+    number: usize,
+    inside: &Inside,
+    is_over: &AtomicBool,
+) -> Result<Vec<u32>, Wrong> {
+    let mut times = Vec::with_capacity(1 << 12);
+    let acquire = format!("acquire {name} {number}"); // so the journal tells the clients apart
+    while !is_over.load(Ordering::Relaxed) {
+        let begun = Instant::now();
+        client.send(&acquire)?;
+        let mut line = client.line(None)?;
+        if line.starts_with("waiting ") {
+            line = client.line(None)?;
+        }
+        times.push(u32::try_from(begun.elapsed().as_nanos() / 100).unwrap_or(u32::MAX));
+        let token = token(&line, name).ok_or_else(|| unexpected(line))?;
+        let is_first = inside.count.fetch_add(1, Ordering::SeqCst) == 0;
+        if !is_first || inside.token.swap(token, Ordering::SeqCst) >= token {
+            return Err(Wrong::Broken(name.into()));
+        }
+        inside.count.fetch_sub(1, Ordering::SeqCst);
+        client.send(&format!("release {name} {token}"))?;
+        let line = client.line(None)?;
+        if !line.starts_with("released ") {
+            return Err(unexpected(line).into());
+        }
+    }
+    Ok(times)
+}
+
+fn summary(load: &Load, each: &[Vec<u32>], took: Duration) -> String {
+    let mut all: Vec<u32> = each.iter().flatten().copied().collect();
+    all.sort_unstable();
+    let at =
+        |part: f64| all.get((all.len().saturating_sub(1) as f64 * part) as usize).map_or(0.0, |&t| f64::from(t) / 10.0);
+    let least = each.iter().map(Vec::len).min().unwrap_or(0);
+    let most = each.iter().map(Vec::len).max().unwrap_or(0);
+    format!(
+        "clients {} locks {} seconds {:.2} handovers/s {:.0} acquire p50 {:.1} us p99 {:.1} us max {:.1} us grants max {most} min {least} ratio {:.2}",
+        load.clients,
+        load.locks,
+        took.as_secs_f64(),
+        all.len() as f64 / took.as_secs_f64(),
+        at(0.5),
+        at(0.99),
+        at(1.0),
+        most as f64 / least.max(1) as f64
+    )
+}
+
+#[cfg(test)]
+mod tests {
+    use super::*;
+
+    #[test]
+    fn a_summary() {
+        let load = Load { clients: 2, locks: 1, time: Duration::from_secs(2) };
+        let text = summary(&load, &[vec![10, 30, 20], vec![40, 50, 1000]], Duration::from_secs(2));
+        let wanted = "clients 2 locks 1 seconds 2.00 handovers/s 3 acquire p50 3.0 us p99 5.0 us max 100.0 us grants max 3 min 3 ratio 1.00";
+        assert_eq!(text, wanted);
+    }
+}
