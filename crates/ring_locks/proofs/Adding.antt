@@ -1,5 +1,5 @@
 -- A lock more, for which nobody waits.
-use Rattle.std.proofs.Common.{◌≡◌, ℕ, zero, suc, Bool, true, false, List, [], ◌∷◌, ◌++◌, refl, sym, ◌∙◌, ap, subst, inl, inr, Option, Some, None}
+use Rattle.std.proofs.Common.{◌≡◌, ℕ, zero, suc, ◌<◌, length, length-append, arith, Bool, true, false, List, [], ◌∷◌, ◌++◌, refl, sym, ◌∙◌, ap, subst, inl, inr, Option, Some, None}
 use Rattle.std.specs.Prelude.{if◌then◌else◌, slice_get, ◌⊎◌}
 use Rattle.std.proofs.lemmas.Bool.{both_ways}
 use Rattle.std.proofs.lemmas.List.{map-append}
@@ -10,7 +10,7 @@ use Rattle.ring_locks.specs.declared.answers.Holder.{Holder}
 use Rattle.ring_locks.specs.Lines.{Lock, stands, waits_for, holder_of}
 use Rattle.ring_locks.specs.Promises.{AreRight, IsRightLock}
 use Rattle.ring_locks.specs.Waiting.{lock_in, AreWaits}
-use Rattle.ring_locks.specs.Kept.{LockView, state_of, lock_of, locks_of, IsKeptRing, AreKept}
+use Rattle.ring_locks.specs.Kept.{LockView, state_of, lock_of, locks_of, lock_limit, IsKeptRing, IsKeptLock, AreKept}
 use Rattle.ring_locks.proofs.Circles.{Same, ends_kept}
 use Rattle.ring_locks.proofs.Calls.{kept_is_ring}
 
@@ -64,15 +64,16 @@ module _ (ls : List Lock) (l : Lock) (r : AreRight ls) (is : IsRightLock l) (emp
 right_view : (e : EndlessView) (h : Option Holder) → IsKeptRing e → is_settled (state_of e).ring.values ≡ true → IsRightLock (lock_of (record { ring = e; line = []; holder = h }))
 right_view e h k s = record { ring = kept_is_ring e k; settled = s; held = λ _. refl; apart = tt }
 
-pub kept_push : (vs : List LockView) (es : List (ℕ × ℕ)) (e : EndlessView) (h : Option Holder) → AreKept vs es → IsKeptRing e → is_settled (state_of e).ring.values ≡ true → AreKept (vs ++ record { ring = e; line = []; holder = h } ∷ []) es
-kept_push vs es e h k r s =
+pub kept_push : (vs : List LockView) (es : List (ℕ × ℕ)) (e : EndlessView) (h : Option Holder) → AreKept vs es → length vs < lock_limit → IsKeptRing e → is_settled (state_of e).ring.values ≡ true → AreKept (vs ++ record { ring = e; line = []; holder = h } ∷ []) es
+kept_push vs es e h k room r s =
     let v : LockView = record { ring = e; line = []; holder = h } in
     let right = right_view e h r s in
     let ls : locks_of (vs ++ v ∷ []) ≡ locks_of vs ++ lock_of v ∷ [] = map-append lock_of vs (v ∷ []) in record {
       right = subst (λ (x : List Lock). AreRight x) (sym ls) (right_push (locks_of vs) (lock_of v) k.right right refl);
-      rings = λ i w f. elim (get_push vs v i w f) [
-        | inl p ↦ k.rings i w p
-        | inr p ↦ subst (λ (x : LockView). IsKeptRing x.ring) (sym p) r
+      few = let n = length-append vs (v ∷ []) in omega arith;
+      each = λ i w f. elim (get_push vs v i w f) [
+        | inl p ↦ k.each i w p
+        | inr p ↦ subst (λ (x : LockView). IsKeptLock x) (sym p) (record { ring = r; room = omega arith })
       ];
       waits = subst (λ (x : List Lock). AreWaits x es) (sym ls) (waits_more (locks_of vs) (lock_of v) k.right right refl es k.waits);
     }
@@ -85,7 +86,8 @@ kept_none es h = record {
     once = λ c i j l m e f s t. absurd (no_lock l e);
     ends = λ c. (1, refl);
   };
-  rings = λ i v e. absurd (none v e);
+  few = omega arith;
+  each = λ i v e. absurd (none v e);
   waits = record { there = λ c i e. absurd (nat i (sym (h c) ∙ e)); known = λ c i l e s. absurd (no_lock l e) };
 }
   where

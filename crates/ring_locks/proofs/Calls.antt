@@ -13,7 +13,6 @@ use Rattle.ring_model.specs.declared.events.Op.TheVariants as op
 use Rattle.ring_model.specs.declared.events.Reply.{Reply}
 use Rattle.ring_model.specs.declared.events.Event.{Event}
 use Rattle.ring_model.specs.declared.events.Receipt.{Receipt}
-use Rattle.ring_model.specs.declared.events.Survey.{Survey as SurveyOf}
 use Rattle.ring_model.proofs.Histories.{StepOf-next, StepOf-reply}
 use Rattle.ring_model.proofs.Settled.{first_is}
 use Rattle.ring_desk.specs.Refusals.{Bounds, when, first_of, pass_refusal, corrupt_refusal}
@@ -22,7 +21,7 @@ use Rattle.ring_desk.specs.declared.errors.CallError.TheVariants as call
 use Rattle.ring_chains.specs.declared.bases.Base.{Base}
 use Rattle.ring_chains.specs.Bases.{shifted_reply}
 use Rattle.ring_chains.proofs.Shifts.{shifted_state, next_shifted, reply_shifted}
-use Rattle.ring_endless.specs.Endless.{EndlessView, IsEndless, IsCalled, IsSurveyed, IsSameEndless}
+use Rattle.ring_endless.specs.Endless.{EndlessView, IsEndless, IsCalled, IsSameEndless}
 use Rattle.ring_locks.specs.declared.answers.Refusal.{Refusal}
 use Rattle.ring_locks.specs.declared.answers.Refusal.TheVariants as refusal
 use Rattle.ring_book.specs.BookView.{BookView}
@@ -108,13 +107,7 @@ want_is v b seat machine e why n s m d full memory = elim d [
   | inr p ↦ inr (memory p.1)
 ]
 
--- ---- surveys, and what is made one behind the other
-
-pub surveyed_kept : (old new : EndlessView) (seat : ℕ) (s : SurveyOf) → IsKeptRing old → IsEndless new → IsSurveyed old new seat s → IsKeptRing new
-surveyed_kept old new seat s k i c = record { endless = i; seats = ap (λ cs. length cs) c.logged ∙ (simp length-set) ∙ k.seats }
-
-pub surveyed_state : (old new : EndlessView) (seat : ℕ) (s : SurveyOf) → IsSurveyed old new seat s → state_of new ≡ state_of old
-surveyed_state old new seat s c = ap (λ (b : Base). shifted_state b new.ring.book.now) c.base ∙ ap (λ b. shifted_state old.base b.now) c.book
+-- ---- what is made one behind the other
 
 pub same_kept : (old new : EndlessView) → IsKeptRing old → IsEndless new → IsSameEndless old new → IsKeptRing new
 same_kept old new k i s = record { endless = i; seats = ap (λ cs. length cs) s.ring.clients ∙ k.seats }
@@ -129,20 +122,19 @@ same_twice a b c s t = record { base = t.base ∙ s.base; ring = record { book =
 pub made_of_same : (old now new : EndlessView) (ms : List Mark) → IsSameEndless old now → AreMade now ms new → AreMade old ms new
 made_of_same old now new [] s m = same_twice old now new s m
 made_of_same old now new (Call e ∷ ms) s m = (m.0, m.1, m.2, same_twice old now m.0 s m.3, m.4, m.5, m.6)
-made_of_same old now new (Survey seat ∷ ms) s m = (m.0, m.1, m.2, same_twice old now m.0 s m.3, m.4, m.5)
+made_of_same old now new (Survey seat ∷ ms) s m = made_of_same old now new ms s m
 
 pub made_append : (old now new : EndlessView) (xs ys : List Mark) → AreMade old xs now → AreMade now ys new → AreMade old (xs ++ ys) new
 made_append old now new [] ys a b = made_of_same old now new ys a b
 made_append old now new (Call e ∷ xs) ys a b = (a.0, a.1, a.2, a.3, a.4, a.5, made_append a.1 now new xs ys a.6 b)
-made_append old now new (Survey seat ∷ xs) ys a b = (a.0, a.1, a.2, a.3, a.4, made_append a.1 now new xs ys a.5 b)
+made_append old now new (Survey seat ∷ xs) ys a b = made_append old now new xs ys a b
 
 -- the state behind what is made
 pub made_state : (old new : EndlessView) (ms : List Mark) → AreMade old ms new → state_of new ≡ after till (state_of old) (events_of ms)
 made_state old new [] s = same_state old new s
 made_state old new (Call e ∷ ms) m =
     made_state m.1 new ms m.6 ∙ ap (λ (a : State ℕ). after till a (events_of ms)) (called_state m.0 m.1 e.seat e.op m.2 m.4 ∙ ap (λ (a : State ℕ). next till a e.op) (same_state old m.0 m.3))
-made_state old new (Survey seat ∷ ms) m =
-    made_state m.1 new ms m.5 ∙ ap (λ (a : State ℕ). after till a (events_of ms)) (surveyed_state m.0 m.1 seat m.2 m.4 ∙ same_state old m.0 m.3)
+made_state old new (Survey seat ∷ ms) m = made_state old new ms m
 
 -- ---- repairs, from the first on
 

@@ -14,3 +14,7 @@ pub mod Turned
 pub mod Lifting
 pub mod Finding
 pub mod Adding
+pub mod AllLeft
+pub mod OpenHolds
+pub mod NextSegments
+pub mod Foreseen

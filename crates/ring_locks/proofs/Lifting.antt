@@ -2,7 +2,7 @@
 use Rattle.std.proofs.Common.{◌≡◌, ◌≢◌, ℕ, zero, suc, ◌<◌, ◌≤◌, true, false, List, [], ◌∷◌, ◌++◌, length, get_or, refl, sym, ◌∙◌, ap, subst, inl, inr, arith, Option, Some, None}
 use Rattle.std.specs.Prelude.{◌||◌, ◌==◌, slice_get, slice_set, option_map, ◌⊎◌}
 use Rattle.std.proofs.lemmas.Bool.{cases_Bool, cases_eq, eqb-true, eq-eqb, ne_eqb, or_cases, or_right, or_parts, both_ways, cond-true, cond-false, false≢true}
-use Rattle.std.proofs.lemmas.List.{map-set, length-map}
+use Rattle.std.proofs.lemmas.List.{map-set, length-map, length-set}
 use Rattle.std.proofs.lemmas.Option.{slice_get-map, slice_get_past, slice_get_read}
 use Rattle.ring_endless.specs.Endless.{IsSameEndless}
 use Rattle.ring_locks.specs.declared.answers.Waiter.{Waiter}
@@ -15,7 +15,7 @@ use Rattle.ring_locks.specs.Lines.{Lock, stands, without, is_held_by}
 use Rattle.ring_locks.specs.Locks.{Ask, Turn, turn, Asked, Step, step, step_at}
 use Rattle.ring_locks.specs.Promises.{AreRight, AreApart}
 use Rattle.ring_locks.specs.Waiting.{lock_in, AreWaits}
-use Rattle.ring_locks.specs.Kept.{LockView, lock_of, locks_of, IsKeptRing, AreKept, AreMade, answers_of, IsDone, need, IsWant, IsAnswer}
+use Rattle.ring_locks.specs.Kept.{LockView, lock_of, locks_of, lock_limit, IsKeptLock, AreKept, AreMade, ended_at, answers_of, IsDone, need, IsWant, IsAnswer}
 use Rattle.ring_locks.specs.Parts.{view_of, views_of, IsEntryOf, WaitsChange, Unchanged, Begun, Passed, Dropped, IsTurnedIn, IsWantingIn}
 use Rattle.ring_locks.proofs.Standing.{Once, get_set, get_set_same, get_set_other, stands_append, stands_without, stands_without_other, stood_before}
 use Rattle.ring_locks.proofs.Right.{right_asked}
@@ -150,11 +150,14 @@ module _ (vs : List LockView) (es : List (ℕ × ℕ)) (c i : ℕ) (ask : Ask) (
   locks_behind : (m : Lock) → lock_of w ≡ m → locks_of (slice_set vs i w) ≡ slice_set (locks_of vs) i m
   locks_behind m e = map-set lock_of vs i w ∙ ap (λ (x : Lock). slice_set (locks_of vs) i x) e
 
-  rings_behind : IsKeptRing w.ring → (j : ℕ) (x : LockView) → slice_get (slice_set vs i w) j ≡ Some x → IsKeptRing x.ring
-  rings_behind r j x e = elim (get_set vs i j w v x at e) [
-    | inl p ↦ subst (λ (y : LockView). IsKeptRing y.ring) (sym p.1) r
-    | inr p ↦ k.rings j x p.1
+  each_behind : IsKeptLock w → (j : ℕ) (x : LockView) → slice_get (slice_set vs i w) j ≡ Some x → IsKeptLock x
+  each_behind r j x e = elim (get_set vs i j w v x at e) [
+    | inl p ↦ subst (λ (y : LockView). IsKeptLock y) (sym p.1) r
+    | inr p ↦ k.each j x p.1
   ]
+
+  few_behind : length (slice_set vs i w) ≤ lock_limit
+  few_behind = let n : length (slice_set vs i w) ≡ length vs = length-set vs i w in let few = k.few in omega arith
 
   done : (fs : List (ℕ × ℕ)) (r : Answers) → IsTurnedIn i v w es fs c t r → IsDone vs (slice_set vs i w) c i ask r × AreKept (slice_set vs i w) fs
   done fs r d =
@@ -165,16 +168,19 @@ module _ (vs : List LockView) (es : List (ℕ × ℕ)) (c i : ℕ) (ask : Ask) (
         record {
           locks = ls ∙ sym (ap (λ (x : Step). x.locks) s);
           answers = d.turned.answers ∙ sym (ap (λ (x : Step). x.answers) s);
+          ended = d.turned.ended ∙ ap (λ (x : Option LockView). ended_at x t.marks) (sym at) ∙ ap (λ (x : Step). ended_at (slice_get vs i) x.marks) (sym s);
           marks = λ x y f g.
               let p : v ≡ x = one v x (sym at ∙ f) in
               let q : w ≡ y = one w y (sym (get_set_same vs i w v at) ∙ g) in
               subst (λ (z : LockView). AreMade z.ring (step (locks_of vs) (Asked c i ask)).marks y.ring) p
               (subst (λ (z : LockView). AreMade v.ring (step (locks_of vs) (Asked c i ask)).marks z.ring) q
               (subst (λ (z : Step). AreMade v.ring z.marks w.ring) (sym s) d.turned.marks));
+          others = λ j n. get_set_other vs i j w n;
         },
         record {
           right = subst (λ (x : List Lock). AreRight x) (sym ls) right;
-          rings = rings_behind d.turned.ring;
+          few = few_behind;
+          each = each_behind d.turned.kept;
           waits = subst (λ (x : List Lock). AreWaits x fs) (sym (locks_behind (lock_of w) refl))
               (waits_changed (locks_of vs) i (lock_of v) (lock_of w) es fs k.right.once right'.once (lock_there vs i v at) k.waits (k.right.each i (lock_of v) (lock_there vs i v at)).apart d.waits);
         },
@@ -203,7 +209,7 @@ module _ (vs : List LockView) (es : List (ℕ × ℕ)) (c i : ℕ) (ask : Ask) (
             | inl p ↦ inl (own ∙ ap (λ x. Some (answer.Refused x)) p.0, (v, at, p.1))
             | inr p ↦ inr (own ∙ ap (λ x. Some (answer.Refused x)) p)
           ];
-          none = ap (λ (x : Answers). x.granted) d.wanting.refused;
+          none = (ap (λ (x : Answers). x.ended) d.wanting.refused, ap (λ (x : Answers). x.granted) d.wanting.refused);
           locks = ls;
           rings = λ j x y f g. elim (get_set vs i j w v y at g) [
             | inl p ↦
@@ -214,7 +220,8 @@ module _ (vs : List LockView) (es : List (ℕ × ℕ)) (c i : ℕ) (ask : Ask) (
         },
         record {
           right = subst (λ (x : List Lock). AreRight x) (sym ls) k.right;
-          rings = rings_behind d.wanting.ring;
+          few = few_behind;
+          each = each_behind d.wanting.kept;
           waits = subst (λ (x : List Lock). AreWaits x fs) (sym ls) (subst (λ (x : List (ℕ × ℕ)). AreWaits (locks_of vs) x) (sym d.waits) k.waits);
         },
       )
@@ -230,15 +237,17 @@ module _ (vs : List LockView) (es : List (ℕ × ℕ)) (c i : ℕ) (ask : Ask) (
   ]
 
 -- a lock that there is not
-pub no_lock : (vs : List LockView) (es : List (ℕ × ℕ)) (c i : ℕ) (ask : Ask) (r : Answers) → AreKept vs es → length vs ≤ i → r ≡ record { own = Some (answer.Refused refusal.Lock); granted = None } → IsAnswer vs vs c i ask r × AreKept vs es
+pub no_lock : (vs : List LockView) (es : List (ℕ × ℕ)) (c i : ℕ) (ask : Ask) (r : Answers) → AreKept vs es → length vs ≤ i → r ≡ record { own = Some (answer.Refused refusal.Lock); ended = None; granted = None } → IsDone vs vs c i ask r × AreKept vs es
 no_lock vs es c i ask r k l e =
     let past : slice_get (locks_of vs) i ≡ None = let n : length (locks_of vs) ≡ length vs = length-map vs lock_of in slice_get_past (locks_of vs) i (omega arith) in
     let s : step (locks_of vs) (Asked c i ask) ≡ step_at (locks_of vs) c i ask None = ap (λ (x : Option Lock). step_at (locks_of vs) c i ask x) past in (
-      inl (record {
+      record {
         locks = sym (ap (λ (x : Step). x.locks) s);
         answers = ap (λ (x : Answers). answers_of c x) e ∙ sym (ap (λ (x : Step). x.answers) s);
+        ended = ap (λ (x : Answers). x.ended) e ∙ ap (λ (x : Option LockView). ended_at x (step (locks_of vs) (Asked c i ask)).marks) (sym (slice_get_past vs i l));
         marks = λ v w f g. absurd (nothing v (sym (slice_get_past vs i l) ∙ f));
-      }),
+        others = λ j n. refl;
+      },
       k,
     )
   where
@@ -258,11 +267,19 @@ lifted_parts ps qs es fs c i ask p q u n r k at set e f d =
     let x = lifted (views_of ps) es c i ask (view_of p) (view_of q) k (view_there ps i p at) fs u n r e f d in
     (subst (λ (y : List LockView). IsAnswer (views_of ps) y c i ask r) (sym s) x.0, subst (λ (y : List LockView). AreKept y fs) (sym s) x.1)
 
+-- and of an ask that is never refused for want
+pub lifted_done : (ps qs : List LockParts) (es fs : List (ℕ × ℕ)) (c i : ℕ) (ask : Ask) (p q : LockParts) (u : Turn) (r : Answers) → AreKept (views_of ps) es → slice_get ps i ≡ Some p → qs ≡ slice_set ps i q →
+    u ≡ turn (locks_of (views_of ps)) (lock_of (view_of p)) c ask → IsTurnedIn i (view_of p) (view_of q) es fs c u r → IsDone (views_of ps) (views_of qs) c i ask r × AreKept (views_of qs) fs
+lifted_done ps qs es fs c i ask p q u r k at set e d =
+    let s : views_of qs ≡ slice_set (views_of ps) i (view_of q) = ap (λ (x : List LockParts). views_of x) set ∙ map-set view_of ps i q in
+    let x = done (views_of ps) es c i ask (view_of p) (view_of q) k (view_there ps i p at) fs r (subst (λ (y : Turn). IsTurnedIn i (view_of p) (view_of q) es fs c y r) e d) in
+    (subst (λ (y : List LockView). IsDone (views_of ps) y c i ask r) (sym s) x.0, subst (λ (y : List LockView). AreKept y fs) (sym s) x.1)
+
 pub part_at : (ps : List LockParts) (i : ℕ) (p : LockParts) → i < length ps → p ≡ get_or ps i p → slice_get ps i ≡ Some p
 part_at ps i p l e = slice_get_read ps (length ps) i p refl l e
 
-pub ring_there : (ps : List LockParts) (es : List (ℕ × ℕ)) (i : ℕ) (p : LockParts) → AreKept (views_of ps) es → slice_get ps i ≡ Some p → IsKeptRing p.ring
-ring_there ps es i p k e = k.rings i (view_of p) (view_there ps i p e)
+pub lock_kept : (ps : List LockParts) (es : List (ℕ × ℕ)) (i : ℕ) (p : LockParts) → AreKept (views_of ps) es → slice_get ps i ≡ Some p → IsKeptLock (view_of p)
+lock_kept ps es i p k e = k.each i (view_of p) (view_there ps i p e)
 
 held_out : (ls : List Lock) (i : ℕ) (l : Lock) (c : ℕ) (h : Option Holder) → AreRight ls → slice_get ls i ≡ Some l → l.holder ≡ h → is_held_by c h ≡ true → stands c l.line ≡ false
 held_out ls i l c None r e f g = absurd (false≢true g)

@@ -77,7 +77,7 @@ without_append c (x ∷ xs) ys = go (x.client == c) (without_append c xs ys)
     go true e = e
     go false e = ap (λ (z : List Waiter). x ∷ z) e
 
-without_split : (c : ℕ) (front : List Waiter) (w : Waiter) (back : List Waiter) → c ≢ w.client → without c (front ++ w ∷ back) ≡ without c front ++ w ∷ without c back
+pub without_split : (c : ℕ) (front : List Waiter) (w : Waiter) (back : List Waiter) → c ≢ w.client → without c (front ++ w ∷ back) ≡ without c front ++ w ∷ without c back
 without_split c front w back n =
     let p : (w.client == c) ≡ false = ne_eqb w.client c (λ q. n (sym q)) in
     without_append c front (w ∷ back) ∙ ap (λ (b : Bool). without c front ++ cond (not b) (w ∷ without c back) (without c back)) p

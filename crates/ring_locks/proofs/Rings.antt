@@ -1,8 +1,9 @@
 -- The ring of a lock: a grant and a fault leave it settled, each event is a step, and no fault is a grant.
-use Rattle.std.proofs.Common.{◌≡◌, ℕ, zero, suc, ◌+◌, ◌-◌, ◌<◌, ◌≤◌, Bool, true, false, List, [], ◌∷◌, map, length, refl, sym, ◌∙◌, ap, subst, arith, Option, Some}
-use Rattle.std.specs.Prelude.{if◌then◌else◌}
+use Rattle.std.proofs.Common.{◌≡◌, ◌≢◌, ℕ, zero, suc, ◌+◌, ◌-◌, ◌<◌, ◌≤◌, Bool, true, false, List, [], ◌∷◌, map, length, refl, sym, ◌∙◌, ap, subst, arith, Option, Some}
+use Rattle.std.specs.Prelude.{◌==◌, if◌then◌else◌}
+use Rattle.std.proofs.lemmas.Bool.{eqb-true, eqb-false, false_from_ne_true}
 use Rattle.ring_model.specs.Ring.{IsRing, is_privileged, moved, written, first_privileged, is_settled}
-use Rattle.ring_locks.specs.Grants.{most_passes}
+use Rattle.ring_locks.specs.Grants.{most_passes, other_machine}
 use Rattle.ring_model.specs.History.{State, Step, next, reply, after, granted_state, IsLegal}
 use Rattle.ring_model.specs.Resources.{till}
 use Rattle.ring_model.specs.declared.events.Op.TheVariants as op
@@ -10,7 +11,7 @@ use Rattle.ring_model.specs.declared.events.Reply.{Reply}
 use Rattle.ring_model.specs.declared.events.Reply.TheVariants.{Granted}
 use Rattle.ring_model.specs.declared.events.Event.{Event}
 use Rattle.std.proofs.lemmas.List.{length-set}
-use Rattle.ring_model.proofs.Settled.{move_ring, first_is, settled_stays}
+use Rattle.ring_model.proofs.Settled.{move_ring, first_is, only_one, settled_stays}
 use Rattle.ring_model.specs.RepairLaws.{passes_left}
 use Rattle.ring_model.proofs.FirstPasses.{first_pass as falls, passes_left_means}
 use Rattle.ring_model.proofs.Moves.{length_move}
@@ -55,6 +56,39 @@ grant_good a order h =
       ring = grant_ring a order h.ring;
       settled = subst (λ (s : State ℕ). is_settled s.ring.values ≡ true) (sym (grant_state a order h.ring)) (settled_stays a.ring (first_privileged a.ring.values) h.ring f.0 f.1 h.settled);
     }
+
+-- ---- what is carried
+
+other_below : (p n : ℕ) → 2 ≤ n → (if p == 0 then 1 else 0) < n
+other_below p n l = go (p == 0)
+  where
+    go : (b : Bool) → (if b then 1 else 0) < n
+    go true = omega (arith, l)
+    go false = omega (arith, l)
+
+other_than : (p : ℕ) → (if p == 0 then 1 else 0) ≢ p
+other_than p = go (p == 0) refl
+  where
+    go : (b : Bool) → (p == 0) ≡ b → (if b then 1 else 0) ≢ p
+    go true q e = let z = eqb-true p 0 q in omega (arith, z, e)
+    go false q e = eqb-false p 0 q (sym e)
+
+-- a machine that is not privileged: its pass is a step that leaves the ring as it is
+pub other_waits : (a : State ℕ) → IsGood a → is_privileged a.ring.values (other_machine a) ≡ false
+other_waits a g =
+    let two = g.ring.two in
+    let below : other_machine a < length a.ring.values = other_below (first_privileged a.ring.values) (length a.ring.values) (omega arith) in
+    let f = first_is a.ring.values (one a g.ring) in
+    false_from_ne_true (is_privileged a.ring.values (other_machine a)) (λ e.
+    other_than (first_privileged a.ring.values) (only_one a.ring.values (other_machine a) (first_privileged a.ring.values) g.settled below f.0 e f.1))
+
+pub carry_step : (a : State ℕ) (token : ℕ) → IsGood a →
+    Step till a (called a 3 (op.Pass (other_machine a) token)) (next till a (op.Pass (other_machine a) token)) × (next till a (op.Pass (other_machine a) token) ≡ a)
+carry_step a token g =
+    let e : is_privileged a.ring.values (other_machine a) ≡ false = other_waits a g in
+    let two = g.ring.two in
+    let below : other_machine a < length a.ring.values = other_below (first_privileged a.ring.values) (length a.ring.values) (omega arith) in
+    (rw e (below, e, refl), rw e refl)
 
 -- ---- a repair
 
@@ -107,7 +141,7 @@ pub record AreNoHolds (token : Option ℕ) (ms : List Mark) : Type 0 where
 
 no_hold_more : (most : ℕ) (a : State ℕ) (token : Option ℕ) → AreNoHolds token (map Call (repairs most (next till a (first_pass a 0)))) → (s : Bool) → AreNoHolds token (map Call (repaired most a s))
 no_hold_more most a token more true = record { alternate = tt; same = refl }
-no_hold_more most a token more false = record { alternate = ((λ e. absurd (omega (arith, e))), more.alternate); same = more.same }
+no_hold_more most a token more false = record { alternate = ((λ e. absurd (omega (arith, e))), (λ e. absurd (omega (arith, e))), more.alternate); same = more.same }
 
 pub repairs_no_holds : (most : ℕ) (a : State ℕ) (token : Option ℕ) → AreNoHolds token (map Call (repairs most a))
 repairs_no_holds zero a token = record { alternate = tt; same = refl }
@@ -130,7 +164,7 @@ fault_is a i v g l m =
 pub fault_no_holds : (a : State ℕ) (i v : ℕ) (token : Option ℕ) → AreNoHolds token (map Call (fault a i v))
 fault_no_holds a i v token =
     let more = repairs_no_holds (most_passes (length a.ring.values)) (next till a (op.Corrupt i v)) token in
-    record { alternate = ((λ e. absurd (omega (arith, e))), more.alternate); same = more.same }
+    record { alternate = ((λ e. absurd (omega (arith, e))), (λ e. absurd (omega (arith, e))), more.alternate); same = more.same }
 
 pub fault_few : (a : State ℕ) (i v : ℕ) → length (fault a i v) ≤ 1 + most_passes (length a.ring.values)
 fault_few a i v = let few : length (repairs (most_passes (length a.ring.values)) (next till a (op.Corrupt i v))) ≤ most_passes (length a.ring.values) = repairs_few (most_passes (length a.ring.values)) (next till a (op.Corrupt i v)) in omega arith

@@ -1,6 +1,6 @@
 -- The history of a lock is its ring's, and shows its holds; an input makes one event at most.
 use Rattle.std.proofs.Common.{◌≡◌, ℕ, ◌+◌, ◌≤◌, List, [], ◌∷◌, ◌++◌, map, length, refl, sym, ◌∙◌, ap, subst, inl, inr, arith, Option, Some, None, is_some}
-use Rattle.std.specs.Prelude.{◌==◌, if◌then◌else◌, slice_get, option_map, ◌⊎◌}
+use Rattle.std.specs.Prelude.{if◌then◌else◌, slice_get, option_map, ◌⊎◌}
 use Rattle.std.proofs.lemmas.Option.{slice_get-map}
 use Rattle.ring_model.specs.Ring.{IsRing}
 use Rattle.ring_locks.specs.Grants.{most_passes}
@@ -13,8 +13,9 @@ use Rattle.ring_locks.specs.declared.answers.Holder.{Holder}
 use Rattle.ring_locks.specs.declared.answers.Answer.{Answer}
 use Rattle.ring_locks.specs.Lines.{Lock, without}
 use Rattle.ring_locks.specs.Locks.{Ask, Mark, Call, Survey, Turn, granted, advanced, ended, joined, fault, Input, Asked, Restart, turn, step, step_at, restarted}
-use Rattle.ring_locks.specs.Promises.{locks_after, names, marks_of, events_of, most_events, most_of_fault, OneEventEach, number_of, open_after, Alternate, token_of, IsShown, HistoryShowsHolds, recovered, RestartsRecover}
-use Rattle.ring_locks.proofs.Rings.{grant_step, grant_number, fault_is, fault_no_holds, fault_few, events_of_calls}
+use Rattle.ring_locks.specs.Promises.{locks_after, names, marks_of, events_of, most_events, most_of_fault, OneEventEach, open_behind, open_after, Alternate, carries, SegmentsShowHolds, SegmentsRecover, CarriedChangesNothing, token_of, IsShown, HistoryShowsHolds, recovered, RestartsRecover}
+use Rattle.ring_locks.specs.Grants.{carried}
+use Rattle.ring_locks.proofs.Rings.{IsGood, carry_step, grant_step, grant_number, fault_is, fault_no_holds, fault_few, events_of_calls}
 use Rattle.ring_locks.proofs.Moves.{Move, Stays, Waits, Gets, Ends, Drops, Faults, IsEnd, Released, Left, IsAsking, Acquires, Tries, waiter, move_of}
 use Rattle.ring_locks.proofs.Changes.{Change, Moves, Stands, Restarts, one_step}
 use Rattle.ring_locks.proofs.Right.{right_step}
@@ -28,12 +29,12 @@ events_append (Survey seat ∷ xs) ys = events_append xs ys
 
 pub open_append : (token : Option ℕ) (xs ys : List Mark) → open_after token (xs ++ ys) ≡ open_after (open_after token xs) ys
 open_append token [] ys = refl
-open_append token (Call e ∷ xs) ys = open_append (if e.seat == 0 then number_of e.reply else token) xs ys
+open_append token (Call e ∷ xs) ys = open_append (open_behind token e) xs ys
 open_append token (Survey seat ∷ xs) ys = open_append None xs ys
 
 pub alternate_append : (token : Option ℕ) (xs ys : List Mark) → Alternate token xs → Alternate (open_after token xs) ys → Alternate token (xs ++ ys)
 alternate_append token [] ys a b = b
-alternate_append token (Call e ∷ xs) ys a b = (a.0, alternate_append (if e.seat == 0 then number_of e.reply else token) xs ys a.1 b)
+alternate_append token (Call e ∷ xs) ys a b = (a.0, a.1, alternate_append (open_behind token e) xs ys a.2 b)
 alternate_append token (Survey seat ∷ xs) ys a b = (a.0, a.1, alternate_append None xs ys a.2 b)
 
 pub shown_append : (l m k : Lock) (xs ys : List Mark) → IsShown l m xs → IsShown m k ys → IsShown l k (xs ++ ys)
@@ -57,7 +58,7 @@ shown_granted : (a : State ℕ) (line : List Waiter) (w : Waiter) → IsRing a.r
 shown_granted a line w g = record {
   legal = (grant_step a 0 w.order g, tt);
   ring = refl;
-  alternate = ((λ e. (refl, ap (λ (x : Option ℕ). is_some x) (grant_number a w.order g))), tt);
+  alternate = ((λ e. (refl, ap (λ (x : Option ℕ). is_some x) (grant_number a w.order g))), (λ e. absurd (omega (arith, e))), tt);
   open_hold = sym (grant_number a w.order g);
 }
 
@@ -121,7 +122,7 @@ history_shows_holds ls (i ∷ is) at l r e =
     let more = history_shows_holds (step ls i).locks is at s.lock (right_step ls i r) s.there in
     (more.0, more.1, shown_append l s.lock more.0 (if names at i then (step ls i).marks else []) (marks_of at (step ls i).locks is) now more.2)
 
-locks_append : (ls : List Lock) (is js : List Input) → locks_after ls (is ++ js) ≡ locks_after (locks_after ls is) js
+pub locks_append : (ls : List Lock) (is js : List Input) → locks_after ls (is ++ js) ≡ locks_after (locks_after ls is) js
 locks_append ls [] js = refl
 locks_append ls (i ∷ is) js = locks_append (step ls i).locks is js
 
@@ -144,6 +145,40 @@ pub restarts_recover : RestartsRecover
 restarts_recover ls is at l r e =
     let h = history_shows_holds ls is at l r e in
     ap (λ (x : List Lock). slice_get x at) (locks_append ls is (Restart ∷ [])) ∙ slice_get-map restarted (locks_after ls is) at ∙ ap (λ (x : Option Lock). option_map restarted x) h.1 ∙ ap (λ (x : Lock). Some x) (recovers l h.0 (marks_of at ls is) h.2)
+
+-- ---- segments
+
+-- what is carried is legal, changes nothing, and opens the hold again
+pub carried_shown : (l : Lock) → IsGood l.ring → IsShown (record l { holder = None }) l (carries l)
+carried_shown l g = go l.holder refl
+  where
+    go : (h : Option Holder) → l.holder ≡ h → IsShown (record l { holder = None }) l (map Call (carried l.ring (token_of h)))
+    go None e = unchanged (record l { holder = None }) l refl (ap (λ (x : Option Holder). token_of x) e)
+    go (Some h) e =
+        let c = carry_step l.ring h.token g in record {
+          legal = (c.0, tt);
+          ring = sym c.1;
+          alternate = ((λ q. absurd (omega (arith, q))), (λ q. refl), tt);
+          open_hold = ap (λ (x : Option Holder). token_of x) e;
+        }
+
+pub segments_show_holds : SegmentsShowHolds
+segments_show_holds ls is at l r e =
+    let m = history_shows_holds ls is at l r e in
+    let right = r.each at l e in
+    let begun = carried_shown l (record { ring = right.ring; settled = right.settled }) in
+    (m.0, m.1, shown_append (record l { holder = None }) l m.0 (carries l) (marks_of at ls is) begun m.2)
+
+pub segments_recover : SegmentsRecover
+segments_recover ls is at l r e =
+    let h = segments_show_holds ls is at l r e in
+    ap (λ (x : List Lock). slice_get x at) (locks_append ls is (Restart ∷ [])) ∙ slice_get-map restarted (locks_after ls is) at ∙ ap (λ (x : Option Lock). option_map restarted x) h.1
+    ∙ ap (λ (x : Lock). Some x) (recovers (record l { holder = None }) h.0 (carries l ++ marks_of at ls is) h.2)
+
+pub carried_changes_nothing : CarriedChangesNothing
+carried_changes_nothing ls at l r e =
+    let right = r.each at l e in
+    sym (carried_shown l (record { ring = right.ring; settled = right.settled })).ring
 
 -- ---- one event
 

@@ -1,6 +1,6 @@
 -- What is done to the ring of a lock: grants, the ends of holds, faults with their repair (this
 -- project's own).
-use Rattle.std.specs.Prelude.{ℕ, zero, suc, ◌+◌, ◌-◌, if◌then◌else◌, List, [], ◌∷◌, ◌++◌, length, Some, None}
+use Rattle.std.specs.Prelude.{ℕ, zero, suc, ◌+◌, ◌-◌, ◌==◌, if◌then◌else◌, Option, List, [], ◌∷◌, ◌++◌, length, Some, None}
 use Rattle.ring_model.specs.Ring.{first_privileged, is_settled}
 use Rattle.ring_model.specs.History.{State, next, reply}
 use Rattle.ring_model.specs.Resources.{till}
@@ -47,6 +47,15 @@ ended a line seat answers = record {
   marks = Survey seat ∷ (advanced a line).marks;
   answers = answers ++ (advanced a line).answers;
 }
+
+-- The first event of a segment that begins while a hold is open carries the hold: a pass by seat 3
+-- of a machine that is not privileged, which changes nothing. Its order is the hold's token.
+abbrev pub other_machine : State ℕ → ℕ
+other_machine a = if first_privileged a.ring.values == 0 then 1 else 0
+
+abbrev pub carried : State ℕ → Option ℕ → List Event
+carried a None = []
+carried a (Some token) = called a 3 (op.Pass (other_machine a) token) ∷ []
 
 -- the most passes that settle a ring of n machines, where the first privileged one passes each time
 abbrev pub most_passes : ℕ → ℕ

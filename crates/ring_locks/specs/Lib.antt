@@ -6,4 +6,6 @@ pub mod Promises
 pub mod Worked
 pub mod Waiting
 pub mod Kept
+pub mod Opened
+pub mod Cuts
 pub mod Parts

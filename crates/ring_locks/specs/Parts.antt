@@ -12,7 +12,7 @@ use Rattle.ring_locks.specs.declared.parts.LockParts.{LockParts}
 use Rattle.ring_locks.specs.Lines.{stands, without}
 use Rattle.ring_locks.specs.Waiting.{lock_in}
 use Rattle.ring_locks.specs.Locks.{Call, called, Turn}
-use Rattle.ring_locks.specs.Kept.{LockView, state_of, lock_of, IsKeptRing, AreMade, answers_of}
+use Rattle.ring_locks.specs.Kept.{LockView, state_of, lock_of, IsKeptLock, AreMade, ended_in, answers_of}
 
 -- contracts see the ring, the line and the holder
 abbrev pub view_of : LockParts → LockView
@@ -36,16 +36,17 @@ pub record IsTurned (old new : LockView) (c : ℕ) (t : Turn) (r : Answers) : Ty
   pub lock : lock_of new ≡ t.lock
   pub marks : AreMade old.ring t.marks new.ring
   pub answers : answers_of c r ≡ t.answers
-  pub ring : IsKeptRing new.ring
+  pub ended : r.ended ≡ ended_in old.ring t.marks
+  pub kept : IsKeptLock new
 
 -- or refused for want of so many events or of memory
 pub record IsWanting (old new : LockView) (need : ℕ) (r : Answers) : Type 0 where
   pub why : Refusal
   pub want : IsWantOf old.ring need why
-  pub refused : r ≡ record { own = Some (answer.Refused why); granted = None }
+  pub refused : r ≡ record { own = Some (answer.Refused why); ended = None; granted = None }
   pub lock : lock_of new ≡ lock_of old
   pub same : IsSameEndless old.ring new.ring
-  pub ring : IsKeptRing new.ring
+  pub kept : IsKeptLock new
 
 -- the entries of who waits, when the line of the lock of this number changes so
 abbrev pub IsEntryOf : ℕ → Option ℕ → List (ℕ × ℕ) → List (ℕ × ℕ) → Type 0

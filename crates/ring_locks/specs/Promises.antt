@@ -1,9 +1,11 @@
 -- What the machine of locks promises, over every list of inputs (this project's own).
-use Rattle.std.specs.Prelude.{◌≡◌, ◌≢◌, ℕ, zero, suc, ◌+◌, ◌<◌, ◌≤◌, Bool, true, false, ◌&&◌, ◌||◌, ◌==◌, if◌then◌else◌, List, [], ◌∷◌, ◌++◌, length, slice_get, filter_map, Option, Some, None, is_some, option_map, ◌⊎◌}
+use Rattle.std.specs.Prelude.{◌≡◌, ◌≢◌, ℕ, zero, suc, ◌+◌, ◌<◌, ◌≤◌, Bool, true, false, ◌&&◌, ◌||◌, ◌==◌, if◌then◌else◌, List, [], ◌∷◌, ◌++◌, map, length, slice_get, filter_map, Option, Some, None, is_some, option_map, ◌⊎◌}
 use Rattle.ring_model.specs.Ring.{IsRing, is_settled}
-use Rattle.ring_locks.specs.Grants.{most_passes}
+use Rattle.ring_locks.specs.Grants.{most_passes, carried}
 use Rattle.ring_model.specs.History.{State, after, IsLegal}
 use Rattle.ring_model.specs.Resources.{till}
+use Rattle.ring_model.specs.declared.events.Op.{Op}
+use Rattle.ring_model.specs.declared.events.Op.TheVariants as op
 use Rattle.ring_model.specs.declared.events.Reply.{Reply}
 use Rattle.ring_model.specs.declared.events.Reply.TheVariants as reply
 use Rattle.ring_model.specs.declared.events.Event.{Event}
@@ -11,7 +13,7 @@ use Rattle.ring_locks.specs.declared.answers.Waiter.{Waiter}
 use Rattle.ring_locks.specs.declared.answers.Holder.{Holder}
 use Rattle.ring_locks.specs.declared.answers.Answer.{Answer}
 use Rattle.ring_locks.specs.declared.answers.Answer.TheVariants as answer
-use Rattle.ring_locks.specs.Lines.{Lock, stands, waits_for, client_of, holder_of, comes_to}
+use Rattle.ring_locks.specs.Lines.{Lock, stands, is_held_by, waits_for, client_of, holder_of, comes_to}
 use Rattle.ring_locks.specs.Locks.{Ask, Release, Cancel, Leave, Corrupt, Mark, Call, Survey, Input, Asked, Restart, step}
 
 -- ---- what is true at every moment
@@ -52,6 +54,16 @@ pub record AreRight (ls : List Lock) : Type 0 where
 abbrev pub locks_after : List Lock → List Input → List Lock
 locks_after ls [] = ls
 locks_after ls (i ∷ is) = locks_after (step ls i).locks is
+
+-- all answers, in order
+abbrev pub answers_after : List Lock → List Input → List (ℕ × Answer)
+answers_after ls [] = []
+answers_after ls (i ∷ is) = (step ls i).answers ++ answers_after (step ls i).locks is
+
+-- a client leaves so many locks, one after the other, from 0 on
+abbrev pub leaves : ℕ → ℕ → List Input
+leaves c zero = []
+leaves c (suc n) = leaves c n ++ Asked c n Leave ∷ []
 
 -- the input names this lock
 abbrev pub names : ℕ → Input → Bool
@@ -138,6 +150,13 @@ pub record GoesOn (h : Holder) (l : Lock) : Type 0 where
   pub token : now.token ≡ h.token
   pub client : (now.client ≡ h.client) ⊎ (now.client ≡ 0)
 
+-- a client that leaves all locks holds none of them any more, and waits for none
+abbrev pub LeaversAreGone : Type 0
+LeaversAreGone =
+    (ls : List Lock) (c i : ℕ) (l : Lock) → i < length ls
+    → slice_get (locks_after ls (leaves c (length ls))) i ≡ Some l
+    → (is_held_by c l.holder ≡ false) × (stands c l.line ≡ false)
+
 -- exclusion: a hold goes on until an input ends it, restarts or not, and until then nobody is
 -- granted
 abbrev pub Exclusion : Type 0
@@ -188,6 +207,39 @@ FirstComeFirstServed =
     (back : List Waiter) → AreRight ls → slice_get ls at ≡ Some l → l.line ≡ front ++ w ∷ back
     → NoneIs (gives_up at w.client) is → AreServed front w (grants_of at ls is)
 
+-- who stands before a client in the line
+abbrev pub before : ℕ → List Waiter → List Waiter
+before c [] = []
+before c (w ∷ line) = if w.client == c then [] else (w ∷ before c line)
+
+-- by this input one of those gives up
+abbrev pub gives_way : ℕ → ℕ → Option Lock → Input → Bool
+gives_way at c (Some l) (Asked d i Cancel) = (i == at) && stands d (before c l.line)
+gives_way at c (Some l) (Asked d i Leave) = (i == at) && stands d (before c l.line)
+gives_way at c _ _ = false
+
+-- how many of them give up
+abbrev pub given_up : ℕ → ℕ → List Lock → List Input → ℕ
+given_up at c ls [] = 0
+given_up at c ls (i ∷ is) =
+    (if gives_way at c (slice_get ls at) i then 1 else 0) + given_up at c (step ls i).locks is
+
+-- the client holds none of these holds
+abbrev pub NoneOf : ℕ → List Holder → Type 0
+NoneOf c [] = Unit {0}
+NoneOf c (h ∷ hs) = (h.client ≢ c) × NoneOf c hs
+
+-- With no fault between, the token with which a client is granted that waits is known beforehand,
+-- but for those before it who give up: it is one more than the passes so far and those before it.
+abbrev pub TokensAreForeseen : Type 0
+TokensAreForeseen =
+    (ls : List Lock) (is : List Input) (i : Input) (at : ℕ) (l : Lock) (front : List Waiter)
+    (w : Waiter) (back : List Waiter) (h : Holder) → AreRight ls → slice_get ls at ≡ Some l
+    → l.line ≡ front ++ w ∷ back → NoneIs (gives_up at w.client) (is ++ i ∷ [])
+    → NoneIs (breaks at) (is ++ i ∷ []) → NoneOf w.client (grants_of at ls is)
+    → grants_of at ls (is ++ i ∷ []) ≡ grants_of at ls is ++ h ∷ [] → h.client ≡ w.client
+    → h.token + given_up at w.client ls is ≡ l.ring.grants + 1 + length front
+
 -- the events among marks
 abbrev pub events_of : List Mark → List Event
 events_of [] = []
@@ -211,17 +263,27 @@ abbrev pub number_of : Reply → Option ℕ
 number_of (reply.Granted number result) = Some number
 number_of _ = None
 
+abbrev pub order_of : Op → Option ℕ
+order_of (op.Pass machine order) = Some order
+order_of _ = None
+
+-- the hold that is open behind an event: a grant on seat 0, or one that is carried on seat 3
+abbrev pub open_behind : Option ℕ → Event → Option ℕ
+open_behind token e =
+    if e.seat == 0 then number_of e.reply else if e.seat == 3 then order_of e.op else token
+
 abbrev pub open_after : Option ℕ → List Mark → Option ℕ
 open_after token [] = token
-open_after token (Call e ∷ ms) = open_after (if e.seat == 0 then number_of e.reply else token) ms
+open_after token (Call e ∷ ms) = open_after (open_behind token e) ms
 open_after token (Survey seat ∷ ms) = open_after None ms
 
--- grants on seat 0 and surveys of the seats 1 and 2 alternate
+-- grants on seat 0, or what is carried on seat 3, and surveys of the seats 1 and 2 alternate
 abbrev pub Alternate : Option ℕ → List Mark → Type 0
 Alternate token [] = Unit {0}
 Alternate token (Call e ∷ ms) =
     (e.seat ≡ 0 → (token ≡ None) × (is_some (number_of e.reply) ≡ true))
-    × Alternate (if e.seat == 0 then number_of e.reply else token) ms
+    × (e.seat ≡ 3 → token ≡ None)
+    × Alternate (open_behind token e) ms
 Alternate token (Survey seat ∷ ms) =
     (is_some token ≡ true) × ((seat ≡ 1) ⊎ (seat ≡ 2)) × Alternate None ms
 
@@ -256,6 +318,32 @@ RestartsRecover =
     → slice_get ls at ≡ Some l
     → slice_get (locks_after ls (is ++ Restart ∷ [])) at
     ≡ Some (recovered l.ring (token_of l.holder) (marks_of at ls is))
+
+-- The next segment of a lock's ring begins with its open hold. So each segment's history shows its
+-- holds by itself, whatever came before, and a restart that knows the last segment alone makes of
+-- it the lock that was.
+abbrev pub carries : Lock → List Mark
+carries l = map Call (carried l.ring (token_of l.holder))
+
+abbrev pub SegmentsShowHolds : Type 0
+SegmentsShowHolds =
+    (ls : List Lock) (is : List Input) (at : ℕ) (l : Lock) → AreRight ls
+    → slice_get ls at ≡ Some l
+    → (m : Lock) × (slice_get (locks_after ls is) at ≡ Some m)
+    × IsShown (record l { holder = None }) m (carries l ++ marks_of at ls is)
+
+abbrev pub SegmentsRecover : Type 0
+SegmentsRecover =
+    (ls : List Lock) (is : List Input) (at : ℕ) (l : Lock) → AreRight ls
+    → slice_get ls at ≡ Some l
+    → slice_get (locks_after ls (is ++ Restart ∷ [])) at
+    ≡ Some (recovered l.ring None (carries l ++ marks_of at ls is))
+
+-- what a segment begins with changes nothing of the lock
+abbrev pub CarriedChangesNothing : Type 0
+CarriedChangesNothing =
+    (ls : List Lock) (at : ℕ) (l : Lock) → AreRight ls → slice_get ls at ≡ Some l
+    → after till l.ring (events_of (carries l)) ≡ l.ring
 
 -- no other answer than a grant, to another client
 abbrev pub IsGrantOfAnother : ℕ → List (ℕ × Answer) → Type 0

@@ -1,20 +1,14 @@
 -- A dialogue worked by hand: one lock over three machines with three values (this project's own).
-use Rattle.std.specs.Prelude.{◌≡◌, ℕ, List, [], ◌∷◌, ◌++◌, None}
+use Rattle.std.specs.Prelude.{◌≡◌, ℕ, List, [], ◌∷◌, None}
 use Rattle.ring_model.specs.Ring.{ring_with}
 use Rattle.ring_model.specs.declared.events.Op.TheVariants.{Pass, Corrupt}
 use Rattle.ring_model.specs.declared.events.Reply.TheVariants.{Granted, Corrupted}
-use Rattle.ring_locks.specs.declared.answers.Answer.{Answer}
 use Rattle.ring_locks.specs.declared.answers.Answer.TheVariants as answer
 use Rattle.ring_locks.specs.declared.answers.Refusal.TheVariants as refusal
 use Rattle.ring_locks.specs.Lines.{Lock}
 use Rattle.ring_locks.specs.Locks as locks
-use Rattle.ring_locks.specs.Locks.{Mark, Input, Asked, Restart, step}
-use Rattle.ring_locks.specs.Promises.{marks_of}
-
--- all answers, in order
-abbrev pub answers_after : List Lock → List Input → List (ℕ × Answer)
-answers_after ls [] = []
-answers_after ls (i ∷ is) = (step ls i).answers ++ answers_after (step ls i).locks is
+use Rattle.ring_locks.specs.Locks.{Mark, Input, Asked, Restart}
+use Rattle.ring_locks.specs.Promises.{answers_after, marks_of}
 
 abbrev pub worked_lock : Lock
 worked_lock = record {

@@ -1,11 +1,10 @@
 //! What a client asks of one lock.
 
-ghost use Rattle.std.specs.Prelude.{◌≡◌, ℕ, ◌+◌, ◌⊎◌, List, []};
+ghost use Rattle.std.specs.Prelude.{◌≡◌, ℕ, ◌+◌, ◌⊎◌, List, [], None};
 ghost use Rattle.std.specs.Prelude.{false, length, IsTrue};
-ghost use Rattle.ring_locks.specs.Grants.{most_passes};
 ghost use Rattle.ring_locks.specs.Lines.{stands, is_held_by, is_held_with};
 ghost use Rattle.ring_locks.specs.Locks.{Release, Cancel, Leave, Corrupt, Stats as Asks_stats, acquired, joined, tried, turn};
-ghost use Rattle.ring_locks.specs.Kept.{state_of, lock_of, IsKeptRing};
+ghost use Rattle.ring_locks.specs.Kept.{lock_of, need, IsKeptLock};
 ghost use Rattle.ring_locks.specs.Parts.{view_of, IsTurnedIn, IsWantingIn};
 
 use crate::answers::{Answer, Answers, Holder, Refusal, Stats, Waiter};
@@ -34,10 +33,11 @@ fn is_held_with(client: u64, token: u64, holder: Option<Holder>) -> bool
 
 /// A client that may wait acquires the lock.
 fn join(lock: &mut LockParts, waits: &mut Waits, number: u32, waiter: Waiter) -> Answers
-    requires { IsKeptRing lock.old.ring }
+    requires { IsKeptLock (view_of lock.old) }
     ensures { IsTurnedIn number (view_of lock.old) (view_of lock.new) waits.old waits.new
         waiter.client (joined (lock_of (view_of lock.old)) waiter lock.old.holder) result
-        ⊎ IsWantingIn (view_of lock.old) (view_of lock.new) waits.old waits.new 1 result }
+        ⊎ IsWantingIn (view_of lock.old) (view_of lock.new) waits.old waits.new
+        (length lock.old.line.items + 1) result }
 {
     if lock.holder.is_some() {
         return wait(lock, waits, number, waiter);
@@ -53,10 +53,11 @@ pub(crate) fn acquire(
     waiter: Waiter,
     why: Option<Refusal>,
 ) -> Answers
-    requires { IsKeptRing lock.old.ring }
+    requires { IsKeptLock (view_of lock.old) }
     ensures { IsTurnedIn number (view_of lock.old) (view_of lock.new) waits.old waits.new
         waiter.client (acquired (lock_of (view_of lock.old)) waiter why) result
-        ⊎ IsWantingIn (view_of lock.old) (view_of lock.new) waits.old waits.new 1 result }
+        ⊎ IsWantingIn (view_of lock.old) (view_of lock.new) waits.old waits.new
+        (length lock.old.line.items + 1) result }
 {
     match why {
         Some(why) => refused(why),
@@ -66,11 +67,12 @@ pub(crate) fn acquire(
 
 /// A client tries to acquire the lock, if nothing is against it.
 pub(crate) fn try_acquire(lock: &mut LockParts, waiter: Waiter, why: Option<Refusal>) -> Answers
-    requires { IsKeptRing lock.old.ring }
+    requires { IsKeptLock (view_of lock.old) }
     ensures { (number : ℕ) (entries : List (ℕ × ℕ))
         → IsTurnedIn number (view_of lock.old) (view_of lock.new) entries entries waiter.client
         (tried (lock_of (view_of lock.old)) waiter why) result
-        ⊎ IsWantingIn (view_of lock.old) (view_of lock.new) entries entries 1 result }
+        ⊎ IsWantingIn (view_of lock.old) (view_of lock.new) entries entries
+        (length lock.old.line.items + 1) result }
 {
     if let Some(why) = why {
         return refused(why);
@@ -89,10 +91,9 @@ pub(crate) fn release(
     client: u64,
     token: u64,
 ) -> Answers
-    requires { IsKeptRing lock.old.ring }
+    requires { IsKeptLock (view_of lock.old) }
     ensures { IsTurnedIn number (view_of lock.old) (view_of lock.new) waits.old waits.new client
-        (turn [] (lock_of (view_of lock.old)) client (Release token)) result
-        ⊎ IsWantingIn (view_of lock.old) (view_of lock.new) waits.old waits.new 1 result }
+        (turn [] (lock_of (view_of lock.old)) client (Release token)) result }
 {
     if !is_held_with(client, token, lock.holder) {
         return refused(Refusal::Holder);
@@ -108,7 +109,7 @@ pub(crate) fn cancel(
     client: u64,
     waiting: bool,
 ) -> Answers
-    requires kept { IsKeptRing lock.old.ring }
+    requires kept { IsKeptLock (view_of lock.old) }
     requires waiting { waiting ≡ stands client lock.old.line.items }
     ensures { IsTurnedIn number (view_of lock.old) (view_of lock.new) waits.old waits.new client
         (turn [] (lock_of (view_of lock.old)) client Cancel) result }
@@ -128,12 +129,12 @@ pub(crate) fn leave(
     client: u64,
     waiting: bool,
 ) -> Answers
-    requires kept { IsKeptRing lock.old.ring }
+    requires kept { IsKeptLock (view_of lock.old) }
     requires waiting { waiting ≡ stands client lock.old.line.items }
     requires either { IsTrue (is_held_by client lock.old.holder) → waiting ≡ false }
-    ensures { IsTurnedIn number (view_of lock.old) (view_of lock.new) waits.old waits.new client
-        (turn [] (lock_of (view_of lock.old)) client Leave) result
-        ⊎ IsWantingIn (view_of lock.old) (view_of lock.new) waits.old waits.new 1 result }
+    ensures turned { IsTurnedIn number (view_of lock.old) (view_of lock.new) waits.old waits.new
+        client (turn [] (lock_of (view_of lock.old)) client Leave) result }
+    ensures own { result.own ≡ None }
 {
     if is_held_by(client, lock.holder) {
         return end_hold(lock, waits, number, client, 2, None);
@@ -143,18 +144,19 @@ pub(crate) fn leave(
     }
     Answers {
         own: None,
+        ended: None,
         granted: None,
     }
 }
 
 /// A fault of the lock's ring.
 pub(crate) fn corrupt(lock: &mut LockParts, client: u64, machine: u32, value: u32) -> Answers
-    requires { IsKeptRing lock.old.ring }
+    requires { IsKeptLock (view_of lock.old) }
     ensures { (number : ℕ) (entries : List (ℕ × ℕ))
         → IsTurnedIn number (view_of lock.old) (view_of lock.new) entries entries client
         (turn [] (lock_of (view_of lock.old)) client (Corrupt machine value)) result
         ⊎ IsWantingIn (view_of lock.old) (view_of lock.new) entries entries
-        (1 + most_passes (length (state_of lock.old.ring).ring.values)) result }
+        (need (view_of lock.old) (Corrupt machine value)) result }
 {
     if machine >= lock.ring.segment().machines() {
         return refused(Refusal::Machine);
@@ -167,7 +169,7 @@ pub(crate) fn corrupt(lock: &mut LockParts, client: u64, machine: u32, value: u3
 
 /// What there is to say of the lock.
 pub(crate) fn stats(lock: &LockParts) -> Answers
-    requires { IsKeptRing lock.now.ring }
+    requires { IsKeptLock (view_of lock.now) }
     ensures { (number client : ℕ) (entries : List (ℕ × ℕ))
         → IsTurnedIn number (view_of lock.now) (view_of lock.now) entries entries client
         (turn [] (lock_of (view_of lock.now)) client Asks_stats) result }

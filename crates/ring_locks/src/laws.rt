@@ -1,8 +1,9 @@
 //! What locks promise, over every list of inputs. Each law is the contract of a function that does nothing; the statements are
 //! in `specs/Promises.antt`, of the machine in `specs/Locks.antt`.
 
+ghost use Rattle.ring_locks.specs.Opened.{HoldsAreFound, RestartsAreRight};
 ghost use Rattle.ring_locks.specs.Worked.{WorkedAnswers, WorkedMarks};
-ghost use Rattle.ring_locks.specs.Promises.{EmptyLinesAreRight, RightStays, Exclusion, TokensRise, TokensAreCounted, NobodyWaitsForNothing, FirstComeFirstServed, NoCircle, CirclesAreReal, OneEventEach, HistoryShowsHolds, RestartsRecover, OneAnswerEach};
+ghost use Rattle.ring_locks.specs.Promises.{EmptyLinesAreRight, RightStays, Exclusion, LeaversAreGone, TokensRise, TokensAreCounted, TokensAreForeseen, NobodyWaitsForNothing, FirstComeFirstServed, NoCircle, CirclesAreReal, OneEventEach, HistoryShowsHolds, RestartsRecover, SegmentsShowHolds, SegmentsRecover, CarriedChangesNothing, OneAnswerEach};
 
 /// Locks of settled rings for which nobody waits are right, and locks that are right stay so, whatever is asked.
 pub fn locks_stay_right()
@@ -16,10 +17,12 @@ pub fn exclusion()
     ensures { Exclusion }
 {}
 
-/// The tokens of a lock rise with each grant, restarts or not; with no fault between, each is one more than the one before.
+/// The tokens of a lock rise with each grant, restarts or not. With no fault between, each is one more than the one before; and
+/// a client that waits gets the passes so far, those before it and one more, less those before it who give up.
 pub fn tokens_rise()
     ensures rise { TokensRise }
     ensures counted { TokensAreCounted }
+    ensures foreseen { TokensAreForeseen }
 {}
 
 /// Somebody waits for a lock only while somebody holds it.
@@ -49,6 +52,27 @@ pub fn one_event_each()
 pub fn history_shows_holds()
     ensures shows { HistoryShowsHolds }
     ensures restarts { RestartsRecover }
+{}
+
+/// The locks go on over the segments of their rings: a segment begins with the hold that is open, which changes nothing of the
+/// lock. So its history by itself shows its holds, and a restart that knows the last segment alone makes of it the lock that
+/// was, with an open hold as client 0's.
+pub fn segments_show_holds()
+    ensures nothing { CarriedChangesNothing }
+    ensures shows { SegmentsShowHolds }
+    ensures restarts { SegmentsRecover }
+{}
+
+/// The hold that is found open in a ring that was recovered is that of its history; so the lock that is made of it is the lock
+/// that was, restarted.
+pub fn restarts_are_right()
+    ensures found { HoldsAreFound }
+    ensures right { RestartsAreRight }
+{}
+
+/// A client that leaves all locks, one after the other, holds none of them any more and waits for none.
+pub fn leavers_are_gone()
+    ensures { LeaversAreGone }
 {}
 
 /// Each input is answered once, but a leave not at all; behind the answer one other client may be granted.

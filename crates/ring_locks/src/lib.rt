@@ -4,12 +4,15 @@
 
 mod answers;
 mod asks;
+mod cuts;
 pub mod laws;
+mod leaving;
 mod line;
 mod locks;
 mod marks;
+mod opened;
 mod parts;
 mod waits;
 
-pub use answers::{Answer, Answers, Holder, Refusal, Stats, Waiter};
-pub use locks::Locks;
+pub use answers::{Answer, Answers, HoldEnd, Holder, Left, Refusal, Stats, Waiter};
+pub use locks::{LOCK_LIMIT, Locks};

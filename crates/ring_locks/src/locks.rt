@@ -1,13 +1,19 @@
 //! Locks that are called by their numbers.
 
-ghost use Rattle.std.specs.Prelude.{◌≡◌, ℕ, ◌<◌, ◌++◌, ◌∷◌, [], List, length, slice_get, Some, IfErr, OnOk, OnErr};
+ghost use Rattle.std.specs.Prelude.{◌≡◌, ℕ, ◌+◌, ◌<◌, ◌≤◌, ◌⊎◌, ◌++◌, ◌∷◌, [], List, length, slice_get, slice_set, Some, IfOk, IfErr, OnOk, OnErr, vec_len, vec_capacity};
 ghost use Rattle.ring_locks.specs.Lines.{stands, waits_for, client_of, holder_of, comes_to};
-ghost use Rattle.ring_locks.specs.Locks.{Acquire, Try, Release, Cancel, Leave, Corrupt, Stats, acquire_refusal, try_refusal};
-ghost use Rattle.ring_locks.specs.Kept.{lock_of, locks_of, holder_behind, IsKeptRing, AreKept, IsAdded, IsAnswer};
+ghost use Rattle.ring_locks.specs.Locks.{Acquire, Try, Release, Cancel, Corrupt, Stats, acquire_refusal, try_refusal};
+ghost use Rattle.ring_locks.specs.Cuts.{IsNextOf, IsNoNext, gone_on};
+ghost use Rattle.ring_locks.specs.Kept.{LockView, lock_of, locks_of, lock_limit, IsKeptRing, IsKeptLock, AreKept, IsDone, IsAnswer, IsLeft};
+ghost use Rattle.ring_locks.specs.Opened.{holder_behind, IsAdded};
 ghost use Rattle.ring_locks.specs.Parts.{view_of, views_of};
+ghost use Rattle.ring_locks.specs.declared.answers.Left.{Left};
 ghost use Rattle.ring_locks.specs.declared.parts.LockParts.{LockParts};
 
-use crate::answers::{Answers, Holder, Refusal, Waiter};
+use crate::answers::{Answers, Holder, Left, Refusal, Waiter};
+use crate::cuts::{cut, next_ring};
+use crate::leaving::leave_all;
+use crate::opened::open_hold;
 use crate::parts::{LockParts, refused};
 use crate::waits::Waits;
 use crate::{asks, marks};
@@ -15,6 +21,9 @@ use ring_endless::EndlessRing;
 use std::alloc::Global;
 use std::collections::VecDeque;
 use std::marker::Model;
+
+/// How many locks there may be.
+pub const LOCK_LIMIT: usize = 1_000_000;
 
 /// Locks that are called by their numbers, from 0. Contracts see each of them as it is kept.
 #[derive(Drop)]
@@ -98,7 +107,7 @@ fn acquire_refusal(locks: &[LockParts], waits: &Waits, client: u64, lock: usize)
 }
 
 /// Whether a client waits for a lock.
-fn stands_at(locks: &[LockParts], waits: &Waits, client: u64, lock: u32) -> bool
+pub(crate) fn stands_at(locks: &[LockParts], waits: &Waits, client: u64, lock: u32) -> bool
     requires { AreKept (views_of locks.now) waits.now }
     ensures { (p : LockParts) → slice_get locks.now lock ≡ Some p
         → result ≡ stands client p.line.items }
@@ -171,7 +180,7 @@ fn release_among(
     token: u64,
 ) -> Answers
     requires { AreKept (views_of locks.old.items) waits.old }
-    ensures { IsAnswer (views_of locks.old.items) (views_of locks.new.items) client lock
+    ensures { IsDone (views_of locks.old.items) (views_of locks.new.items) client lock
         (Release token) result × AreKept (views_of locks.new.items) waits.new }
 {
     if lock as usize >= locks.len() {
@@ -182,7 +191,7 @@ fn release_among(
 
 fn cancel_among(locks: &mut Vec<LockParts>, waits: &mut Waits, client: u64, lock: u32) -> Answers
     requires { AreKept (views_of locks.old.items) waits.old }
-    ensures { IsAnswer (views_of locks.old.items) (views_of locks.new.items) client lock
+    ensures { IsDone (views_of locks.old.items) (views_of locks.new.items) client lock
         Cancel result × AreKept (views_of locks.new.items) waits.new }
 {
     if lock as usize >= locks.len() {
@@ -190,18 +199,6 @@ fn cancel_among(locks: &mut Vec<LockParts>, waits: &mut Waits, client: u64, lock
     }
     let waiting = stands_at(locks, waits, client, lock);
     asks::cancel(&mut locks[lock as usize], waits, lock, client, waiting)
-}
-
-fn leave_among(locks: &mut Vec<LockParts>, waits: &mut Waits, client: u64, lock: u32) -> Answers
-    requires { AreKept (views_of locks.old.items) waits.old }
-    ensures { IsAnswer (views_of locks.old.items) (views_of locks.new.items) client lock
-        Leave result × AreKept (views_of locks.new.items) waits.new }
-{
-    if lock as usize >= locks.len() {
-        return refused(Refusal::Lock);
-    }
-    let waiting = stands_at(locks, waits, client, lock);
-    asks::leave(&mut locks[lock as usize], waits, lock, client, waiting)
 }
 
 fn corrupt_among(
@@ -224,9 +221,10 @@ fn corrupt_among(
 
 /// What there is to say of a lock.
 fn stats_of(locks: &[LockParts], lock: u32) -> Answers
-    requires rings { (i : ℕ) (p : LockParts) → slice_get locks.now i ≡ Some p → IsKeptRing p.ring }
+    requires rings { (i : ℕ) (p : LockParts) → slice_get locks.now i ≡ Some p
+        → IsKeptLock (view_of p) }
     ensures { (client : ℕ) (entries : List (ℕ × ℕ)) → AreKept (views_of locks.now) entries
-        → IsAnswer (views_of locks.now) (views_of locks.now) client lock Stats result
+        → IsDone (views_of locks.now) (views_of locks.now) client lock Stats result
         × AreKept (views_of locks.now) entries }
 {
     if lock as usize >= locks.len() {
@@ -244,9 +242,14 @@ fn add_to(
 ) -> Result<(), Refusal>
     ensures ok { OnOk result (views_of locks.new.items ≡ views_of locks.old.items
         ++ record { ring = ring; line = []; holder = holder } ∷ []) }
+    ensures few { OnOk result (length locks.old.items < lock_limit) }
     ensures err { OnErr result (locks.new.items ≡ locks.old.items) }
-    ensures why { IfErr result (λ e. e ≡ Refusal.Memory) }
+    ensures why { IfErr result (λ e.
+        ((e ≡ Refusal.Full) × (lock_limit ≤ length locks.old.items)) ⊎ (e ≡ Refusal.Memory)) }
 {
+    if locks.len() >= LOCK_LIMIT {
+        return Err(Refusal::Full);
+    }
     let Ok(()) = locks.reserve(1) else {
         return Err(Refusal::Memory);
     };
@@ -276,28 +279,67 @@ impl Locks {
         }
     }
 
-    /// Adds a lock, whose number is how many there were: its ring of 10 seats is repaired first, and if a hold was open in its
-    /// history, it goes on as client 0's, with this token.
+    /// Adds a lock, whose number is how many there were: its ring of 10 seats is repaired first, and if a hold is open in the
+    /// history of its segment, it goes on as client 0's.
     ///
     /// # Errors
     ///
     /// `Full`, `Memory`. There are as many locks as before then, and the ring is let go.
-    pub fn add(
-        &mut self,
-        alloc: Global,
-        ring: EndlessRing,
-        held: Option<u64>,
-    ) -> Result<(), Refusal>
+    pub fn add(&mut self, alloc: Global, ring: EndlessRing) -> Result<(), Refusal>
         requires { IsKeptRing ring }
-        ensures ok { OnOk result (IsAdded self.old self.new ring held) }
+        ensures ok { OnOk result (IsAdded self.old self.new ring) }
         ensures err { OnErr result (self.new ≡ self.old) }
     {
         let mut ring = ring;
+        let held = open_hold(&ring);
         match marks::settle(&mut ring) {
             Ok(()) => {}
             Err(why) => return Err(why),
         }
         add_to(&mut self.locks, alloc, ring, zeroth(held))
+    }
+
+    /// How many locks there are.
+    pub fn count(&self) -> u32
+        ensures { result ≡ length self.now }
+    {
+        self.locks.len() as u32
+    }
+
+    /// The ring of a lock.
+    pub fn ring(&self, lock: u32) -> &EndlessRing
+        requires { lock < length self.now }
+        ensures { (v : LockView) → slice_get self.now lock ≡ Some v → result.now ≡ v.ring }
+    {
+        &self.locks[lock as usize].ring
+    }
+
+    /// The ring of a lock's next segment, which has no event but the one that carries a hold that is open: a pass by seat 3 of a
+    /// machine that is not privileged, whose order is the hold's token. It has room for a grant to each client that waits.
+    ///
+    /// # Errors
+    ///
+    /// `Full` where no segment has room, `Memory`.
+    pub fn next(&self, alloc: Global, lock: u32) -> Result<EndlessRing, Refusal>
+        requires { lock < length self.now }
+        ensures ok { IfOk result (λ next. (v : LockView) → slice_get self.now lock ≡ Some v
+            → IsNextOf v next) }
+        ensures kept { IfOk result (λ next. IsKeptRing next) }
+        ensures why { IfErr result (λ e. (v : LockView) → slice_get self.now lock ≡ Some v
+            → IsNoNext v e) }
+    {
+        next_ring(&self.locks[lock as usize], alloc)
+    }
+
+    /// Goes on with a lock in its next segment. Nothing of the lock changes.
+    pub fn cut(&mut self, lock: u32, next: EndlessRing)
+        requires lock { lock < length self.old }
+        requires next { (v : LockView) → slice_get self.old lock ≡ Some v → IsNextOf v next }
+        ensures new { (v : LockView) → slice_get self.old lock ≡ Some v
+            → self.new ≡ slice_set self.old lock (gone_on v next) }
+        ensures same { locks_of self.new ≡ locks_of self.old }
+    {
+        cut(&mut self.locks, &self.waits, lock, next);
     }
 
     /// Acquires a lock for a client, with an order that the client chooses: it is granted at once if nobody holds the lock, or
@@ -323,7 +365,7 @@ impl Locks {
     ///
     /// Refused, the first that applies: `Lock`, `Holder`; `Full`, `Memory`. Nothing has changed then.
     pub fn release(&mut self, client: u64, lock: u32, token: u64) -> Answers
-        ensures { IsAnswer self.old self.new client lock (Release token) result }
+        ensures { IsDone self.old self.new client lock (Release token) result }
     {
         release_among(&mut self.locks, &mut self.waits, client, lock, token)
     }
@@ -332,19 +374,22 @@ impl Locks {
     ///
     /// Refused, the first that applies: `Lock`, `Waiter`. Nothing has changed then.
     pub fn cancel(&mut self, client: u64, lock: u32) -> Answers
-        ensures { IsAnswer self.old self.new client lock Cancel result }
+        ensures { IsDone self.old self.new client lock Cancel result }
     {
         cancel_among(&mut self.locks, &mut self.waits, client, lock)
     }
 
-    /// A client leaves a lock: it goes out of the line, or its hold ends and the head of the line is granted. There is no answer
-    /// to the client.
-    ///
-    /// Refused: `Lock`; the end of a hold `Full`, `Memory`. Nothing has changed then.
-    pub fn leave(&mut self, client: u64, lock: u32) -> Answers
-        ensures { IsAnswer self.old self.new client lock Leave result }
+    /// A client leaves all locks, one after the other: it goes out of the line, or its hold ends and the head of the line is
+    /// granted. There is no answer to the client. Of each lock that it held it is told in `left`, behind what is there, that its
+    /// hold has ended and who is granted it. This wants neither room nor memory.
+    pub fn leave(&mut self, client: u64, left: &mut Vec<Left>)
+        requires room { vec_len left.old + length self.old ≤ vec_capacity left.old }
+        ensures left { (said : List Left)
+            × (left.new.items ≡ left.old.items ++ said)
+            × IsLeft self.old self.new client said }
+        ensures capacity { vec_capacity left.new ≡ vec_capacity left.old }
     {
-        leave_among(&mut self.locks, &mut self.waits, client, lock)
+        leave_all(&mut self.locks, &mut self.waits, client, left);
     }
 
     /// A fault of a lock's ring: a value is written into a machine, and the ring is repaired at once. No hold ends.
@@ -366,7 +411,7 @@ impl Locks {
     /// How many machines the ring of a lock has, how many clients wait for it, how many passes of its ring were granted, and who
     /// holds it. Refused: `Lock`.
     pub fn stats(&self, lock: u32) -> Answers
-        ensures { (client : ℕ) → IsAnswer self.now self.now client lock Stats result }
+        ensures { (client : ℕ) → IsDone self.now self.now client lock Stats result }
     {
         stats_of(self.locks.as_slice(), lock)
     }

@@ -1,18 +1,21 @@
 //! What is done to the ring of a lock: passes, surveys that end holds, faults with their repair.
 
-ghost use Rattle.std.specs.Prelude.{◌≡◌, true, ℕ, ◌+◌, ◌<◌, ◌≤◌, ◌^◌, length, [], ◌∷◌, map, slice_index, Some, IsOk, IfOk, IfErr, OnOk, OnErr};
+ghost use Rattle.std.specs.Prelude.{◌≡◌, true, ℕ, ◌+◌, ◌<◌, ◌≤◌, ◌⊎◌, ◌^◌, length, [], ◌∷◌, map, slice_index, Some, IsOk, IfOk, IfErr, OnOk, OnErr};
 ghost use Rattle.ring_model.specs.Ring.{first_privileged, is_settled};
-ghost use Rattle.ring_locks.specs.Grants.{most_passes};
-ghost use Rattle.ring_endless.specs.Endless.{IsSameEndless};
-ghost use Rattle.ring_locks.specs.Locks.{Call, Survey, called, fault, first_pass, repairs};
-ghost use Rattle.ring_locks.specs.Promises.{number_of};
+ghost use Rattle.ring_chains.specs.Bases.{IsBase, base_after};
+ghost use Rattle.ring_locks.specs.Grants.{carried, most_passes};
+ghost use Rattle.ring_endless.specs.Endless.{IsSameEndless, IsNext, local_survey};
+ghost use Rattle.ring_locks.specs.Locks.{Call, fault, first_pass, repairs};
+ghost use Rattle.ring_locks.specs.Promises.{number_of, token_of};
 ghost use Rattle.ring_locks.specs.Kept.{state_of, seat_count, IsKeptRing, AreMade};
 ghost use Rattle.ring_locks.specs.Parts.{IsMade, IsWantOf};
 
-use crate::answers::Refusal;
+use crate::answers::{HoldEnd, Holder, Refusal};
 use ring_desk::CallError;
-use ring_endless::EndlessRing;
+use ring_endless::{EndlessRing, NextError};
 use ring_model::Reply;
+use ring_model::limits::EVENT_LIMIT;
+use std::alloc::Global;
 
 /// The number of a grant; 0 of another reply.
 fn number_of(reply: Reply) -> u64
@@ -53,16 +56,24 @@ fn first(ring: &EndlessRing) -> u32
     ring.glance().first
 }
 
-/// Takes memory for so many events.
-fn reserve(ring: &mut EndlessRing, events: u32) -> Result<(), Refusal>
-    requires { IsKeptRing ring.old }
-    ensures ok { OnOk result (events ≤ ring.new.ring.book.room) }
+/// Takes memory for so many events, and for one for each client that waits.
+///
+/// # Errors
+///
+/// `Full`, `Memory`. Nothing has changed then.
+pub(crate) fn reserve(ring: &mut EndlessRing, waiting: usize, events: u32) -> Result<(), Refusal>
+    requires kept { IsKeptRing ring.old }
+    requires few { events ≤ 1024 }
+    ensures ok { OnOk result (waiting + events ≤ ring.new.ring.book.room) }
     ensures same { IsSameEndless ring.old ring.new }
     ensures kept { IsKeptRing ring.new }
     ensures err { OnErr result (ring.new ≡ ring.old) }
-    ensures why { IfErr result (λ e. IsWantOf ring.old events e) }
+    ensures why { IfErr result (λ e. IsWantOf ring.old (waiting + events) e) }
 {
-    match ring.reserve(events) {
+    if waiting > EVENT_LIMIT {
+        return Err(Refusal::Full);
+    }
+    match ring.reserve(waiting as u32 + events) {
         Ok(()) => Ok(()),
         Err(error) => Err(want(error)),
     }
@@ -92,54 +103,79 @@ pub(crate) fn pass(ring: &mut EndlessRing, seat: u32, order: u64) -> Result<u64,
     }
 }
 
-/// Ends a hold, with a survey by this seat.
+/// A pass of the first privileged machine on seat 0, with room left for an event for each client that waits. Answers its number.
 ///
 /// # Errors
 ///
-/// `Memory`. Nothing has changed then.
-pub(crate) fn end(ring: &mut EndlessRing, seat: u32) -> Result<(), Refusal>
+/// `Full`, `Memory`. Nothing has changed then.
+pub(crate) fn grant(ring: &mut EndlessRing, waiting: usize, order: u64) -> Result<u64, Refusal>
     requires kept { IsKeptRing ring.old }
-    requires seat { seat < seat_count }
-    ensures made { OnOk result (AreMade ring.old (Survey seat ∷ []) ring.new) }
-    ensures kept { IsKeptRing ring.new }
-    ensures room { ring.new.ring.book.room ≡ ring.old.ring.book.room }
-    ensures state { state_of ring.new ≡ state_of ring.old }
-    ensures err { OnErr result (ring.new ≡ ring.old) }
-    ensures why { IfErr result (λ e. e ≡ Refusal.Memory) }
-{
-    match ring.survey(seat) {
-        Ok(_) => Ok(()),
-        Err(error) => Err(want(error)),
-    }
-}
-
-/// Ends a hold, with a survey by this seat, and passes the first privileged machine on seat 0. Answers the number of the pass.
-///
-/// # Errors
-///
-/// `Full`, `Memory`. Nothing has changed then, room aside.
-pub(crate) fn pass_on(ring: &mut EndlessRing, seat: u32, order: u64) -> Result<u64, Refusal>
-    requires kept { IsKeptRing ring.old }
-    requires seat { seat < seat_count }
+    requires room { waiting ≤ ring.old.ring.book.room }
     ensures number { IfOk result (λ number. number ≡ (state_of ring.old).grants + 1) }
-    ensures made { OnOk result (AreMade ring.old
-        (Survey seat ∷ Call (called (state_of ring.old) 0 (first_pass (state_of ring.old) order))
-        ∷ []) ring.new) }
+    ensures made { OnOk result
+        (IsMade ring.old ring.new 0 (first_pass (state_of ring.old) order)) }
     ensures kept { IsKeptRing ring.new }
-    ensures err { OnErr result (IsSameEndless ring.old ring.new) }
-    ensures why { IfErr result (λ e. IsWantOf ring.old 1 e) }
+    ensures err { OnErr result (ring.new ≡ ring.old) }
+    ensures why { IfErr result (λ e. IsWantOf ring.old (waiting + 1) e) }
+    ensures room { waiting ≤ ring.new.ring.book.room }
 {
-    match reserve(ring, 1) {
-        Ok(()) => {}
-        Err(why) => return Err(why),
-    }
-    match end(ring, seat) {
+    match reserve(ring, waiting, 1) {
         Ok(()) => {}
         Err(why) => return Err(why),
     }
     match pass(ring, 0, order) {
         Ok(number) => Ok(number),
         Err(_) => unreachable!(),
+    }
+}
+
+/// The ring with its next segment, which has no events.
+///
+/// # Errors
+///
+/// `Full`, `Memory`.
+pub(crate) fn next(ring: &EndlessRing, alloc: Global) -> Result<EndlessRing, Refusal>
+    requires { IsKeptRing ring.now }
+    ensures ok { IfOk result (λ next. IsNext ring.now next) }
+    ensures kept { IfOk result (λ next. IsKeptRing next) }
+    ensures why { IfErr result (λ e. ((e ≡ Refusal.Full)
+        × (¬ IsBase (base_after ring.now.base ring.now.ring.book.start
+        ring.now.ring.book.history))) ⊎ (e ≡ Refusal.Memory)) }
+{
+    match ring.next(alloc) {
+        Ok(next) => Ok(next),
+        Err(NextError::Full) => Err(Refusal::Full),
+        Err(NextError::OutOfMemory) => Err(Refusal::Memory),
+    }
+}
+
+/// Carries the hold that is open, if one is, into a segment that begins: a pass by seat 3 of a machine that is not privileged,
+/// whose order is the hold's token. There is room for it.
+pub(crate) fn carry(ring: &mut EndlessRing, held: Option<Holder>)
+    requires kept { IsKeptRing ring.old }
+    requires room { 1 ≤ ring.old.ring.book.room }
+    ensures made { AreMade ring.old (map Call (carried (state_of ring.old) (token_of held)))
+        ring.new }
+    ensures kept { IsKeptRing ring.new }
+    ensures room { ring.old.ring.book.room ≤ ring.new.ring.book.room + 1 }
+{
+    let Some(holder) = held else {
+        return;
+    };
+    let other = if first(ring) == 0 { 1 } else { 0 };
+    match ring.pass(3, other, holder.token) {
+        Ok(_) => {}
+        Err(_) => unreachable!(),
+    }
+}
+
+/// The end of a hold now, by this seat. It takes no memory.
+pub(crate) fn end(ring: &EndlessRing, seat: u32) -> HoldEnd
+    ensures { result ≡ record { seat = seat; survey = local_survey ring.now.ring } }
+{
+    HoldEnd {
+        seat,
+        survey: ring.segment().glance(),
     }
 }
 
@@ -157,6 +193,7 @@ fn repair(ring: &mut EndlessRing, most: u32)
     requires room { most ≤ ring.old.ring.book.room }
     ensures made { AreMade ring.old (map Call (repairs most (state_of ring.old))) ring.new }
     ensures kept { IsKeptRing ring.new }
+    ensures room { ring.old.ring.book.room ≤ ring.new.ring.book.room + most }
 {
     let mut more = most;
     while more > 0 {
@@ -196,7 +233,7 @@ pub(crate) fn settle(ring: &mut EndlessRing) -> Result<(), Refusal>
         IsWantOf ring.old (most_passes (length (state_of ring.old).ring.values)) e) }
 {
     let most = most_repairs(ring);
-    match reserve(ring, most) {
+    match reserve(ring, 0, most) {
         Ok(()) => {}
         Err(why) => return Err(why),
     }
@@ -204,13 +241,20 @@ pub(crate) fn settle(ring: &mut EndlessRing) -> Result<(), Refusal>
     Ok(())
 }
 
-/// A fault by seat 8, which writes a value into a machine, and its repair. Answers the value that was there.
+/// A fault by seat 8, which writes a value into a machine, and its repair, with room left for an event for each client that
+/// waits. Answers the value that was there.
 ///
 /// # Errors
 ///
 /// `Full`, `Memory`. Nothing has changed then, room aside.
-pub(crate) fn fault(ring: &mut EndlessRing, machine: u32, value: u32) -> Result<u32, Refusal>
+pub(crate) fn fault(
+    ring: &mut EndlessRing,
+    waiting: usize,
+    machine: u32,
+    value: u32,
+) -> Result<u32, Refusal>
     requires kept { IsKeptRing ring.old }
+    requires room { waiting ≤ ring.old.ring.book.room }
     requires machine { machine < length (state_of ring.old).ring.values }
     requires value { value < (state_of ring.old).ring.k }
     ensures old { IfOk result (λ old. old
@@ -219,11 +263,12 @@ pub(crate) fn fault(ring: &mut EndlessRing, machine: u32, value: u32) -> Result<
         (map Call (fault (state_of ring.old) machine value)) ring.new) }
     ensures kept { IsKeptRing ring.new }
     ensures err { OnErr result (IsSameEndless ring.old ring.new) }
-    ensures why { IfErr result (λ e.
-        IsWantOf ring.old (1 + most_passes (length (state_of ring.old).ring.values)) e) }
+    ensures why { IfErr result (λ e. IsWantOf ring.old
+        (waiting + (1 + most_passes (length (state_of ring.old).ring.values))) e) }
+    ensures room { waiting ≤ ring.new.ring.book.room }
 {
     let most = most_repairs(ring);
-    match reserve(ring, 1 + most) {
+    match reserve(ring, waiting, 1 + most) {
         Ok(()) => {}
         Err(why) => return Err(why),
     }

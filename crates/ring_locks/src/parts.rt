@@ -1,14 +1,14 @@
 //! One lock: its ring, who stands in its line, who holds it.
 
 ghost use Rattle.std.specs.Prelude.{◌≡◌, ◌+◌, ◌<◌, ◌⊎◌, List, ◌∷◌, length, Some, None, IsSome};
-ghost use Rattle.ring_locks.specs.Grants.{most_passes};
+ghost use Rattle.ring_endless.specs.Endless.{local_survey};
 ghost use Rattle.ring_locks.specs.Lines.{without};
-ghost use Rattle.ring_locks.specs.Locks.{dropped, ended, faulted, granted, joined};
+ghost use Rattle.ring_locks.specs.Locks.{Corrupt, ended, faulted, granted, joined};
 ghost use Rattle.ring_locks.specs.declared.answers.Waiter.{Waiter};
-ghost use Rattle.ring_locks.specs.Kept.{state_of, lock_of, seat_count, IsKeptRing, own_answer};
+ghost use Rattle.ring_locks.specs.Kept.{state_of, lock_of, need, IsKeptLock, own_answer};
 ghost use Rattle.ring_locks.specs.Parts.{view_of, IsTurned, IsWanting, IsTurnedIn, IsWantingIn, IsEntryOf};
 
-use crate::answers::{Answer, Answers, Holder, Refusal, Waiter};
+use crate::answers::{Answer, Answers, HoldEnd, Holder, Refusal, Waiter};
 use crate::waits::Waits;
 use crate::{line, marks};
 use ring_endless::EndlessRing;
@@ -24,29 +24,31 @@ pub(crate) struct LockParts {
 
 /// Only the client that asks is answered.
 pub(crate) fn told(answer: Answer) -> Answers
-    ensures { result ≡ record { own = Some answer; granted = None } }
+    ensures { result ≡ record { own = Some answer; ended = None; granted = None } }
 {
     Answers {
         own: Some(answer),
+        ended: None,
         granted: None,
     }
 }
 
 /// A refusal.
 pub(crate) fn refused(why: Refusal) -> Answers
-    ensures { result ≡ record { own = Some (Answer.Refused why); granted = None } }
+    ensures { result
+        ≡ record { own = Some (Answer.Refused why); ended = None; granted = None } }
 {
     told(Answer::Refused(why))
 }
 
 /// Grants the lock to a client.
 pub(crate) fn grant(lock: &mut LockParts, waiter: Waiter) -> Answers
-    requires { IsKeptRing lock.old.ring }
+    requires { IsKeptLock (view_of lock.old) }
     ensures { IsTurned (view_of lock.old) (view_of lock.new) waiter.client
         (granted (state_of lock.old.ring) lock.old.line.items waiter) result
-        ⊎ IsWanting (view_of lock.old) (view_of lock.new) 1 result }
+        ⊎ IsWanting (view_of lock.old) (view_of lock.new) (length lock.old.line.items + 1) result }
 {
-    match marks::pass(&mut lock.ring, 0, waiter.order) {
+    match marks::grant(&mut lock.ring, lock.line.len(), waiter.order) {
         Ok(token) => {
             lock.holder = Some(Holder {
                 client: waiter.client,
@@ -58,15 +60,20 @@ pub(crate) fn grant(lock: &mut LockParts, waiter: Waiter) -> Answers
     }
 }
 
-/// Lets a client stand in the line of a lock that somebody holds.
+/// Lets a client stand in the line of a lock that somebody holds, once there is room for its grant.
 pub(crate) fn wait(lock: &mut LockParts, waits: &mut Waits, number: u32, waiter: Waiter) -> Answers
-    requires kept { IsKeptRing lock.old.ring }
+    requires kept { IsKeptLock (view_of lock.old) }
     requires held { IsSome lock.old.holder }
     ensures { IsTurnedIn number (view_of lock.old) (view_of lock.new) waits.old waits.new
         waiter.client (joined (lock_of (view_of lock.old)) waiter lock.old.holder) result
-        ⊎ IsWantingIn (view_of lock.old) (view_of lock.new) waits.old waits.new 1 result }
+        ⊎ IsWantingIn (view_of lock.old) (view_of lock.new) waits.old waits.new
+        (length lock.old.line.items + 1) result }
 {
-    let before = lock.line.len() as u64;
+    let before = lock.line.len();
+    match marks::reserve(&mut lock.ring, before, 1) {
+        Ok(()) => {}
+        Err(why) => return refused(why),
+    }
     let Ok(()) = lock.line.reserve(1) else {
         return refused(Refusal::Memory);
     };
@@ -74,10 +81,10 @@ pub(crate) fn wait(lock: &mut LockParts, waits: &mut Waits, number: u32, waiter:
         return refused(Refusal::Memory);
     };
     lock.line.push_back_reserved(waiter);
-    told(Answer::Waiting(before))
+    told(Answer::Waiting(before as u64))
 }
 
-/// Ends the hold of a client, with a survey by this seat, and grants the head of the line.
+/// Ends the hold of a client, with a survey by this seat, and grants the head of the line. It wants neither room nor memory.
 pub(crate) fn end_hold(
     lock: &mut LockParts,
     waits: &mut Waits,
@@ -86,42 +93,46 @@ pub(crate) fn end_hold(
     seat: u32,
     own: Option<Answer>,
 ) -> Answers
-    requires kept { IsKeptRing lock.old.ring }
-    requires seat { seat < seat_count }
-    ensures { IsTurnedIn number (view_of lock.old) (view_of lock.new) waits.old waits.new client
-        (ended (state_of lock.old.ring) lock.old.line.items seat (own_answer client own)) result
-        ⊎ IsWantingIn (view_of lock.old) (view_of lock.new) waits.old waits.new 1 result }
+    requires { IsKeptLock (view_of lock.old) }
+    ensures turned { IsTurnedIn number (view_of lock.old) (view_of lock.new) waits.old waits.new
+        client (ended (state_of lock.old.ring) lock.old.line.items seat (own_answer client own))
+        result }
+    ensures own { result.own ≡ own }
 {
+    let end = marks::end(&lock.ring, seat);
     match line::head(&lock.line) {
-        Some(waiter) => pass_hold(lock, waits, number, client, seat, own, waiter),
-        None => match marks::end(&mut lock.ring, seat) {
-            Ok(()) => {
-                lock.holder = None;
-                Answers { own, granted: None }
+        Some(waiter) => pass_hold(lock, waits, number, client, own, end, waiter),
+        None => {
+            lock.holder = None;
+            Answers {
+                own,
+                ended: Some(end),
+                granted: None,
             }
-            Err(why) => refused(why),
-        },
+        }
     }
 }
 
-/// Ends the hold of a client, and grants this one, which is the head of the line.
+/// Grants this client, which is the head of the line, behind this end of the hold of another.
 fn pass_hold(
     lock: &mut LockParts,
     waits: &mut Waits,
     number: u32,
     client: u64,
-    seat: u32,
     own: Option<Answer>,
+    over: HoldEnd,
     waiter: Waiter,
 ) -> Answers
-    requires kept { IsKeptRing lock.old.ring }
-    requires seat { seat < seat_count }
+    requires kept { IsKeptLock (view_of lock.old) }
     requires head { (others : List Waiter) × (lock.old.line.items ≡ waiter ∷ others) }
-    ensures { IsTurnedIn number (view_of lock.old) (view_of lock.new) waits.old waits.new client
-        (ended (state_of lock.old.ring) lock.old.line.items seat (own_answer client own)) result
-        ⊎ IsWantingIn (view_of lock.old) (view_of lock.new) waits.old waits.new 1 result }
+    requires now { over.survey ≡ local_survey lock.old.ring.ring }
+    ensures turned { IsTurnedIn number (view_of lock.old) (view_of lock.new) waits.old waits.new
+        client
+        (ended (state_of lock.old.ring) lock.old.line.items over.seat (own_answer client own))
+        result }
+    ensures own { result.own ≡ own }
 {
-    match marks::pass_on(&mut lock.ring, seat, waiter.order) {
+    match marks::pass(&mut lock.ring, 0, waiter.order) {
         Ok(token) => {
             let holder = Holder {
                 client: waiter.client,
@@ -132,10 +143,11 @@ fn pass_hold(
             lock.holder = Some(holder);
             Answers {
                 own,
+                ended: Some(over),
                 granted: Some(holder),
             }
         }
-        Err(why) => refused(why),
+        Err(_) => unreachable!(),
     }
 }
 
@@ -152,15 +164,15 @@ pub(crate) fn drop_waiter(lock: &mut LockParts, waits: &mut Waits, client: u64)
 
 /// A fault of the lock's ring.
 pub(crate) fn fault(lock: &mut LockParts, client: u64, machine: u32, value: u32) -> Answers
-    requires kept { IsKeptRing lock.old.ring }
+    requires kept { IsKeptLock (view_of lock.old) }
     requires machine { machine < length (state_of lock.old.ring).ring.values }
     requires value { value < (state_of lock.old.ring).ring.k }
     ensures { IsTurned (view_of lock.old) (view_of lock.new) client
         (faulted (lock_of (view_of lock.old)) client machine value) result
         ⊎ IsWanting (view_of lock.old) (view_of lock.new)
-        (1 + most_passes (length (state_of lock.old.ring).ring.values)) result }
+        (need (view_of lock.old) (Corrupt machine value)) result }
 {
-    match marks::fault(&mut lock.ring, machine, value) {
+    match marks::fault(&mut lock.ring, lock.line.len(), machine, value) {
         Ok(old) => told(Answer::Corrupted(old)),
         Err(why) => refused(why),
     }

@@ -1,17 +1,17 @@
-use Rattle.std.proofs.Common.{◌≡◌, ◌<◌, length, refl, ◌∙◌, ap, arith, inl, Some, List, []}
+use Rattle.std.proofs.Common.{◌≡◌, ◌<◌, length, refl, ◌∙◌, ap, arith, Some, List, []}
 use Rattle.std.specs.Prelude.{slice_get, slice_set}
 use Rattle.ring_locks.specs.declared.parts.LockParts.{LockParts}
 use Rattle.ring_locks.specs.Locks.{Cancel, turn}
 use Rattle.ring_locks.specs.Kept.{lock_of}
 use Rattle.ring_locks.specs.Parts.{view_of}
-use Rattle.ring_locks.proofs.Lifting.{lifted_parts, part_at, ring_there}
+use Rattle.ring_locks.proofs.Lifting.{lifted_done, part_at, lock_kept}
 use Rattle.ring_locks.proofs.locks.cancel_among.Goals as goal
 
 pub cancel-requires-clause-kept : goal.cancel-requires-clause-kept
 cancel-requires-clause-kept c =
     let below : c.args.lock < length c.args.locks.now.items = let n = c.len.ensures in let k = c.args.locks.now.ok.0 in let f = c.if-lock-len.false in omega arith in
     let at = part_at c.args.locks.now.items c.args.lock c.index_mut.result.now below c.index_mut.ensures.value in
-    ring_there c.args.locks.now.items c.args.waits.now c.args.lock c.index_mut.result.now c.requires at
+    lock_kept c.args.locks.now.items c.args.waits.now c.args.lock c.index_mut.result.now c.requires at
 
 pub cancel-requires-clause-waiting : goal.cancel-requires-clause-waiting
 cancel-requires-clause-waiting c =
@@ -24,5 +24,5 @@ pub returns : goal.returns
 returns c =
     let below : c.args.lock < length c.args.locks.now.items = let n = c.len.ensures in let k = c.args.locks.now.ok.0 in let f = c.if-lock-len.false in omega arith in
     let at = part_at c.args.locks.now.items c.args.lock c.index_mut.result.now below c.index_mut.ensures.value in
-    lifted_parts c.args.locks.now.items (slice_set c.args.locks.now.items c.args.lock c.cancel.new.lock) c.args.waits.now c.cancel.new.waits c.args.client c.args.lock (Cancel) c.index_mut.result.now c.cancel.new.lock
-    (turn [] (lock_of (view_of c.index_mut.result.now)) c.args.client Cancel) 1 c.cancel.result c.requires at refl refl refl (inl c.cancel.ensures)
+    lifted_done c.args.locks.now.items (slice_set c.args.locks.now.items c.args.lock c.cancel.new.lock) c.args.waits.now c.cancel.new.waits c.args.client c.args.lock (Cancel) c.index_mut.result.now c.cancel.new.lock
+    (turn [] (lock_of (view_of c.index_mut.result.now)) c.args.client Cancel) c.cancel.result c.requires at refl refl c.cancel.ensures

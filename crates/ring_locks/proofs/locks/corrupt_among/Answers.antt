@@ -3,14 +3,14 @@ use Rattle.std.specs.Prelude.{slice_set}
 use Rattle.ring_locks.specs.Locks.{Corrupt, turn}
 use Rattle.ring_locks.specs.Kept.{lock_of, need}
 use Rattle.ring_locks.specs.Parts.{view_of}
-use Rattle.ring_locks.proofs.Lifting.{lifted_parts, part_at, ring_there}
+use Rattle.ring_locks.proofs.Lifting.{lifted_parts, part_at, lock_kept}
 use Rattle.ring_locks.proofs.locks.corrupt_among.Goals as goal
 
 pub corrupt-requires : goal.corrupt-requires
 corrupt-requires c =
     let below : c.args.lock < length c.args.locks.now.items = let n = c.len.ensures in let k = c.args.locks.now.ok.0 in let f = c.if-lock-len.false in omega arith in
     let at = part_at c.args.locks.now.items c.args.lock c.index_mut.result.now below c.index_mut.ensures.value in
-    ring_there c.args.locks.now.items c.args.waits.now c.args.lock c.index_mut.result.now c.requires at
+    lock_kept c.args.locks.now.items c.args.waits.now c.args.lock c.index_mut.result.now c.requires at
 
 pub returns : goal.returns
 returns c =

@@ -1,18 +1,18 @@
-use Rattle.std.proofs.Common.{◌≡◌, ◌<◌, length, refl, ◌∙◌, ap, arith, Some, List, Option}
+use Rattle.std.proofs.Common.{◌≡◌, ◌<◌, ◌+◌, length, refl, ◌∙◌, ap, arith, Some, List, Option}
 use Rattle.std.specs.Prelude.{slice_get, slice_set}
 use Rattle.ring_locks.specs.declared.answers.Refusal.{Refusal}
 use Rattle.ring_locks.specs.declared.parts.LockParts.{LockParts}
 use Rattle.ring_locks.specs.Locks.{Try, tried}
 use Rattle.ring_locks.specs.Kept.{lock_of}
 use Rattle.ring_locks.specs.Parts.{view_of}
-use Rattle.ring_locks.proofs.Lifting.{lifted_parts, part_at, ring_there}
+use Rattle.ring_locks.proofs.Lifting.{lifted_parts, part_at, lock_kept}
 use Rattle.ring_locks.proofs.locks.try_among.Goals as goal
 
 pub try_acquire-requires : goal.try_acquire-requires
 try_acquire-requires c =
     let below : c.args.lock < length c.args.locks.now.items = let n = c.len.ensures in let k = c.args.locks.now.ok.0 in let f = c.if-lock-len.false in omega arith in
     let at = part_at c.args.locks.now.items c.args.lock c.index_mut.result.now below c.index_mut.ensures.value in
-    ring_there c.args.locks.now.items c.args.waits.now c.args.lock c.index_mut.result.now c.requires at
+    lock_kept c.args.locks.now.items c.args.waits.now c.args.lock c.index_mut.result.now c.requires at
 
 pub returns : goal.returns
 returns c =
@@ -21,5 +21,5 @@ returns c =
     let there : slice_get c.deref.result.now c.args.lock ≡ Some c.index_mut.result.now = ap (λ (x : List LockParts). slice_get x c.args.lock) c.deref.ensures.value ∙ at in
     let why = c.try_refusal-why.ensures c.index_mut.result.now there in
     lifted_parts c.args.locks.now.items (slice_set c.args.locks.now.items c.args.lock c.try_acquire.new.lock) c.args.waits.now c.args.waits.now c.args.client c.args.lock (Try c.args.order) c.index_mut.result.now c.try_acquire.new.lock
-    (tried (lock_of (view_of c.index_mut.result.now)) (record { client = c.args.client; order = c.args.order }) c.try_refusal-why.result) 1 c.try_acquire.result c.requires at refl
+    (tried (lock_of (view_of c.index_mut.result.now)) (record { client = c.args.client; order = c.args.order }) c.try_refusal-why.result) (length c.index_mut.result.now.line.items + 1) c.try_acquire.result c.requires at refl
     (ap (λ (x : Option Refusal). tried (lock_of (view_of c.index_mut.result.now)) (record { client = c.args.client; order = c.args.order }) x) why) refl (c.try_acquire.ensures c.args.lock c.args.waits.now)

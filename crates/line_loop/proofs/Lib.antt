@@ -1,0 +1,3 @@
+pub mod LongLines
+pub mod Telling
+pub mod Parting

@@ -1,0 +1,82 @@
+use Rattle.std.proofs.Common.{[], ◌++◌, ◌∙◌, sym, refl, arith, length-append}
+use Rattle.line_loop.specs.Loop.{Written, held_by}
+use Rattle.line_loop.proofs.Telling.{consumes_nil, consumes_then, consumes_kept}
+use Rattle.line_loop.proofs.Parting.{going_begins, going_block, going_stops, going_ends, going_filled, going_part}
+use Rattle.line_loop.proofs.parts.serve_part.Goals as goal
+
+pub rounds-init : goal.rounds-init
+rounds-init g c =
+    let before : Written = record { journal = held_by g.J.Write.contents c.args.journal.now; out = g.W.Write.contents c.args.out.now } in (
+      [],
+      consumes_nil (g.I.Read.remaining c.args.input.now),
+      omega arith,
+      c.requires,
+      c.new.ensures.items,
+      c.new-2.ensures.items,
+      refl,
+      λ begun h. going_begins g.S.AnswersLines.is_answered c.args.service.now begun c.args.unread.now c.args.line.now.items before h,
+    )
+
+pub returns-in-Err-clause-err : goal.returns-in-Err-clause-err
+returns-in-Err-clause-err g c = λ begun h.
+    let inv = c.rounds.invariant in
+    let going = inv.7 begun h in
+    let before : Written = record { journal = held_by g.J.Write.contents c.args.journal.now; out = g.W.Write.contents c.args.out.now } in
+    (inv.0, inv.1, going_stops going (c.in-Err.ensures.serves c.args.service.now before (begun ++ going.taken) going.rests))
+
+pub returns-then-over-clause-ok : goal.returns-then-over-clause-ok
+returns-then-over-clause-ok g c = λ begun h.
+    let inv = c.rounds.invariant in
+    let going = inv.7 begun h in
+    let before : Written = record { journal = held_by g.J.Write.contents c.args.journal.now; out = g.W.Write.contents c.args.out.now } in
+    going_part inv.1 (going_block c.in-Ok.over going (c.in-Ok.ensures.serves c.args.service.now before (begun ++ going.taken) going.rests))
+
+pub returns-in-Err-fill-clause-err : goal.returns-in-Err-fill-clause-err
+returns-in-Err-fill-clause-err g c = λ begun h.
+    let inv = c.rounds.invariant in
+    let going = inv.7 begun h in
+    let before : Written = record { journal = held_by g.J.Write.contents c.args.journal.now; out = g.W.Write.contents c.args.out.now } in
+    let more = going_block c.in-Ok.over going (c.in-Ok.ensures.serves c.args.service.now before (begun ++ going.taken) going.rests) in
+    (inv.0, consumes_kept (g.I.Read.remaining c.args.input.now) (g.I.Read.remaining c.rounds.input) (g.I.Read.remaining c.fill.new.input) inv.0 inv.1 c.in-Err-fill.ensures.err.1, going_ends more)
+
+pub returns-then-count-eq0-clause-ok : goal.returns-then-count-eq0-clause-ok
+returns-then-count-eq0-clause-ok g c = λ begun h.
+    let inv = c.rounds.invariant in
+    let going = inv.7 begun h in
+    let before : Written = record { journal = held_by g.J.Write.contents c.args.journal.now; out = g.W.Write.contents c.args.out.now } in
+    let taken = c.in-Ok.ensures.serves c.args.service.now before (begun ++ going.taken) going.rests in
+    let more = going_filled c.fill.new.self (taken.2 c.if-over.false) (going_block c.in-Ok.over going taken) in
+    going_part (consumes_then (g.I.Read.remaining c.args.input.now) (g.I.Read.remaining c.rounds.input) (g.I.Read.remaining c.fill.new.input) inv.0 c.fill.new.self inv.1 c.in-Ok-fill.ensures.ok.0) more
+
+pub returns-then-once-clause-ok : goal.returns-then-once-clause-ok
+returns-then-once-clause-ok g c = λ begun h.
+    let inv = c.rounds.invariant in
+    let going = inv.7 begun h in
+    let before : Written = record { journal = held_by g.J.Write.contents c.args.journal.now; out = g.W.Write.contents c.args.out.now } in
+    let taken = c.in-Ok.ensures.serves c.args.service.now before (begun ++ going.taken) going.rests in
+    let more = going_filled c.fill.new.self (taken.2 c.if-over.false) (going_block c.in-Ok.over going taken) in
+    going_part (consumes_then (g.I.Read.remaining c.args.input.now) (g.I.Read.remaining c.rounds.input) (g.I.Read.remaining c.fill.new.input) inv.0 c.fill.new.self inv.1 c.in-Ok-fill.ensures.ok.0) more
+
+pub rounds-preserved : goal.rounds-preserved
+rounds-preserved g c =
+    let inv = c.rounds.invariant in
+    let before : Written = record { journal = held_by g.J.Write.contents c.args.journal.now; out = g.W.Write.contents c.args.out.now } in
+    let low = inv.2 in
+    let size = c.in-Ok-fill.ensures.ok.1 in (
+      inv.0 ++ c.fill.new.self,
+      consumes_then (g.I.Read.remaining c.args.input.now) (g.I.Read.remaining c.rounds.input) (g.I.Read.remaining c.fill.new.input) inv.0 c.fill.new.self inv.1 c.in-Ok-fill.ensures.ok.0,
+      omega (arith, length-append inv.0 c.fill.new.self, low, size, c.if-count-eq0.false),
+      sym c.in-Ok.ensures.over ∙ c.if-over.false,
+      c.in-Ok.ensures.left.0,
+      c.in-Ok.ensures.left.1,
+      c.in-Ok.ensures.kept ∙ inv.6,
+      λ begun h.
+          let going = inv.7 begun h in
+          let taken = c.in-Ok.ensures.serves c.args.service.now before (begun ++ going.taken) going.rests in
+          going_filled c.fill.new.self (taken.2 c.if-over.false) (going_block c.in-Ok.over going taken),
+    )
+
+pub returns-clause-err : goal.returns-clause-err
+returns-clause-err g c = λ begun h.
+    let inv = c.rounds.invariant in
+    (inv.0, inv.1, going_ends (inv.7 begun h))

@@ -1,0 +1,15 @@
+use Rattle.std.proofs.Common.{◌≡◌, ◌≤◌, ℕ, List, [], length, false}
+use Rattle.std.specs.Prelude.{is_some}
+use Rattle.std.specs.Io.KnownBytes.{Consumes}
+use Rattle.line_loop.specs.Answering.{HasBegun}
+use Rattle.line_loop.specs.Loop.{held_by}
+use Rattle.line_loop.proofs.Parting.{Going}
+use Rattle.line_loop.proofs.parts.serve_part.Given as goal
+
+abbrev pub invariant-rounds : goal.invariant-rounds
+invariant-rounds g l =
+    (read : List ℕ) × Consumes (g.I.Read.remaining l.initial.input) (g.I.Read.remaining l.input) read × (l.round ≤ length read)
+    × (g.S.AnswersLines.is_over l.service ≡ false)
+    × (l.pending.answers.items ≡ []) × (l.pending.notes.items ≡ []) × (is_some l.journal ≡ is_some l.initial.journal)
+    × ((begun : List ℕ) → HasBegun begun l.initial.line.items →
+    Going g.S.AnswersLines.is_answered l.initial.service begun l.initial.unread read l.unread l.line.items (record { journal = held_by g.J.Write.contents l.initial.journal; out = g.W.Write.contents l.initial.out }) (record { journal = held_by g.J.Write.contents l.journal; out = g.W.Write.contents l.out }) l.service)

@@ -1,0 +1,40 @@
+//! What answers a line.
+
+ghost use Rattle.std.specs.Prelude.{◌≡◌, ◌++◌, ◌⊎◌, ℕ, List, Bool, false, OnOk, OnErr};
+ghost use Rattle.line_loop.specs.Answering.{IsByStart};
+
+use crate::pending::Pending;
+use std::alloc::AllocError;
+
+/// What answers lines, one after the other.
+pub trait AnswersLines {
+    /// From the one to the other a line was answered: the line, the text of its answer, and its notes.
+    ghost is_answered: { Self → List ℕ → List ℕ → List ℕ → Self → Type 0 };
+
+    /// No line is answered any more until something else is done.
+    ghost is_over: { Self → Bool };
+
+    /// Answers a line, which has its LF: its answer and its notes are pending then.
+    ///
+    /// # Errors
+    ///
+    /// Out of memory, where there was none for the answer or the notes: the line is answered, or nothing has changed.
+    fn answer(&mut self, line: &[u8], pending: &mut Pending) -> Result<(), AllocError>
+        requires { is_over self.old ≡ false }
+        ensures ok { OnOk result ((said : List ℕ)
+            × (noted : List ℕ)
+            × is_answered self.old line.now said noted self.new
+            × (pending.new.answers.items ≡ pending.old.answers.items ++ said)
+            × (pending.new.notes.items ≡ pending.old.notes.items ++ noted)) }
+        ensures err { OnErr result ((self.new ≡ self.old)
+            ⊎ ((said : List ℕ)
+            × (noted : List ℕ)
+            × is_answered self.old line.now said noted self.new)) };
+
+    /// Whether no line is answered any more until something else is done.
+    fn is_over(&self) -> bool
+        ensures { result ≡ is_over self.now };
+
+    /// Of a line that is too long only the kept part is looked at.
+    ghost by_start: { IsByStart is_answered };
+}

@@ -1,0 +1,142 @@
+//! Parts of the lines: each is served until the input has ended, or until no line is answered any more.
+
+ghost use Rattle.std.specs.Prelude.{◌≡◌, ◌≢◌, ℕ, List, [], ◌++◌, false, OnOk, OnErr, IfOk, IfErr, MatchResult, is_some};
+ghost use Rattle.line_loop.specs.declared.faults.LoopFault.TheVariants as fault;
+ghost use Rattle.line_loop.specs.Answering.{HasBegun};
+ghost use Rattle.line_loop.specs.Loop.{Written, GoesOn, Rests, Stops, IsTaken, ServesPart, IsEnding, ServesSomeOf, held_by, IsFaultOf};
+
+use crate::answering::AnswersLines;
+use crate::faults::{Ending, LoopFault};
+use crate::pending::Pending;
+use crate::putting::put_pending;
+use crate::taking::take_bytes;
+use crate::unread::Unread;
+use std::alloc::{AllocError, Global};
+use std::io::{Read, Write};
+
+/// Takes what is left of a block, up to the line after which it is over, if there is one. Says whether it is.
+fn take_block<S: AnswersLines>(
+    service: &mut S,
+    line: &mut Vec<u8>,
+    unread: &mut Unread,
+    pending: &mut Pending,
+) -> Result<bool, AllocError>
+    requires { S.is_over service.old ≡ false }
+    ensures over { IfOk result (λ over. over ≡ S.is_over service.new) }
+    ensures serves { (old : S) (before after : Written) (bytes : List ℕ)
+        → GoesOn S.is_answered old before after bytes service.old line.old.items pending.old
+        → MatchResult result (λ over. IsTaken over unread.old unread.new
+        (λ taken. GoesOn S.is_answered old before after (bytes ++ taken) service.new
+        line.new.items pending.new))
+        (λ _. Stops S.is_answered old before after (bytes ++ unread.old) service.new) }
+{
+    match take_bytes(service, line, unread.bytes(), pending) {
+        Ok(taken) => {
+            unread.skip(taken.count);
+            Ok(taken.over)
+        }
+        Err(fault) => Err(fault),
+    }
+}
+
+/// The same, and all answers leave.
+fn serve_block<S: AnswersLines, J: Write, W: Write>(
+    service: &mut S,
+    line: &mut Vec<u8>,
+    unread: &mut Unread,
+    pending: &mut Pending,
+    journal: &mut Option<J>,
+    out: &mut W,
+) -> Result<bool, LoopFault>
+    requires open { S.is_over service.old ≡ false }
+    requires none { (pending.old.answers.items ≡ []) × (pending.old.notes.items ≡ []) }
+    ensures known { IfErr result (λ e. e ≢ fault.TooLong) }
+    ensures kept { is_some journal.new ≡ is_some journal.old }
+    ensures left { OnOk result ((pending.new.answers.items ≡ []) × (pending.new.notes.items ≡ [])) }
+    ensures over { IfOk result (λ over. over ≡ S.is_over service.new) }
+    ensures serves { (old : S) (before : Written) (bytes : List ℕ)
+        → Rests S.is_answered old before
+        (record { journal = held_by J.contents journal.old; out = W.contents out.old })
+        bytes service.old line.old.items
+        → MatchResult result (λ over. IsTaken over unread.old unread.new
+        (λ taken. Rests S.is_answered old before
+        (record { journal = held_by J.contents journal.new; out = W.contents out.new })
+        (bytes ++ taken) service.new line.new.items))
+        (λ _. Stops S.is_answered old before
+        (record { journal = held_by J.contents journal.new; out = W.contents out.new })
+        (bytes ++ unread.old) service.new) }
+{
+    let over = match take_block(service, line, unread, pending) {
+        Ok(over) => over,
+        Err(AllocError) => return Err(LoopFault::OutOfMemory),
+    };
+    match put_pending::<S, J, W>(pending, journal, out) {
+        Ok(()) => Ok(over),
+        Err(fault) => Err(fault),
+    }
+}
+
+/// Serves a part of the lines of a reader: those of what is unread, and of what is read then, up to the input's end, or to the
+/// line after which it is over. With `once` the part ends when the next block has been read.
+///
+/// Each line is answered by the service, on the writer. If there is a journal, it gets the notes of each line. Before more is read
+/// the journal is flushed, and then the writer: no answer leaves whose notes are not in the journal. What has begun of a line is
+/// kept from one part to the next. The bytes after the last LF are not a line, and are not answered.
+///
+/// # Errors
+///
+/// The first error of the reader, of the journal or of the writer; `OutOfMemory` where there was none for what a block is
+/// answered; `TooLong` where no more blocks are counted. The lines before were answered; the writer holds a prefix of their
+/// answers, and the journal the notes of each that was told.
+pub fn serve_part<S: AnswersLines, I: Read, J: Write, W: Write>(
+    alloc: Global,
+    service: &mut S,
+    journal: &mut Option<J>,
+    once: bool,
+    line: &mut Vec<u8>,
+    unread: &mut Unread,
+    input: &mut I,
+    out: &mut W,
+) -> Result<Ending, LoopFault>
+    requires { S.is_over service.old ≡ false }
+    ensures ok { OnOk result ((begun : List ℕ) → HasBegun begun line.old.items
+        → ServesPart S.is_answered service.old service.new begun unread.old unread.new
+        line.new.items (I.remaining input.old) (I.remaining input.new)
+        (record { journal = held_by J.contents journal.old; out = W.contents out.old })
+        (record { journal = held_by J.contents journal.new; out = W.contents out.new })) }
+    ensures ends { IfOk result (λ ending. IsEnding ending (S.is_over service.new) once unread.new
+        (I.remaining input.new)) }
+    ensures err { OnErr result ((begun : List ℕ) → HasBegun begun line.old.items
+        → ServesSomeOf S.is_answered service.old service.new begun unread.old
+        (I.remaining input.old) (I.remaining input.new)
+        (record { journal = held_by J.contents journal.old; out = W.contents out.old })
+        (record { journal = held_by J.contents journal.new; out = W.contents out.new })) }
+    ensures long { IfErr result (λ e.
+        IsFaultOf e (I.remaining input.old) (I.remaining input.new)) }
+    ensures kept { is_some journal.new ≡ is_some journal.old }
+{
+    let mut pending = Pending {
+        answers: Vec::new(alloc),
+        notes: Vec::new(alloc),
+    };
+    'rounds: for round in 0..u64::MAX {
+        let over = match serve_block(service, line, unread, &mut pending, journal, out) {
+            Ok(over) => over,
+            Err(fault) => return Err(fault),
+        };
+        if over {
+            return Ok(Ending::Over);
+        }
+        let count = match unread.fill(input) {
+            Ok(count) => count,
+            Err(fault) => return Err(fault),
+        };
+        if count == 0 {
+            return Ok(Ending::End);
+        }
+        if once {
+            return Ok(Ending::Block);
+        }
+    }
+    Err(LoopFault::TooLong)
+}

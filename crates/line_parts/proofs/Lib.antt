@@ -1,0 +1,4 @@
+pub mod Decimals
+pub mod Numerals
+pub mod Spellings
+pub mod Commands

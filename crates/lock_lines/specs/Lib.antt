@@ -1,0 +1,4 @@
+pub mod Asks
+pub mod Inputs
+pub mod Readers
+pub mod Answers

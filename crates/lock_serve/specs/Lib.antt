@@ -1,0 +1,4 @@
+pub mod Asking
+pub mod Noting
+pub mod Serving
+pub mod Starts

@@ -1,0 +1,166 @@
+//! A dialogue, byte for byte.
+
+ghost use Rattle.ring_locks.specs.Kept.{IsKeptRing};
+
+use crate::LockService;
+use line_loop::{AnswersLines, Ending, Pending, Unread, serve_part};
+use ring_book::Till;
+use ring_chains::Base;
+use ring_desk::OneThreadRing;
+use ring_endless::EndlessRing;
+use ring_locks::Locks;
+use std::alloc::Global;
+use std::process::Abort;
+
+/// A settled ring of ten seats.
+fn opened(rt: &impl Abort, alloc: Global) -> EndlessRing
+    ensures { IsKeptRing result }
+{
+    match OneThreadRing::open(alloc, 3, 3, &[0, 0, 0], 10, Till::new()) {
+        Ok(ring) => EndlessRing::after(Base::none(), ring),
+        Err(_) => panic!(rt; "the ring is opened"),
+    }
+}
+
+/// Two locks that answer lines.
+fn two_locks(rt: &impl Abort, alloc: Global, faults: bool) -> LockService {
+    let mut locks = Locks::none(alloc);
+    assert!(rt; locks.add(alloc, opened(rt, alloc)).is_ok());
+    assert!(rt; locks.add(alloc, opened(rt, alloc)).is_ok());
+    LockService::new(alloc, locks, faults, true)
+}
+
+/// Whether these lines are answered so, with these notes.
+fn answers(rt: &impl Abort, alloc: Global, faults: bool, lines: &[u8], said: &[u8], noted: &[u8]) {
+    let mut service = two_locks(rt, alloc, faults);
+    let mut journal = Some(Vec::new(alloc));
+    let mut line = Vec::new(alloc);
+    let mut unread = Unread::none();
+    let mut input: &[u8] = lines;
+    let mut out = Vec::new(alloc);
+    let ended = serve_part(
+        alloc,
+        &mut service,
+        &mut journal,
+        false,
+        &mut line,
+        &mut unread,
+        &mut input,
+        &mut out,
+    );
+    assert!(rt; ended == Ok(Ending::End));
+    assert!(rt; out.as_slice() == said);
+    let Some(notes) = journal else {
+        panic!(rt; "there is a journal");
+    };
+    assert!(rt; notes.as_slice() == noted);
+}
+
+// A lock is handed over; the hold of a client that leaves ends.
+#[test]
+fn hands_over(rt: HostRuntime) {
+    let lines = b"1 acquire 0 77\n2 acquire 0 78\n1 release 0 1\n2 leave\n";
+    let said = b"1 granted 0 1\n2 waiting 0 0\n1 released 0\n2 granted 0 2\n";
+    let noted = b"0 p 0 0 77 g 1 77\n0 s 1 1 1 1 1 0\n0 p 0 1 78 g 2 155\n0 s 2 2 1 2 2 0\n";
+    answers(&rt, rt.alloc(), false, lines, said, noted);
+}
+
+// A client leaves both locks that it holds, and who waited is granted.
+#[test]
+fn leaves_all(rt: HostRuntime) {
+    let lines = b"1 try 0 5\n1 try 1 6\n2 acquire 1 7\n2 try 0 8\n1 leave\n2 stats 1\n";
+    let said =
+        b"1 granted 0 1\n1 granted 1 1\n2 waiting 1 0\n2 busy 0\n2 granted 1 2\n2 stats 1 3 0 2 2 2\n";
+    let noted =
+        b"0 p 0 0 5 g 1 5\n1 p 0 0 6 g 1 6\n0 s 2 1 1 1 1 0\n1 s 2 1 1 1 1 0\n1 p 0 1 7 g 2 13\n";
+    answers(&rt, rt.alloc(), false, lines, said, noted);
+}
+
+// Each refusal, and lines that are nobody's.
+#[test]
+fn refuses(rt: HostRuntime) {
+    let lines =
+        b"acquire 0 1\n1\n1 acquire 0 18446744073709551616\n1 corrupt 0 0 1\n1 acquire 2 1\n1 acquire 4294967296 1\n1 release 0 1\n1 cancel 0\n1 try 0 1\n1 try 0 1\n";
+    let said =
+        b"1 refused syntax\n1 refused number\n1 refused off\n1 refused lock\n1 refused lock\n1 refused holder 0\n1 refused waiter 0\n1 granted 0 1\n1 refused holds 0\n";
+    answers(&rt, rt.alloc(), false, lines, said, b"0 p 0 0 1 g 1 1\n");
+}
+
+// A fault of a held lock is repaired at once, and no hold ends; a circle is refused.
+#[test]
+fn repairs(rt: HostRuntime) {
+    let lines =
+        b"1 acquire 0 5\n2 acquire 1 6\n1 acquire 1 7\n2 acquire 0 8\n9 corrupt 0 2 2\n9 corrupt 0 3 0\n9 corrupt 0 0 3\n1 cancel 1\n1 release 0 1\n";
+    let said =
+        b"1 granted 0 1\n2 granted 1 1\n1 waiting 1 0\n2 refused circle 0\n9 corrupted 0 0\n9 refused machine 0\n9 refused value 0\n1 cancelled 1\n1 released 0\n";
+    let noted =
+        b"0 p 0 0 5 g 1 5\n1 p 0 0 6 g 1 6\n0 c 8 2 2 0\n0 p 9 1 0 g 2 5\n0 s 1 3 1 2 1 0\n";
+    answers(&rt, rt.alloc(), true, lines, said, noted);
+}
+
+/// Lines with their answers. They were drawn, and answered by a program apart, which knows no ring of ours.
+const ROWS: [(&str, &str); 48] = [
+    ("4 release 1 5\n", "4 refused holder 1\n"),
+    ("2 acquire 0 644\n", "2 granted 0 1\n"),
+    ("5 leave\n", ""),
+    ("3 leave\n", ""),
+    ("1 try 1 756\n", "1 granted 1 1\n"),
+    ("5 release 0 5\n", "5 refused holder 0\n"),
+    ("9 corrupt 0 1 0\n", "9 corrupted 0 0\n"),
+    ("1 release 1 1\n", "1 released 1\n"),
+    ("2 release 0 4\n", "2 refused holder 0\n"),
+    ("2 release 0 1\n", "2 released 0\n"),
+    ("3 acquire 1 724\n", "3 granted 1 2\n"),
+    ("3 try 1 295\n", "3 refused holds 1\n"),
+    ("1 release 0 1\n", "1 refused holder 0\n"),
+    ("4 acquire 0 68\n", "4 granted 0 2\n"),
+    ("1 cancel 0\n", "1 refused waiter 0\n"),
+    ("3 release 1 2\n", "3 released 1\n"),
+    ("9 corrupt 1 1 2\n", "9 corrupted 1 1\n"),
+    ("4 release 0 2\n", "4 released 0\n"),
+    ("1 acquire 1 137\n", "1 granted 1 4\n"),
+    ("9 corrupt 0 3 3\n", "9 refused machine 0\n"),
+    ("2 release 0 2\n", "2 refused holder 0\n"),
+    ("2 release 1 1\n", "2 refused holder 1\n"),
+    ("4 acquire 1 276\n", "4 waiting 1 0\n"),
+    ("5 acquire 1 215\n", "5 waiting 1 1\n"),
+    ("2 try 1 657\n", "2 busy 1\n"),
+    ("9 corrupt 0 1 1\n", "9 corrupted 0 1\n"),
+    ("9 corrupt 1 2 2\n", "9 corrupted 1 1\n"),
+    ("9 corrupt 0 1 1\n", "9 corrupted 0 1\n"),
+    ("1 release 1 4\n", "1 released 1\n4 granted 1 5\n"),
+    ("4 acquire 0 852\n", "4 granted 0 3\n"),
+    ("5 acquire 0 642\n", "5 refused waits 0\n"),
+    ("2 try 1 255\n", "2 busy 1\n"),
+    ("2 try 0 201\n", "2 busy 0\n"),
+    ("4 release 1 4\n", "4 refused holder 1\n"),
+    ("1 leave\n", ""),
+    ("5 stats 1\n", "5 stats 1 3 1 5 4 5\n"),
+    ("4 release 1 5\n", "4 released 1\n5 granted 1 6\n"),
+    ("5 release 1 6\n", "5 released 1\n"),
+    ("2 leave\n", ""),
+    ("4 release 0 3\n", "4 released 0\n"),
+    ("9 corrupt 0 3 3\n", "9 refused machine 0\n"),
+    ("9 corrupt 0 2 2\n", "9 corrupted 0 1\n"),
+    ("5 leave\n", ""),
+    ("2 try 1 750\n", "2 granted 1 7\n"),
+    ("5 release 0 1\n", "5 refused holder 0\n"),
+    ("4 acquire 1 21\n", "4 waiting 1 0\n"),
+    ("5 release 0 3\n", "5 refused holder 0\n"),
+    ("3 acquire 0 463\n", "3 granted 0 4\n"),
+];
+
+#[test]
+fn answers_as_worked_out(rt: HostRuntime) {
+    let alloc = rt.alloc();
+    let mut service = two_locks(&rt, alloc, true);
+    let mut pending = Pending {
+        answers: Vec::new(alloc),
+        notes: Vec::new(alloc),
+    };
+    for (line, said) in ROWS {
+        pending.answers.clear();
+        assert!(rt; service.answer(line.as_bytes(), &mut pending).is_ok());
+        assert!(rt; pending.answers.as_slice() == said.as_bytes());
+    }
+}

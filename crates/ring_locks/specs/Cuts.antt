@@ -1,0 +1,32 @@
+-- The ring of a lock's next segment (this project's own).
+use Rattle.std.specs.Prelude.{◌≡◌, ◌+◌, ◌<◌, ◌≤◌, ◌⊎◌, length}
+use Rattle.ring_model.specs.Limits.{event_limit}
+use Rattle.ring_chains.specs.Bases.{IsBase, base_after}
+use Rattle.ring_endless.specs.Endless.{EndlessView, IsNext}
+use Rattle.ring_locks.specs.declared.answers.Refusal.{Refusal}
+use Rattle.ring_locks.specs.declared.answers.Refusal.TheVariants as refusal
+use Rattle.ring_locks.specs.Promises.{carries}
+use Rattle.ring_locks.specs.Kept.{LockView, lock_of, IsKeptRing, AreMade}
+
+-- It goes on from the end of this segment, and its history has no event but the one that carries
+-- the open hold. It has room for a grant to each client that waits.
+pub record IsNextOf (v : LockView) (next : EndlessView) : Type 0 where
+  pub empty : EndlessView
+  pub kept : IsKeptRing empty
+  pub begun : IsNext v.ring empty
+  pub carried : AreMade empty (carries (lock_of v)) next
+  pub ring : IsKeptRing next
+  pub room : length v.line ≤ next.ring.book.room
+
+-- there is none: no segment has room after this one, or for a grant to each client that waits; or
+-- there is no memory
+abbrev pub IsNoNext : LockView → Refusal → Type 0
+IsNoNext v why =
+    ((why ≡ refusal.Full)
+    × ((¬ IsBase (base_after v.ring.base v.ring.ring.book.start v.ring.ring.book.history))
+    ⊎ (event_limit < length v.line + 1)))
+    ⊎ (why ≡ refusal.Memory)
+
+-- the lock, of which the ring goes on so
+abbrev pub gone_on : LockView → EndlessView → LockView
+gone_on v next = record v { ring = next }
