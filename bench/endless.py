@@ -1,16 +1,22 @@
 #!/usr/bin/env python3
 """endless.py RING_TOOL FOLDER [CALLS [KILLS [SEGMENT]]]: a journal without end, killed at random, and then looked through.
+endless.py RING_TOOL FOLDER pause [SEGMENT [CHANGES]]: how long no answer comes at a change of segment.
 
 Drives `ring_tool serve` over a journal that is a folder of segments, with so many calls in all, and kills it (SIGKILL) so many
 times: half of them when something new stands in the folder, which is at a change of segment. Each call is a pass whose ORDER is
 its number among all calls. Behind each kill, as many calls are recorded as were answered at least, and as were sent at most; the
 next process is sent the calls from there on. In the end `check` has to accept the whole chain, and each event of it has to be
 the next call, answered as it was told. Prints how fast it went, the most memory that a process had in each tenth of the calls,
-and the longest time from a start to the first answer."""
+and the longest time from a start to the first answer.
+
+With the word `pause` one process serves 16 rings of 16 machines, with calls from a file. All answers of a segment leave before it
+ends, so its change is where just its answers have been read: prints the time until more are, and the longest time between two
+other reads."""
 import os
 import random
 import shutil
 import signal
+import statistics
 import subprocess
 import sys
 import threading
@@ -157,6 +163,33 @@ def look_through(folder, known):
     return compared
 
 
+def pause(tool, folder, segment="1000000", changes="5"):
+    segment, changes = int(segment), int(changes)
+    shutil.rmtree(folder, ignore_errors=True)
+    os.makedirs(f"{folder}/journal")
+    with open(f"{folder}/fresh.txt", "w") as file:
+        subprocess.run([tool, "new", *["16:17"] * 16], stdout=file, check=True)
+    calls = segment * changes + segment // 2
+    with open(f"{folder}/calls.txt", "w") as file:
+        file.writelines(f"pass {it % 16} {it // 16 % SEATS} {it // 32 % 16} {it}\n" for it in range(calls))
+    words = [tool, "serve", f"{folder}/fresh.txt", "--journal", f"{folder}/journal", "--segment", str(segment), "--no-sync"]
+    with open(f"{folder}/calls.txt") as lines:
+        popen = subprocess.Popen(words, stdin=lines, stdout=subprocess.PIPE, stderr=subprocess.DEVNULL, bufsize=0)
+        begun = last = time.perf_counter()
+        told, pauses, other = 0, [], 0.0
+        while data := popen.stdout.read(1 << 18):
+            now = time.perf_counter()
+            if told and told % segment == 0:
+                pauses.append(now - last)
+            elif told:
+                other = max(other, now - last)
+            told, last = told + data.count(b"\n"), now
+    assert popen.wait() == 0 and told == calls
+    print(f"{calls / (last - begun):,.0f} calls a second; {len(pauses)} of {changes} changes of segment were seen")
+    print(f"the pause in ms: {statistics.median(pauses) * 1000:.0f}, {min(pauses) * 1000:.0f} to {max(pauses) * 1000:.0f}; "
+          f"elsewhere at most {other * 1000:.0f}")
+
+
 def main(tool, folder, calls="1000000", kills="20", segment="100000"):
     calls, kills, segment, chance = int(calls), int(kills), int(segment), random.Random(1974)
     shutil.rmtree(folder, ignore_errors=True)
@@ -201,4 +234,7 @@ def main(tool, folder, calls="1000000", kills="20", segment="100000"):
 
 
 if __name__ == "__main__":
-    main(*sys.argv[1:])
+    if sys.argv[3:4] == ["pause"]:
+        pause(*sys.argv[1:3], *sys.argv[4:])
+    else:
+        main(*sys.argv[1:])

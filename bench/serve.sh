@@ -37,11 +37,30 @@ while [ ! -s answers ]; do sleep 0.1; done
 status=0
 "$tool" serve fresh.txt --journal kept </dev/null >/dev/null 2>told || status=$?
 holds 'a second process on one journal' ends 1 'kept is in use'
+cp kept held
+printf '%s' '{"rings":[{"n":2,"k":2,"start":[0,0]}],"workers":[{"script":[]}]}' >none.json
+for words in 'run none.json --history kept' 'upgrade fresh.txt kept' 'picture fresh.txt kept' 'recover held kept'; do
+    status=0
+    "$tool" $words >/dev/null 2>told || status=$?
+    holds "$words over a journal that is kept" ends 1 'cannot write kept'
+    holds "$words leaves it" cmp -s kept held
+done
 exec 3>&-
 status=0
 wait $! || status=$?
 holds 'the end of the first' [ "$status" = 0 ]
 holds 'the first process' [ "$(cat answers)" = 'granted 1 1' ]
+
+"$tool" serve fresh.txt --journal gone <calls >answers 2>first &
+exec 3>calls
+echo 'pass 0 0 0 1' >&3
+while [ ! -s answers ]; do sleep 0.1; done
+rm gone
+exec 3>&-
+status=0
+wait $! || status=$?
+cp first told
+holds 'a journal that was removed' ends 1 'cannot write gone'
 
 status=0
 yes 'glance 0' | head -100000 | "$tool" serve fresh.txt >/dev/full 2>told || status=$?

@@ -1,7 +1,7 @@
 -- What is known of the file of a segment that is opened.
 use Rattle.std.proofs.Common.{◌≡◌, ℕ, ◌+◌, List, Option, None, Some, refl, sym, ap, subst, ◌∙◌, inl, inr}
 use Rattle.std.specs.Prelude.{IfSome}
-use Rattle.disks.specs.Held.{Held, bytes_of, grown_from, Grows, Replaces}
+use Rattle.disks.specs.Held.{Held, bytes_of, Grows, Replaces}
 use Rattle.ring_segments.specs.Spelling.{digest_of}
 use Rattle.ring_serve.specs.Standings.{Standing}
 use Rattle.ring_serve.specs.Segments.{AreNext}
@@ -17,7 +17,7 @@ Knows files name s w = IfSome files (λ (held : Held). (bytes : List ℕ) → by
 
 pub grown_known : (files : Option Held) (name : List ℕ) (contents : Option (List ℕ)) (s : Sha256) (w : Option (List ℕ)) → Grows files name contents → ((bytes : List ℕ) → contents ≡ Some bytes → Holds256 s bytes → w ≡ Some bytes) → Knows files name s w
 grown_known None name contents s w k f = tt
-grown_known (Some held) name contents s w k f = λ bytes e h. f bytes (k ∙ ap (λ (x : Option (List ℕ)). Some (grown_from x)) e) h
+grown_known (Some held) name contents s w k f = λ bytes e h. f bytes (k.2 ∙ sym k.1 ∙ e) h
 
 -- of a file that was just put there
 pub placed_known : (was is : Option Held) (name bytes : List ℕ) (s : Sha256) (w : Option (List ℕ)) → Replaces was is name (Some bytes) → Holds256 s bytes → Knows is name s w → IfSome was (λ (held : Held). w ≡ Some bytes)

@@ -31,7 +31,7 @@ stays s None a b (inr h) same = let up = h.1.number in absurd (omega (arith, up,
 stays s (Some why) a b h same = h.2.rings
 
 part_turned : (s : SegmentRules) (old : List Standing) → length old < 2 ^ 32 → (done : List JournalLine) (p : Part) → Stands old done p.from.rings → IsPart s p → AllTurned old done p.to.rings p.noted
-part_turned s old few done p st is = all_turned (part_terms s p.refusing) refl old few done p.from.rings p.to.rings p.from.files p.to.files p.lines p.said p.noted st is.answers
+part_turned s old few done p st is = all_turned (part_terms s p.from.number p.refusing) refl old few done p.from.rings p.to.rings p.from.files p.to.files p.lines p.said p.noted st is.answers
 
 parts_turned : (s : SegmentRules) (old : List Standing) → length old < 2 ^ 32 → (done : List JournalLine) (m b : Moment) (ps : List Part) (number : ℕ) → Stands old done m.rings → m.number ≡ number → AreParts s m ps b → AreIn number ps →
     AllTurned old done b.rings (all_noted ps)
@@ -43,8 +43,8 @@ parts_turned s old few done m b (p ∷ ps) number st same served within =
 
 part_calls : (s : SegmentRules) (p : Part) (rings : List Standing) → IsPart s p → HaveGrown p.to.rings rings → HasCallsIn s rings p × HaveGrown p.from.rings rings
 part_calls s p rings is g = (
-  calls_in (part_terms s p.refusing) p.from.rings p.to.rings rings p.from.files p.to.files p.lines p.said p.noted is.answers g,
-  have_then p.from.rings p.to.rings rings (answers_grown (part_terms s p.refusing) p.from.rings p.to.rings p.from.files p.to.files p.lines p.said p.noted is.answers) g,
+  calls_in (part_terms s p.from.number p.refusing) p.from.rings p.to.rings rings p.from.files p.to.files p.lines p.said p.noted is.answers g,
+  have_then p.from.rings p.to.rings rings (answers_grown (part_terms s p.from.number p.refusing) p.from.rings p.to.rings p.from.files p.to.files p.lines p.said p.noted is.answers) g,
 )
 
 record HaveCalls (s : SegmentRules) (m : Moment) (ps : List Part) (rings : List Standing) : Type 0 where
@@ -75,9 +75,9 @@ right_at (q ∷ qs) first others h = right_at qs first others h.1
 
 -- ---- the last segment keeps the answers
 
-keeps_last : (s : SegmentRules) (a mid : Moment) (parts : List Part) (refusing : Option Refusal) (untold : List (List ℕ)) (unsaid more back : List ℕ) (new : List Standing) (is : Option Held) → AreRight parts → AreParts s a parts mid →
-    Answers (part_terms s refusing) mid.rings mid.files untold unsaid (more ++ back) new is → KeepsLast s parts more new
-keeps_last s a mid parts refusing untold unsaid more back new is right served k earlier first others kept lost parted within fits whole_ front =
+keeps_last : (s : SegmentRules) (a mid : Moment) (parts : List Part) (number : ℕ) (refusing : Option Refusal) (untold : List (List ℕ)) (unsaid more back : List ℕ) (new : List Standing) (is : Option Held) → AreRight parts → AreParts s a parts mid →
+    Answers (part_terms s number refusing) mid.rings mid.files untold unsaid (more ++ back) new is → KeepsLast s parts more new
+keeps_last s a mid parts number refusing untold unsaid more back new is right served k earlier first others kept lost parted within fits whole_ front =
     let old : List Standing = first.from.rings in
     let few : length old < 2 ^ 32 = fits.rings_said in
     let all : AllByRecursion IsRight old = right_at earlier first others (subst AreRight parted right) in
@@ -89,8 +89,8 @@ keeps_last s a mid parts refusing untold unsaid more back new is right served k 
     let all_notes : kept ++ (lost ++ back) ≡ head ++ (noted ++ (more ++ back)) =
     sym (append_assoc kept lost back)
     ∙ (ap (λ (x : List ℕ). x ++ back) whole_ ∙ (append_assoc head (noted ++ more) back ∙ ap (λ (x : List ℕ). head ++ x) (append_assoc noted more back))) in
-    let r = rebuilt (part_terms s refusing) refl old mid.rings new mid.files is untold noted unsaid (more ++ back) kept (lost ++ back) all fits (turned_then t u) k all_notes front in
-    let grown : HaveGrown mid.rings r.rings = answers_grown (part_terms s refusing) mid.rings r.rings mid.files r.reached.2 r.lines r.reached.0 r.reached.1 r.reached.3 in
+    let r = rebuilt (part_terms s number refusing) refl old mid.rings new mid.files is untold noted unsaid (more ++ back) kept (lost ++ back) all fits (turned_then t u) k all_notes front in
+    let grown : HaveGrown mid.rings r.rings = answers_grown (part_terms s number refusing) mid.rings r.rings mid.files r.reached.2 r.lines r.reached.0 r.reached.1 r.reached.3 in
     let later = parts_calls s first.to mid others first.from.number r.rings at.is.number at.then_ within grown in
     record {
       rings = r.rings;
@@ -116,7 +116,7 @@ all_told s a b unread line input rest out after new d same = record {
   split = d.split;
   wrote = all_wrote out after (all_said d.parts) d.wrote;
   wrote_notes = appends_nil b.journal;
-  recovered = keeps_last s a b d.parts None [] [] [] [] new b.files d.rights d.served (refl, refl, same, refl);
+  recovered = keeps_last s a b d.parts b.number None [] [] [] [] new b.files d.rights d.served (refl, refl, same, refl);
 }
 
 -- ---- where a part stopped
@@ -136,7 +136,7 @@ then_more (Some xs) (Some ys) noted more h = h ∙ sym (append_assoc xs noted mo
 
 module _ (s : SegmentRules) (a b from : Moment) (refusing : Option Refusal) (unread line : List ℕ) (input middle out before : Option (List ℕ)) (d : Served s a b unread line input middle out before) (ready : IsReady s refusing b from) (right : AllByRecursion IsRight from.rings) where
   pub some_told : (new : List Standing) (is journal_ : _) (rest after : Option (List ℕ)) → (read : List ℕ) → Consumes input rest (d.read ++ read) →
-      Stops (part_terms s refusing) from.rings from.files (record { journal = from.journal; out = before }) (record { journal = journal_; out = after }) (d.begun ++ (unread ++ read)) new is →
+      Stops (part_terms s from.number refusing) from.rings from.files (record { journal = from.journal; out = before }) (record { journal = journal_; out = after }) (d.begun ++ (unread ++ read)) new is →
       AnsweredCallsAreRecovered s a new input rest out after journal_
   some_told new is journal_ rest after read consumed st =
       let part : Part = record { refusing = refusing; from = from; to = moment_of st.mid st.between from.number (after_notes from.journal st.noted); lines = st.told.lines; said = st.said; noted = st.noted } in
@@ -162,5 +162,5 @@ module _ (s : SegmentRules) (a b from : Moment) (refusing : Option Refusal) (unr
           appends_then out before after (all_said d.parts) st.wrote.0 d.wrote st.wrote.2,
         );
         wrote_notes = then_more from.journal journal_ st.noted st.front st.wrote_notes;
-        recovered = keeps_last s a part.to parts refusing st.untold.lines st.unsaid st.front st.back new is (right_more d.parts part d.rights right) served st.untold.answers;
+        recovered = keeps_last s a part.to parts from.number refusing st.untold.lines st.unsaid st.front st.back new is (right_more d.parts part d.rights right) served st.untold.answers;
       }

@@ -25,7 +25,8 @@ AreIn number parts = AllByRecursion (λ p. p.from.number ≡ number) parts
 -- The lines of a part were answered, and the call of each is in these rings with that answer.
 abbrev pub HasCallsIn : SegmentRules → List Standing → Part → Type 0
 HasCallsIn s rings p =
-    AreCallsIn (part_terms s p.refusing) p.from.rings p.from.files p.lines p.said rings
+    AreCallsIn (part_terms s p.from.number p.refusing) p.from.rings p.from.files p.lines p.said
+    rings
 
 -- Of these bytes rings are recovered that have the call of each line of these parts, with the
 -- answer that was told. From there the rings have only grown.

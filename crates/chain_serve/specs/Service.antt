@@ -1,19 +1,22 @@
 -- Lines that are served with a journal in a chain of segment files (this project's own).
-use Rattle.std.specs.Prelude.{◌≡◌, ℕ, true, List, [], ◌∷◌, ◌++◌, Option, Some, ◌⊎◌}
+use Rattle.std.specs.Prelude.{◌≡◌, ℕ, ◌≤◌, ◌^◌, List, [], ◌∷◌, ◌++◌, length, Option, Some, ◌⊎◌}
 use Rattle.std.specs.List.{AllByRecursion}
 use Rattle.std.specs.Io.KnownBytes.{Appends, Consumes, IsAtEnd}
 use Rattle.disks.specs.Held.{Held}
 use Rattle.ring_serve.specs.declared.answers.Refusal.{Refusal}
+use Rattle.ring_serve.specs.declared.serving.ServeFault.{ServeFault}
+use Rattle.ring_serve.specs.declared.serving.ServeFault.TheVariants as fault
 use Rattle.ring_serve.specs.Standings.{Standing}
 use Rattle.ring_serve.specs.Permits.{Terms, terms_in}
 use Rattle.ring_serve.specs.Serving.{IsLine, HasNoEnd, Answers, joined_lines, Stops}
-use Rattle.chain_serve.specs.Segments.{Moment, IsReady}
+use Rattle.chain_serve.specs.Segments.{Moment, file_of, IsReady}
 use Rattle.chain_serve.specs.declared.segments.SegmentRules.{SegmentRules}
 
--- the terms of lines that are answered in a segment, or that are all refused
-abbrev pub part_terms : SegmentRules → Option Refusal → Terms
-part_terms s refusing =
-    terms_in true s.permits (Some (record { limit = s.limit; refusing = refusing }))
+-- the terms of lines that are answered in the segment of this number, or that are all refused
+abbrev pub part_terms : SegmentRules → ℕ → Option Refusal → Terms
+part_terms s number refusing =
+    terms_in (Some (file_of s number)) s.permits
+    (Some (record { limit = s.limit; refusing = refusing }))
 
 -- lines that are served in one segment: from which moment to which, their text, the answers and
 -- the notes; and what all of them are refused with, if they are
@@ -29,8 +32,8 @@ pub record Part : Type 0 where
 pub record IsPart (s : SegmentRules) (p : Part) : Type 0 where
   pub number : p.to.number ≡ p.from.number
   pub each : AllByRecursion IsLine p.lines
-  pub answers : Answers (part_terms s p.refusing) p.from.rings p.from.files p.lines p.said p.noted
-      p.to.rings p.to.files
+  pub answers : Answers (part_terms s p.from.number p.refusing) p.from.rings p.from.files p.lines
+      p.said p.noted p.to.rings p.to.files
   pub wrote : Appends p.from.journal p.to.journal p.noted
 
 -- The parts follow one another, from a moment to a moment: before each the segment is ended, if it
@@ -71,9 +74,15 @@ IsStopped s mid new is before after behind =
     × (from : Moment)
     × (journal : Option (List ℕ))
     × IsReady s refusing mid from
-    × Stops (part_terms s refusing) from.rings from.files
+    × Stops (part_terms s from.number refusing) from.rings from.files
     (record { journal = from.journal; out = before }) (record { journal = journal; out = after })
     behind new is)
+
+-- only of an input of so many bytes it is said that it is too long: for a byte two parts may end
+abbrev pub IsFaultOf : ServeFault → Option (List ℕ) → Option (List ℕ) → Type 0
+IsFaultOf fault.TooLong input rest =
+    (bytes : List ℕ) × Consumes input rest bytes × (2 ^ 63 ≤ length bytes)
+IsFaultOf _ input rest = Unit {0}
 
 -- Of what the reader gave some lines were answered.
 pub record ServesSomeSegments (s : SegmentRules) (a : Moment) (new : List Standing)

@@ -1,14 +1,14 @@
 //! Lines that are served in segments.
 
-ghost use Rattle.std.specs.Prelude.{◌≡◌, ◌≤◌, ℕ, List, Option, IfOk, OnErr, MatchResult, string_bytes};
+ghost use Rattle.std.specs.Prelude.{◌≡◌, ◌≤◌, ℕ, List, Option, IfOk, IfErr, OnErr, MatchResult, string_bytes};
 ghost use Rattle.std.specs.List.{AllByRecursion};
 ghost use Rattle.ring_serve.specs.Saved.{IsRight};
 ghost use Rattle.ring_serve.specs.Permits.{IsOpen};
-ghost use Rattle.ring_serve.specs.Serving.{HasBegun, ServesPart, IsEnding, ServesSomeOf};
+ghost use Rattle.ring_serve.specs.Serving.{HasBegun, ServesPart, IsEnding, ServesSomeOf, IsFaultOf as IsPartFault};
 ghost use Rattle.chain_serve.specs.Digested.{hashed};
 ghost use Rattle.chain_serve.specs.Segments.{IsNamed, moment_of};
 ghost use Rattle.chain_serve.specs.Recovered.{AnsweredCallsAreRecovered};
-ghost use Rattle.chain_serve.specs.Service.{part_terms, ServesSegments, ServesSomeSegments};
+ghost use Rattle.chain_serve.specs.Service.{part_terms, ServesSegments, ServesSomeSegments, IsFaultOf};
 
 use crate::ending::{Ready, make_ready};
 use crate::segments::{OpenSegment, SegmentRules};
@@ -36,11 +36,12 @@ fn serve_in<D: Disk, I: Read, W: Write>(
     input: &mut I,
     out: &mut W,
 ) -> Result<PartEnd<D::Grown>, ServeFault>
-    requires { IsOpen (part_terms rules ready.refusing) served.old }
+    requires goes { IsOpen (part_terms rules ready.segment.number ready.refusing) served.old }
+    requires named { IsNamed rules.folder.now ready.segment }
     ensures ok { IfOk result (λ end. (begun : List ℕ) → HasBegun begun line.old.items
-        → ServesPart (part_terms rules.entry ready.refusing) served.old served.new
-        (D.holds disk.old) (D.holds disk.new) begun unread.old unread.new line.new.items
-        (I.remaining input.old) (I.remaining input.new)
+        → ServesPart end.ending (part_terms rules.entry ready.segment.number ready.refusing)
+        served.old served.new (D.holds disk.old) (D.holds disk.new) begun unread.old unread.new
+        line.new.items (I.remaining input.old) (I.remaining input.new)
         (record {
           journal = hashed (D.Grown.contents ready.segment.writer.inner)
               ready.segment.writer.hasher;
@@ -50,14 +51,15 @@ fn serve_in<D: Disk, I: Read, W: Write>(
           journal = hashed (D.Grown.contents end.segment.writer.inner) end.segment.writer.hasher;
           out = W.contents out.new;
         })) }
-    ensures ends { IfOk result (λ end. IsEnding end.ending (part_terms rules.entry ready.refusing)
-        served.new unread.new (I.remaining input.new)) }
+    ensures ends { IfOk result (λ end. IsEnding end.ending
+        (part_terms rules.entry ready.segment.number ready.refusing) served.new unread.new
+        (I.remaining input.new)) }
     ensures same { IfOk result (λ end. (end.segment.number ≡ ready.segment.number)
         × (string_bytes end.segment.name ≡ string_bytes ready.segment.name)) }
     ensures err { OnErr result ((begun : List ℕ) → HasBegun begun line.old.items
         → (journal : Option (List ℕ))
-        × ServesSomeOf (part_terms rules.entry ready.refusing) served.old served.new
-        (D.holds disk.old) (D.holds disk.new) begun unread.old
+        × ServesSomeOf (part_terms rules.entry ready.segment.number ready.refusing)
+        served.old served.new (D.holds disk.old) (D.holds disk.new) begun unread.old
         (I.remaining input.old) (I.remaining input.new)
         (record {
           journal = hashed (D.Grown.contents ready.segment.writer.inner)
@@ -65,6 +67,8 @@ fn serve_in<D: Disk, I: Read, W: Write>(
           out = W.contents out.old;
         })
         (record { journal = journal; out = W.contents out.new })) }
+    ensures long { IfErr result (λ e.
+        IsPartFault e (I.remaining input.old) (I.remaining input.new)) }
     ensures right { AllByRecursion IsRight served.old }
 {
     let Ready { segment, refusing } = ready;
@@ -122,7 +126,7 @@ fn serve_in<D: Disk, I: Read, W: Write>(
 ///
 /// # Errors
 ///
-/// Those of [`serve`](ring_serve::serve); `Journal` too if the file of a segment that is due cannot be settled, or if that file, or
+/// Those of [`serve`](ring_serve::serve), but `TooLong` only behind 2 to the power 63 bytes; `Journal` too if the file of a segment that is due cannot be settled, or if that file, or
 /// the next one, cannot be opened. The folder then has the segment that was written, with all that was told, or the next one
 /// as the last, which tells the same.
 pub fn serve_segments<D: Disk, I: Read, W: Write>(
@@ -148,6 +152,8 @@ pub fn serve_segments<D: Disk, I: Read, W: Write>(
         (hashed (D.Grown.contents first.writer.inner) first.writer.hasher)) served.new
         (D.holds disk.new) (I.remaining input.old) (I.remaining input.new) (W.contents out.old)
         (W.contents out.new)) }
+    ensures long { IfErr result (λ e.
+        IsFaultOf e (I.remaining input.old) (I.remaining input.new)) }
     ensures named { IfOk result (λ end. IsNamed rules.entry.folder.now end) }
     ensures recovered { MatchResult result
         (λ end. AnsweredCallsAreRecovered rules.entry

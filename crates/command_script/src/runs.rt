@@ -38,7 +38,7 @@ pub fn run_over<R: AllocGlobal + Files<File = File> + Threads + Wait + Sync, I: 
     mut printed: Paper,
     mut told: Paper,
 ) -> Ended {
-    let mut disk = SystemDisk { files: rt };
+    let mut disk = SystemDisk::new(rt);
     let status = run_tool_on(rt, &mut disk, words, input, &mut printed, &mut told);
     Ended {
         status,

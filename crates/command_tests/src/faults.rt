@@ -65,6 +65,16 @@ fn each_fault_has_its_line(rt: HostRuntime) {
             1,
             "out.txt is the file that is read\n",
         ),
+        (
+            ToolError::Stream("out.txt"),
+            1,
+            "out.txt is the file of a standard stream\n",
+        ),
+        (
+            ToolError::Read("evil\nlegal rings 9\r\u{1b}[2Kä"),
+            1,
+            "cannot read evil\\nlegal rings 9\\r\\u{1b}[2Kä\n",
+        ),
         (ToolError::Write, 1, "cannot write\n"),
         (ToolError::OutOfMemory, 1, "out of memory\n"),
         (ToolError::NoRing(16), 1, "there is no ring 16\n"),
@@ -108,6 +118,16 @@ fn each_fault_has_its_line(rt: HostRuntime) {
             "kept.txt: out of memory\n",
         ),
         (ToolError::NoSegment("kept"), 1, "kept has no segments\n"),
+        (
+            ToolError::Begins("kept", 3),
+            1,
+            "kept begins at segment 3\n",
+        ),
+        (
+            ToolError::InFolder("kept/new.txt"),
+            1,
+            "kept/new.txt is in the folder that is read\n",
+        ),
         (
             ToolError::Irregular("kept", 7),
             1,

@@ -2,6 +2,9 @@
 
 mod folders;
 mod grown;
-mod memory;
+mod joins;
+pub mod memory;
 mod replacing;
+mod safety;
+mod streams;
 mod system;

@@ -16,3 +16,5 @@ mod reading;
 mod salvage;
 #[cfg(test)]
 mod segments;
+#[cfg(test)]
+mod serving;

@@ -1,7 +1,7 @@
 //! The operations on files.
 
 ghost use Rattle.std.specs.Prelude.{◌≡◌, ℕ, List, Option, None, IfOk, IfSome, OnOk, OnErr, false};
-ghost use Rattle.disks.specs.Held.{Held, IsOneFile, Opens, Starts, Grows, Replaces};
+ghost use Rattle.disks.specs.Held.{Held, IsOneFile, Opens, Starts, Creates, Discards, Grows, Replaces};
 ghost use Rattle.disks.specs.Folders.{Lists, names_of};
 
 use std::io::{self, Read, Write};
@@ -42,6 +42,16 @@ pub trait Disk {
         ensures { IfOk result (λ same. IfSome (holds self.now)
             (λ held. same ≡ false → IsOneFile held one.now other.now → ⊥)) };
 
+    /// Whether the process reads or writes the file of this name by a standard descriptor; if not, whether a file of this name
+    /// can be made is looked at too. It is asked before long work that ends with such a file.
+    ///
+    /// # Errors
+    ///
+    /// The name cannot be looked at, or there is no folder for its file.
+    fn is_standard(&self, _name: &str) -> io::Result<bool> {
+        Ok(false)
+    }
+
     /// The names in this folder, in any order.
     ///
     /// # Errors
@@ -60,19 +70,29 @@ pub trait Disk {
     ///
     /// # Errors
     ///
-    /// It could not be put there, or it was made for another name. Every file is as it was then.
+    /// It could not be put there, it was made for another name, or somebody else has the old file open to be written at its end.
+    /// Every file is as it was then.
     fn finish(&mut self, made: Self::New, name: &str) -> io::Result<()>
         ensures replaced { OnOk result
             (Replaces (holds self.old) (holds self.new) name.now (Self.New.contents made)) }
         ensures kept { OnErr result (holds self.new ≡ holds self.old) };
 
-    /// Opens a file to be written at its end; it is made, empty, if it is not there. Its writer has the content of the file. With
-    /// `synced` each flush puts the written bytes on the disk.
+    /// Makes an empty file of this name, if there is none. Answers whether it did.
+    fn create(&mut self, name: &str) -> io::Result<bool>
+        ensures created { IfOk result (Creates (holds self.old) (holds self.new) name.now) }
+        ensures kept { OnErr result (holds self.new ≡ holds self.old) };
+
+    /// Removes the file of this name, if it holds nothing. Answers whether it did.
+    fn discard(&mut self, name: &str) -> io::Result<bool>
+        ensures discarded { IfOk result (Discards (holds self.old) (holds self.new) name.now) }
+        ensures kept { OnErr result (holds self.new ≡ holds self.old) };
+
+    /// Opens a file that is there to be written at its end. Its writer has the content of the file. With `synced` each flush
+    /// puts the written bytes on the disk.
     ///
     /// # Errors
     ///
-    /// `WouldBlock` if somebody else has it open so; `InvalidInput` if it is not a regular file; or it cannot be opened. The
-    /// content of files is not touched.
+    /// `WouldBlock` if somebody else has it open so; `InvalidInput` if it is not a regular file; or it cannot be opened.
     fn grow(&mut self, name: &str, synced: bool) -> io::Result<Self::Grown>
         ensures opened { IfOk result
             (λ grown. Grows (holds self.old) name.now (Self.Grown.contents grown)) }

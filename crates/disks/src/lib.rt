@@ -7,6 +7,7 @@ mod grown;
 mod memory;
 mod part;
 mod replacing;
+mod same_file;
 mod system;
 
 pub use descriptors::take_low;

@@ -1,11 +1,11 @@
 //! Files in memory.
 
-ghost use Rattle.std.specs.Prelude.{◌≡◌, ◌≢◌, ◌+◌, ◌||◌, ℕ, List, length, drop, false, None, Some, IsTrue, IsFalse, IfOk, OnOk};
+ghost use Rattle.std.specs.Prelude.{◌≡◌, ◌≢◌, ◌+◌, ◌||◌, ℕ, List, [], length, drop, false, None, Some, IsTrue, IsFalse, IfOk, OnOk};
 ghost use Rattle.std.specs.List.{AllByRecursion};
 ghost use Rattle.std.specs.Str.{bytes_eq};
 ghost use Rattle.std.specs.Option.{option_map};
 ghost use Rattle.disks.specs.Held.{Held};
-ghost use Rattle.disks.specs.Entries.{found, held_of};
+ghost use Rattle.disks.specs.Entries.{found, held_of, without};
 ghost use Rattle.disks.specs.Folders.{path_in, has_slash, is_among, names_of, IsNameIn, ListsNames};
 
 use crate::disk::{Disk, FolderEntry};
@@ -38,6 +38,24 @@ fn last<'e>(entries: &'e [StoredFile], name: &str) -> Option<&'e [u8]>
         }
     }
     last
+}
+
+/// Whether the last of these entries with this name holds nothing.
+fn is_empty_file(entries: &[StoredFile], name: &str) -> bool
+    ensures yes { IsTrue result → found None entries.now name.now ≡ Some [] }
+    ensures no { IsFalse result → found None entries.now name.now ≢ Some [] }
+{
+    match last(entries, name) {
+        None => false,
+        Some(bytes) => bytes.is_empty(),
+    }
+}
+
+/// Removes all entries with this name.
+fn remove_entries(entries: &mut Vec<StoredFile>, name: &str)
+    ensures { entries.new.items ≡ without name.now entries.old.items }
+{
+    entries.retain(|entry| entry.name.as_str() != name);
 }
 
 /// Whether this is the name of something in the folder.
@@ -136,10 +154,28 @@ impl Disk for MemoryDisk {
         Ok(())
     }
 
+    fn create(&mut self, name: &str) -> io::Result<bool> {
+        if last(&self.entries, name).is_some() {
+            return Ok(false);
+        }
+        let name = String::from_str(self.alloc, name)?;
+        let bytes = Vec::new(self.alloc);
+        self.entries.push(StoredFile { name, bytes })?;
+        Ok(true)
+    }
+
+    fn discard(&mut self, name: &str) -> io::Result<bool> {
+        if !is_empty_file(&self.entries, name) {
+            return Ok(false);
+        }
+        remove_entries(&mut self.entries, name);
+        Ok(true)
+    }
+
     fn grow(&mut self, name: &str, _synced: bool) -> io::Result<Vec<u8>> {
         match last(&self.entries, name) {
-            None => Ok(Vec::new(self.alloc)),
             Some(bytes) => Ok(Vec::from_slice(self.alloc, bytes)?),
+            _ => Err(io::Error::from(ErrorKind::NotFound)),
         }
     }
 

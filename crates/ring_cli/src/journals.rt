@@ -3,7 +3,7 @@
 use crate::words::needed_text;
 use clap::builder::ValueParser;
 use clap::{Arg, ArgAction, ArgMatches, Command, Error, value_parser};
-use ring_requests::{RecoverWords, Request, ServeWords};
+use ring_requests::{JoinWords, RecoverWords, Request, ServeWords};
 use std::alloc::Global;
 
 /// How many lines a segment has at most, and how many if none are given.
@@ -16,21 +16,43 @@ const RECOVER_ABOUT: &str = "Saves the history that a journal tells, which may b
 const RECOVER_HELP: &str = "\
 FILE is a journal: the saved rings that it began with, and a line for each call since. If its writer was killed, it may
 end anywhere. What is recovered is what its whole lines tell: only the bytes behind the last end of a line are left out,
-and the members of a group that is not whole. FILE stays as it is. The history is written to NEW.part, which then takes
-the place of NEW: an old one is whole after a refusal or an interrupt. NEW cannot be FILE. Then it prints what `check`
+and the members of a group that is not whole. FILE stays as it is. The history is written beside NEW, and then takes
+its place: an old one is whole after a refusal or an interrupt. NEW cannot be FILE. Then it prints what `check`
 prints of NEW. Where NEW is `-`, the text goes to standard output, and the line to standard error.
 
 A FILE that is refused makes no NEW: it is cut off within what it began with; or it says which line is no journal's, as
 `syntax`, or which call cannot have been, as `reply` or `survey`, where the calls before it are legal.
 
+With `--salvage` NEW has the history in front of such a line, which is legal. Behind the line of its sums it is printed
+how many bytes are left out, from which line on, and why that is refused. If it is a line of what the journal began with,
+FILE is refused all the same.
+
 Where FILE is a folder of segments, it is the last of them that is recovered: NEW has its history, which counts by itself,
-and its head, which says what came before it, is printed behind the line.
+and its head, which says what came before it, is printed behind the lines. NEW cannot lie in the folder.
 
 Example:
   $ ring_tool recover journal.txt saved.txt
   legal rings 1 events 3 granted 2 corrupted 0 surveys 1
 
 Exit status: 0 where NEW was written, 1 where nothing is recovered or a file fails, 2 where the words cannot be read.";
+
+const JOIN_ABOUT: &str = "Saves the whole history of a folder of segments";
+
+const JOIN_HELP: &str = "\
+FOLDER has the segments of a served journal, each of which counts by itself. NEW has the whole history of all of them, as
+one saved history in the latest version: its places, its grants and its surveys count from the first event of all. No file
+in FOLDER changes. The history is written to NEW.part, which then takes the place of NEW: an old one is whole after a
+refusal or an interrupt. NEW cannot lie in FOLDER. Then it prints what `check` prints of NEW. Where NEW is `-`, the text
+goes to standard output, and the line to standard error.
+
+What `check` refuses of FOLDER is refused as `check` does, and makes no NEW. So is a folder that does not begin at segment
+1, since a saved history has nothing before its first event; and one of whose rings has more than 4000000 events in all.
+
+Example:
+  $ ring_tool join journal whole.txt
+  legal rings 1 events 3 granted 2 corrupted 0 surveys 1
+
+Exit status: 0 where NEW was written, 1 where FOLDER is refused or a file fails, 2 where the words cannot be read.";
 
 const SERVE_ABOUT: &str =
     "Serves saved rings to any program, by lines: each is a call, and has a line for its answer";
@@ -85,18 +107,49 @@ fn with_files<'a>(alloc: Global, command: Command<'a>) -> Result<Command<'a>, Er
     Ok(command.arg(file)?.arg(new)?)
 }
 
+/// That a bad line is left out, and all lines after it.
+fn salvage_word<'a>(alloc: Global) -> Arg<'a> {
+    Arg::new(alloc, "SALVAGE")
+        .long("salvage")
+        .action(ArgAction::SetTrue)
+        .help("Leaves out a line that is refused, and all after it")
+}
+
 /// The words of `recover`.
 pub(crate) fn recover_command<'a>(alloc: Global) -> Result<Command<'a>, Error> {
     let command = Command::new(alloc, "recover")
         .about(RECOVER_ABOUT)
         .after_help(RECOVER_HELP);
-    with_files(alloc, command)
+    Ok(with_files(alloc, command)?.arg(salvage_word(alloc))?)
 }
 
 /// `recover`, where both its words are there.
 pub(crate) fn recover_words<'a>(words: &ArgMatches<'a>) -> Option<Request<'a>> {
     Some(Request::Recover(RecoverWords {
         file: words.get_str("FILE")?,
+        new: words.get_str("NEW")?,
+        salvage: words.get_flag("SALVAGE"),
+    }))
+}
+
+/// The words of `join`.
+pub(crate) fn join_command<'a>(alloc: Global) -> Result<Command<'a>, Error> {
+    let command = Command::new(alloc, "join")
+        .about(JOIN_ABOUT)
+        .after_help(JOIN_HELP);
+    let folder = needed_text(alloc, "FOLDER", "The folder of the segments");
+    let new = needed_text(
+        alloc,
+        "NEW",
+        "The file that is made for the history; `-` is standard output",
+    );
+    Ok(command.arg(folder)?.arg(new)?)
+}
+
+/// `join`, where both its words are there.
+pub(crate) fn join_words<'a>(words: &ArgMatches<'a>) -> Option<Request<'a>> {
+    Some(Request::Join(JoinWords {
+        folder: words.get_str("FOLDER")?,
         new: words.get_str("NEW")?,
     }))
 }

@@ -13,7 +13,7 @@ const ABOUT: &str = "Checks a saved history as `check` does, and draws one of it
 const HELP: &str = "\
 The picture is an SVG: time goes to the right, an event a column. Each machine has a row, which is filled where it is
 privileged; below stands the rest, which falls to 0 until one machine is privileged. Only where the history is legal is it
-written, to PICTURE.part, which then takes the place of PICTURE: an old one is whole after a refusal or an interrupt.
+written, beside PICTURE, and then takes its place: an old one is whole after a refusal or an interrupt.
 PICTURE cannot be FILE. Then it prints the sums over all rings, as `check` does. Where PICTURE is `-`, it goes to
 standard output, and the sums to standard error.
 

@@ -1,7 +1,9 @@
 //! The program's command line, as `clap` reads it.
 
 use crate::fresh::{new_command, new_words};
-use crate::journals::{recover_command, recover_words, serve_command, serve_words};
+use crate::journals::{
+    join_command, join_words, recover_command, recover_words, serve_command, serve_words,
+};
 use crate::picture::{picture_command, picture_words};
 use crate::version::VERSION;
 use clap::error::ErrorKind;
@@ -40,8 +42,8 @@ const RUN_ABOUT: &str =
 
 const RUN_HELP: &str = "\
 Each client of the settings, and the injector of faults, has a thread of its own on each ring. When all have
-done their actions, the report has four lines for each ring and one for the farm. The history is written to FILE.part,
-which then takes the place of FILE: an old one is whole after a refusal or an interrupt. FILE cannot be the settings
+done their actions, the report has four lines for each ring and one for the farm. The history is written beside FILE,
+and then takes its place: an old one is whole after a refusal or an interrupt. FILE cannot be the settings
 file. A file that is a pipe is waited for until somebody opens its other end. A file whose name is `-` is `./-`; one
 whose name begins with a dash stands behind `--`, or as `--history=FILE`.
 
@@ -81,8 +83,8 @@ const UPGRADE_ABOUT: &str = "Carries a saved history over into the latest versio
 
 const UPGRADE_HELP: &str = "\
 It reads and checks FILE as `check` does, and only where that is legal makes NEW, writes the same history there in the
-latest version, and prints what `check` prints of it. The text is written to NEW.part, which then takes the place of
-NEW: an old one is whole after a refusal or an interrupt, and NEW may be FILE. Where NEW is `-`, the text goes to
+latest version, and prints what `check` prints of it. The text is written beside NEW, and then takes its place:
+an old one is whole after a refusal or an interrupt, and NEW may be FILE. Where NEW is `-`, the text goes to
 standard output, and the line to standard error. A FILE that is refused makes no NEW.
 
 Example, where old.txt begins with `ringfarm 1`:
@@ -254,7 +256,8 @@ fn with_readers<'a>(alloc: Global, program: Command<'a>) -> Result<Command<'a>, 
 fn with_services<'a>(alloc: Global, program: Command<'a>) -> Result<Command<'a>, Error> {
     let program = with_command(program, new_command(alloc))?;
     let program = with_command(program, serve_command(alloc))?;
-    with_command(program, recover_command(alloc))
+    let program = with_command(program, recover_command(alloc))?;
+    with_command(program, join_command(alloc))
 }
 
 /// All that the program understands.
@@ -306,6 +309,7 @@ fn request_named<'a>(name: &str, words: &ArgMatches<'a>) -> Option<Request<'a>> 
         "picture" => picture_words(words),
         "upgrade" => upgrade_words(words),
         "recover" => recover_words(words),
+        "join" => join_words(words),
         "serve" => serve_words(words),
         _ => None,
     }

@@ -16,12 +16,12 @@ use Rattle.ring_commands.specs.Chained.{chain_sums, sums_of, last_digest, AreHel
 use Rattle.ring_commands.specs.ChainSteps.{Leads, Ends}
 
 -- what the files so far add up to
-led_sums : (l : Option State) (fs : List File) (m : Option State) → LeadTo l fs m → sums_at m ≡ chain_sums (sums_at l) fs
+pub led_sums : (l : Option State) (fs : List File) (m : Option State) → LeadTo l fs m → sums_at m ≡ chain_sums (sums_at l) fs
 led_sums l [] m e = ap sums_at (sym e)
 led_sums l (f ∷ fs) m e = led_sums (Some (state_after l f)) fs m e.2
 
 -- one file more
-sums_more : (s : ChainSums) (fs : List File) (f : File) → chain_sums s (fs ++ f ∷ []) ≡ sums_after (chain_sums s fs) f
+pub sums_more : (s : ChainSums) (fs : List File) (f : File) → chain_sums s (fs ++ f ∷ []) ≡ sums_after (chain_sums s fs) f
 sums_more s [] f = refl
 sums_more s (g ∷ fs) f = sums_more (sums_after s g) fs f
 
@@ -29,7 +29,7 @@ digest_more : (d : List ℕ) (fs : List File) (f : File) → last_digest d (fs +
 digest_more d [] f = refl
 digest_more d (g ∷ fs) f = digest_more (digest_of g.bytes) fs f
 
-held_more : (files : Option Held) (name : List ℕ) (n : ℕ) (fs : List File) (f : File) → AreHeldFrom files name n fs → IsHeld files (segment_file name (n + length fs)) f.bytes
+pub held_more : (files : Option Held) (name : List ℕ) (n : ℕ) (fs : List File) (f : File) → AreHeldFrom files name n fs → IsHeld files (segment_file name (n + length fs)) f.bytes
     → AreHeldFrom files name n (fs ++ f ∷ [])
 held_more files name n [] f held more = (subst (λ k. IsHeld files (segment_file name k) f.bytes) (omega arith) more, tt)
 held_more files name n (g ∷ fs) f held more = (held.0, held_more files name (n + 1) fs f held.1 (subst (λ k. IsHeld files (segment_file name k) f.bytes) (omega arith) more))
@@ -38,7 +38,7 @@ pub none_leads : (files : Option Held) (name : List ℕ) (first : ℕ) (l : Opti
 none_leads files name first l e = record { fs = []; lead = sym e; held = tt; many = omega arith }
 
 -- the file of the next number
-held_at : (files : Option Held) (name : List ℕ) (k n : ℕ) (b c : List ℕ) → k ≡ n → c ≡ b → IsHeld files (segment_file name n) b → IsHeld files (segment_file name k) c
+pub held_at : (files : Option Held) (name : List ℕ) (k n : ℕ) (b c : List ℕ) → k ≡ n → c ≡ b → IsHeld files (segment_file name n) b → IsHeld files (segment_file name k) c
 held_at files name k n b c e d h = subst (λ (x : List ℕ). IsHeld files (segment_file name k) x) (sym d) (subst (λ m. IsHeld files (segment_file name m) b) (sym e) h)
 
 pub leads_on : (files : Option Held) (name : List ℕ) (first next : ℕ) (l m : Option State) (s : State) (bytes : List ℕ) → Leads files name first next l

@@ -5,10 +5,15 @@ pub mod FirstFaults
 pub mod FreshRings
 pub mod FreshTexts
 pub mod JournalStarts
+pub mod HandedLines
+pub mod Keeping
 pub mod Leads
+pub mod Making
+pub mod JoinedLeads
 pub mod ListTexts
 pub mod Recoveries
 pub mod ServeRefusals
 pub mod Settling
 pub mod StepLemmas
 pub mod Upgrades
+pub mod WithoutInput

@@ -9,7 +9,7 @@ use Rattle.ring_saved.specs.declared.saved.SavedRing.{SavedRing}
 use Rattle.ring_requests.specs.declared.requests.ServeWords.{ServeWords}
 use Rattle.ring_commands.specs.Chained.{IsFolderFault}
 use Rattle.ring_commands.specs.Named.{IsFileRefusal}
-use Rattle.ring_commands.specs.Served.{journal_of, permits_of, history_of, IsHistoryRefusal, IsGivenRefusal, IsJournalRefusal, IsUnfinished, IsRefusedFrom}
+use Rattle.ring_commands.specs.Served.{journal_of, permits_of, history_of, IsHistoryRefusal, IsGivenRefusal, IsJournalRefusal, IsMadeJournalRefusal, IsUnfinished, IsRefusedFrom}
 use Rattle.ring_commands.specs.ServedFolder.{IsFirstRefusal, IsLastRefusal, IsUnknownAmong, IsUnknown, IsRefusedIn}
 use Rattle.ring_commands.specs.ServeAnswer.{IsServedTo, IsRefusedTo, IsUntold, IsServeRefusal}
 use Rattle.ring_serve.specs.declared.permits.Permits.{Permits}
@@ -36,6 +36,11 @@ of_journal files name saved (inr (inl h)) = of_file files name h
 of_journal files name saved (inr (inr (inl h))) = h.1
 of_journal files name saved (inr (inr (inr h))) = h.2
 
+of_made : (files : Option Held) (name : List ℕ) (saved : Option Saved) → IsMadeJournalRefusal files name saved tool.BadList → ⊥
+of_made files name saved (inl (inl h)) = h
+of_made files name saved (inl (inr h)) = h
+of_made files name saved (inr h) = of_journal h.0 name saved h.3
+
 of_rings : (permits : Permits) (journal : Option (List ℕ)) (rings : List SavedRing) (was is old new : Option (List ℕ)) → IsUnfinished permits journal rings was is old new tool.BadList → ⊥
 of_rings permits journal rings was is old new (inl h) = h.1
 of_rings permits journal rings was is old new (inr h) = h.0
@@ -43,7 +48,7 @@ of_rings permits journal rings was is old new (inr h) = h.0
 of_value : (permits : Permits) (files : Option Held) (journal : Option (List ℕ)) (saved : Option Saved) (was is old new : Option (List ℕ)) → IsRefusedFrom permits files journal saved was is old new tool.BadList → ⊥
 of_value permits files None saved was is old new (inl h) = h.1
 of_value permits files None saved was is old new (inr h) = of_rings permits None h.0.rings.items was is old new h.2
-of_value permits files (Some name) saved was is old new (inl h) = of_journal files name saved h.1
+of_value permits files (Some name) saved was is old new (inl h) = of_made files name saved h.1
 of_value permits files (Some name) saved was is old new (inr h) = of_rings permits (Some name) h.0.rings.items was is old new h.2
 
 -- ---- a folder
@@ -74,9 +79,9 @@ of_unknown files folder saved (inr h) = of_among files folder h.0 saved h.2
 
 of_folder : (words : ServeWords) (folder : List ℕ) (saved : Option Saved) (files : Option Held) (was is old new : Option (List ℕ)) → IsRefusedIn words folder saved files was is old new tool.BadList → ⊥
 of_folder words folder saved files was is old new (inl (u, inl h)) = h
-of_folder words folder saved files was is old new (inl (u, inr (inl h))) = h
-of_folder words folder saved files was is old new (inl (u, inr (inr h))) = of_unknown files folder saved h
-of_folder words folder saved files was is old new (inr h) = h.0
+of_folder words folder saved files was is old new (inl (u, inr h)) = h
+of_folder words folder saved files was is old new (inr (there, l, inl h)) = of_unknown there folder saved h.1
+of_folder words folder saved files was is old new (inr (there, l, inr h)) = h.0
 
 -- ---- all of it
 

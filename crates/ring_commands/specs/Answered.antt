@@ -4,6 +4,7 @@ use Rattle.ring_commands.specs.Stepped.{IsStepAnswer, IsStepWordsRefusal}
 use Rattle.ring_commands.specs.Saved.{IsRunAnswer}
 use Rattle.ring_commands.specs.Ran.{IsRunRefusal}
 use Rattle.ring_commands.specs.Checked.{IsCheckAnswer, IsCheckRunRefusal}
+use Rattle.ring_commands.specs.JoinedFolder.{IsJoinAnswer, IsJoinRefusal}
 use Rattle.ring_commands.specs.New.{IsNewAnswer, IsNewRefusal}
 use Rattle.ring_commands.specs.Pictured.{IsPictureAnswer, IsPictureRefusal}
 use Rattle.ring_commands.specs.Reading.{names_stream}
@@ -25,6 +26,7 @@ IsAnswer (request.Upgrade words) was is = IsUpgradeAnswer words was is
 IsAnswer (request.New words) was is = IsNewAnswer words was.out is.out × (is.files ≡ was.files)
 IsAnswer (request.Serve words) was is = IsServeAnswer words was is
 IsAnswer (request.Recover words) was is = IsRecoverAnswer words was is
+IsAnswer (request.Join words) was is = IsJoinAnswer words was is
 
 -- a refusal of it
 abbrev pub IsRefusal : Request → World → World → ToolError → Type 0
@@ -39,6 +41,7 @@ IsRefusal (request.New words) was is e =
     IsNewRefusal words was.out is.out e × (is.files ≡ was.files)
 IsRefusal (request.Serve words) was is e = IsServeRefusal words was is e
 IsRefusal (request.Recover words) was is e = IsRecoverRefusal words was is e
+IsRefusal (request.Join words) was is e = IsJoinRefusal words was is e
 
 -- it serves lines, which may change files before it is refused
 abbrev pub IsOfLines : Request → Type 0
@@ -48,6 +51,7 @@ IsOfLines (request.Check words) = ⊥
 IsOfLines (request.Picture words) = ⊥
 IsOfLines (request.Upgrade words) = ⊥
 IsOfLines (request.Recover words) = ⊥
+IsOfLines (request.Join words) = ⊥
 IsOfLines (request.New words) = ⊥
 IsOfLines (request.Serve words) = Unit {0}
 
@@ -61,6 +65,7 @@ IsOfFile (request.Upgrade words) = names_stream words.file.now ≡ false
 IsOfFile (request.New words) = Unit {0}
 IsOfFile (request.Serve words) = ⊥
 IsOfFile (request.Recover words) = names_stream words.file.now ≡ false
+IsOfFile (request.Join words) = Unit {0}
 
 -- it prints no text but the line or the report, so standard error stays as it is
 abbrev pub IsSilent : Request → Type 0
@@ -72,3 +77,4 @@ IsSilent (request.Upgrade words) = names_stream words.new.now ≡ false
 IsSilent (request.New words) = Unit {0}
 IsSilent (request.Serve words) = ⊥
 IsSilent (request.Recover words) = names_stream words.new.now ≡ false
+IsSilent (request.Join words) = names_stream words.new.now ≡ false

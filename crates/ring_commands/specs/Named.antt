@@ -45,9 +45,11 @@ IsApart files read None = ⊤
 IsApart None read (Some made) = ⊤
 IsApart (Some held) read (Some made) = names_stream read ≡ false → IsOneFile held read made → ⊥
 
--- It is that one, or this cannot be decided, since its name cannot be looked at.
+-- It is that one, or is read or written by a standard descriptor; or this cannot be decided, since
+-- its name cannot be looked at; or it cannot be made.
 abbrev pub IsApartRefusal : Option (List ℕ) → ToolError → Type 0
 IsApartRefusal made (tool.SameFile named) = Some named.now ≡ made
+IsApartRefusal made (tool.Stream named) = Some named.now ≡ made
 IsApartRefusal made (tool.Save named) = Some named.now ≡ made
 IsApartRefusal made _ = ⊥
 

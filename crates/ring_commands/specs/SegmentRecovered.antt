@@ -1,20 +1,26 @@
 -- The answer of `recover` to a folder: the history of its last segment.
-use Rattle.std.specs.Prelude.{◌≡◌, ℕ, List, true, false, Option, None, Some, Ok, ◌⊎◌}
+use Rattle.std.specs.Prelude.{◌≡◌, ℕ, List, ◌++◌, Bool, true, false, Option, None, Some, Ok, ◌⊎◌}
 use Rattle.std.specs.Io.KnownBytes.{Appends}
 use Rattle.disks.specs.declared.disk.FolderEntry.{FolderEntry}
 use Rattle.segment_folder.specs.Names.{segment_file}
 use Rattle.segment_folder.specs.Numbers.{IsRightNumbers}
 use Rattle.segment_folder.specs.declared.numbers.SegmentNumbers.{SegmentNumbers}
+use Rattle.ring_saved.specs.declared.saved.Saved.{Saved}
 use Rattle.ring_saved.specs.Content.{content}
 use Rattle.ring_saved.specs.Spelling.{text}
 use Rattle.ring_check.specs.Legal.{summary_of}
 use Rattle.ring_segments.specs.Spelling.{Head, head_of, head_text}
-use Rattle.ring_segments.specs.Files.{File, IsFile}
+use Rattle.ring_segments.specs.declared.errors.SegmentError.{SegmentError}
+use Rattle.ring_segments.specs.declared.errors.SegmentError.TheVariants as segment
+use Rattle.ring_segments.specs.declared.heads.SegmentHead.{SegmentHead}
+use Rattle.ring_segments.specs.Files.{File}
 use Rattle.ring_segments.specs.Chain.{IsRightRefusal}
 use Rattle.ring_commands.specs.Chained.{IsFolder, IsUnreadSegment, AreNamesRefused}
 use Rattle.ring_commands.specs.CheckText.{legal_line}
 use Rattle.ring_commands.specs.Handed.{IsHanded, IsHandRefusal}
-use Rattle.ring_commands.specs.Named.{IsHeld, IsApart, IsApartRefusal}
+use Rattle.ring_commands.specs.Kept.{IsFileKept, file_left, IsLostFile}
+use Rattle.ring_commands.specs.Named.{IsHeld}
+use Rattle.ring_commands.specs.Outside.{IsOutside, IsOutsideRefusal}
 use Rattle.ring_commands.specs.Ran.{file_of}
 use Rattle.ring_commands.specs.Reading.{names_stream}
 use Rattle.ring_commands.specs.Worlds.{World}
@@ -27,6 +33,14 @@ use Rattle.ring_commands.specs.declared.faults.ToolError.TheVariants as tool
 -- the file with these bytes, as it is recovered
 abbrev pub file_as : List ℕ → RecoveredSegment → File
 file_as bytes r = record { bytes = bytes; head = head_of r.head; content = content r.value.0 }
+
+-- the same by its parts
+abbrev pub file_of_parts : List ℕ → SegmentHead → Saved → File
+file_of_parts bytes head saved = record {
+  bytes = bytes;
+  head = head_of head;
+  content = content saved;
+}
 
 -- ---- the head, behind the line of the sums
 
@@ -45,52 +59,55 @@ pub record IsHeadCut (word : List ℕ) (h : Head) (was is : World) : Type 0 wher
   pub to_output : names_stream word ≡ true
       → (is.out ≡ was.out) × AppendsFront was.err is.err (head_text h)
 
--- The text of the history and the line of its sums went where the word says, and then the head.
-abbrev pub IsSegmentHanded : List ℕ → File → World → World → Type 0
-IsSegmentHanded word f was is =
+-- The text of the history, the line of its sums and this line went where the word says, and then the
+-- head.
+abbrev pub IsSegmentHanded : List ℕ → File → List ℕ → World → World → Type 0
+IsSegmentHanded word f line was is =
     (mid : World)
-    × IsHanded word (text f.content) (legal_line (summary_of f.content)) was mid
+    × IsHanded word (text f.content) (legal_line (summary_of f.content) ++ line) was mid
     × IsHeadTold word f.head mid is
 
 -- The causes that may keep them from there.
-abbrev pub IsSegmentUnhanded : List ℕ → File → World → World → ToolError → Type 0
-IsSegmentUnhanded word f was is e =
-    IsHandRefusal word (text f.content) (legal_line (summary_of f.content)) was is e
+abbrev pub IsSegmentUnhanded : List ℕ → File → List ℕ → World → World → ToolError → Type 0
+IsSegmentUnhanded word f line was is e =
+    IsHandRefusal word (text f.content) (legal_line (summary_of f.content) ++ line) was is e
     ⊎ ((e ≡ tool.Write)
     × ((mid : World)
-    × IsHanded word (text f.content) (legal_line (summary_of f.content)) was mid
+    × IsHanded word (text f.content) (legal_line (summary_of f.content) ++ line) was mid
     × IsHeadCut word f.head mid is))
 
 -- ---- the answer
 
--- The word FILE names a folder of segments, the last of which held the bytes of a file; and this is
--- not the file that is made. The text of the history that is recovered of its journal, the line of
--- its sums and its head went where the word NEW says.
+-- The word FILE names a folder of segments, the last of which held the bytes of a file; and the file
+-- that is made does not lie there. The text of the history that is kept of its journal, the line of
+-- its sums, that of what is left out, and its head went where the word NEW says.
 abbrev pub IsFolderRecovered : RecoverWords → World → World → Type 0
 IsFolderRecovered words was is =
     (entries : List FolderEntry)
     × (r : SegmentNumbers)
     × (f : File)
+    × (k : IsFileKept words.salvage f)
     × IsFolder was.files words.file.now entries
     × IsRightNumbers entries (Ok (Some r))
     × IsHeld was.files (segment_file words.file.now r.last) f.bytes
-    × IsApart was.files (segment_file words.file.now r.last) (file_of (Some words.new.now))
-    × IsFile f
-    × IsSegmentHanded words.new.now f was is
+    × IsOutside was.files words.file.now entries (file_of (Some words.new.now))
+    × IsSegmentHanded words.new.now f (file_left k) was is
 
--- nothing is recovered of the bytes of a segment, for the right reason
-abbrev pub IsSegmentFault : List ℕ → ℕ → List ℕ → ToolError → Type 0
-IsSegmentFault name n bytes (tool.Segment named number error) =
-    (named.now ≡ name) × (number ≡ n) × IsRightRefusal None bytes true error
-IsSegmentFault name n bytes tool.OutOfMemory = Unit {0}
-IsSegmentFault name n bytes _ = ⊥
+-- nothing is kept of the bytes of a file, for the right reason
+abbrev pub IsFileFault : Bool → List ℕ → SegmentError → Type 0
+IsFileFault salvage bytes segment.OutOfMemory = Unit {0}
+IsFileFault salvage bytes error =
+    IsRightRefusal None bytes true error × (salvage ≡ true → IsLostFile bytes)
 
--- the file that is made is that of the segment, or this cannot be decided; or there is no memory
-abbrev pub IsSegmentApartRefusal : Option (List ℕ) → ToolError → Type 0
-IsSegmentApartRefusal made e = (e ≡ tool.OutOfMemory) ⊎ IsApartRefusal made e
+-- nothing is kept of the bytes of a segment
+abbrev pub IsSegmentFault : Bool → List ℕ → ℕ → List ℕ → ToolError → Type 0
+IsSegmentFault salvage name n bytes (tool.Segment named number error) =
+    (named.now ≡ name) × (number ≡ n) × IsFileFault salvage bytes error
+IsSegmentFault salvage name n bytes tool.OutOfMemory = Unit {0}
+IsSegmentFault salvage name n bytes _ = ⊥
 
 -- Which refusals it may meet: those of the names in the folder; of reading the last segment; that
--- it is the file that is made; that nothing is recovered of it; and those of handing out what is.
+-- the file that is made lies there; that nothing is kept of it; and those of handing out what is.
 abbrev pub IsFolderUnrecovered : RecoverWords → World → World → ToolError → Type 0
 IsFolderUnrecovered words was is e =
     (entries : List FolderEntry)
@@ -101,9 +118,9 @@ IsFolderUnrecovered words was is e =
     × (IsUnreadSegment was.files words.file.now r.last e
     ⊎ ((bytes : List ℕ)
     × IsHeld was.files (segment_file words.file.now r.last) bytes
-    × (IsSegmentApartRefusal (file_of (Some words.new.now)) e
-    ⊎ (IsSegmentFault words.file.now r.last bytes e
+    × (IsOutsideRefusal (file_of (Some words.new.now)) e
+    ⊎ (IsSegmentFault words.salvage words.file.now r.last bytes e
     ⊎ ((f : File)
+    × (k : IsFileKept words.salvage f)
     × (f.bytes ≡ bytes)
-    × IsFile f
-    × IsSegmentUnhanded words.new.now f was is e)))))))
+    × IsSegmentUnhanded words.new.now f (file_left k) was is e)))))))

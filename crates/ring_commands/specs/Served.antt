@@ -1,7 +1,7 @@
 -- The answer of `serve`.
-use Rattle.std.specs.Prelude.{◌≡◌, ℕ, ◌≤◌, ◌<◌, ◌^◌, ◌⊎◌, List, [], length, codes, Bool, true, false, Option, None, Some, IfSome, Err}
+use Rattle.std.specs.Prelude.{◌≡◌, ℕ, ◌≤◌, ◌<◌, ◌^◌, ◌⊎◌, List, [], length, codes, Bool, true, false, Option, None, Some, IfSome, Err, ⊤}
 use Rattle.std.specs.Option.{option_map, is_some}
-use Rattle.disks.specs.Held.{Held, Grows, Replaces}
+use Rattle.disks.specs.Held.{Held, bytes_of, Creates, Grows, Replaces}
 use Rattle.ring_saved.specs.declared.saved.Saved.{Saved}
 use Rattle.ring_saved.specs.declared.saved.SavedRing.{SavedRing}
 use Rattle.ring_saved.specs.Content.{content}
@@ -62,11 +62,16 @@ pub record IsOfJournal (files : Option Held) (name : List ℕ) (saved : Saved) :
   pub held : IsHeld files name bytes
   pub recovered : IsRecovered bytes (content saved)
 
+-- the file of this name held nothing, or there was none
+abbrev pub HoldsNothing : Option Held → List ℕ → Type 0
+HoldsNothing None name = ⊤
+HoldsNothing (Some held) name = IfSome (bytes_of held name) (λ bytes. bytes ≡ [])
+
 -- where the rings begin if a journal is kept: with the given value if the journal's file held
--- nothing, else at the journal's end
+-- nothing or was not there, else at the journal's end
 abbrev pub IsNoted : Option Held → List ℕ → Option Saved → Saved → Type 0
 IsNoted files name saved from =
-    (IsHeld files name [] × (saved ≡ Some from)) ⊎ IsOfJournal files name from
+    (HoldsNothing files name × (saved ≡ Some from)) ⊎ IsOfJournal files name from
 
 -- where they begin
 abbrev pub BeginsAt : Option Held → Option (List ℕ) → Option Saved → Saved → Type 0
@@ -80,7 +85,7 @@ abbrev pub IsServedPlain : Permits → List Standing → List Standing → Optio
 IsServedPlain permits start end before after was is old new =
     (j : Option (List ℕ))
     × (k : Option (List ℕ))
-    × ServesAll (terms_of false permits) start end before after was is
+    × ServesAll (terms_of None permits) start end before after was is
     (record { journal = j; out = old }) (record { journal = k; out = new })
 
 -- The lines were served with a journal in the file of this name. It was put there with the
@@ -94,7 +99,7 @@ pub record IsServedNoted (permits : Permits) (name : List ℕ) (start end : List
   pub last : Option (List ℕ)
   pub put : Replaces before begun name (Some (head_text (content_of start)))
   pub opened : Grows begun name first
-  pub served : ServesAll (terms_of true permits) start end begun ended was is
+  pub served : ServesAll (terms_of (Some name) permits) start end begun ended was is
       (record { journal = first; out = old }) (record { journal = last; out = new })
   pub settled : Replaces ended after name last
 
@@ -103,7 +108,7 @@ pub record IsServedOn (permits : Permits) (name : List ℕ) (start end : List St
     (begun after : Option Held) (first was is old new : Option (List ℕ)) : Type 0 where
   pub ended : Option Held
   pub last : Option (List ℕ)
-  pub served : ServesAll (terms_of true permits) start end begun ended was is
+  pub served : ServesAll (terms_of (Some name) permits) start end begun ended was is
       (record { journal = first; out = old }) (record { journal = last; out = new })
   pub settled : Replaces ended after name last
 
@@ -165,14 +170,23 @@ IsUnrecovered name bytes (tool.Journal named error) =
     (named.now ≡ name) × IsRightRecovery bytes (Err error)
 IsUnrecovered name bytes _ = ⊥
 
--- the journal is refused: its file cannot be kept or read, or it holds nothing and no history is
--- given, or nothing is recovered of its bytes
+-- the journal in a file that is there is refused: the file cannot be kept or read, or it holds
+-- nothing and no history is given, or nothing is recovered of its bytes
 abbrev pub IsJournalRefusal : Option Held → List ℕ → Option Saved → ToolError → Type 0
 IsJournalRefusal files name saved e =
     IsUnkept name e
     ⊎ (IsFileRefusal files name e
     ⊎ ((IsHeld files name [] × IsUngiven saved e)
     ⊎ ((bytes : List ℕ) × IsHeld files name bytes × IsUnrecovered name bytes e)))
+
+-- the journal is refused: its file cannot be kept, or it is there, or was made, empty, and is refused
+abbrev pub IsMadeJournalRefusal : Option Held → List ℕ → Option Saved → ToolError → Type 0
+IsMadeJournalRefusal files name saved e =
+    IsUnkept name e
+    ⊎ ((there : Option Held)
+    × (made : Bool)
+    × Creates files there name made
+    × IsJournalRefusal there name saved e)
 
 -- these rings do not resume: one has more events than a ring can resume, or there is no memory
 abbrev pub IsStartRefusal : List SavedRing → ToolError → Type 0
@@ -212,7 +226,7 @@ IsUnfinished permits journal rings was is old new e =
     ⊎ (IsServingFault journal e
     × ((start : List Standing)
     × AreResumed start rings
-    × IsServedPart (terms_of (is_some journal) permits) start was is old new))
+    × IsServedPart (terms_of journal permits) start was is old new))
 
 -- with this history: the journal, if one is kept, is refused, and no line is read; or the rings
 -- that begin where they have to are not served to the end
@@ -224,7 +238,7 @@ IsRefusedFrom permits files None saved was is old new e =
     × (saved ≡ Some from)
     × IsUnfinished permits None from.rings.items was is old new e)
 IsRefusedFrom permits files (Some name) saved was is old new e =
-    (IsUnserved was is old new × IsJournalRefusal files name saved e)
+    (IsUnserved was is old new × IsMadeJournalRefusal files name saved e)
     ⊎ ((from : Saved)
     × IsNoted files name saved from
     × IsUnfinished permits (Some name) from.rings.items was is old new e)

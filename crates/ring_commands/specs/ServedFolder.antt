@@ -1,7 +1,7 @@
 -- `serve` with a journal that is a folder of segments.
-use Rattle.std.specs.Prelude.{◌≡◌, ◌≢◌, ℕ, ◌⊎◌, max, List, ◌++◌, Option, None, Some, IfSome, Ok, Err, codes}
+use Rattle.std.specs.Prelude.{◌≡◌, ◌≢◌, ℕ, ◌⊎◌, max, List, ◌++◌, Bool, Option, None, Some, IfSome, Ok, Err, codes}
 use Rattle.std.specs.Option.{option_map}
-use Rattle.disks.specs.Held.{Held, IsOneFile}
+use Rattle.disks.specs.Held.{Held, IsOneFile, Creates}
 use Rattle.disks.specs.Folders.{Lists, names_of, path_in}
 use Rattle.disks.specs.declared.disk.FolderEntry.{FolderEntry}
 use Rattle.segment_folder.specs.Names.{segment_file}
@@ -103,18 +103,25 @@ SavesApart words folder files =
     IfSome words.saves
     (λ saves. IfSome files (λ held. IsOneFile held folder saves.now → ⊥))
 
--- The lines were served from where the rings stand.
+-- the file of the folder's lock was there, or was made, empty
+abbrev pub IsLocked : Option Held → Option Held → List ℕ → Type 0
+IsLocked before there folder =
+    (made : Bool) × Creates before there (path_in folder (codes "lock")) made
+
+-- The lines were served from where the rings stand, behind the lock.
 pub record IsServedIn (words : ServeWords) (folder : List ℕ) (saved : Option Saved)
     (end : List Standing) (before after : Option Held) (was is old new : Option (List ℕ)) : Type 0
   where
     pub rules : SegmentRules
     pub by_words : AreRules rules words folder
     pub apart : SavesApart words folder before
+    pub there : Option Held
+    pub locked : IsLocked before there folder
     pub start : Place
-    pub stands : StandsIn before folder saved start
+    pub stands : StandsIn there folder saved start
     pub first : Moment
     pub last : Moment
-    pub run : IsRun rules start first last end before after was is old new
+    pub run : IsRun rules start first last end there after was is old new
 
 -- ---- refusals
 
@@ -190,11 +197,13 @@ IsSavesRefusal words _ = ⊥
 abbrev pub IsRefusedIn : ServeWords → List ℕ → Option Saved → Option Held → Option (List ℕ)
     → Option (List ℕ) → Option (List ℕ) → Option (List ℕ) → ToolError → Type 0
 IsRefusedIn words folder saved files was is old new e =
-    (IsUnserved was is old new
-    × (IsUnkeptFolder folder e ⊎ (IsSavesRefusal words e ⊎ IsUnknown files folder saved e)))
+    (IsUnserved was is old new × (IsUnkeptFolder folder e ⊎ IsSavesRefusal words e))
+    ⊎ ((there : Option Held)
+    × IsLocked files there folder
+    × ((IsUnserved was is old new × IsUnknown there folder saved e)
     ⊎ (IsServingFault (Some folder) e
     × ((rules : SegmentRules)
     × (start : Place)
     × AreRules rules words folder
-    × StandsIn files folder saved start
-    × IsRunPart rules start files was is old new))
+    × StandsIn there folder saved start
+    × IsRunPart rules start there was is old new))))

@@ -1,5 +1,6 @@
 //! The refusals of the program, and the line that it prints for each.
 
+use crate::one_line::OneLine;
 use ring_book::BookError;
 use ring_check::{CheckError, Kind};
 use ring_farm::FarmError;
@@ -15,7 +16,7 @@ use text_lines::WriteFault;
 
 /// Why the program refuses a command. Its `Display` is the line on standard error.
 ///
-/// A fault of a file has the file's name as it was given.
+/// A fault of a file has the file's name as it was given, with its control characters escaped.
 #[derive(Clone, Copy)]
 pub enum ToolError<'a> {
     /// A list is not one or more canonical decimals below 2 to the power 32, separated by commas.
@@ -58,6 +59,8 @@ pub enum ToolError<'a> {
     Save(&'a str),
     /// A file that is to be made is the one that is read.
     SameFile(&'a str),
+    /// A file that is to be made is one that the process reads or writes by a standard descriptor.
+    Stream(&'a str),
     /// Standard output failed, or took no byte.
     Write,
     OutOfMemory,
@@ -93,6 +96,10 @@ pub enum ToolError<'a> {
     LargeSegment(&'a str, u64),
     /// It does not follow in the chain of the folder's segments, or is none.
     Segment(&'a str, u64, SegmentError),
+    /// The first segment of a folder has this number, so what came before it is gone.
+    Begins(&'a str, u64),
+    /// A file that is to be made lies in the folder that is read.
+    InFolder(&'a str),
 }
 
 impl ToolError<'_> {
@@ -138,7 +145,7 @@ impl ToolError<'_> {
     }
 
     /// Writes the line of a refusal of words or settings, which has values, or of another with values.
-    fn put_words_refusal<W: fmt::Write>(&self, f: &mut fmt::Formatter<W>) -> fmt::Result {
+    fn put_words_refusal<W: fmt::Write>(&self, f: &mut W) -> fmt::Result {
         match self {
             ToolError::Value(place) => write!(f, "start value {place} is not below k"),
             ToolError::Choice(place) => write!(f, "choice {place} is not below n"),
@@ -158,7 +165,7 @@ impl ToolError<'_> {
     }
 
     /// Writes the line of a refusal of a folder of segments.
-    fn put_folder_refusal<W: fmt::Write>(&self, f: &mut fmt::Formatter<W>) -> fmt::Result {
+    fn put_folder_refusal<W: fmt::Write>(&self, f: &mut W) -> fmt::Result {
         match self {
             ToolError::SavesInJournal(name) => write!(f, "{name} is the folder of the journal"),
             ToolError::NoSegment(folder) => write!(f, "{folder} has no segments"),
@@ -178,19 +185,22 @@ impl ToolError<'_> {
             ToolError::Segment(folder, number, error) => {
                 write!(f, "{folder}/{number:010}.ring: {error}")
             }
+            ToolError::Begins(folder, number) => write!(f, "{folder} begins at segment {number}"),
+            ToolError::InFolder(name) => write!(f, "{name} is in the folder that is read"),
             // the lines of the others are written before
             _ => Ok(()),
         }
     }
 
     /// Writes the line of a refusal of a file or a saved text, which has values.
-    fn put_file_refusal<W: fmt::Write>(&self, f: &mut fmt::Formatter<W>) -> fmt::Result {
+    fn put_file_refusal<W: fmt::Write>(&self, f: &mut W) -> fmt::Result {
         match self {
             ToolError::Bad(line, kind) => write!(f, "line {line}: {kind}"),
             ToolError::Read(name) => write!(f, "cannot read {name}"),
             ToolError::TooLarge(name) => write!(f, "{name} is too large"),
             ToolError::Save(name) => write!(f, "cannot write {name}"),
             ToolError::SameFile(name) => write!(f, "{name} is the file that is read"),
+            ToolError::Stream(name) => write!(f, "{name} is the file of a standard stream"),
             ToolError::NoRing(place) => write!(f, "there is no ring {place}"),
             ToolError::InUse(name) => write!(f, "{name} is in use"),
             ToolError::Journal(name, error) => write!(f, "{name}: {error}"),
@@ -205,7 +215,7 @@ impl fmt::Display for ToolError<'_> {
     fn fmt<W: fmt::Write>(&self, f: &mut fmt::Formatter<W>) -> fmt::Result {
         match self.fixed_line() {
             Some(line) => f.write_str(line),
-            None => self.put_words_refusal(f),
+            None => self.put_words_refusal(&mut OneLine { out: f }),
         }
     }
 }

@@ -1,6 +1,6 @@
 //! Where a saved text goes, and the line of its sums: to a file and standard output, or to the two outputs.
 
-ghost use Rattle.std.specs.Prelude.{◌≡◌, ◌≢◌, false, None, Some, OnOk, OnErr, IfErr};
+ghost use Rattle.std.specs.Prelude.{◌≡◌, ◌≢◌, ◌++◌, false, None, Some, OnOk, OnErr, IfErr};
 ghost use Rattle.std.specs.Io.KnownBytes.{Appends};
 ghost use Rattle.disks.specs.Held.{Replaces};
 ghost use Rattle.ring_saved.specs.Content.{content};
@@ -8,13 +8,14 @@ ghost use Rattle.ring_saved.specs.Spelling.{text};
 ghost use Rattle.ring_journal.specs.Beginnings.{CanBeSaved};
 ghost use Rattle.ring_commands.specs.CheckText.{legal_line};
 ghost use Rattle.ring_commands.specs.Faults.{IsSaveFault};
+ghost use Rattle.ring_commands.specs.Kept.{left_line};
 ghost use Rattle.ring_commands.specs.Handed.{IsHandOutRefusal, IsPrintRefusal, IsHanded, IsHandRefusal};
 ghost use Rattle.ring_commands.specs.Ran.{IsSaveRefusal};
 ghost use Rattle.ring_commands.specs.Reading.{names_stream};
 ghost use Rattle.ring_commands.specs.Worlds.{world};
 
-use crate::check::tell_sums;
 use crate::faults::ToolError;
+use crate::left::{LeftOut, tell_kept};
 use crate::reading::names_stream;
 use disks::{Contents, ContentsFault, Disk, ReplaceFault, replace};
 use ring_check::Summary;
@@ -79,7 +80,8 @@ fn save_value<'a, D: Disk>(
     }
 }
 
-/// Replaces the file of this name by one with the saved text of a value, and then writes the line of its sums.
+/// Replaces the file of this name by one with the saved text of a value, and then writes the line of its sums, and
+/// that of what is left out of it, if something is.
 ///
 /// # Errors
 ///
@@ -88,6 +90,7 @@ fn save_and_tell<'a, D: Disk, W: Write>(
     alloc: Global,
     disk: &mut D,
     value: &(Saved, Summary),
+    left: &LeftOut,
     file: &'a str,
     out: &mut W,
 ) -> Result<(), ToolError<'a>>
@@ -95,25 +98,29 @@ fn save_and_tell<'a, D: Disk, W: Write>(
     ensures stored { OnOk result (Replaces (D.holds disk.old) (D.holds disk.new) file.now
         (Some (text (content value.now.0)))) }
     ensures told { OnOk result
-        (Appends (W.contents out.old) (W.contents out.new) (legal_line value.now.1)) }
+        (Appends (W.contents out.old) (W.contents out.new)
+        (legal_line value.now.1 ++ left_line left.now.bytes left.now.bad)) }
     ensures err { IfErr result (λ e.
-        IsHandOutRefusal (Some file.now) (text (content value.now.0)) (legal_line value.now.1)
-        (D.holds disk.old) (D.holds disk.new) (W.contents out.old) (W.contents out.new) e) }
+        IsHandOutRefusal (Some file.now) (text (content value.now.0))
+        (legal_line value.now.1 ++ left_line left.now.bytes left.now.bad) (D.holds disk.old)
+        (D.holds disk.new) (W.contents out.old) (W.contents out.new) e) }
     ensures kept { IfErr result (λ e. e ≢ ToolError.Write → D.holds disk.new ≡ D.holds disk.old) }
     ensures nothing { IfErr result (λ e. e ≢ ToolError.Write → out.new ≡ out.old) }
 {
     save_value(alloc, disk, &value.0, file)?;
-    tell_sums(out, &value.1)?;
+    tell_kept(out, &value.1, left)?;
     Ok(())
 }
 
-/// Writes the saved text of a value to `out`, flushes it, and then writes the line of its sums to `err`.
+/// Writes the saved text of a value to `out`, flushes it, and then writes the line of its sums to `err`, and that of what
+/// is left out of it, if something is.
 ///
 /// # Errors
 ///
 /// `Write` where a writer fails: the bytes written until then are a prefix.
 fn print_and_tell<W: Write, E: Write>(
     value: &(Saved, Summary),
+    left: &LeftOut,
     out: &mut W,
     err: &mut E,
 ) -> Result<(), ToolError<'static>>
@@ -121,24 +128,60 @@ fn print_and_tell<W: Write, E: Write>(
     ensures text { OnOk result
         (Appends (W.contents out.old) (W.contents out.new) (text (content value.now.0))) }
     ensures told { OnOk result
-        (Appends (E.contents err.old) (E.contents err.new) (legal_line value.now.1)) }
+        (Appends (E.contents err.old) (E.contents err.new)
+        (legal_line value.now.1 ++ left_line left.now.bytes left.now.bad)) }
     ensures err { IfErr result (λ e. (e ≡ ToolError.Write)
-        × IsPrintRefusal (text (content value.now.0)) (legal_line value.now.1) (W.contents out.old)
+        × IsPrintRefusal (text (content value.now.0))
+        (legal_line value.now.1 ++ left_line left.now.bytes left.now.bad) (W.contents out.old)
         (W.contents out.new) (E.contents err.old) (E.contents err.new) e) }
 {
     write_saved(&value.0, out)?;
     let Ok(()) = out.flush() else {
         return Err(ToolError::Write);
     };
-    tell_sums(err, &value.1)?;
+    tell_kept(err, &value.1, left)?;
     Ok(())
 }
 
-/// Hands out a value and its sums, as the word NEW says: to a file and standard output, or to standard output and standard error.
+/// Hands out a value, its sums and what is left out of it, as the word NEW says: to a file and standard output, or to standard output and standard error.
 ///
 /// # Errors
 ///
 /// Those of [`save_and_tell`] or [`print_and_tell`].
+pub(crate) fn hand_over_kept<'a, D: Disk, W: Write, E: Write>(
+    alloc: Global,
+    disk: &mut D,
+    value: &(Saved, Summary),
+    left: &LeftOut,
+    word: &'a str,
+    out: &mut W,
+    err: &mut E,
+) -> Result<(), ToolError<'a>>
+    requires { CanBeSaved (content value.now.0) }
+    ensures ok { OnOk result (IsHanded word.now (text (content value.now.0))
+        (legal_line value.now.1 ++ left_line left.now.bytes left.now.bad)
+        (world (D.holds disk.old) None (W.contents out.old) (E.contents err.old))
+        (world (D.holds disk.new) None (W.contents out.new) (E.contents err.new))) }
+    ensures err { IfErr result (λ e. IsHandRefusal word.now (text (content value.now.0))
+        (legal_line value.now.1 ++ left_line left.now.bytes left.now.bad)
+        (world (D.holds disk.old) None (W.contents out.old) (E.contents err.old))
+        (world (D.holds disk.new) None (W.contents out.new) (E.contents err.new)) e) }
+    ensures kept { IfErr result (λ e. e ≢ ToolError.Write → D.holds disk.new ≡ D.holds disk.old) }
+    ensures nothing { IfErr result (λ e. e ≢ ToolError.Write → out.new ≡ out.old) }
+    ensures silent { names_stream word.now ≡ false → err.new ≡ err.old }
+{
+    if names_stream(word) {
+        print_and_tell(value, left, out, err)
+    } else {
+        save_and_tell(alloc, disk, value, left, word, out)
+    }
+}
+
+/// Hands out a value and its sums, of which nothing is left out.
+///
+/// # Errors
+///
+/// Those of [`hand_over_kept`].
 pub(crate) fn hand_over<'a, D: Disk, W: Write, E: Write>(
     alloc: Global,
     disk: &mut D,
@@ -160,9 +203,8 @@ pub(crate) fn hand_over<'a, D: Disk, W: Write, E: Write>(
     ensures nothing { IfErr result (λ e. e ≢ ToolError.Write → out.new ≡ out.old) }
     ensures silent { names_stream word.now ≡ false → err.new ≡ err.old }
 {
-    if names_stream(word) {
-        print_and_tell(value, out, err)
-    } else {
-        save_and_tell(alloc, disk, value, word, out)
+    match hand_over_kept(alloc, disk, value, &LeftOut::none(), word, out, err) {
+        Ok(()) => Ok(()),
+        Err(fault) => Err(fault),
     }
 }

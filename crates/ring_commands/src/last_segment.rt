@@ -1,32 +1,30 @@
 //! `recover` of a folder: the history of its last segment, and what came before it.
 
-ghost use Rattle.std.specs.Prelude.{◌≡◌, ◌≢◌, ◌+◌, ◌<◌, ◌^◌, ℕ, List, Option, false, None, Some, OnOk, IfOk, IfErr};
+ghost use Rattle.std.specs.Prelude.{◌≡◌, ◌≢◌, ◌+◌, ◌<◌, ◌^◌, ℕ, List, Option, false, None, OnOk, IfOk, IfErr};
 ghost use Rattle.ring_check.specs.Legal.{summary_of};
 ghost use Rattle.ring_saved.specs.Content.{content};
 ghost use Rattle.ring_journal.specs.Beginnings.{CanBeSaved};
-ghost use Rattle.segment_folder.specs.Names.{segment_file};
 ghost use Rattle.ring_segments.specs.Spelling.{HeadFits, head_of};
-ghost use Rattle.ring_segments.specs.Files.{IsFile};
-ghost use Rattle.ring_segments.specs.Chain.{file_in};
+ghost use Rattle.ring_segments.specs.Chain.{refused_head, refused_journal, line_in};
 ghost use Rattle.ring_commands.specs.Chained.{IsFolder};
-ghost use Rattle.ring_commands.specs.Named.{IsApart};
-ghost use Rattle.ring_commands.specs.Ran.{file_of};
+ghost use Rattle.ring_commands.specs.Kept.{IsFileKept, file_left, left_line};
 ghost use Rattle.ring_commands.specs.Reading.{names_stream};
-ghost use Rattle.ring_commands.specs.SegmentRecovered.{file_as, IsHeadTold, IsHeadCut, IsSegmentHanded, IsSegmentUnhanded, IsFolderRecovered, IsFolderUnrecovered, IsSegmentFault, IsSegmentApartRefusal};
+ghost use Rattle.ring_commands.specs.SegmentRecovered.{file_as, file_of_parts, IsFileFault, IsHeadTold, IsHeadCut, IsSegmentHanded, IsSegmentUnhanded, IsFolderRecovered, IsFolderUnrecovered, IsSegmentFault};
 ghost use Rattle.ring_commands.specs.Worlds.{world};
 
 use crate::chain::{folder_numbers, segment_bytes};
 use crate::faults::ToolError;
-use crate::handing::hand_over;
+use crate::handing::hand_over_kept;
+use crate::left::{LeftOut, bad_after};
+use crate::outside::keep_outside;
 use crate::reading::names_stream;
-use crate::recover::keep_word_apart;
+use crate::recover::kept_of;
 use disks::{Disk, FolderEntry};
 use ring_check::{Summary, check_saved};
-use ring_journal::recovered_can_be_saved;
+use ring_journal::RecoverError;
 use ring_requests::RecoverWords;
 use ring_saved::Saved;
-use ring_segments::{Segment, SegmentError, SegmentHead, put_head, read_segment};
-use segment_folder::segment_file;
+use ring_segments::{ReadError, SegmentError, SegmentHead, put_head, read_head};
 use std::alloc::Global;
 use std::io::Write;
 
@@ -36,29 +34,70 @@ pub(crate) struct RecoveredSegment {
     pub(crate) head: SegmentHead,
     /// The history, and its sums.
     pub(crate) value: (Saved, Summary),
+    /// What of the file is left out.
+    pub(crate) left: LeftOut,
 }
 
-/// A segment with the sums of its history.
-fn with_sums(
+/// Why a file is refused, by a refusal of its head.
+fn head_fault(error: ReadError) -> SegmentError
+    ensures { result ≡ refused_head error }
+{
+    match error {
+        ReadError::Syntax(line) => SegmentError::Syntax(line),
+        ReadError::Truncated => SegmentError::Truncated,
+        ReadError::OutOfMemory => SegmentError::OutOfMemory,
+    }
+}
+
+/// Why a file is refused, by a refusal of its journal, which comes after so many lines.
+fn journal_fault(lines: u64, error: RecoverError) -> SegmentError
+    requires { line_in error + lines < 2 ^ 64 }
+    ensures { result ≡ refused_journal lines error }
+{
+    match error {
+        RecoverError::Truncated => SegmentError::Truncated,
+        RecoverError::Syntax(line) => SegmentError::Syntax(line + lines),
+        RecoverError::Bad { line, kind } => SegmentError::Bad {
+            line: line + lines,
+            kind,
+        },
+        RecoverError::OutOfMemory => SegmentError::OutOfMemory,
+    }
+}
+
+/// The file with these bytes, as far as it is kept: its head, its history, and what is left out.
+///
+/// # Errors
+///
+/// The refusal of its head or of its journal.
+fn kept_file(
     alloc: Global,
     bytes: &[u8],
-    segment: Segment,
-) -> Result<RecoveredSegment, ToolError<'static>>
-    requires { IsFile (file_in bytes.now segment) }
-    ensures file { IfOk result (λ r. IsFile (file_as bytes.now r)) }
-    ensures sums { IfOk result (λ r. r.value.1 ≡ summary_of (content r.value.0)) }
-    ensures saved { IfOk result (λ r. CanBeSaved (content r.value.0)) }
-    ensures err { IfErr result (λ e. e ≡ ToolError.OutOfMemory) }
+    salvage: bool,
+) -> Result<(SegmentHead, Saved, LeftOut), SegmentError>
+    ensures ok { IfOk result (λ x.
+        (k : IsFileKept salvage (file_of_parts bytes.now x.0 x.1))
+        × (left_line x.2.bytes x.2.bad ≡ file_left k)) }
+    ensures err { IfErr result (λ e. IsFileFault salvage bytes.now e) }
 {
-    recovered_can_be_saved();
-    let Segment { head, saved, .. } = segment;
-    match check_saved(alloc, &saved) {
-        Ok(sums) => Ok(RecoveredSegment {
-            head,
-            value: (saved, sums),
-        }),
-        // the recovered history is legal, so this is out of memory
-        Err(_) => Err(ToolError::OutOfMemory),
+    let (head, journal) = match read_head(alloc, bytes) {
+        Ok(found) => found,
+        Err(error) => return Err(head_fault(error)),
+    };
+    let lines = 2 + head.bases.len() as u64;
+    match kept_of(alloc, journal, salvage) {
+        Ok((saved, left)) => {
+            let bad = bad_after(lines, left.bad);
+            Ok((
+                head,
+                saved,
+                LeftOut {
+                    bytes: left.bytes,
+                    bad,
+                },
+            ))
+        }
+        Err(error) => Err(journal_fault(lines, error)),
     }
 }
 
@@ -69,43 +108,30 @@ fn with_sums(
 /// `Segment` with the reason why nothing is, and `OutOfMemory`.
 fn recovered_segment<'a>(
     alloc: Global,
-    folder: &'a str,
+    words: &RecoverWords<'a>,
     number: u64,
     bytes: &[u8],
 ) -> Result<RecoveredSegment, ToolError<'a>>
-    ensures file { IfOk result (λ r. IsFile (file_as bytes.now r)) }
+    ensures file { IfOk result (λ r. (k : IsFileKept words.now.salvage (file_as bytes.now r))
+        × (left_line r.left.bytes r.left.bad ≡ file_left k)) }
     ensures sums { IfOk result (λ r. r.value.1 ≡ summary_of (content r.value.0)) }
     ensures saved { IfOk result (λ r. CanBeSaved (content r.value.0)) }
-    ensures err { IfErr result (λ e. IsSegmentFault folder.now number bytes.now e) }
+    ensures err { IfErr result (λ e.
+        IsSegmentFault words.now.salvage words.now.file.now number bytes.now e) }
 {
-    match read_segment(alloc, bytes) {
-        Ok(segment) => match with_sums(alloc, bytes, segment) {
-            Ok(recovered) => Ok(recovered),
-            Err(_) => Err(ToolError::OutOfMemory),
-        },
-        Err(SegmentError::OutOfMemory) => Err(ToolError::OutOfMemory),
-        Err(error) => Err(ToolError::Segment(folder, number, error)),
-    }
-}
-
-/// Checks that the file that is to be made, if the word names one, is not that of a segment.
-fn keep_segment_apart<'a, D: Disk>(
-    alloc: Global,
-    disk: &D,
-    folder: &str,
-    number: u64,
-    word: &'a str,
-) -> Result<(), ToolError<'a>>
-    ensures ok { OnOk result (IsApart (D.holds disk.now) (segment_file folder.now number)
-        (file_of (Some word.now))) }
-    ensures err { IfErr result (λ e. IsSegmentApartRefusal (file_of (Some word.now)) e) }
-{
-    let Ok(name) = segment_file(alloc, folder, number) else {
-        return Err(ToolError::OutOfMemory);
+    let (head, saved, left) = match kept_file(alloc, bytes, words.salvage) {
+        Ok(found) => found,
+        Err(SegmentError::OutOfMemory) => return Err(ToolError::OutOfMemory),
+        Err(error) => return Err(ToolError::Segment(words.file, number, error)),
     };
-    match keep_word_apart(disk, name.as_str(), word) {
-        Ok(()) => Ok(()),
-        Err(fault) => Err(fault),
+    match check_saved(alloc, &saved) {
+        Ok(sums) => Ok(RecoveredSegment {
+            head,
+            value: (saved, sums),
+            left,
+        }),
+        // the history that is kept is legal, so this is out of memory
+        Err(_) => Err(ToolError::OutOfMemory),
     }
 }
 
@@ -153,17 +179,27 @@ fn hand_out_segment<'a, D: Disk, W: Write, E: Write>(
     requires saved { CanBeSaved (content recovered.now.value.0) }
     ensures ok { OnOk result ((bytes : List ℕ) (early late : Option (List ℕ))
         → IsSegmentHanded word.now (file_as bytes recovered.now)
+        (left_line recovered.now.left.bytes recovered.now.left.bad)
         (world (D.holds disk.old) early (W.contents out.old) (E.contents err.old))
         (world (D.holds disk.new) late (W.contents out.new) (E.contents err.new))) }
     ensures err { IfErr result (λ e. (bytes : List ℕ) (early late : Option (List ℕ))
         → IsSegmentUnhanded word.now (file_as bytes recovered.now)
+        (left_line recovered.now.left.bytes recovered.now.left.bad)
         (world (D.holds disk.old) early (W.contents out.old) (E.contents err.old))
         (world (D.holds disk.new) late (W.contents out.new) (E.contents err.new)) e) }
     ensures kept { IfErr result (λ e. e ≢ ToolError.Write → D.holds disk.new ≡ D.holds disk.old) }
     ensures nothing { IfErr result (λ e. e ≢ ToolError.Write → out.new ≡ out.old) }
     ensures silent { names_stream word.now ≡ false → err.new ≡ err.old }
 {
-    match hand_over(alloc, disk, &recovered.value, word, out, err) {
+    match hand_over_kept(
+        alloc,
+        disk,
+        &recovered.value,
+        &recovered.left,
+        word,
+        out,
+        err,
+    ) {
         Ok(()) => {}
         Err(fault) => return Err(fault),
     }
@@ -178,8 +214,8 @@ fn hand_out_segment<'a, D: Disk, W: Write, E: Write>(
 ///
 /// # Errors
 ///
-/// Those of [`folder_numbers`] and [`segment_bytes`]; `SameFile` if the other name is that of the segment; `Segment` if nothing
-/// is recovered: no file is made then. Those of handing out, as for a journal.
+/// Those of [`folder_numbers`] and [`segment_bytes`]; `InFolder` if the other name is that of a file in the folder; `Segment` if
+/// nothing is recovered: no file is made then. Those of handing out, as for a journal.
 pub(crate) fn recover_folder<'a, D: Disk, W: Write, E: Write>(
     alloc: Global,
     disk: &mut D,
@@ -207,11 +243,11 @@ pub(crate) fn recover_folder<'a, D: Disk, W: Write, E: Write>(
         Ok(bytes) => bytes,
         Err(fault) => return Err(fault),
     };
-    match keep_segment_apart(alloc, disk, words.file, numbers.last, words.new) {
+    match keep_outside(alloc, disk, words.file, entries, words.new) {
         Ok(()) => {}
         Err(fault) => return Err(fault),
     }
-    let recovered = match recovered_segment(alloc, words.file, numbers.last, bytes.as_slice()) {
+    let recovered = match recovered_segment(alloc, words, numbers.last, bytes.as_slice()) {
         Ok(recovered) => recovered,
         Err(fault) => return Err(fault),
     };

@@ -144,15 +144,49 @@ pub fn read_named<'a, D: Disk, I: Read>(
     }
 }
 
-/// Checks that a file that is to be made is not the one that was read. Standard input is not a file.
+/// The name by which the system knows standard input.
+const STANDARD_INPUT: &str = "/dev/stdin";
+
+/// The fault of a file that was to be made, but which the process reads or writes by a standard descriptor.
+fn stream_fault<'a, D: Disk>(disk: &D, read: &str, made: &'a str) -> ToolError<'a>
+    ensures { IsApartRefusal (Some made.now) result }
+{
+    if names_stream(read) && matches!(disk.is_one_file(STANDARD_INPUT, made), Ok(true)) {
+        ToolError::SameFile(made)
+    } else {
+        ToolError::Stream(made)
+    }
+}
+
+/// Checks that a file that is to be made is not read or written by a standard descriptor, and can be made.
 ///
 /// # Errors
 ///
-/// `SameFile` with the name of the file to be made, and `Save` with it if it cannot be looked at.
+/// Those of [`stream_fault`], and `Save` with its name if it cannot be looked at or there is no folder for it.
+fn keep_from_streams<'a, D: Disk>(disk: &D, read: &str, made: &'a str) -> Result<(), ToolError<'a>>
+    ensures { IfErr result (λ e. IsApartRefusal (Some made.now) e) }
+{
+    match disk.is_standard(made) {
+        Ok(false) => Ok(()),
+        Ok(true) => Err(stream_fault(disk, read, made)),
+        Err(_) => Err(ToolError::Save(made)),
+    }
+}
+
+/// Checks that a file that is to be made is not the one that was read, and is not read or written by a standard descriptor.
+///
+/// # Errors
+///
+/// `SameFile` with the name of the file to be made, if it is that one, also if that is standard input; `Stream` with it if it is
+/// another one of a standard descriptor; and `Save` with it if it cannot be looked at or made.
 pub fn keep_apart<'a, D: Disk>(disk: &D, read: &str, made: &'a str) -> Result<(), ToolError<'a>>
     ensures ok { OnOk result (IsApart (D.holds disk.now) read.now (Some made.now)) }
     ensures err { IfErr result (λ e. IsApartRefusal (Some made.now) e) }
 {
+    match keep_from_streams(disk, read, made) {
+        Ok(()) => {}
+        Err(fault) => return Err(fault),
+    }
     if names_stream(read) {
         return Ok(());
     }

@@ -1,10 +1,10 @@
 //! `recover`: the history of a journal that was cut off anywhere.
 
-ghost use Rattle.std.specs.Prelude.{◌≡◌, ◌≢◌, false, Some, OnOk, IfOk, IfErr};
+ghost use Rattle.std.specs.Prelude.{◌≡◌, ◌≢◌, ◌-◌, ℕ, length, false, Some, OnOk, IfOk, IfErr};
 ghost use Rattle.ring_check.specs.Legal.{summary_of};
 ghost use Rattle.ring_saved.specs.Content.{content};
 ghost use Rattle.ring_journal.specs.Beginnings.{CanBeSaved};
-ghost use Rattle.ring_journal.specs.Recovery.{IsRecovered};
+ghost use Rattle.ring_commands.specs.Kept.{IsKept, IsUnkept};
 ghost use Rattle.ring_commands.specs.Named.{IsApart, IsApartRefusal};
 ghost use Rattle.ring_commands.specs.Ran.{file_of};
 ghost use Rattle.ring_commands.specs.Reading.{names_stream};
@@ -13,33 +13,84 @@ ghost use Rattle.ring_commands.specs.Worlds.{world};
 
 use crate::check::entries_of;
 use crate::faults::ToolError;
-use crate::handing::hand_over;
+use crate::handing::hand_over_kept;
 use crate::last_segment::recover_folder;
+use crate::left::LeftOut;
 use crate::reading::{keep_apart, names_stream, read_named};
 use disks::Disk;
 use ring_check::{Summary, check_saved};
-use ring_journal::{recover_journal, recovered_can_be_saved};
+use ring_journal::{RecoverError, recover_journal};
 use ring_requests::RecoverWords;
+use ring_salvage::salvage_journal;
 use ring_saved::Saved;
 use std::alloc::Global;
 use std::io::{Read, Write};
 
-/// Returns the history of the bytes of a journal, and its sums.
+/// The history that is kept of the bytes of a journal, and what is left out of it.
 ///
 /// # Errors
 ///
-/// The refusal of `recover_journal` for bytes of which nothing is recovered, and `OutOfMemory`.
-fn recover_with_sums(alloc: Global, bytes: &[u8]) -> Result<(Saved, Summary), ToolError<'static>>
-    ensures ok { IfOk result (λ x. IsRecovered bytes.now (content x.0)) }
-    ensures sums { IfOk result (λ x. x.1 ≡ summary_of (content x.0)) }
-    ensures saved { IfOk result (λ x. CanBeSaved (content x.0)) }
-    ensures err { IfErr result (λ e. IsRecoveryRefusal bytes.now e) }
+/// The refusal of `recover_journal` for bytes of which nothing is recovered, or that of `salvage_journal` if they are to be salvaged.
+pub(crate) fn kept_of(
+    alloc: Global,
+    bytes: &[u8],
+    salvage: bool,
+) -> Result<(Saved, LeftOut), RecoverError>
+    ensures ok { IfOk result (λ x. (many : ℕ)
+        × IsKept salvage bytes.now (content x.0) many x.1.bad
+        × (x.1.bytes ≡ length bytes.now - many)) }
+    ensures err { IfErr result (λ e. IsUnkept salvage bytes.now e) }
 {
-    recovered_can_be_saved();
-    let saved = recover_journal(alloc, bytes)?;
+    if !salvage {
+        return match recover_journal(alloc, bytes) {
+            Ok(saved) => Ok((saved, LeftOut::none())),
+            Err(error) => Err(error),
+        };
+    }
+    match salvage_journal(alloc, bytes) {
+        Ok(found) => {
+            let left = LeftOut {
+                bytes: (bytes.len() - found.kept) as u64,
+                bad: found.bad,
+            };
+            Ok((found.saved, left))
+        }
+        Err(error) => Err(error),
+    }
+}
+
+/// A history that is kept of a journal.
+#[derive(Drop)]
+pub(crate) struct KeptJournal {
+    /// The history, and its sums.
+    pub(crate) value: (Saved, Summary),
+    pub(crate) left: LeftOut,
+}
+
+/// The same with its sums.
+///
+/// # Errors
+///
+/// Those of [`kept_of`], and `OutOfMemory`.
+fn kept_with_sums(
+    alloc: Global,
+    bytes: &[u8],
+    salvage: bool,
+) -> Result<KeptJournal, ToolError<'static>>
+    ensures ok { IfOk result (λ k. (many : ℕ)
+        × IsKept salvage bytes.now (content k.value.0) many k.left.bad
+        × (k.left.bytes ≡ length bytes.now - many)) }
+    ensures sums { IfOk result (λ k. k.value.1 ≡ summary_of (content k.value.0)) }
+    ensures saved { IfOk result (λ k. CanBeSaved (content k.value.0)) }
+    ensures err { IfErr result (λ e. IsRecoveryRefusal salvage bytes.now e) }
+{
+    let (saved, left) = kept_of(alloc, bytes, salvage)?;
     match check_saved(alloc, &saved) {
-        Ok(sums) => Ok((saved, sums)),
-        // the recovered history is legal, so this is out of memory
+        Ok(sums) => Ok(KeptJournal {
+            value: (saved, sums),
+            left,
+        }),
+        // the history that is kept is legal, so this is out of memory
         Err(_) => Err(ToolError::OutOfMemory),
     }
 }
@@ -65,7 +116,8 @@ pub(crate) fn keep_word_apart<'a, D: Disk>(
 }
 
 /// Recovers a journal: reads it, which stays as it is, replaces the other file by the text of the recovered history, and writes the
-/// line of its sums to `out`; where the other is `-`, the text goes to `out` and the line to `err`.
+/// line of its sums to `out`, and that of what is left out, if something is; where the other is `-`, the text goes to `out` and the
+/// lines to `err`.
 ///
 /// # Errors
 ///
@@ -96,8 +148,8 @@ fn recover_text<'a, D: Disk, I: Read, W: Write, E: Write>(
 {
     let bytes = read_named(alloc, disk, words.file, input)?;
     keep_word_apart(disk, words.file, words.new)?;
-    let value = recover_with_sums(alloc, bytes.as_slice())?;
-    match hand_over(alloc, disk, &value, words.new, out, err) {
+    let kept = kept_with_sums(alloc, bytes.as_slice(), words.salvage)?;
+    match hand_over_kept(alloc, disk, &kept.value, &kept.left, words.new, out, err) {
         Ok(()) => Ok(()),
         Err(fault) => Err(fault),
     }

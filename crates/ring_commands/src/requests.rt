@@ -5,7 +5,7 @@ ghost use Rattle.ring_commands.specs.Answered.{IsAnswer, IsRefusal, IsOfLines, I
 ghost use Rattle.ring_commands.specs.Worlds.{world};
 
 use crate::faults::ToolError;
-use crate::{check, fresh, picture, recover, run, serve, step, upgrade};
+use crate::{check, fresh, join, picture, recover, run, serve, step, upgrade};
 use disks::Disk;
 use ring_requests::Request;
 use std::io::{Read, Write};
@@ -46,6 +46,7 @@ pub fn answer<'a, R: AllocGlobal + Threads + Wait + Sync, D: Disk, I: Read, O: W
         Request::Picture(words) => picture::run(rt.alloc(), disk, words, input, out, err),
         Request::Upgrade(words) => upgrade::run(rt.alloc(), disk, words, input, out, err),
         Request::Recover(words) => recover::run(rt.alloc(), disk, words, input, out, err),
+        Request::Join(words) => join::run(rt.alloc(), disk, words, out, err),
         Request::New(words) => fresh::run(rt.alloc(), words, out),
         Request::Serve(words) => serve::run(rt.alloc(), disk, words, input, out, err),
     }

@@ -1,13 +1,13 @@
-//! Where served rings resume: at the end of a history, or of a journal.
+//! Where served rings resume: at the end of a history, or of a journal; and a journal that is taken back.
 
-ghost use Rattle.std.specs.Prelude.{◌≡◌, Some, IfOk, IfErr, length};
+ghost use Rattle.std.specs.Prelude.{◌≡◌, Some, IsFalse, IfOk, IfErr, length};
 ghost use Rattle.std.specs.Option.{option_map};
 ghost use Rattle.ring_serve.specs.Starting.{AreResumed};
 ghost use Rattle.ring_commands.specs.Served.{CanBegin, CanBeginWith, IsHistory, IsGivenHistory, IsNoted, IsHistoryRefusal, IsGivenRefusal, IsUngiven, IsJournalRefusal, IsStartRefusal};
 
 use crate::check::legal_saved;
 use crate::faults::ToolError;
-use crate::reading::read_file;
+use crate::reading::{names_stream, read_file};
 use disks::Disk;
 use ring_journal::recover_journal;
 use ring_saved::Saved;
@@ -40,6 +40,10 @@ pub(crate) fn history<'a, D: Disk>(
     ensures rings { IfOk result (λ saved. CanBegin (length saved.rings.items)) }
     ensures err { IfErr result (λ e. IsHistoryRefusal (D.holds disk.now) name.now e) }
 {
+    if names_stream(name) {
+        // standard input has the lines
+        return Err(ToolError::Read(name));
+    }
     let bytes = match read_file(alloc, disk, name) {
         Ok(bytes) => bytes,
         Err(fault) => return Err(fault),
@@ -111,5 +115,14 @@ pub(crate) fn value_to_resume<'a, D: Disk>(
     match recover_journal(alloc, bytes.as_slice()) {
         Ok(now) => Ok(now),
         Err(error) => Err(ToolError::Journal(name, error)),
+    }
+}
+
+/// Removes a journal that was made and then refused, before anything was in it.
+pub(crate) fn take_back<D: Disk>(disk: &mut D, name: &str, made: bool, refused: bool)
+    ensures { IsFalse refused → D.holds disk.new ≡ D.holds disk.old }
+{
+    if made && refused {
+        let _ = disk.discard(name);
     }
 }

@@ -50,11 +50,11 @@ pub fn run_settings<R: Threads + Wait + Sync>(
     Ok(outcome)
 }
 
-/// Checks that the file for the history, if one is named, is not the one that the settings were read from.
+/// Checks that the file for the history, if one is named, is not the one that the settings were read from, and can be made.
 ///
 /// # Errors
 ///
-/// `SameFile` with its name where it is, and `Save` with it where it cannot be looked at.
+/// Those of [`keep_apart`].
 fn keep_history_apart<'a, D: Disk>(disk: &D, words: &RunWords<'a>) -> Result<(), ToolError<'a>>
     ensures ok { OnOk result
         (IsApart (D.holds disk.now) words.now.settings.now (history_file words.now)) }

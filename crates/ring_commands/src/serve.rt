@@ -20,7 +20,8 @@ ghost use Rattle.ring_commands.specs.Worlds.{world};
 
 use crate::faults::ToolError;
 use crate::handing::save_fault;
-use crate::resuming::{given_history, needed, resume_rings, value_to_resume};
+use crate::reading::names_stream;
+use crate::resuming::{given_history, needed, resume_rings, take_back, value_to_resume};
 use crate::serve_folder::run_in_folder;
 use disks::{Contents, ContentsFault, Disk, replace};
 use ring_journal::put_first_line;
@@ -159,7 +160,7 @@ fn serve_plain<D: Disk, I: Read, W: Write>(
         (D.holds disk.new) (I.remaining input.old) (I.remaining input.new) (W.contents out.old)
         (W.contents out.new)) }
     ensures err { IfErr result (λ e. IsServingFault None e
-        × IsServedPart (terms_of false permits.entry) served.old (I.remaining input.old)
+        × IsServedPart (terms_of None permits.entry) served.old (I.remaining input.old)
         (I.remaining input.new) (W.contents out.old) (W.contents out.new)) }
 {
     let mut journal: Option<Journal<'_, Sink>> = None;
@@ -184,7 +185,7 @@ fn serve_with_journal<'a, D: Disk, I: Read, W: Write>(
         (D.holds disk.old) (D.holds disk.new) (D.Grown.contents journal) (I.remaining input.old)
         (I.remaining input.new) (W.contents out.old) (W.contents out.new)) }
     ensures err { IfErr result (λ e. IsServingFault (Some name.now) e
-        × IsServedPart (terms_of true permits.entry) served.old (I.remaining input.old)
+        × IsServedPart (terms_of (Some name.now) permits.entry) served.old (I.remaining input.old)
         (I.remaining input.new) (W.contents out.old) (W.contents out.new)) }
 {
     let mut kept = Some(Journal {
@@ -319,8 +320,50 @@ fn run_without<D: Disk, I: Read, W: Write>(
     }
 }
 
-/// The rings that are served with a journal, when all lines have been. Its file is locked from before it is read.
+/// The rings that are served with a journal, when all lines have been. Its file is there, and is locked from before it is read.
 fn run_with_journal<'a, D: Disk, I: Read, W: Write>(
+    alloc: Global,
+    disk: &mut D,
+    saved: Option<Saved>,
+    name: &'a str,
+    words: &ServeWords<'a>,
+    input: &mut I,
+    out: &mut W,
+) -> Result<Served, ToolError<'a>>
+    requires rings { CanBeginWith saved }
+    ensures ok { IfOk result (λ end. (from : Saved)
+        × IsNoted (D.holds disk.old) name.now saved from
+        × (start : List Standing)
+        × AreResumed start from.rings.items
+        × IsServedNoted (permits_of words.now) name.now start end (D.holds disk.old)
+        (D.holds disk.new) (I.remaining input.old) (I.remaining input.new) (W.contents out.old)
+        (W.contents out.new)) }
+    ensures err { IfErr result (λ e.
+        (IsUnserved (I.remaining input.old) (I.remaining input.new) (W.contents out.old)
+        (W.contents out.new)
+        × IsJournalRefusal (D.holds disk.old) name.now saved e)
+        ⊎ ((from : Saved)
+        × IsNoted (D.holds disk.old) name.now saved from
+        × IsUnfinished (permits_of words.now) (Some name.now) from.rings.items
+        (I.remaining input.old) (I.remaining input.new) (W.contents out.old) (W.contents out.new)
+        e)) }
+{
+    let lock = match open_journal(disk, name, false) {
+        Ok(lock) => lock,
+        Err(fault) => return Err(fault),
+    };
+    let saved = match value_to_resume(alloc, disk, name, saved) {
+        Ok(saved) => saved,
+        Err(fault) => return Err(fault),
+    };
+    let end = run_with_locked_journal(alloc, disk, &saved, name, words, input, out);
+    drop(lock);
+    end
+}
+
+/// The rings that are served with a journal, when all lines have been. Its file is made, empty, if it is not there, and removed
+/// after a refusal that leaves it so.
+fn run_with_made_journal<'a, D: Disk, I: Read, W: Write>(
     alloc: Global,
     disk: &mut D,
     saved: Option<Saved>,
@@ -342,16 +385,11 @@ fn run_with_journal<'a, D: Disk, I: Read, W: Write>(
         (I.remaining input.old) (I.remaining input.new) (W.contents out.old) (W.contents out.new)
         e) }
 {
-    let lock = match open_journal(disk, name, false) {
-        Ok(lock) => lock,
-        Err(fault) => return Err(fault),
+    let Ok(made) = disk.create(name) else {
+        return Err(ToolError::Save(name));
     };
-    let saved = match value_to_resume(alloc, disk, name, saved) {
-        Ok(saved) => saved,
-        Err(fault) => return Err(fault),
-    };
-    let end = run_with_locked_journal(alloc, disk, &saved, name, words, input, out);
-    drop(lock);
+    let end = run_with_journal(alloc, disk, saved, name, words, input, out);
+    take_back(disk, name, made, end.is_err());
     end
 }
 
@@ -374,13 +412,16 @@ fn run_kept<'a, D: Disk, I: Read, W: Write>(
         IsRefusedTo words.now (D.holds disk.old) saved (I.remaining input.old)
         (I.remaining input.new) (W.contents out.old) (W.contents out.new) e) }
 {
+    if names_stream(name) {
+        return Err(ToolError::Save(name));
+    }
     if disk.list(name).is_ok() {
         return match run_in_folder(alloc, disk, words, name, saved, input, out) {
             Ok(end) => Ok(end),
             Err(fault) => Err(fault),
         };
     }
-    match run_with_journal(alloc, disk, saved, name, words, input, out) {
+    match run_with_made_journal(alloc, disk, saved, name, words, input, out) {
         Ok(end) => Ok(end),
         Err(fault) => Err(fault),
     }

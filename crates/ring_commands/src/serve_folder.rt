@@ -12,7 +12,7 @@ ghost use Rattle.ring_serve.specs.Starting.{AreResumedAfter};
 ghost use Rattle.chain_serve.specs.Segments.{Moment};
 ghost use Rattle.ring_commands.specs.Chained.{IsFolderFault};
 ghost use Rattle.ring_commands.specs.Served.{IsUnserved, IsServingFault};
-ghost use Rattle.ring_commands.specs.ServedFolder.{place_of, IsFirst, IsLast, StandsAmong, StandsIn, IsServedIn, IsLastFault, IsLastRefusal, IsFirstRefusal, IsRun, IsRunPart, IsUnknownAmong, IsUnknown, SavesApart, IsSavesRefusal, IsUnkeptFolder, IsRefusedIn};
+ghost use Rattle.ring_commands.specs.ServedFolder.{place_of, IsFirst, IsLast, StandsAmong, StandsIn, IsServedIn, IsLastFault, IsLastRefusal, IsFirstRefusal, IsRun, IsRunPart, IsUnknownAmong, IsUnknown, SavesApart, IsSavesRefusal, IsUnkeptFolder, IsLocked, IsRefusedIn};
 
 use crate::chain::{folder_numbers, segment_bytes};
 use crate::faults::ToolError;
@@ -245,7 +245,7 @@ fn keep_saves_apart<'a, D: Disk>(
     }
 }
 
-/// The lock of a folder, which one process has at a time.
+/// The lock of a folder, which one process has at a time. Its file is made, if it is not there.
 ///
 /// # Errors
 ///
@@ -255,11 +255,14 @@ fn lock_folder<'a, D: Disk>(
     disk: &mut D,
     folder: &'a str,
 ) -> Result<D::Grown, ToolError<'a>>
-    ensures kept { D.holds disk.new ≡ D.holds disk.old }
+    ensures locked { OnOk result (IsLocked (D.holds disk.old) (D.holds disk.new) folder.now) }
     ensures err { IfErr result (λ e. IsUnkeptFolder folder.now e) }
 {
     let Ok(name) = lock_file(alloc, folder) else {
         return Err(ToolError::OutOfMemory);
+    };
+    let Ok(_) = disk.create(name.as_str()) else {
+        return Err(ToolError::Save(folder));
     };
     match open_journal(disk, name.as_str(), false) {
         Ok(lock) => Ok(lock),

@@ -52,6 +52,7 @@ bad_list (tool.Read a) h = absurd (false≢true h)
 bad_list (tool.TooLarge a) h = absurd (false≢true h)
 bad_list (tool.Save a) h = absurd (false≢true h)
 bad_list (tool.SameFile a) h = absurd (false≢true h)
+bad_list (tool.Stream a) h = absurd (false≢true h)
 bad_list tool.Write h = absurd (false≢true h)
 bad_list tool.OutOfMemory h = absurd (false≢true h)
 bad_list (tool.NoRing a) h = absurd (false≢true h)
@@ -70,6 +71,8 @@ bad_list (tool.Missing a b) h = absurd (false≢true h)
 bad_list (tool.UnreadSegment a b) h = absurd (false≢true h)
 bad_list (tool.LargeSegment a b) h = absurd (false≢true h)
 bad_list (tool.Segment a b d) h = absurd (false≢true h)
+bad_list (tool.Begins a b) h = absurd (false≢true h)
+bad_list (tool.InFolder a) h = absurd (false≢true h)
 
 -- a request that serves lines is not refused for a list
 no_lines : (request : Request) (was is : World) (e : ToolError) → is_bad_list e ≡ true → IsRefusal request was is e → IsOfLines request → ⊥
@@ -79,6 +82,7 @@ no_lines (asked.Check words) was is e bad refused lines = lines
 no_lines (asked.Picture words) was is e bad refused lines = lines
 no_lines (asked.Upgrade words) was is e bad refused lines = lines
 no_lines (asked.Recover words) was is e bad refused lines = lines
+no_lines (asked.Join words) was is e bad refused lines = lines
 no_lines (asked.New words) was is e bad refused lines = lines
 no_lines (asked.Serve words) was is e bad refused lines =
     no_list words was is (subst (λ (x : ToolError). IsServeRefusal words was is x) (bad_list e bad) refused)

@@ -57,6 +57,17 @@ pub struct RecoverWords<'a> {
     pub file: &'a str,
     /// The name of the file that is made for the history; `-` is standard output.
     pub new: &'a str,
+    /// Whether a bad line is left out, and all lines after it.
+    pub salvage: bool,
+}
+
+/// The words of `join`.
+#[derive(Clone, Copy)]
+pub struct JoinWords<'a> {
+    /// The name of the folder of segments.
+    pub folder: &'a str,
+    /// The name of the file that is made for the history; `-` is standard output.
+    pub new: &'a str,
 }
 
 /// A ring's size, as it was given.
@@ -101,6 +112,7 @@ pub enum Request<'a> {
     Picture(PictureWords<'a>),
     Upgrade(UpgradeWords<'a>),
     Recover(RecoverWords<'a>),
+    Join(JoinWords<'a>),
     New(NewWords),
     Serve(ServeWords<'a>),
 }

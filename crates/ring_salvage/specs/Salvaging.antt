@@ -18,39 +18,42 @@ named_line OutOfMemory = None
 abbrev pub IsLineStart : List ℕ → ℕ → Type 0
 IsLineStart bytes place = (place ≡ 0) ⊎ (slice_index bytes (place - 1) ≡ 10)
 
--- The line that begins at this place is bad: with it, and maybe with more behind it, the bytes are
--- refused, and the refusal names it.
-pub record IsBadFrom (bytes : List ℕ) (place line : ℕ) : Type 0 where
+-- A bad line begins at this place, which the refusal names: with that line, and maybe with more
+-- after it, the bytes are refused so.
+pub record IsBadFrom (bytes : List ℕ) (place : ℕ) (e : RecoverError) : Type 0 where
+  pub line : ℕ
   pub begins : IsLineStart bytes place
   pub number : line_of bytes place ≡ line
+  pub named : named_line e ≡ Some line
   pub most : ℕ
   pub longer : place < most
   pub within : most ≤ length bytes
-  pub error : RecoverError
-  pub refused : IsRightRecovery (take most bytes) (Err error)
-  pub named : named_line error ≡ Some line
+  pub refused : IsRightRecovery (take most bytes) (Err e)
 
--- the bytes from this place on are left out, if there are some: a bad line begins there
-abbrev pub AreLeftOut : List ℕ → ℕ → ℕ → Type 0
-AreLeftOut bytes place line = (place ≤ length bytes) × (place < length bytes → IsBadFrom bytes place line)
+-- nothing is left out after this place, or all from a bad line on that begins there
+abbrev pub AreLeftOut : List ℕ → ℕ → Option RecoverError → Type 0
+AreLeftOut bytes place None = place ≡ length bytes
+AreLeftOut bytes place (Some e) = IsBadFrom bytes place e
 
--- The history is that of the bytes in front of a bad line, or of all of them if no line is bad.
-pub record IsSalvaged (bytes : List ℕ) (kept line : ℕ) (c : Content) : Type 0 where
-  pub recovered : IsRecovered (take kept bytes) c
-  pub left_out : AreLeftOut bytes kept line
+-- The history is that of the bytes in front of a bad line, or of all of them if no line is bad; it
+-- is legal.
+pub record IsSalvaged (bytes : List ℕ) (kept : ℕ) (bad : Option RecoverError) (c : Content) : Type 0
+  where
+    pub recovered : IsRecovered (take kept bytes) c
+    pub left_out : AreLeftOut bytes kept bad
 
 -- Nothing is saved: the bytes are refused so, and their bad line is in the start of the journal,
 -- which the bytes in front of it do not hold.
 pub record IsLost (bytes : List ℕ) (e : RecoverError) : Type 0 where
   pub refused : IsRightRecovery bytes (Err e)
   pub kept : ℕ
-  pub line : ℕ
-  pub left_out : AreLeftOut bytes kept line
+  pub bad : Option RecoverError
+  pub left_out : AreLeftOut bytes kept bad
   pub short : IsRightRecovery (take kept bytes) (Err Truncated)
 
 -- The right answer, memory aside.
 abbrev pub IsRightSalvage : List ℕ → Result Salvaged RecoverError → Type 0
-IsRightSalvage bytes (Ok s) = IsSalvaged bytes s.kept s.line (content s.saved)
+IsRightSalvage bytes (Ok s) = IsSalvaged bytes s.kept s.bad (content s.saved)
 IsRightSalvage bytes (Err OutOfMemory) = Unit {0}
 IsRightSalvage bytes (Err e) = IsLost bytes e
 

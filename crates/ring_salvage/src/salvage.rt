@@ -16,8 +16,8 @@ pub struct Salvaged {
     pub saved: Saved,
     /// How many bytes it is recovered of; those after them are left out.
     pub kept: usize,
-    /// The number of the bad line, from 1, if bytes are left out.
-    pub line: u64,
+    /// The refusal that names the bad line where those begin; none if nothing is left out.
+    pub bad: Option<RecoverError>,
 }
 
 /// The line that a refusal names.
@@ -103,22 +103,22 @@ pub fn salvage_journal(alloc: Global, bytes: &[u8]) -> Result<Salvaged, RecoverE
     ensures { IsRightSalvage bytes.now result }
 {
     let mut kept = bytes.len();
-    let mut line: u64 = 0;
+    let mut bad: Option<RecoverError> = None;
     let mut first: Option<RecoverError> = None;
     'cuts: loop {
         let error = match recover_journal(alloc, &bytes[..kept]) {
-            Ok(saved) => return Ok(Salvaged { saved, kept, line }),
+            Ok(saved) => return Ok(Salvaged { saved, kept, bad }),
             Err(error) => error,
         };
-        let Some(bad) = named_line(&error) else {
+        let Some(line) = named_line(&error) else {
             return Err(lost(first, error));
         };
-        let Some(start) = bad_start(bytes, bad, kept) else {
+        let Some(start) = bad_start(bytes, line, kept) else {
             // the line that is named is among the bytes, so this does not come
             return Err(RecoverError::OutOfMemory);
         };
         first = Some(first_of(first, error));
         kept = start;
-        line = bad;
+        bad = Some(error);
     }
 }

@@ -1,6 +1,6 @@
 -- Parts of the lines that are served: whether a segment is over after a line, and where a part ends.
 use Rattle.std.proofs.Common.{◌≡◌, ℕ, ◌+◌, ◌-◌, ◌≤◌, Bool, true, false, List, [], ◌∷◌, ◌++◌, length, take, drop, Option, Some, None, refl, sym, ap, subst, ◌∙◌, append_assoc, arith}
-use Rattle.std.specs.Prelude.{is_some}
+use Rattle.std.specs.Prelude.{IfSome, is_some}
 use Rattle.std.proofs.lemmas.Bool.{false≢true}
 use Rattle.std.proofs.lemmas.List.{append-nil, take-append-drop, drop-drop, drop-take, length-take}
 use Rattle.disks.specs.Held.{Held}
@@ -11,7 +11,7 @@ use Rattle.ring_serve.specs.Turns.{Turn, turn_seen_among}
 use Rattle.ring_serve.specs.Due.{is_due, is_due_at}
 use Rattle.ring_serve.specs.Permits.{Terms, terms_of, IsOpen}
 use Rattle.std.specs.Io.KnownBytes.{Consumes}
-use Rattle.ring_serve.specs.Serving.{Written, IsTurnOn, is_over_at, IsOver, Rests, Stops, HasBegun, IsTaken, ServesPart, IsEnding, ServesSomeOf, AreTold, ServesAll, ServesSome}
+use Rattle.ring_serve.specs.Serving.{Written, IsTurnOn, is_over_at, IsOver, Rests, Stops, HasBegun, IsTaken, HasRead, ServesPart, IsEnding, ServesSomeOf, AreTold, ServesAll, ServesSome}
 use Rattle.ring_serve.specs.declared.serving.Ending.{Ending}
 use Rattle.ring_serve.specs.declared.serving.Ending.TheVariants as ending
 use Rattle.ring_serve.specs.declared.permits.Permits.{Permits}
@@ -21,7 +21,7 @@ use Rattle.text_lines.proofs.Writing.{appends_nil}
 
 over_at : (refusing : Option Refusal) (limit : Option ℕ) (faults : Bool) (old new : List Standing) (line : List ℕ) (ring : ℕ) (m : CallAnswer) (over : Bool) → is_due limit old ≡ is_some refusing → IsTurnOn refusing faults old line (turn_seen_among ring new m) →
     ((l : ℕ) → is_due (Some l) old ≡ false → is_due (Some l) new ≡ is_due_at (Some l) new ring) → over ≡ is_over_at refusing limit new ring →
-    (over ≡ true → is_due limit new ≡ true) × (over ≡ false → is_due limit new ≡ is_some refusing)
+    (over ≡ true → (is_due limit new ≡ true) × (refusing ≡ None)) × (over ≡ false → is_due limit new ≡ is_some refusing)
 over_at (Some why) limit faults old new line ring m over goes turn due is =
     let same : new ≡ old = ap (λ (x : Turn (List Standing)). x.leaves) turn in (
       (λ t. absurd (false≢true (sym is ∙ t))),
@@ -30,9 +30,9 @@ over_at (Some why) limit faults old new line ring m over goes turn due is =
 over_at None None faults old new line ring m over goes turn due is = ((λ t. absurd (false≢true (sym is ∙ t))), (λ f. refl))
 over_at None (Some l) faults old new line ring m over goes turn due is =
     let after : is_due (Some l) new ≡ is_due_at (Some l) new ring = due l goes in
-    ((λ t. after ∙ (sym is ∙ t)), (λ f. after ∙ (sym is ∙ f)))
+    ((λ t. (after ∙ (sym is ∙ t), refl)), (λ f. after ∙ (sym is ∙ f)))
 
-over_by : (terms : Terms) (rings : List Standing) (over : Bool) → (over ≡ true → is_due terms.limit rings ≡ true) × (over ≡ false → is_due terms.limit rings ≡ is_some terms.refusing) → IsOver over terms rings
+over_by : (terms : Terms) (rings : List Standing) (over : Bool) → (over ≡ true → (is_due terms.limit rings ≡ true) × (terms.refusing ≡ None)) × (over ≡ false → is_due terms.limit rings ≡ is_some terms.refusing) → IsOver over terms rings
 over_by terms rings true both = both.0 refl
 over_by terms rings false both = both.1 refl
 
@@ -97,8 +97,19 @@ going_filled {unread = unread} {read = read} {left = left} more none h = record 
   rests = h.rests;
 }
 
-pub going_part : {terms : Terms} {old new : List Standing} {was is : Option Held} {begun unread read left line : List ℕ} {before after : Written} {input rest : Option (List ℕ)} → Consumes input rest read → Going terms old was begun unread read left line before after new is → ServesPart terms old new was is begun unread left line input rest before after
-going_part {read = read} c h = record { read = read; taken = h.taken; consumed = c; split = h.split; rests = h.rests }
+-- a part that is over is not one whose lines are refused, and one that has read has read
+pub over_read : (terms : Terms) (read : List ℕ) → terms.refusing ≡ None → HasRead ending.Due terms read
+over_read terms read e = subst (λ (x : Option Refusal). IfSome x (λ _. 1 ≤ length read)) (sym e) tt
+
+some_read : (x : Option Refusal) (read : List ℕ) → 1 ≤ length read → IfSome x (λ _. 1 ≤ length read)
+some_read None read l = tt
+some_read (Some why) read l = l
+
+pub has_read : (terms : Terms) (read : List ℕ) → 1 ≤ length read → HasRead ending.Due terms read
+has_read terms read l = some_read terms.refusing read l
+
+pub going_part : {end : Ending} {terms : Terms} {old new : List Standing} {was is : Option Held} {begun unread read left line : List ℕ} {before after : Written} {input rest : Option (List ℕ)} → Consumes input rest read → HasRead end terms read → Going terms old was begun unread read left line before after new is → ServesPart end terms old new was is begun unread left line input rest before after
+going_part {read = read} c l h = record { read = read; taken = h.taken; consumed = c; split = h.split; rests = h.rests; reads = l }
 
 -- the rest of a block was not taken
 pub block_stops : {terms : Terms} {old new : List Standing} {was is : Option Held} {before after : Written} (bytes unread taken left : List ℕ) → unread ≡ taken ++ left → Stops terms old was before after (bytes ++ taken) new is → Stops terms old was before after (bytes ++ unread) new is
@@ -110,9 +121,9 @@ block_stops {terms} {old} {new} {was} {is} {before} {after} bytes unread taken l
 pub first_begun : (line : List ℕ) → line ≡ [] → HasBegun [] line
 first_begun line e = record { partial = tt; kept = e ∙ cut_nil }
 
-pub serves_all : (noting : Bool) (permits : Permits) (old new : List Standing) (was is : Option Held) (unread left line : List ℕ) (input rest : Option (List ℕ)) (before after : Written) (end : Ending) → unread ≡ [] →
-    ServesPart (terms_of noting permits) old new was is [] unread left line input rest before after → IsEnding end (terms_of noting permits) new left rest → ServesAll (terms_of noting permits) old new was is input rest before after
-serves_all noting permits old new was is unread left line input rest before after ending.End none p e =
+pub serves_all : (name : Option (List ℕ)) (permits : Permits) (old new : List Standing) (was is : Option Held) (unread left line : List ℕ) (input rest : Option (List ℕ)) (before after : Written) (end : Ending) → unread ≡ [] →
+    ServesPart end (terms_of name permits) old new was is [] unread left line input rest before after → IsEnding end (terms_of name permits) new left rest → ServesAll (terms_of name permits) old new was is input rest before after
+serves_all name permits old new was is unread left line input rest before after ending.End none p e =
     let all : p.taken ≡ p.read = sym (append-nil p.taken) ∙ (ap (λ (x : List ℕ). p.taken ++ x) (sym e.0) ∙ (sym p.split ∙ ap (λ (x : List ℕ). x ++ p.read) none)) in
     record {
       bytes = p.read;
@@ -120,9 +131,9 @@ serves_all noting permits old new was is unread left line input rest before afte
       read = p.consumed;
       ended = e.1;
       partial = p.rests.partial;
-      told = subst (λ (x : List ℕ). AreTold (terms_of noting permits) old was before after x p.rests.begun new is) all p.rests.told;
+      told = subst (λ (x : List ℕ). AreTold (terms_of name permits) old was before after x p.rests.begun new is) all p.rests.told;
     }
-serves_all noting permits old new was is unread left line input rest before after ending.Due none p e = absurd (false≢true e)
+serves_all name permits old new was is unread left line input rest before after ending.Due none p e = absurd (false≢true e)
 
 pub serves_some : (terms : Terms) (old new : List Standing) (was is : Option Held) (unread : List ℕ) (input rest : Option (List ℕ)) (before after : Written) → unread ≡ [] → ServesSomeOf terms old new was is [] unread input rest before after → ServesSome terms old new was is input rest before after
 serves_some terms old new was is unread input rest before after none s =

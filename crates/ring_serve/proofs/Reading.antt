@@ -1,42 +1,25 @@
 -- A line reads as a command exactly if it is that command's line.
-use Rattle.std.proofs.Common.{◌≡◌, ℕ, ◌<◌, eqb, List, [], ◌∷◌, ◌++◌, length, Option, Some, Result, Ok, Err, refl, sym, ap, ◌∙◌, append_assoc, arith, inl, inr}
+use Rattle.std.proofs.Common.{◌≡◌, ℕ, ◌<◌, List, [], ◌++◌, length, Option, Some, Result, Ok, Err, refl, sym, ap, ◌∙◌, arith}
 use Rattle.std.specs.Prelude.{codes}
 use Rattle.std.specs.Option.{option_map}
-use Rattle.std.proofs.lemmas.List.{append-nil}
 use Rattle.text_lines.specs.declared.fault.Fault.{Fault}
 use Rattle.text_lines.specs.declared.fault.Stop.{Stop}
 use Rattle.text_lines.specs.declared.fault.Stop.TheVariants as stops
-use Rattle.text_lines.specs.Reading.{Reader, ◌>>=◌, Gives, word_at, after_at, as_at, or_at, none_at, end_at, whole_at}
-use Rattle.text_lines.proofs.Basics.{bind_ok, chosen, ok_is}
-use Rattle.ring_serve.specs.Numbers.{spaced, ended, in_64_bits, in_32_bits, order_at, place_at}
+use Rattle.text_lines.specs.Reading.{Reader, ◌>>=◌, Gives, word_at, or_at, none_at, whole_at}
+use Rattle.text_lines.proofs.Basics.{bind_ok, ok_is}
+use Rattle.line_parts.specs.Numbers.{spaced, ended, in_64_bits, in_32_bits, order_at, place_at}
 use Rattle.ring_serve.specs.Commands.{Command, pass, try, group, corrupt, survey, glance, save, command_line, HasLine, IsLineOf, heard, seen, IsReadAs}
 use Rattle.ring_serve.specs.declared.commands.Command.{Command as Read}
 use Rattle.ring_serve.specs.Readers.{pass_of, pass_at, try_of, try_at, group_of, group_at, corrupt_of, corrupt_at, survey_of, survey_at, glance_of, glance_at, name_at, save_at, g_at, s_at, command_at}
-use Rattle.ring_serve.proofs.Spellings.{Any, Hears, both_hear, word_takes, word_again, place_hears, order_hears, machines_hear, name_takes, name_again}
+use Rattle.line_parts.proofs.Commands.{Kind, Takes, kind_takes, kind_again, or_takes, none_takes, behind_takes, line_takes, line_again}
+use Rattle.line_parts.proofs.Spellings.{Any, Hears, both_hear, word_takes, place_hears, order_hears}
+use Rattle.ring_serve.proofs.Spellings.{machines_hear, name_takes, name_again}
 
--- the bytes that the reader takes after these are the line of a command
-abbrev Takes : List ℕ → Reader (Option Command) → Type 0
-Takes before at = (bytes : List ℕ) (b : Option Command) (rest : List ℕ) → at bytes ≡ Ok (b, rest)
-    → (c : Command) × HasLine c × (heard c ≡ b) × (before ++ bytes ≡ command_line c ++ rest)
+abbrev commands : Kind
+commands = record { C = Command; Has = HasLine; line = command_line; heard = heard }
 
--- ---- one kind
-
-module _ {A B : Type 0} {hear : A → B} {F : A → Type 0} {s : A → List ℕ} {at : Reader B} (law : Hears hear F s at) (of : B → Option Command) (word : List ℕ) where
-  kind_takes : (before : List ℕ) (says : A → Command) → ((a : A) → F a → HasLine (says a)) → ((a : A) → heard (says a) ≡ of (hear a)) → ((a : A) → command_line (says a) ≡ before ++ (word ++ s a)) → Takes before (as_at of (after_at word at))
-  kind_takes before says fits hears line bytes b rest e =
-      let x = bind_ok (after_at word at bytes) (λ x. Ok (of x.0, x.1)) (b, rest) e in
-      let w = word_takes word at bytes x.0 x.1 in
-      let a = law.takes w.0 x.0.0 x.0.1 w.2 in
-      let made : Option Command × List ℕ = (of x.0.0, x.0.1) in
-      let same : made ≡ (b, rest) = ok_is made (b, rest) x.2 in
-      let is : heard (says a.0) ≡ b = hears a.0 ∙ ap of a.2 ∙ ap (λ (z : Option Command × List ℕ). z.0) same in
-      let inner : bytes ≡ (word ++ s a.0) ++ x.0.1 = w.1 ∙ ap (λ (u : List ℕ). word ++ u) a.3 ∙ sym (append_assoc word (s a.0) x.0.1) in
-      let whole : before ++ bytes ≡ command_line (says a.0) ++ x.0.1 =
-      ap (λ (u : List ℕ). before ++ u) inner ∙ sym (append_assoc before (word ++ s a.0) x.0.1) ∙ ap (λ (u : List ℕ). u ++ x.0.1) (sym (line a.0)) in
-      (says a.0, fits a.0 a.1, is, whole ∙ ap (λ (z : Option Command × List ℕ). command_line (says a.0) ++ z.1) same)
-
-  kind_again : (a : A) (rest : List ℕ) → F a → as_at of (after_at word at) ((word ++ s a) ++ rest) ≡ Ok (of (hear a), rest)
-  kind_again a rest f = ap (as_at of (after_at word at)) (append_assoc word (s a) rest) ∙ rw (word_again word at (s a ++ rest), law.again a rest f) refl
+abbrev TakesCommand : List ℕ → Reader (Option Command) → Type 0
+TakesCommand before at = Takes commands before at
 
 -- ---- the kinds
 
@@ -52,59 +35,59 @@ order_spaced = order_hears 32 (omega arith)
 order_ended : Hears in_64_bits Any ended (order_at 10)
 order_ended = order_hears 10 (omega arith)
 
-pass_takes : Takes [] pass_at
+pass_takes : TakesCommand [] pass_at
 unfolding pass_at
-pass_takes = kind_takes (both_hear spaced_hears (both_hear spaced_hears (both_hear spaced_hears order_ended))) pass_of (codes "pass ") [] (λ p. pass p.0 p.1.0 p.1.1.0 p.1.1.1) (λ p f. tt) (λ p. refl) (λ p. refl)
+pass_takes = kind_takes commands (both_hear spaced_hears (both_hear spaced_hears (both_hear spaced_hears order_ended))) pass_of (codes "pass ") [] (λ p. pass p.0 p.1.0 p.1.1.0 p.1.1.1) (λ p f. tt) (λ p. refl) (λ p. refl)
 
 pass_again : (ring seat machine order : ℕ) (rest : List ℕ) → pass_at (command_line (pass ring seat machine order) ++ rest) ≡ Ok (heard (pass ring seat machine order), rest)
 unfolding pass_at
-pass_again ring seat machine order rest = kind_again (both_hear spaced_hears (both_hear spaced_hears (both_hear spaced_hears order_ended))) pass_of (codes "pass ") (ring, (seat, (machine, order))) rest (tt, (tt, (tt, tt)))
+pass_again ring seat machine order rest = kind_again commands (both_hear spaced_hears (both_hear spaced_hears (both_hear spaced_hears order_ended))) pass_of (codes "pass ") (ring, (seat, (machine, order))) rest (tt, (tt, (tt, tt)))
 
-try_takes : Takes [] try_at
+try_takes : TakesCommand [] try_at
 unfolding try_at
-try_takes = kind_takes (both_hear spaced_hears (both_hear spaced_hears (both_hear spaced_hears order_ended))) try_of (codes "try ") [] (λ p. try p.0 p.1.0 p.1.1.0 p.1.1.1) (λ p f. tt) (λ p. refl) (λ p. refl)
+try_takes = kind_takes commands (both_hear spaced_hears (both_hear spaced_hears (both_hear spaced_hears order_ended))) try_of (codes "try ") [] (λ p. try p.0 p.1.0 p.1.1.0 p.1.1.1) (λ p f. tt) (λ p. refl) (λ p. refl)
 
 try_again : (ring seat machine order : ℕ) (rest : List ℕ) → try_at (command_line (try ring seat machine order) ++ rest) ≡ Ok (heard (try ring seat machine order), rest)
 unfolding try_at
-try_again ring seat machine order rest = kind_again (both_hear spaced_hears (both_hear spaced_hears (both_hear spaced_hears order_ended))) try_of (codes "try ") (ring, (seat, (machine, order))) rest (tt, (tt, (tt, tt)))
+try_again ring seat machine order rest = kind_again commands (both_hear spaced_hears (both_hear spaced_hears (both_hear spaced_hears order_ended))) try_of (codes "try ") (ring, (seat, (machine, order))) rest (tt, (tt, (tt, tt)))
 
-corrupt_takes : Takes [] corrupt_at
+corrupt_takes : TakesCommand [] corrupt_at
 unfolding corrupt_at
-corrupt_takes = kind_takes (both_hear spaced_hears (both_hear spaced_hears (both_hear spaced_hears ended_hears))) corrupt_of (codes "corrupt ") [] (λ p. corrupt p.0 p.1.0 p.1.1.0 p.1.1.1) (λ p f. tt) (λ p. refl) (λ p. refl)
+corrupt_takes = kind_takes commands (both_hear spaced_hears (both_hear spaced_hears (both_hear spaced_hears ended_hears))) corrupt_of (codes "corrupt ") [] (λ p. corrupt p.0 p.1.0 p.1.1.0 p.1.1.1) (λ p f. tt) (λ p. refl) (λ p. refl)
 
 corrupt_again : (ring seat machine value : ℕ) (rest : List ℕ) → corrupt_at (command_line (corrupt ring seat machine value) ++ rest) ≡ Ok (heard (corrupt ring seat machine value), rest)
 unfolding corrupt_at
-corrupt_again ring seat machine value rest = kind_again (both_hear spaced_hears (both_hear spaced_hears (both_hear spaced_hears ended_hears))) corrupt_of (codes "corrupt ") (ring, (seat, (machine, value))) rest (tt, (tt, (tt, tt)))
+corrupt_again ring seat machine value rest = kind_again commands (both_hear spaced_hears (both_hear spaced_hears (both_hear spaced_hears ended_hears))) corrupt_of (codes "corrupt ") (ring, (seat, (machine, value))) rest (tt, (tt, (tt, tt)))
 
-group_takes : Takes (codes "g") group_at
+group_takes : TakesCommand (codes "g") group_at
 unfolding group_at
-group_takes = kind_takes (both_hear spaced_hears (both_hear spaced_hears (both_hear order_spaced machines_hear))) group_of (codes "roup ") (codes "g") (λ p. group p.0 p.1.0 p.1.1.0 p.1.1.1) (λ p f. f.1.1.1) (λ p. refl) (λ p. refl)
+group_takes = kind_takes commands (both_hear spaced_hears (both_hear spaced_hears (both_hear order_spaced machines_hear))) group_of (codes "roup ") (codes "g") (λ p. group p.0 p.1.0 p.1.1.0 p.1.1.1) (λ p f. f.1.1.1) (λ p. refl) (λ p. refl)
 
 group_again : (ring seat order : ℕ) (machines rest : List ℕ) → 0 < length machines → g_at (command_line (group ring seat order machines) ++ rest) ≡ Ok (heard (group ring seat order machines), rest)
 unfolding g_at group_at word_at
 group_again ring seat order machines rest some =
-    kind_again (both_hear spaced_hears (both_hear spaced_hears (both_hear order_spaced machines_hear))) group_of (codes "roup ") (ring, (seat, (order, machines))) rest (tt, (tt, (tt, some)))
+    kind_again commands (both_hear spaced_hears (both_hear spaced_hears (both_hear order_spaced machines_hear))) group_of (codes "roup ") (ring, (seat, (order, machines))) rest (tt, (tt, (tt, some)))
 
-glance_takes : Takes (codes "g") glance_at
+glance_takes : TakesCommand (codes "g") glance_at
 unfolding glance_at
-glance_takes = kind_takes ended_hears glance_of (codes "lance ") (codes "g") (λ n. glance n) (λ n f. tt) (λ n. refl) (λ n. refl)
+glance_takes = kind_takes commands ended_hears glance_of (codes "lance ") (codes "g") (λ n. glance n) (λ n f. tt) (λ n. refl) (λ n. refl)
 
 glance_again : (ring : ℕ) (rest : List ℕ) → g_at (command_line (glance ring) ++ rest) ≡ Ok (heard (glance ring), rest)
 unfolding g_at glance_at word_at
-glance_again ring rest = kind_again ended_hears glance_of (codes "lance ") ring rest tt
+glance_again ring rest = kind_again commands ended_hears glance_of (codes "lance ") ring rest tt
 
-survey_takes : Takes (codes "s") survey_at
+survey_takes : TakesCommand (codes "s") survey_at
 unfolding survey_at
-survey_takes = kind_takes (both_hear spaced_hears ended_hears) survey_of (codes "urvey ") (codes "s") (λ p. survey p.0 p.1) (λ p f. tt) (λ p. refl) (λ p. refl)
+survey_takes = kind_takes commands (both_hear spaced_hears ended_hears) survey_of (codes "urvey ") (codes "s") (λ p. survey p.0 p.1) (λ p f. tt) (λ p. refl) (λ p. refl)
 
 survey_again : (ring seat : ℕ) (rest : List ℕ) → s_at (command_line (survey ring seat) ++ rest) ≡ Ok (heard (survey ring seat), rest)
 unfolding s_at survey_at word_at
-survey_again ring seat rest = kind_again (both_hear spaced_hears ended_hears) survey_of (codes "urvey ") (ring, seat) rest (tt, tt)
+survey_again ring seat rest = kind_again commands (both_hear spaced_hears ended_hears) survey_of (codes "urvey ") (ring, seat) rest (tt, tt)
 
 abbrev named_save : Reader (Option Command)
 named_save bytes = name_at bytes >>= λ rest. Ok (Some (save []), rest)
 
-save_takes : Takes (codes "s") save_at
+save_takes : TakesCommand (codes "s") save_at
 unfolding save_at
 save_takes bytes b rest e =
     let w = word_takes (codes "ave ") named_save bytes (b, rest) e in
@@ -121,34 +104,17 @@ save_again name rest f = rw (name_again name rest f) refl
 
 -- ---- all of them
 
-or_takes : (before : List ℕ) (c : ℕ) (first second : Reader (Option Command)) → Takes before first → Takes before second → Takes before (or_at c first second)
-or_takes before c first second t u [] b rest e = absurd cc
-or_takes before c first second t u (x ∷ bs) b rest e =
-    elim (chosen (eqb x c) (first (x ∷ bs)) (second (x ∷ bs)) (Ok (b, rest)) e) [
-      | inl h ↦ t (x ∷ bs) b rest h.1
-      | inr h ↦ u (x ∷ bs) b rest h.1
-    ]
-
-none_takes : (before : List ℕ) → Takes before none_at
-none_takes before [] b rest e = absurd cc
-none_takes before (x ∷ bs) b rest e = absurd cc
-
-behind_takes : (word : List ℕ) (at : Reader (Option Command)) → Takes word at → Takes [] (after_at word at)
-behind_takes word at t bytes b rest e =
-    let w = word_takes word at bytes (b, rest) e in
-    let r = t w.0 b rest w.2 in (r.0, r.1, r.2, w.1 ∙ r.3)
-
-g_takes : Takes [] g_at
+g_takes : TakesCommand [] g_at
 unfolding g_at
-g_takes = behind_takes (codes "g") (or_at 114 group_at (or_at 108 glance_at none_at)) (or_takes (codes "g") 114 group_at (or_at 108 glance_at none_at) group_takes (or_takes (codes "g") 108 glance_at none_at glance_takes (none_takes (codes "g"))))
+g_takes = behind_takes commands (codes "g") (or_at 114 group_at (or_at 108 glance_at none_at)) (or_takes commands (codes "g") 114 group_at (or_at 108 glance_at none_at) group_takes (or_takes commands (codes "g") 108 glance_at none_at glance_takes (none_takes commands (codes "g"))))
 
-s_takes : Takes [] s_at
+s_takes : TakesCommand [] s_at
 unfolding s_at
-s_takes = behind_takes (codes "s") (or_at 117 survey_at (or_at 97 save_at none_at)) (or_takes (codes "s") 117 survey_at (or_at 97 save_at none_at) survey_takes (or_takes (codes "s") 97 save_at none_at save_takes (none_takes (codes "s"))))
+s_takes = behind_takes commands (codes "s") (or_at 117 survey_at (or_at 97 save_at none_at)) (or_takes commands (codes "s") 117 survey_at (or_at 97 save_at none_at) survey_takes (or_takes commands (codes "s") 97 save_at none_at save_takes (none_takes commands (codes "s"))))
 
-command_takes : Takes [] command_at
+command_takes : TakesCommand [] command_at
 unfolding command_at
-command_takes = or_takes [] 112 pass_at _ pass_takes (or_takes [] 116 try_at _ try_takes (or_takes [] 99 corrupt_at _ corrupt_takes (or_takes [] 103 g_at _ g_takes (or_takes [] 115 s_at none_at s_takes (none_takes [])))))
+command_takes = or_takes commands [] 112 pass_at _ pass_takes (or_takes commands [] 116 try_at _ try_takes (or_takes commands [] 99 corrupt_at _ corrupt_takes (or_takes commands [] 103 g_at _ g_takes (or_takes commands [] 115 s_at none_at s_takes (none_takes commands [])))))
 
 command_again : (c : Command) (rest : List ℕ) → HasLine c → command_at (command_line c ++ rest) ≡ Ok (heard c, rest)
 unfolding command_at
@@ -162,29 +128,13 @@ command_again (save name) rest f = save_again name rest f
 
 -- ---- whole lines
 
-end_ok : (rest : List ℕ) (u : Unit {0}) → end_at rest ≡ Ok u → rest ≡ []
-end_ok [] u e = refl
-end_ok (b ∷ bs) u e = absurd cc
-
-line_takes : (line : List ℕ) (b : Option Command) → whole_at command_at line ≡ Ok b → (c : Command) × IsLineOf c line × (heard c ≡ b)
-unfolding whole_at
-line_takes line b e =
-    let x = bind_ok (command_at line) (λ x. end_at x.1 >>= λ _. Ok x.0) b e in
-    let y = bind_ok (end_at x.0.1) (λ _. Ok x.0.0) b x.2 in
-    let t = command_takes line x.0.0 x.0.1 x.1 in
-    let whole : line ≡ command_line t.0 = t.3 ∙ ap (λ (u : List ℕ). command_line t.0 ++ u) (end_ok x.0.1 y.0 y.1) ∙ append-nil (command_line t.0) in
-    (t.0, (t.1, whole), t.2 ∙ ok_is x.0.0 b y.2)
-
-line_again : (c : Command) (line : List ℕ) → IsLineOf c line → whole_at command_at line ≡ Ok (heard c)
-unfolding whole_at
-line_again c line is =
-    let again : command_at line ≡ Ok (heard c, []) = ap command_at (is.1 ∙ sym (append-nil (command_line c))) ∙ command_again c [] is.0 in
-    rw again refl
+line_is : (c : Command) (line : List ℕ) → IsLineOf c line → whole_at command_at line ≡ Ok (heard c)
+line_is c line is = line_again commands command_at command_again c line is
 
 pub read_as : (line : List ℕ) (read : Result (Option Read) Stop) → Gives (λ c. option_map seen c) read (whole_at command_at line) → IsReadAs line read
-read_as line (Ok r) g = let t = line_takes line (option_map seen r) g in (t.0, t.1, t.2)
+read_as line (Ok r) g = let t = line_takes commands command_at command_takes line (option_map seen r) g in (t.0, t.1, t.2)
 read_as line (Err stops.Memory) g = tt
-read_as line (Err (stops.Fault f)) g = λ c is. no_both (whole_at command_at line) (heard c) f (line_again c line is) g
+read_as line (Err (stops.Fault f)) g = λ c is. no_both (whole_at command_at line) (heard c) f (line_is c line is) g
   where
     no_both : (r : Result (Option Command) Fault) (h : Option Command) (f : Fault) → r ≡ Ok h → r ≡ Err f → ⊥
     no_both (Ok x) h f p q = cc
@@ -192,4 +142,4 @@ read_as line (Err (stops.Fault f)) g = λ c is. no_both (whole_at command_at lin
 
 -- the rings hear one thing of a line
 pub one_is_heard : (a b : Command) (line : List ℕ) → IsLineOf a line → IsLineOf b line → heard a ≡ heard b
-one_is_heard a b line f g = ok_is (heard a) (heard b) (sym (line_again a line f) ∙ line_again b line g)
+one_is_heard a b line f g = ok_is (heard a) (heard b) (sym (line_is a line f) ∙ line_is b line g)

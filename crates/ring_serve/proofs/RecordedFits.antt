@@ -37,7 +37,7 @@ use Rattle.ring_blocks.specs.Journals.{line_of_event, line_of_survey}
 use Rattle.ring_desk.specs.Refusals.{pass_refusal, place_refusal, corrupt_refusal, group_refusal, seat_refusal}
 use Rattle.ring_desk.specs.declared.errors.CallError.{CallError}
 use Rattle.ring_desk.proofs.Refusals.{pass_bounds, corrupt_bounds, group_bounds}
-use Rattle.ring_serve.specs.Numbers.{in_32_bits, in_64_bits}
+use Rattle.line_parts.specs.Numbers.{in_32_bits, in_64_bits}
 use Rattle.ring_serve.specs.Commands.{Command, pass, try, group, corrupt, survey, glance, save, heard, ring_of}
 use Rattle.ring_serve.specs.Standings.{Standing, state_of, survey_now, with_events}
 use Rattle.ring_serve.specs.Saved.{IsRight}

@@ -1,6 +1,6 @@
 -- What is kept of a journal is recovered as the rings stood after some line.
 use Rattle.std.proofs.Common.{◌≡◌, ℕ, ◌+◌, ◌^◌, ◌<◌, ◌≤◌, Bool, true, false, cond, eqb, Option, List, [], ◌∷◌, ◌++◌, length, take, drop, map, refl, sym, ap, subst, ◌∙◌, ◌⊎◌, inl, inr, arith, append_assoc, length-append}
-use Rattle.std.specs.Prelude.{codes, ◌||◌, None, Some}
+use Rattle.std.specs.Prelude.{codes, ◌||◌, None, Some, is_some}
 use Rattle.std.specs.Fmt.{decimal}
 use Rattle.std.specs.List.{AllByRecursion, flat_map}
 use Rattle.std.proofs.lemmas.Bool.{false≢true, cases_lt}
@@ -101,7 +101,7 @@ notes_are (r ∷ records) =
     ap (λ (x : List ℕ). x ++ notes_of records) (note_is r)
     ∙ (ap (λ (x : List ℕ). lines_of (calls_of r) ++ x) (notes_are records) ∙ sym (flat_map-append journal_line (calls_of r) (flat_map calls_of records)))
 
-noted_is : (terms : Terms) (turn : Turn (List Standing)) (noted : List ℕ) → terms.noting ≡ true → noted ≡ cond terms.noting (notes_of turn.recorded) [] → noted ≡ lines_of (turned turn)
+noted_is : (terms : Terms) (turn : Turn (List Standing)) (noted : List ℕ) → is_some terms.journal ≡ true → noted ≡ cond (is_some terms.journal) (notes_of turn.recorded) [] → noted ≡ lines_of (turned turn)
 noted_is terms turn noted noting e = e ∙ (ap (λ (b : Bool). cond b (notes_of turn.recorded) []) noting ∙ notes_are turn.recorded)
 
 -- ---- the calls at the front of bytes that lack the end of the last
@@ -196,7 +196,7 @@ turned_then {old} {mid} {new} {done} {noted} {notes} t r = record {
   is = ap (λ (u : List ℕ). u ++ notes) t.is ∙ (ap (λ (u : List ℕ). lines_of t.calls ++ u) r.is ∙ sym (flat_map-append journal_line t.calls r.calls));
 }
 
-module _ (terms : Terms) (noting : terms.noting ≡ true) (old : List Standing) (few : length old < 2 ^ 32) where
+module _ (terms : Terms) (noting : is_some terms.journal ≡ true) (old : List Standing) (few : length old < 2 ^ 32) where
   abbrev Fit : List JournalLine → Type 0
   Fit calls = AllByRecursion (JournalLineFits latest_version (length old)) calls
 
@@ -382,7 +382,7 @@ pub record Rebuilt (terms : Terms) (mid new : List Standing) (between : Option H
   pub reached : IsReached terms mid between lines rings
   pub grown : HaveGrown rings new
 
-pub rebuilt : (terms : Terms) → terms.noting ≡ true → (old mid new : List Standing) (between is : Option Held) (untold : List (List ℕ)) (noted unsaid notes kept lost : List ℕ) → AllByRecursion IsRight old → Fits (content_of old) → AllTurned old [] mid noted →
+pub rebuilt : (terms : Terms) → is_some terms.journal ≡ true → (old mid new : List Standing) (between is : Option Held) (untold : List (List ℕ)) (noted unsaid notes kept lost : List ℕ) → AllByRecursion IsRight old → Fits (content_of old) → AllTurned old [] mid noted →
     Answers terms mid between untold unsaid notes new is → kept ++ lost ≡ head_text (content_of old) ++ (noted ++ notes) → IsPrefix (head_text (content_of old) ++ noted) kept → Rebuilt terms mid new between kept
 rebuilt terms noting old mid new between is untold noted unsaid notes kept lost all fits t k whole_ front =
     let few : length old < 2 ^ 32 = fits.rings_said in

@@ -24,9 +24,9 @@ use Rattle.ring_serve.proofs.LongLines.{long_refused, whole_line, cut_nil}
 
 -- ---- a line that is too long is answered as its start is
 
-any_name : (saves : Option (List ℕ)) (was is : Option Held) (n m : List ℕ) (rings : List Standing) (a given : Answer) (why : Refusal) → a ≡ answer.Refused why → IsGiven saves was is n rings a given → IsGiven saves was is m rings a given
-any_name saves was is n m rings a given why e g =
-    subst (λ (x : Answer). IsGiven saves was is m rings x given) (sym e) (subst (λ (x : Answer). IsGiven saves was is n rings x given) e g)
+any_name : (journal saves : Option (List ℕ)) (was is : Option Held) (n m : List ℕ) (rings : List Standing) (a given : Answer) (why : Refusal) → a ≡ answer.Refused why → IsGiven journal saves was is n rings a given → IsGiven journal saves was is m rings a given
+any_name journal saves was is n m rings a given why e g =
+    subst (λ (x : Answer). IsGiven journal saves was is m rings x given) (sym e) (subst (λ (x : Answer). IsGiven journal saves was is n rings x given) e g)
 
 refused_why : (faults : Bool) (rings : List Standing) (full : List ℕ) (t : Turn (List Standing)) → line_limit < length full → IsTurnOfLine faults rings (cut full) t → (why : Refusal) × (t.answer ≡ answer.Refused why)
 refused_why faults rings full t l is =
@@ -49,9 +49,9 @@ cut_short full l = take_all (line_limit + 1) full (omega arith)
 
 pub whole_answer : {terms : Terms} {old new : List Standing} {was is : Option Held} {said noted : List ℕ} (full : List ℕ) → IsAnswered terms old was (cut full) said noted new is → IsAnswered terms old was full said noted new is
 whole_answer {terms} {old} {new} {was} {is} full a =
-    let given : IsGiven terms.saves was is (name_in full) new a.turn.answer a.given = elim (cases_lt line_limit (length full)) [
-      | inl l ↦ let why = refused_on terms.refusing terms.faults old full a.turn l a.of_line in any_name terms.saves was is (name_in (cut full)) (name_in full) new a.turn.answer a.given why.0 why.1 a.gives
-      | inr l ↦ subst (λ (x : List ℕ). IsGiven terms.saves was is (name_in x) new a.turn.answer a.given) (cut_short full l) a.gives
+    let given : IsGiven terms.journal terms.saves was is (name_in full) new a.turn.answer a.given = elim (cases_lt line_limit (length full)) [
+      | inl l ↦ let why = refused_on terms.refusing terms.faults old full a.turn l a.of_line in any_name terms.journal terms.saves was is (name_in (cut full)) (name_in full) new a.turn.answer a.given why.0 why.1 a.gives
+      | inr l ↦ subst (λ (x : List ℕ). IsGiven terms.journal terms.saves was is (name_in x) new a.turn.answer a.given) (cut_short full l) a.gives
     ] in
     record { turn = a.turn; given = a.given; goes = a.goes; of_line = whole_on terms.refusing terms.faults old full a.turn a.of_line; gives = given; says = a.says; notes = a.notes; leaves = a.leaves }
 

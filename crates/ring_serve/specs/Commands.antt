@@ -4,7 +4,7 @@ use Rattle.std.specs.Option.{option_map}
 use Rattle.std.specs.List.{AllByRecursion}
 use Rattle.text_lines.specs.declared.fault.Stop.{Stop}
 use Rattle.text_lines.specs.declared.fault.Stop.TheVariants as stops
-use Rattle.ring_serve.specs.Numbers.{spaced, ended, row, in_64_bits, in_32_bits}
+use Rattle.line_parts.specs.Numbers.{spaced, ended, row, in_64_bits, in_32_bits}
 use Rattle.ring_serve.specs.declared.commands.Command.{Command as Read}
 use Rattle.ring_serve.specs.declared.commands.Command.TheVariants as reads
 

@@ -9,21 +9,21 @@ use Rattle.ring_serve.specs.declared.serving.Rules.{Rules}
 use Rattle.ring_serve.specs.Standings.{Standing}
 use Rattle.ring_serve.specs.Due.{is_due}
 
--- the terms on which lines are served: whether a journal is kept, whether a line may be a fault,
--- and the folder that one may save all rings in, if there is one; how many lines the journal of a
--- segment gets until it is due, if segments end; and the refusal of every line while a segment that
--- is due cannot be ended
+-- the terms on which lines are served: the name of the journal's file, if one is kept; whether a
+-- line may be a fault, and the folder that one may save all rings in, if there is one; how many
+-- lines the journal of a segment gets until it is due, if segments end; and the refusal of every
+-- line while a segment that is due cannot be ended
 pub record Terms : Type 0 where
-  pub noting : Bool
+  pub journal : Option (List ℕ)
   pub faults : Bool
   pub saves : Option (List ℕ)
   pub limit : Option ℕ
   pub refusing : Option Refusal
 
 -- without segments
-abbrev pub terms_of : Bool → Permits → Terms
-terms_of noting permits = record {
-  noting = noting;
+abbrev pub terms_of : Option (List ℕ) → Permits → Terms
+terms_of journal permits = record {
+  journal = journal;
   faults = permits.faults;
   saves = option_map (λ folder. folder.now) permits.saves;
   limit = None;
@@ -31,10 +31,10 @@ terms_of noting permits = record {
 }
 
 -- in a segment that ends so, if segments do
-abbrev pub terms_in : Bool → Permits → Option Ends → Terms
-terms_in noting permits None = terms_of noting permits
-terms_in noting permits (Some ends) = record {
-  noting = noting;
+abbrev pub terms_in : Option (List ℕ) → Permits → Option Ends → Terms
+terms_in journal permits None = terms_of journal permits
+terms_in journal permits (Some ends) = record {
+  journal = journal;
   faults = permits.faults;
   saves = option_map (λ folder. folder.now) permits.saves;
   limit = Some ends.limit;
@@ -44,7 +44,7 @@ terms_in noting permits (Some ends) = record {
 -- those of these rules
 abbrev pub terms_by : Rules → Terms
 terms_by rules = record {
-  noting = is_some rules.journal;
+  journal = option_map (λ name. name.now) rules.journal;
   faults = rules.permits.faults;
   saves = option_map (λ folder. folder.now) rules.permits.saves;
   limit = rules.limit;

@@ -5,7 +5,7 @@ use Rattle.std.specs.Option.{option_map}
 use Rattle.text_lines.specs.declared.fault.Fault.{Fault}
 use Rattle.text_lines.specs.declared.fault.Fault.TheVariants.{Short, Bad}
 use Rattle.text_lines.specs.Reading.{Reader, ◌>>=◌, after_at, then_at, as_at, branch, choice_at}
-use Rattle.ring_serve.specs.Numbers.{order_at, place_at, places_at}
+use Rattle.line_parts.specs.Numbers.{order_at, place_at, places_at}
 use Rattle.ring_serve.specs.Commands.{Command, pass, try, group, corrupt, survey, glance, save}
 
 infixr 20 ◌then◌

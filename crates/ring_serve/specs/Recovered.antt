@@ -1,6 +1,6 @@
 -- Answered calls in the history that is recovered of a journal, wherever serving and the journal
 -- ended (this project's own).
-use Rattle.std.specs.Prelude.{◌≡◌, ℕ, ◌+◌, true, List, [], ◌∷◌, ◌++◌, length, slice_get, slice_index_or, Option, Some}
+use Rattle.std.specs.Prelude.{◌≡◌, ℕ, ◌+◌, true, List, [], ◌∷◌, ◌++◌, length, slice_get, slice_index_or, Option, Some, is_some}
 use Rattle.std.specs.List.{AllByRecursion}
 use Rattle.std.specs.Io.KnownBytes.{Consumes}
 use Rattle.disks.specs.Held.{Held}
@@ -135,7 +135,7 @@ abbrev pub AnswersAreRecovered : Type 0
 AnswersAreRecovered =
     (terms : Terms) (old mid new : List Standing) (was between is : Option Held)
     (told untold : List (List ℕ)) (said noted unsaid notes kept lost : List ℕ)
-    → terms.noting ≡ true → AllByRecursion IsRight old → Fits (content_of old)
+    → is_some terms.journal ≡ true → AllByRecursion IsRight old → Fits (content_of old)
     → Answers terms old was told said noted mid between
     → Answers terms mid between untold unsaid notes new is
     → kept ++ lost ≡ head_text (content_of old) ++ (noted ++ notes)

@@ -1,9 +1,10 @@
 -- Lines that are served one after the other (this project's own).
-use Rattle.std.specs.Prelude.{◌≡◌, ◌≢◌, ℕ, ◌+◌, ◌-◌, ◌^◌, ◌≤◌, Bool, true, false, cond, List, [], ◌∷◌, ◌++◌, length, take, drop, Option, None, Some, Result, MatchResult, ◌⊎◌}
+use Rattle.std.specs.Prelude.{◌≡◌, ◌≢◌, ℕ, ◌+◌, ◌-◌, ◌^◌, ◌≤◌, Bool, true, false, cond, List, [], ◌∷◌, ◌++◌, length, take, drop, Option, None, Some, IfSome, Result, MatchResult, ◌⊎◌}
 use Rattle.std.specs.List.{AllByRecursion}
+use Rattle.std.specs.Option.{option_map, is_some}
 use Rattle.std.specs.Io.KnownBytes.{Appends, Consumes, IsAtEnd}
 use Rattle.text_lines.specs.Writing.{Wrote}
-use Rattle.disks.specs.Held.{Held, Replaces}
+use Rattle.disks.specs.Held.{Held, IsOneFile, Replaces}
 use Rattle.ring_saved.specs.Spelling.{text}
 use Rattle.ring_check.specs.Legal.{IsLegalText}
 use Rattle.ring_serve.specs.Commands.{line_limit}
@@ -39,30 +40,39 @@ HasNoEnd begun = AllByRecursion (λ b. b ≢ 10) begun
 abbrev pub name_in : List ℕ → List ℕ
 name_in line = drop 5 (take (length line - 1) line)
 
--- The file of this name holds the text of the rings, which is legal, and that is the answer; or
--- this was not done, no file has changed, and that is the refusal.
-abbrev pub IsSaved : Option Held → Option Held → List ℕ → List Standing → Answer → Type 0
-IsSaved was is file rings given =
+-- The file of this name is not the journal's, if one is kept and it is known where names lead.
+abbrev pub IsNoJournal : Option Held → Option (List ℕ) → List ℕ → Type 0
+IsNoJournal files journal file =
+    IfSome files (λ held. IfSome journal (λ name. IsOneFile held name file → ⊥))
+
+-- The file of this name holds the text of the rings, which is legal, it is not the journal's, and
+-- that is the answer; or this was not done, no file has changed, and that is the refusal.
+abbrev pub IsSaved : Option (List ℕ) → Option Held → Option Held → List ℕ → List Standing → Answer
+    → Type 0
+IsSaved journal was is file rings given =
     ((given ≡ answer.Saved)
     × Replaces was is file (Some (text (content_of rings)))
-    × IsLegalText (content_of rings))
+    × IsLegalText (content_of rings)
+    × IsNoJournal was journal file)
     ⊎ ((given ≡ answer.Refused refusal.File) × (is ≡ was))
 
 -- All rings are to be saved: in the folder that this is permitted in, if the name is a plain one.
 -- Where it is permitted in none, or the name is not plain, that is the refusal.
-abbrev pub IsSaveGiven : Option (List ℕ) → Option Held → Option Held → List ℕ → List Standing
-    → Answer → Type 0
-IsSaveGiven None was is name rings given = (given ≡ answer.Refused refusal.Off) × (is ≡ was)
-IsSaveGiven (Some folder) was is name rings given =
-    ((is_plain name ≡ true) × IsSaved was is (file_in folder name) rings given)
+abbrev pub IsSaveGiven : Option (List ℕ) → Option (List ℕ) → Option Held → Option Held → List ℕ
+    → List Standing → Answer → Type 0
+IsSaveGiven journal None was is name rings given =
+    (given ≡ answer.Refused refusal.Off) × (is ≡ was)
+IsSaveGiven journal (Some folder) was is name rings given =
+    ((is_plain name ≡ true) × IsSaved journal was is (file_in folder name) rings given)
     ⊎ ((is_plain name ≡ false) × (given ≡ answer.Refused refusal.Name) × (is ≡ was))
 
 -- A turn that asks for the rings to be saved is answered by what came of that. Every other turn is
 -- answered as it says, and no file changes.
-abbrev pub IsGiven : Option (List ℕ) → Option Held → Option Held → List ℕ → List Standing → Answer
-    → Answer → Type 0
-IsGiven saves was is name rings answer.Saved given = IsSaveGiven saves was is name rings given
-IsGiven saves was is name rings asked given = (given ≡ asked) × (is ≡ was)
+abbrev pub IsGiven : Option (List ℕ) → Option (List ℕ) → Option Held → Option Held → List ℕ
+    → List Standing → Answer → Answer → Type 0
+IsGiven journal saves was is name rings answer.Saved given =
+    IsSaveGiven journal saves was is name rings given
+IsGiven journal saves was is name rings asked given = (given ≡ asked) × (is ≡ was)
 
 -- The turn of a line: its own, or the refusal if every line is refused.
 abbrev pub IsTurnOn : Option Refusal → Bool → List Standing → List ℕ → Turn (List Standing)
@@ -79,9 +89,9 @@ pub record IsAnswered (terms : Terms) (old : List Standing) (was : Option Held)
   pub given : Answer
   pub goes : IsOpen terms old
   pub of_line : IsTurnOn terms.refusing terms.faults old line turn
-  pub gives : IsGiven terms.saves was is (name_in line) new turn.answer given
+  pub gives : IsGiven terms.journal terms.saves was is (name_in line) new turn.answer given
   pub says : said ≡ answer_line given
-  pub notes : noted ≡ cond terms.noting (notes_of turn.recorded) []
+  pub notes : noted ≡ cond (is_some terms.journal) (notes_of turn.recorded) []
   pub leaves : turn.leaves ≡ new
 
 -- The rings answer these lines, one after the other, with this text, and these are the notes.
@@ -122,6 +132,10 @@ pub record Written : Type 0 where
 abbrev pub held_by : {J : Type 0} → (J → Option (List ℕ)) → Option (Journal J) → Option (List ℕ)
 held_by contents None = None
 held_by contents (Some journal) = contents journal.writer
+
+-- the name of its file, if one is kept
+abbrev pub named_by : {J : Type 0} → Option (Journal J) → Option (List ℕ)
+named_by journal = option_map (λ j. j.name.now) journal
 
 -- The lines up to the rest were answered and delivered: the output has all of the answers' text,
 -- and the journal all notes.
@@ -205,7 +219,7 @@ Tells result terms old was before after bytes new is line =
 -- Whether the segment is over after a line: it is if it is due and lines are not refused; if not, it
 -- goes on.
 abbrev pub IsOver : Bool → Terms → List Standing → Type 0
-IsOver true terms rings = is_due terms.limit rings ≡ true
+IsOver true terms rings = (is_due terms.limit rings ≡ true) × (terms.refusing ≡ None)
 IsOver false terms rings = IsOpen terms rings
 
 -- the same as the code sees it, after a line that called the ring of this number
@@ -219,16 +233,22 @@ abbrev pub IsTaken : Bool → List ℕ → List ℕ → (List ℕ → Type 0) �
 IsTaken over unread left serves =
     (taken : List ℕ) × (unread ≡ taken ++ left) × (over ≡ false → left ≡ []) × serves taken
 
+-- A part whose lines are all refused has read a block, unless it ended with the input.
+abbrev pub HasRead : Ending → Terms → List ℕ → Type 0
+HasRead ending.End terms read = Unit {0}
+HasRead ending.Due terms read = IfSome terms.refusing (λ _. 1 ≤ length read)
+
 -- A part of the input was served, from the line that had begun and the rest of a block on. All
 -- answers to its lines have left, and this is the rest.
-pub record ServesPart (terms : Terms) (old new : List Standing) (was is : Option Held)
-    (begun unread left line : List ℕ) (input rest : Option (List ℕ)) (before after : Written) :
-    Type 0 where
+pub record ServesPart (end : Ending) (terms : Terms) (old new : List Standing)
+    (was is : Option Held) (begun unread left line : List ℕ) (input rest : Option (List ℕ))
+    (before after : Written) : Type 0 where
   pub read : List ℕ
   pub taken : List ℕ
   pub consumed : Consumes input rest read
   pub split : unread ++ read ≡ taken ++ left
   pub rests : Rests terms old was before after (begun ++ taken) new is line
+  pub reads : HasRead end terms read
 
 -- Why it ended: the input has, or the segment is due.
 abbrev pub IsEnding : Ending → Terms → List Standing → List ℕ → Option (List ℕ) → Type 0

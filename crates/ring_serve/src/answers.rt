@@ -1,10 +1,10 @@
 //! The answers, as lines.
 
-ghost use Rattle.std.specs.Prelude.{◌≡◌, ◌≤◌, ◌+◌, ◌++◌, length};
-ghost use Rattle.text_lines.specs.Spelling.{spaced, ended};
+ghost use Rattle.std.specs.Prelude.{◌≡◌};
 ghost use Rattle.ring_serve.specs.declared.answers.Answer.TheVariants as answer;
 ghost use Rattle.ring_serve.specs.Answers.{answer_line};
 
+use line_parts::{put_word, with_number, with_numbers, word_line};
 use ring_model::Survey;
 use text_lines::Line;
 
@@ -56,52 +56,6 @@ pub enum Answer {
     /// The rings were saved.
     Saved,
     Refused(Refusal),
-}
-
-/// Puts the word in front of a line.
-fn put_word(line: &mut Line, word: &[u8])
-    requires { length line.old + length word.now ≤ 128 }
-    ensures { line.new ≡ word.now ++ line.old }
-{
-    for i in 0..word.len() {
-        line.byte(word[word.len() - 1 - i]);
-    }
-}
-
-/// The line of this one word, which has its LF.
-fn word_line(word: &[u8]) -> Line
-    requires { length word.now ≤ 128 }
-    ensures { result ≡ word.now }
-{
-    let mut line = Line::new();
-    put_word(&mut line, word);
-    line
-}
-
-/// The line of a word and a number.
-fn with_number(word: &[u8], number: u64) -> Line
-    requires { length word.now ≤ 32 }
-    ensures { result ≡ word.now ++ ended number }
-{
-    let mut line = Line::new();
-    line.byte(b'\n');
-    line.number(number);
-    put_word(&mut line, word);
-    line
-}
-
-/// The line of a word and two numbers.
-fn with_numbers(word: &[u8], first: u64, second: u64) -> Line
-    requires { length word.now ≤ 32 }
-    ensures { result ≡ word.now ++ (spaced first ++ ended second) }
-{
-    let mut line = Line::new();
-    line.byte(b'\n');
-    line.number(second);
-    line.byte(b' ');
-    line.number(first);
-    put_word(&mut line, word);
-    line
 }
 
 /// The line of a survey.

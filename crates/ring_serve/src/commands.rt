@@ -6,7 +6,7 @@ ghost use Rattle.text_lines.specs.Reading.{Gives, whole_at};
 ghost use Rattle.ring_serve.specs.Commands.{seen, IsReadAs};
 ghost use Rattle.ring_serve.specs.Readers.{pass_at, try_at, corrupt_at, survey_at, glance_at, group_at, machines_at, gaps, name_at, end_of_line, save_at, g_at, s_at, command_at};
 
-use crate::numbers::{decimal, place, places};
+use line_parts::{decimal, place, places};
 use std::alloc::Global;
 use text_lines::{Fault, Stop, nothing_more, word};
 

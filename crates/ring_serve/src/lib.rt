@@ -4,7 +4,6 @@
 mod answers;
 mod commands;
 mod laws;
-mod numbers;
 mod parts;
 mod permits;
 mod recovered;

@@ -1,14 +1,15 @@
 //! Parts of the lines: each is served until the input has ended, or until a segment is due.
 
-ghost use Rattle.std.specs.Prelude.{◌≡◌, ◌≢◌, ℕ, List, Option, [], ◌++◌, OnOk, OnErr, IfOk, IfErr, MatchResult, is_some};
+ghost use Rattle.std.specs.Prelude.{◌≡◌, ◌≢◌, ℕ, List, Option, [], ◌++◌, OnOk, OnErr, IfOk, IfErr, MatchResult};
 ghost use Rattle.std.specs.List.{AllByRecursion};
+ghost use Rattle.std.specs.Option.{option_map};
 ghost use Rattle.disks.specs.Held.{Held};
 ghost use Rattle.ring_serve.specs.declared.serving.ServeFault.TheVariants as fault;
 ghost use Rattle.ring_serve.specs.Standings.{Standing};
 ghost use Rattle.ring_serve.specs.Saved.{IsRight};
 ghost use Rattle.ring_serve.specs.Permits.{terms_of, terms_in, terms_by, IsOpen};
 ghost use Rattle.ring_serve.specs.Recovered.{AnsweredCallsAreRecovered};
-ghost use Rattle.ring_serve.specs.Serving.{Written, GoesOn, Rests, Stops, HasBegun, IsOver, IsTaken, ServesPart, IsEnding, ServesSomeOf, held_by, IsFaultOf, ServesAll, ServesSome};
+ghost use Rattle.ring_serve.specs.Serving.{Written, GoesOn, Rests, Stops, HasBegun, IsOver, IsTaken, ServesPart, IsEnding, ServesSomeOf, held_by, named_by, IsFaultOf, ServesAll, ServesSome};
 
 use crate::permits::Permits;
 use crate::served::Served;
@@ -66,7 +67,7 @@ fn serve_block<D: Disk, J: Write, W: Write>(
     requires open { IsOpen (terms_by rules) served.old }
     requires none { (pending.old.answers.items ≡ []) × (pending.old.notes.items ≡ []) }
     ensures known { IfErr result (λ e. e ≢ fault.TooLong) }
-    ensures kept { is_some journal.new ≡ is_some journal.old }
+    ensures kept { named_by journal.new ≡ named_by journal.old }
     ensures left { OnOk result ((pending.new.answers.items ≡ []) × (pending.new.notes.items ≡ [])) }
     ensures over { IfOk result (λ over. IsOver over (terms_by rules.entry) served.new) }
     ensures serves { (old : List Standing) (was : Option Held) (before : Written) (bytes : List ℕ)
@@ -93,7 +94,8 @@ fn serve_block<D: Disk, J: Write, W: Write>(
 
 /// The rules of a part of the lines.
 fn rules_in<'n>(journal: Option<&'n str>, permits: Permits<'n>, ends: Option<Ends>) -> Rules<'n>
-    ensures { terms_by result ≡ terms_in (is_some journal.entry) permits.entry ends }
+    ensures { terms_by result
+        ≡ terms_in (option_map (λ name. name.now) journal.entry) permits.entry ends }
 {
     match ends {
         None => Rules {
@@ -137,25 +139,25 @@ pub fn serve_part<D: Disk, I: Read, J: Write, W: Write>(
     input: &mut I,
     out: &mut W,
 ) -> Result<Ending, ServeFault>
-    requires { IsOpen (terms_in (is_some journal.old) permits ends) served.old }
+    requires { IsOpen (terms_in (named_by journal.old) permits ends) served.old }
     ensures ok { IfOk result (λ ending. (begun : List ℕ) → HasBegun begun line.old.items
-        → ServesPart (terms_in (is_some journal.old) permits.entry ends) served.old served.new
-        (D.holds disk.old) (D.holds disk.new) begun unread.old unread.new line.new.items
+        → ServesPart ending (terms_in (named_by journal.old) permits.entry ends) served.old
+        served.new (D.holds disk.old) (D.holds disk.new) begun unread.old unread.new line.new.items
         (I.remaining input.old) (I.remaining input.new)
         (record { journal = held_by J.contents journal.old; out = W.contents out.old })
         (record { journal = held_by J.contents journal.new; out = W.contents out.new })) }
     ensures ends { IfOk result (λ ending. IsEnding ending
-        (terms_in (is_some journal.old) permits.entry ends) served.new unread.new
+        (terms_in (named_by journal.old) permits.entry ends) served.new unread.new
         (I.remaining input.new)) }
     ensures err { OnErr result ((begun : List ℕ) → HasBegun begun line.old.items
-        → ServesSomeOf (terms_in (is_some journal.old) permits.entry ends) served.old served.new
+        → ServesSomeOf (terms_in (named_by journal.old) permits.entry ends) served.old served.new
         (D.holds disk.old) (D.holds disk.new) begun unread.old
         (I.remaining input.old) (I.remaining input.new)
         (record { journal = held_by J.contents journal.old; out = W.contents out.old })
         (record { journal = held_by J.contents journal.new; out = W.contents out.new })) }
     ensures long { IfErr result (λ e.
         IsFaultOf e (I.remaining input.old) (I.remaining input.new)) }
-    ensures kept { is_some journal.new ≡ is_some journal.old }
+    ensures kept { named_by journal.new ≡ named_by journal.old }
     ensures right { AllByRecursion IsRight served.old }
 {
     are_right(served);
@@ -218,20 +220,20 @@ pub fn serve<D: Disk, I: Read, J: Write, W: Write>(
     input: &mut I,
     out: &mut W,
 ) -> Result<(), ServeFault>
-    ensures ok { OnOk result (ServesAll (terms_of (is_some journal.old) permits.entry)
+    ensures ok { OnOk result (ServesAll (terms_of (named_by journal.old) permits.entry)
         served.old served.new (D.holds disk.old) (D.holds disk.new) (I.remaining input.old)
         (I.remaining input.new)
         (record { journal = held_by J.contents journal.old; out = W.contents out.old })
         (record { journal = held_by J.contents journal.new; out = W.contents out.new })) }
-    ensures err { OnErr result (ServesSome (terms_of (is_some journal.old) permits.entry)
+    ensures err { OnErr result (ServesSome (terms_of (named_by journal.old) permits.entry)
         served.old served.new (D.holds disk.old) (D.holds disk.new) (I.remaining input.old)
         (I.remaining input.new)
         (record { journal = held_by J.contents journal.old; out = W.contents out.old })
         (record { journal = held_by J.contents journal.new; out = W.contents out.new })) }
     ensures long { IfErr result (λ e.
         IsFaultOf e (I.remaining input.old) (I.remaining input.new)) }
-    ensures kept { is_some journal.new ≡ is_some journal.old }
-    ensures recovered { AnsweredCallsAreRecovered (terms_of (is_some journal.old) permits.entry)
+    ensures kept { named_by journal.new ≡ named_by journal.old }
+    ensures recovered { AnsweredCallsAreRecovered (terms_of (named_by journal.old) permits.entry)
         served.old served.new (D.holds disk.old) (D.holds disk.new) (I.remaining input.old)
         (I.remaining input.new)
         (record { journal = held_by J.contents journal.old; out = W.contents out.old })

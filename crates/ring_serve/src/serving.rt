@@ -3,7 +3,8 @@
 //! The answers to the lines of a block, and their part for the journal, are kept until the block has been read. Then the
 //! journal gets its part, and is flushed; only after that do the answers leave.
 
-ghost use Rattle.std.specs.Prelude.{◌≡◌, ◌≢◌, ◌≤◌, ℕ, List, Option, Bool, [], ◌∷◌, ◌++◌, length, take, drop, false, OnOk, OnErr, IfOk, IfErr, MatchResult, None, Some, is_some, cond, IsTrue};
+ghost use Rattle.std.specs.Prelude.{◌≡◌, ◌≢◌, ◌≤◌, ℕ, List, Option, Bool, [], ◌∷◌, ◌++◌, length, take, drop, false, OnOk, OnErr, IfOk, IfErr, MatchResult, None, Some, is_some, cond, IsTrue, IsFalse};
+ghost use Rattle.std.specs.Option.{option_map};
 ghost use Rattle.disks.specs.Held.{Held};
 ghost use Rattle.std.specs.Io.KnownBytes.{Appends, Consumes, IsAtEnd, Keeps};
 ghost use Rattle.text_lines.specs.Writing.{Writes, Wrote};
@@ -16,7 +17,7 @@ ghost use Rattle.ring_serve.specs.Due.{is_due, is_due_at};
 ghost use Rattle.ring_serve.specs.Permits.{Terms, terms_of, terms_in, terms_by, IsOpen, file_in};
 ghost use Rattle.ring_serve.specs.Turns.{recorded_among, turn_seen_among};
 ghost use Rattle.ring_serve.specs.Notes.{notes_of};
-ghost use Rattle.ring_serve.specs.Serving.{cut, name_in, IsSaved, IsSaveGiven, IsGiven, IsTurnOn, IsAnswered, Written, GoesOn, Serves, Rests, Stops, Tells, HasBegun, IsOver, is_over_at, IsTaken, ServesPart, IsEnding, ServesSomeOf, held_by, IsFaultOf, ServesAll, ServesSome};
+ghost use Rattle.ring_serve.specs.Serving.{cut, name_in, IsSaved, IsSaveGiven, IsGiven, IsTurnOn, IsAnswered, IsNoJournal, Written, GoesOn, Serves, Rests, Stops, Tells, HasBegun, IsOver, is_over_at, IsTaken, ServesPart, IsEnding, ServesSomeOf, held_by, named_by, IsFaultOf, ServesAll, ServesSome};
 
 use crate::answers::{Answer, Refusal};
 use crate::commands::LINE_LIMIT;
@@ -81,7 +82,7 @@ pub(crate) struct Rules<'n> {
 
 /// The name of the journal's file, if one is kept.
 pub(crate) fn file_of<'n, J>(journal: &Option<Journal<'n, J>>) -> Option<&'n str>
-    ensures { is_some result ≡ is_some journal.now }
+    ensures { option_map (λ name. name.now) result ≡ named_by journal.now }
 {
     match journal {
         None => None,
@@ -109,7 +110,10 @@ fn put_trace<J: Write>(served: &Served, turn: LineAnswer, notes: &mut J) -> Resu
 }
 
 /// Whether a name may lead to the journal's file.
-fn may_be_journal<D: Disk>(disk: &D, journal: Option<&str>, name: &str) -> bool {
+fn may_be_journal<D: Disk>(disk: &D, journal: Option<&str>, name: &str) -> bool
+    ensures { IsFalse result
+        → IsNoJournal (D.holds disk.now) (option_map (λ n. n.now) journal.entry) name.now }
+{
     match journal {
         None => false,
         Some(journal) => disk.is_one_file(journal, name).unwrap_or(true),
@@ -135,7 +139,8 @@ fn save_in<D: Disk>(
     folder: &str,
     name: &[u8],
 ) -> bool
-    ensures { IsSaved (D.holds disk.old) (D.holds disk.new) (file_in folder.now name.now) served.now
+    ensures { IsSaved (option_map (λ n. n.now) journal.entry) (D.holds disk.old) (D.holds disk.new)
+        (file_in folder.now name.now) served.now
         (cond result answer.Saved (answer.Refused refusal.File)) }
 {
     let Ok(name) = str::from_utf8(name) else {
@@ -158,8 +163,8 @@ fn save<D: Disk>(
     rules: Rules<'_>,
     name: &[u8],
 ) -> Answer
-    ensures { IsSaveGiven (terms_by rules.entry).saves (D.holds disk.old) (D.holds disk.new)
-        name.now served.now result }
+    ensures { IsSaveGiven (terms_by rules.entry).journal (terms_by rules.entry).saves
+        (D.holds disk.old) (D.holds disk.new) name.now served.now result }
 {
     let Some(folder) = rules.permits.saves else {
         return Answer::Refused(Refusal::Off);
@@ -183,8 +188,8 @@ fn give<D: Disk>(
     line: &[u8],
     asked: Answer,
 ) -> Answer
-    ensures { IsGiven (terms_by rules.entry).saves (D.holds disk.old) (D.holds disk.new)
-        (name_in line.now) served.now asked result }
+    ensures { IsGiven (terms_by rules.entry).journal (terms_by rules.entry).saves
+        (D.holds disk.old) (D.holds disk.new) (name_in line.now) served.now asked result }
 {
     match asked {
         Answer::Saved => save(alloc, served, disk, rules, name_of(line)),
@@ -375,7 +380,7 @@ fn put_notes<J: Write>(journal: &mut Option<Journal<'_, J>>, bytes: &[u8]) -> bo
         → Appends (held_by J.contents journal.old) (held_by J.contents journal.new) bytes.now }
     ensures part { (left : List ℕ)
         × Wrote (held_by J.contents journal.old) (held_by J.contents journal.new) bytes.now left }
-    ensures kept { is_some journal.new ≡ is_some journal.old }
+    ensures kept { named_by journal.new ≡ named_by journal.old }
 {
     match journal {
         None => true,
@@ -390,7 +395,7 @@ pub(crate) fn put_pending<J: Write, W: Write>(
     out: &mut W,
 ) -> Result<(), ServeFault>
     ensures known { IfErr result (λ e. e ≢ fault.TooLong) }
-    ensures kept { is_some journal.new ≡ is_some journal.old }
+    ensures kept { named_by journal.new ≡ named_by journal.old }
     ensures left { OnOk result ((pending.new.answers.items ≡ []) × (pending.new.notes.items ≡ [])) }
     ensures told { (terms : Terms) (old new : List Standing) (was is : Option Held)
         (before : Written) (bytes line : List ℕ)

@@ -8,9 +8,12 @@ mod laws;
 mod outcomes;
 mod report;
 
+pub use counts::Counts;
 pub use laws::{outcome_is_legal, written_is_legal};
 pub use outcomes::write_outcome;
-pub use report::{put_total_line, write_report, write_total};
+pub use report::{
+    put_counts_line, put_end, put_total_line, put_worded_list, write_report, write_total,
+};
 pub use ring_saved::{
     ReadError, Saved, SavedEvent, SavedRing, SavedSurvey, answers_are_apart, read_saved,
     texts_are_apart, texts_read_back, upgrade, write_saved,

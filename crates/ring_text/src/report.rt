@@ -58,9 +58,13 @@ fn put_counts<W: Write>(out: &mut W, counts: Counts) -> Result<(), WriteFault>
     )
 }
 
-/// The line of a ring's place, its size and its counts.
+/// Writes the line of a ring's place, its size and its counts.
+///
+/// # Errors
+///
+/// As [`write_report`], with a prefix of the line.
 #[tactic(auto, using(text_lines::proofs::Writing::writes_then))]
-fn put_counts_line<W: Write>(
+pub fn put_counts_line<W: Write>(
     out: &mut W,
     place: u32,
     n: u32,
@@ -77,8 +81,12 @@ fn put_counts_line<W: Write>(
 }
 
 /// Writes a word, and a list of `count` numbers after it, the one at place `i` as `number` answers it.
+///
+/// # Errors
+///
+/// As [`write_report`], with a prefix of both.
 #[tactic(auto, using(text_lines::proofs::Writing::writes_then))]
-fn put_worded_list<W: Write, F: Fn(u32) -> u64>(
+pub fn put_worded_list<W: Write, F: Fn(u32) -> u64>(
     out: &mut W,
     word: &[u8],
     count: u32,
@@ -170,7 +178,11 @@ fn end_state(book: &Book<Till>) -> &RingState
 }
 
 /// Writes the end of a book: its state, a survey of it, and the grants of each machine.
-fn put_end<W: Write>(out: &mut W, book: &Book<Till>) -> Result<(), WriteFault>
+///
+/// # Errors
+///
+/// As [`write_report`], with a prefix of these three lines.
+pub fn put_end<W: Write>(out: &mut W, book: &Book<Till>) -> Result<(), WriteFault>
     ensures { Writes (W.contents out.old) (W.contents out.new) result (end_lines book.now) }
 {
     let n = book.start().params().n();

@@ -38,7 +38,7 @@ fn run<R: AllocGlobal + Env + Files<File = File> + Input + Print + Threads + Wai
     let Ok(mut out) = BufWriter::new(rt.alloc(), io::writer(rt)) else {
         return Err(ToolError::OutOfMemory);
     };
-    let mut disk = SystemDisk { files: rt };
+    let mut disk = SystemDisk::new(rt);
     Ok(run_tool(rt, &mut disk, words.as_slice(), &mut out, err))
 }
 

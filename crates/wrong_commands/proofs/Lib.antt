@@ -10,3 +10,4 @@ pub mod Traced
 pub mod Unchained
 pub mod Gapped
 pub mod Emptied
+pub mod Cuts

@@ -1,9 +1,9 @@
 -- The content of files where one was to be replaced.
 use Rattle.std.proofs.Common.{◌≡◌, ◌∙◌, ap, sym, subst, refl, inl, inr}
-use Rattle.std.specs.Prelude.{ℕ, ◌≢◌, List, [], Option, None, Some, IsSome, false, ◌⊎◌}
-use Rattle.std.specs.Option.{unwrap_or}
+use Rattle.std.specs.Prelude.{ℕ, ◌≢◌, List, [], Option, None, Some, IsSome, IfSome, false, true, ◌⊎◌}
+use Rattle.std.specs.Option.{unwrap_or, is_some}
 use Rattle.std.proofs.lemmas.Bool.{false≢true}
-use Rattle.disks.specs.Held.{Held, Starts, Replaces}
+use Rattle.disks.specs.Held.{Held, bytes_of, Creates, Discards, Grows, Starts, Replaces}
 use Rattle.ring_saved.specs.Content.{Content}
 use Rattle.ring_check.specs.declared.answers.Summary.{Summary}
 use Rattle.ring_commands.specs.Named.{IsHeld, IsNamed, IsApart}
@@ -53,3 +53,23 @@ two_texts None is name one other known apart h k = absurd (false≢true known)
 two_texts (Some was) None name one other known apart h k = absurd h
 two_texts (Some was) (Some is) name one other known apart h k =
     apart (ap (λ (o : Option (List ℕ)). unwrap_or o []) (sym (h.here name refl) ∙ k.here name refl))
+
+-- a file is there, or it is not
+there_or_not : (file : Option (List ℕ)) (bytes : List ℕ) → file ≡ None → file ≡ Some bytes → ⊥
+there_or_not file bytes none some = false≢true (ap is_some (sym none ∙ some))
+
+-- a file that was opened to be written at its end is there
+pub grown_there : (was is : Option Held) (name : List ℕ) (contents : Option (List ℕ)) → IsSome was → is ≡ was → Grows was name contents
+    → IfSome is (λ held. bytes_of held name ≡ None) → ⊥
+grown_there None is name contents known same grown gone = absurd (false≢true known)
+grown_there (Some was) is name contents known same grown gone =
+    there_or_not (bytes_of was name) grown.0 (subst (λ (d : Option Held). IfSome d (λ held. bytes_of held name ≡ None)) same gone) grown.1
+
+-- where nothing has changed, no file was made, and none removed
+pub none_made : (files : Option Held) (name : List ℕ) → IsSome files → Creates files files name true → ⊥
+none_made None name known h = absurd (false≢true known)
+none_made (Some was) name known h = there_or_not (bytes_of was name) [] h.0 (h.1.here name refl)
+
+pub none_removed : (files : Option Held) (name : List ℕ) → IsSome files → Discards files files name true → ⊥
+none_removed None name known h = absurd (false≢true known)
+none_removed (Some was) name known h = there_or_not (bytes_of was name) [] (h.1.here name refl) h.0

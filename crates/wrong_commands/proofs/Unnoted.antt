@@ -106,23 +106,23 @@ no_refusal why given n x h e = no (sym h ∙ e)
     no : answer.Refused why ≡ answer.Granted n x → ⊥
     no p = cc
 
-no_save : (saves : Option (List ℕ)) (was is : Option Held) (name : List ℕ) (rings : List Standing) (given : Answer) (n x : ℕ) → IsSaveGiven saves was is name rings given → given ≡ answer.Granted n x → ⊥
-no_save None was is name rings given n x h e = no_refusal refusal.Off given n x h.0 e
-no_save (Some folder) was is name rings given n x (inl (_, inl h)) e = no (sym h.0 ∙ e)
+no_save : (journal saves : Option (List ℕ)) (was is : Option Held) (name : List ℕ) (rings : List Standing) (given : Answer) (n x : ℕ) → IsSaveGiven journal saves was is name rings given → given ≡ answer.Granted n x → ⊥
+no_save journal None was is name rings given n x h e = no_refusal refusal.Off given n x h.0 e
+no_save journal (Some folder) was is name rings given n x (inl (_, inl h)) e = no (sym h.0 ∙ e)
   where
     no : answer.Saved ≡ answer.Granted n x → ⊥
     no p = cc
-no_save (Some folder) was is name rings given n x (inl (_, inr h)) e = no_refusal refusal.File given n x h.0 e
-no_save (Some folder) was is name rings given n x (inr h) e = no_refusal refusal.Name given n x h.1 e
+no_save journal (Some folder) was is name rings given n x (inl (_, inr h)) e = no_refusal refusal.File given n x h.0 e
+no_save journal (Some folder) was is name rings given n x (inr h) e = no_refusal refusal.Name given n x h.1 e
 
-asked_granted : (saves : Option (List ℕ)) (was is : Option Held) (name : List ℕ) (rings : List Standing) (asked given : Answer) (n x : ℕ) → IsGiven saves was is name rings asked given → given ≡ answer.Granted n x → asked ≡ answer.Granted n x
-asked_granted saves was is name rings answer.Saved given n x h e = absurd (no_save saves was is name rings given n x h e)
-asked_granted saves was is name rings (answer.Granted a b) given n x h e = sym h.0 ∙ e
-asked_granted saves was is name rings answer.Waits given n x h e = sym h.0 ∙ e
-asked_granted saves was is name rings (answer.Corrupted a) given n x h e = sym h.0 ∙ e
-asked_granted saves was is name rings (answer.Survey a) given n x h e = sym h.0 ∙ e
-asked_granted saves was is name rings (answer.Block a b) given n x h e = sym h.0 ∙ e
-asked_granted saves was is name rings (answer.Refused a) given n x h e = sym h.0 ∙ e
+asked_granted : (journal saves : Option (List ℕ)) (was is : Option Held) (name : List ℕ) (rings : List Standing) (asked given : Answer) (n x : ℕ) → IsGiven journal saves was is name rings asked given → given ≡ answer.Granted n x → asked ≡ answer.Granted n x
+asked_granted journal saves was is name rings answer.Saved given n x h e = absurd (no_save journal saves was is name rings given n x h e)
+asked_granted journal saves was is name rings (answer.Granted a b) given n x h e = sym h.0 ∙ e
+asked_granted journal saves was is name rings answer.Waits given n x h e = sym h.0 ∙ e
+asked_granted journal saves was is name rings (answer.Corrupted a) given n x h e = sym h.0 ∙ e
+asked_granted journal saves was is name rings (answer.Survey a) given n x h e = sym h.0 ∙ e
+asked_granted journal saves was is name rings (answer.Block a b) given n x h e = sym h.0 ∙ e
+asked_granted journal saves was is name rings (answer.Refused a) given n x h e = sym h.0 ∙ e
 
 abbrev head : List ℕ → ℕ
 head [] = 0
@@ -140,14 +140,14 @@ granted_of (answer.Refused why) later e = let h : ◌≡◌ {A = ℕ} 114 103 = 
 
 -- ---- where the first line's answer is reported as granted, the journal gets something
 
-first_noted : (permits : Permits) (old : List Standing) (was : Option Held) (lines : List (List ℕ)) (said noted : List ℕ) (new : List Standing) (is : Option Held) → Answers (terms_of true permits) old was lines said noted new is → head said ≡ 103 → 1 ≤ length noted
-first_noted permits old was [] said noted new is h e =
+first_noted : (name : List ℕ) (permits : Permits) (old : List Standing) (was : Option Held) (lines : List (List ℕ)) (said noted : List ℕ) (new : List Standing) (is : Option Held) → Answers (terms_of (Some name) permits) old was lines said noted new is → head said ≡ 103 → 1 ≤ length noted
+first_noted name permits old was [] said noted new is h e =
     let none : head [] ≡ 103 = subst (λ (x : List ℕ). head x ≡ 103) h.0 e in
     absurd (omega arith)
-first_noted permits old was (line ∷ lines) said noted new is h e =
-    let a : IsAnswered (terms_of true permits) old was line h.2 h.4 h.0 h.1 = h.6 in
+first_noted name permits old was (line ∷ lines) said noted new is h e =
+    let a : IsAnswered (terms_of (Some name) permits) old was line h.2 h.4 h.0 h.1 = h.6 in
     let g = granted_of a.given h.3 (subst (λ (x : List ℕ). head (x ++ h.3) ≡ 103) a.says (subst (λ (x : List ℕ). head x ≡ 103) h.7 e)) in
-    let asked = asked_granted (terms_of true permits).saves was h.1 (name_in line) h.0 a.turn.answer a.given g.0 g.1 a.gives g.2 in
+    let asked = asked_granted (terms_of (Some name) permits).journal (terms_of (Some name) permits).saves was h.1 (name_in line) h.0 a.turn.answer a.given g.0 g.1 a.gives g.2 in
     let many : 1 ≤ length (notes_of a.turn.recorded) = of_line permits.faults old line a.turn a.of_line g.0 g.1 asked in
     subst (λ (x : List ℕ). 1 ≤ length x) (sym h.8) (some_front h.4 h.5 (subst (λ (x : List ℕ). 1 ≤ length x) (sym a.notes) many))
 
@@ -164,12 +164,12 @@ starts [] y e some g = absurd (omega arith)
 starts (x ∷ out) y e some g = sym e ∙ g
 
 -- so an output that begins so was not written with a journal that stayed as it was
-pub unnoted : (permits : Permits) (old new : List Standing) (was is : Option Held) (unread rest : Option (List ℕ)) (journal out : List ℕ) (y : ℕ) → y ≡ get_or out 0 y → 0 < length out → y ≡ 103
-    → ServesAll (terms_of true permits) old new was is unread rest (record { journal = Some journal; out = Some [] }) (record { journal = Some journal; out = Some out }) → ⊥
-unnoted permits old new was is unread rest journal out y e some g h =
+pub unnoted : (name : List ℕ) (permits : Permits) (old new : List Standing) (was is : Option Held) (unread rest : Option (List ℕ)) (journal out : List ℕ) (y : ℕ) → y ≡ get_or out 0 y → 0 < length out → y ≡ 103
+    → ServesAll (terms_of (Some name) permits) old new was is unread rest (record { journal = Some journal; out = Some [] }) (record { journal = Some journal; out = Some out }) → ⊥
+unnoted name permits old new was is unread rest journal out y e some g h =
     let t = h.told in
     let said : out ≡ t.said = t.wrote in
-    let many = first_noted permits old was t.answered.lines t.said t.noted new is t.answered.answers (subst (λ (x : List ℕ). head x ≡ 103) said (starts out y e some g)) in
+    let many = first_noted name permits old was t.answered.lines t.said t.noted new is t.answered.answers (subst (λ (x : List ℕ). head x ≡ 103) said (starts out y e some g)) in
     let none = same_length journal t.noted t.wrote_notes in
     absurd (omega arith)
 
@@ -178,12 +178,12 @@ head_more [] ys some = absurd (omega (arith, some))
 head_more (x ∷ xs) ys some = refl
 
 -- nor does such a journal keep its answer
-pub unkept : (permits : Permits) (old new : List Standing) (was is : Option Held) (unread rest : Option (List ℕ)) (journal out : List ℕ) (y : ℕ) → y ≡ get_or out 0 y → 0 < length out → y ≡ 103
-    → AnsweredCallsAreRecovered (terms_of true permits) old new was is unread rest (record { journal = Some journal; out = Some [] }) (record { journal = Some journal; out = Some out }) → ⊥
-unkept permits old new was is unread rest journal out y e some g h =
+pub unkept : (name : List ℕ) (permits : Permits) (old new : List Standing) (was is : Option Held) (unread rest : Option (List ℕ)) (journal out : List ℕ) (y : ℕ) → y ≡ get_or out 0 y → 0 < length out → y ≡ 103
+    → AnsweredCallsAreRecovered (terms_of (Some name) permits) old new was is unread rest (record { journal = Some journal; out = Some [] }) (record { journal = Some journal; out = Some out }) → ⊥
+unkept name permits old new was is unread rest journal out y e some g h =
     let s = h.ended in
     let said : s.said ≡ out ++ s.left = s.wrote.1 ∙ ap (λ (x : List ℕ). x ++ s.left) (sym s.wrote.2) in
     let begins : head s.said ≡ 103 = ap (λ (x : List ℕ). head x) said ∙ (head_more out s.left some ∙ starts out y e some g) in
-    let many = first_noted permits old was s.told.lines s.said s.noted s.mid s.between s.told.answers begins in
+    let many = first_noted name permits old was s.told.lines s.said s.noted s.mid s.between s.told.answers begins in
     let none = same_length journal (s.noted ++ s.front) s.wrote_notes in
     absurd (omega (arith, many, none, length-append s.noted s.front))

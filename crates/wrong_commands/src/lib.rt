@@ -4,6 +4,7 @@
 //! that the result does not meet the clause that the real one promises.
 #![tactic(auto)]
 
+pub mod chains;
 pub mod commands;
 pub mod endless;
 pub mod files;

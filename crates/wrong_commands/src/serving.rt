@@ -21,12 +21,13 @@ pub fn answers_before_the_journal<D: Disk, I: Read>(
     input: &mut I,
     journal: &mut Vec<u8>,
 ) -> Option<Vec<u8>>
-    ensures wrong { IfSome result (λ out. ServesAll (terms_of true permits.entry)
+    ensures wrong { IfSome result (λ out. ServesAll (terms_of (Some name.now) permits.entry)
         served.old served.new (D.holds disk.old) (D.holds disk.new) (I.remaining input.old)
         (I.remaining input.new)
         (record { journal = Some journal.old.items; out = Some [] })
         (record { journal = Some journal.new.items; out = Some out.items }) → ⊥) }
-    ensures lost { IfSome result (λ out. AnsweredCallsAreRecovered (terms_of true permits.entry)
+    ensures lost { IfSome result (λ out.
+        AnsweredCallsAreRecovered (terms_of (Some name.now) permits.entry)
         served.old served.new (D.holds disk.old) (D.holds disk.new) (I.remaining input.old)
         (I.remaining input.new)
         (record { journal = Some journal.old.items; out = Some [] })

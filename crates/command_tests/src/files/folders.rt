@@ -126,6 +126,7 @@ fn the_last_segment_is_recovered(rt: HostRuntime) -> Result<(), Fail> {
     let words = RecoverWords {
         file: "f",
         new: "new.txt",
+        salvage: false,
     };
     let mut input: &[u8] = b"";
     let mut out = Vec::new(rt.alloc());

@@ -19,7 +19,9 @@ fn expect_refused<D: Disk>(rt: &impl Abort, disk: &mut D, name: &str, kind: Erro
 fn a_file_grows_by_one_hand_alone(rt: HostRuntime) -> Result<(), Fail> {
     let folder = folder_of(&rt, "grown")?;
     let name = within(&rt, &folder, "a")?;
-    let mut disk = SystemDisk { files: &rt };
+    let mut disk = SystemDisk::new(&rt);
+    expect_refused(&rt, &mut disk, &name, ErrorKind::NotFound);
+    assert!(rt; disk.create(&name)?);
     let mut first = disk.grow(&name, true)?;
     first.write_all(b"one")?;
     first.flush()?;
@@ -47,7 +49,25 @@ fn a_grown_file_in_memory_holds_what_was_written(rt: HostRuntime) -> Result<(), 
     disk.close_synced(grown, "a")?;
     let held = bytes_of(rt.alloc(), &disk, "a")?;
     assert!(rt; held.as_slice() == b"one two".as_slice());
-    let none = disk.grow("b", false)?;
+    expect_refused(&rt, &mut disk, "b", ErrorKind::NotFound);
+    Ok(())
+}
+
+#[test]
+fn an_empty_file_in_memory_is_made_and_removed(rt: HostRuntime) -> Result<(), Fail> {
+    let mut disk = no_files(rt.alloc());
+    put(&mut disk, "b", b"other")?;
+    assert!(rt; disk.create("a")?);
+    assert!(rt; !disk.create("b")?);
+    let none = disk.grow("a", false)?;
     assert!(rt; none.is_empty());
+    let held = bytes_of(rt.alloc(), &disk, "a")?;
+    assert!(rt; held.is_empty());
+    assert!(rt; !disk.discard("b")?);
+    assert!(rt; disk.discard("a")?);
+    assert!(rt; !disk.discard("a")?);
+    assert!(rt; disk.open("a").is_err());
+    let held = bytes_of(rt.alloc(), &disk, "b")?;
+    assert!(rt; held.as_slice() == b"other".as_slice());
     Ok(())
 }

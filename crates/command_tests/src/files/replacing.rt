@@ -66,7 +66,7 @@ fn a_file_in_memory_is_replaced_as_a_whole(rt: HostRuntime) -> Result<(), Fail> 
 fn a_file_of_the_system_is_replaced_as_a_whole(rt: HostRuntime) -> Result<(), Fail> {
     let folder = folder_of(&rt, "replaced")?;
     let name = within(&rt, &folder, "a")?;
-    let mut disk = SystemDisk { files: &rt };
+    let mut disk = SystemDisk::new(&rt);
     assert!(rt; replace(rt.alloc(), &mut disk, &name, &WHOLE) == Ok(()));
     expect_bytes(&rt, &name, b"one\ntwo\n")?;
     put(&mut disk, &name, b"old")?;

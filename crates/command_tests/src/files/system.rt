@@ -47,7 +47,7 @@ pub fn expect_count<R: Abort + AllocGlobal + Files + Clone>(
 }
 
 /// Makes a file in a folder by the system's own call.
-fn write_in<R: AllocGlobal + Files>(
+pub fn write_in<R: AllocGlobal + Files>(
     rt: &R,
     folder: &str,
     name: &str,
@@ -57,12 +57,17 @@ fn write_in<R: AllocGlobal + Files>(
 }
 
 /// Makes a link in a folder that leads to this name.
-fn link_in<R: AllocGlobal + Files>(rt: &R, folder: &str, name: &str, to: &str) -> io::Result<()> {
+pub fn link_in<R: AllocGlobal + Files>(
+    rt: &R,
+    folder: &str,
+    name: &str,
+    to: &str,
+) -> io::Result<()> {
     symlink(rt, to, within(rt, folder, name)?.as_str())
 }
 
 /// Compares what a file of a folder holds; `None` is a file that is not there.
-fn expect<R: Abort + AllocGlobal + Files>(
+pub fn expect<R: Abort + AllocGlobal + Files>(
     rt: &R,
     folder: &str,
     name: &str,
@@ -102,14 +107,14 @@ struct Scene<'a> {
     after: Held<'a>,
 }
 
-const SCENES: [Scene; 4] = [
+const SCENES: [Scene; 5] = [
     // a file is made beside, and put in its place
     Scene {
         folder: "made",
         old: None,
         made: ("a", "one"),
         finished: true,
-        during: &[("a", None), ("a.part", Some("one"))],
+        during: &[("a", None), (".wozgirt.part", Some("one"))],
         after: &[("a", Some("one"))],
     },
     // an old file is whole until it is replaced
@@ -130,13 +135,22 @@ const SCENES: [Scene; 4] = [
         during: &[("a", Some("old"))],
         after: &[("a", Some("old"))],
     },
-    // a part that is there is left
+    // a part that was left is removed, and its name is taken
     Scene {
         folder: "parts",
+        old: Some((".wozgirt.part", "left")),
+        made: ("a", "one"),
+        finished: true,
+        during: &[("a", None), (".wozgirt.part", Some("one"))],
+        after: &[("a", Some("one"))],
+    },
+    // what only looks like a part is left
+    Scene {
+        folder: "others_parts",
         old: Some(("a.part", "anothers")),
         made: ("a", "one"),
         finished: true,
-        during: &[("a.part1", Some("one"))],
+        during: &[(".wozgirt.part", Some("one"))],
         after: &[("a.part", Some("anothers")), ("a", Some("one"))],
     },
 ];
@@ -148,7 +162,7 @@ fn make_watched<R: Abort + AllocGlobal + Files<File = File>>(
     scene: Scene,
 ) -> io::Result<()> {
     let name = within(rt, folder, scene.made.0)?;
-    let mut disk = SystemDisk { files: rt };
+    let mut disk = SystemDisk::new(rt);
     let mut made = disk.make(&name)?;
     made.write_all(scene.made.1.as_bytes())?;
     expect_all(rt, folder, scene.during)?;
@@ -183,14 +197,14 @@ fn a_new_file_is_made_beside_and_put_in_its_place(rt: HostRuntime) -> Result<(),
 }
 
 /// Puts bytes into a file of a folder, and compares them with what the disk then reads.
-fn put_in<R: Abort + AllocGlobal + Files<File = File>>(
+pub fn put_in<R: Abort + AllocGlobal + Files<File = File>>(
     rt: &R,
     folder: &str,
     name: &str,
     bytes: &[u8],
 ) -> io::Result<()> {
     let name = within(rt, folder, name)?;
-    let mut disk = SystemDisk { files: rt };
+    let mut disk = SystemDisk::new(rt);
     put(&mut disk, &name, bytes)?;
     let held = bytes_of(rt.alloc(), &disk, &name)?;
     assert!(rt; held.as_slice() == bytes);
@@ -214,7 +228,7 @@ fn a_new_file_goes_to_no_other_name(rt: HostRuntime) -> Result<(), Fail> {
     let folder = folder_of(&rt, "others")?;
     let name = within(&rt, &folder, "a")?;
     let other = within(&rt, &folder, "b")?;
-    let mut disk = SystemDisk { files: &rt };
+    let mut disk = SystemDisk::new(&rt);
     let mut made = disk.make(&name)?;
     made.write_all(b"one")?;
     let Err(fault) = disk.finish(made, &other) else {
@@ -254,7 +268,7 @@ fn is_one_file<R: AllocGlobal + Files<File = File>>(
     one: &str,
     other: &str,
 ) -> io::Result<bool> {
-    let disk = SystemDisk { files: rt };
+    let disk = SystemDisk::new(rt);
     let one = within(rt, folder, one)?;
     let other = within(rt, folder, other)?;
     disk.is_one_file(&one, &other)
@@ -286,7 +300,7 @@ fn names_of_one_file_are_known(rt: HostRuntime) -> Result<(), Fail> {
 fn what_cannot_be_made_is_refused(rt: HostRuntime) -> Result<(), Fail> {
     let folder = folder_of(&rt, "refused")?;
     let missing = within(&rt, &folder, "missing/a")?;
-    let mut disk = SystemDisk { files: &rt };
+    let mut disk = SystemDisk::new(&rt);
     assert!(rt; disk.open(&missing).is_err());
     assert!(rt; disk.make(&missing).is_err());
     assert!(rt; disk.make(&folder).is_err());
@@ -296,10 +310,10 @@ fn what_cannot_be_made_is_refused(rt: HostRuntime) -> Result<(), Fail> {
 
 #[test]
 fn a_device_is_written_as_it_stands(rt: HostRuntime) -> Result<(), Fail> {
-    let mut disk = SystemDisk { files: &rt };
+    let mut disk = SystemDisk::new(&rt);
     put(&mut disk, "/dev/null", b"one")?;
     assert!(rt; !fs::metadata(&rt, "/dev/null")?.is_file());
-    assert!(rt; !fs::exists(&rt, "/dev/null.part")?);
+    assert!(rt; !fs::exists(&rt, "/dev/.wozgirt.part")?);
     Ok(())
 }
 
@@ -315,7 +329,7 @@ fn a_folder_is_listed_with_what_is_a_regular_file(rt: HostRuntime) -> Result<(),
     write_in(&rt, &folder, "a.ring", "one")?;
     link_in(&rt, &folder, "b.ring", "a.ring")?;
     fs::create_dir(&rt, within(&rt, &folder, "c.ring")?.as_str())?;
-    let entries = SystemDisk { files: &rt }.list(&folder)?;
+    let entries = SystemDisk::new(&rt).list(&folder)?;
     assert_eq!(rt; entries.len(), 3);
     for (name, want) in [("a.ring", true), ("b.ring", false), ("c.ring", false)] {
         assert!(rt; listed(&entries, name) == Some(want), "at {name}");
@@ -328,7 +342,7 @@ fn a_folder_is_listed_with_what_is_a_regular_file(rt: HostRuntime) -> Result<(),
 fn a_folder_that_is_not_there_is_not_listed(rt: HostRuntime) -> Result<(), Fail> {
     let folder = folder_of(&rt, "gone")?;
     fs::remove_dir_all(&rt, folder.as_str())?;
-    let Err(fault) = SystemDisk { files: &rt }.list(&folder) else {
+    let Err(fault) = SystemDisk::new(&rt).list(&folder) else {
         panic!(rt; "listed");
     };
     assert!(rt; fault.kind() == ErrorKind::NotFound);

@@ -46,11 +46,13 @@ fn rules(folder: &str) -> SegmentRules<'_>
     }
 }
 
-/// Files in memory, of which the next few cannot be made.
+/// Files in memory, of which the next few cannot be made, and none while one is written that was not settled.
 #[derive(Drop)]
 struct Full {
     files: MemoryDisk,
     fails: u32,
+    /// How many files are written.
+    opened: u32,
 }
 
 impl Disk for Full {
@@ -73,6 +75,9 @@ impl Disk for Full {
     }
 
     fn make(&mut self, name: &str) -> io::Result<Vec<u8>> {
+        if self.opened > 0 {
+            return Err(io::Error::from(ErrorKind::ResourceBusy));
+        }
         if self.fails == 0 {
             return self.files.make(name);
         }
@@ -84,11 +89,22 @@ impl Disk for Full {
         self.files.finish(made, name)
     }
 
+    fn create(&mut self, name: &str) -> io::Result<bool> {
+        self.files.create(name)
+    }
+
+    fn discard(&mut self, name: &str) -> io::Result<bool> {
+        self.files.discard(name)
+    }
+
     fn grow(&mut self, name: &str, synced: bool) -> io::Result<Vec<u8>> {
-        self.files.grow(name, synced)
+        let grown = self.files.grow(name, synced)?;
+        self.opened = self.opened.saturating_add(1);
+        Ok(grown)
     }
 
     fn close_synced(&mut self, grown: Vec<u8>, name: &str) -> io::Result<()> {
+        self.opened = self.opened.saturating_sub(1);
         self.files.close_synced(grown, name)
     }
 }
@@ -106,6 +122,7 @@ fn disk_of(rt: &impl Abort, alloc: Global, fails: u32) -> Full {
     Full {
         files: MemoryDisk { alloc, entries },
         fails,
+        opened: 0,
     }
 }
 

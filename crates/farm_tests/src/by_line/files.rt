@@ -40,6 +40,14 @@ impl Disk for Stuck {
         Err(io::Error::from(ErrorKind::PermissionDenied))
     }
 
+    fn create(&mut self, _name: &str) -> io::Result<bool> {
+        Err(io::Error::from(ErrorKind::PermissionDenied))
+    }
+
+    fn discard(&mut self, _name: &str) -> io::Result<bool> {
+        Err(io::Error::from(ErrorKind::PermissionDenied))
+    }
+
     fn grow(&mut self, _name: &str, _synced: bool) -> io::Result<Vec<u8>> {
         Err(io::Error::from(ErrorKind::PermissionDenied))
     }

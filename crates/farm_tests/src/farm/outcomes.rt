@@ -4,11 +4,11 @@ use super::gates::{Crossed, waiting};
 use super::{CROSSING, SCRIPTED, array_of, outcome, ran, settings_of};
 use crate::events::{granted, refused, told};
 use ring_book::{Book, Till};
-use ring_farm::{FarmError, Open, Outcome, run_farm};
+use ring_farm::{FarmError, Open, Outcome, run_farm, run_rings};
 use ring_model::Survey;
 use ring_settings::{Action, Plan, SettingsError, plans, read_settings};
 use ring_shared::Entry;
-use std::alloc::Global;
+use std::alloc::{AllocError, Global};
 use std::process::Abort;
 use std::sync::Wait;
 use std::thread::Threads;
@@ -110,6 +110,41 @@ const EIGHT: &str = r#"{"n":8,"k":16,"start":[0,0,0,0,0,0,0,0]}"#;
 /// Nine drawn workers and an injector.
 const SEATS: &str =
     r#""workers":[{"seed":1,"actions":2000},{"seed":2,"actions":2000},{"seed":3,"actions":2000},{"seed":4,"actions":2000},{"seed":5,"actions":2000},{"seed":6,"actions":2000},{"seed":7,"actions":2000},{"seed":8,"actions":2000},{"seed":9,"actions":2000}],"injector":{"seed":10,"actions":2000}"#;
+
+/// A script that passes once at each of so many rings: the order is one more than the ring's number.
+fn one_pass_each(alloc: Global, rings: u32) -> Result<String, AllocError> {
+    let mut text = String::new(alloc);
+    for ring in 0..rings {
+        let comma = if ring > 0 { "," } else { "" };
+        let order = u64::from(ring) + 1;
+        let pass = format!(in alloc; "{comma}[\"pass\",{ring},0,{order}]")?;
+        text.push_str(pass.as_str())?;
+    }
+    Ok(text)
+}
+
+#[test]
+fn each_of_sixteen_rings_is_run(rt: HostRuntime) -> Result<(), std::test::Fail> {
+    let alloc = rt.alloc();
+    let rings = array_of(alloc, EIGHT, 16)?;
+    let script = one_pass_each(alloc, 16)?;
+    let text = format!(in alloc; "{{\"rings\":{rings},\"workers\":[{{\"script\":[{script}]}}]}}")?;
+    let settings = settings_of(&rt, alloc, text.as_str());
+    let results = run_rings(&rt, alloc, &settings, &Open)?;
+    assert_eq!(rt; results.len(), 16);
+    for (ring, result) in results.iter().enumerate() {
+        let order = (ring as u64).saturating_add(1);
+        match result {
+            Ok(outcome) => {
+                let events = [granted(0, 0, order, 1, order)];
+                assert_eq!(rt; outcome.book.history(), events.as_slice(), "ring {ring}");
+                assert_eq!(rt; outcome.logs.len(), 1, "ring {ring}");
+            }
+            Err(fault) => panic!(rt; "ring {ring}: {fault}"),
+        }
+    }
+    Ok(())
+}
 
 /// Settles a book that was handed out, by at most as many passes as its survey says.
 fn settles(rt: &impl Abort, book: Book<Till>) {

@@ -1,12 +1,13 @@
 use Rattle.std.proofs.Common.{List, ℕ, inl, inr, refl, sym, subst}
 use Rattle.segment_folder.specs.Names.{segment_file}
 use Rattle.ring_commands.specs.Named.{IsHeld}
-use Rattle.ring_commands.specs.SegmentRecovered.{file_as}
+use Rattle.ring_commands.specs.SegmentRecovered.{file_as, IsSegmentHanded, IsSegmentUnhanded}
+use Rattle.ring_commands.specs.Worlds.{world}
 use Rattle.ring_commands.proofs.last_segment.recover_folder.Goals as goal
 
-pub returns-in-Err-keep_segment_apart-clause-err : goal.returns-in-Err-keep_segment_apart-clause-err
-returns-in-Err-keep_segment_apart-clause-err g c early late =
-    (c.args.entries.now, c.requires, inr (c.in-Ok.numbers, c.in-Ok.ensures.ok, inr (c.in-Ok-segment_bytes.bytes.items, c.in-Ok-segment_bytes.ensures.ok, inl c.in-Err-keep_segment_apart.ensures.err)))
+pub returns-in-Err-keep_outside-clause-err : goal.returns-in-Err-keep_outside-clause-err
+returns-in-Err-keep_outside-clause-err g c early late =
+    (c.args.entries.now, c.requires, inr (c.in-Ok.numbers, c.in-Ok.ensures.ok, inr (c.in-Ok-segment_bytes.bytes.items, c.in-Ok-segment_bytes.ensures.ok, inl c.in-Err-keep_outside.ensures.err)))
 
 pub returns-in-Err-recovered_segment-clause-err : goal.returns-in-Err-recovered_segment-clause-err
 returns-in-Err-recovered_segment-clause-err g c early late =
@@ -19,12 +20,15 @@ returns-in-Ok-hand_out_segment-clause-ok g c early late =
       c.args.entries.now,
       c.in-Ok.numbers,
       file_as c.as_slice.result.now c.in-Ok-recovered_segment.recovered,
+      c.in-Ok-recovered_segment.ensures.file.0,
       c.requires,
       c.in-Ok.ensures.ok,
       held,
-      c.in-Ok-keep_segment_apart.ensures.ok,
-      c.in-Ok-recovered_segment.ensures.file,
-      c.in-Ok-hand_out_segment.ensures.ok c.as_slice.result.now early late,
+      c.in-Ok-keep_outside.ensures.ok,
+      subst (λ (line : List ℕ). IsSegmentHanded c.args.words.now.new.now (file_as c.as_slice.result.now c.in-Ok-recovered_segment.recovered) line
+          (world (g.D.Disk.holds c.args.disk.now) early (g.W.Write.contents c.args.out.now) (g.E.Write.contents c.args.err.now))
+          (world (g.D.Disk.holds c.hand_out_segment.new.disk) late (g.W.Write.contents c.hand_out_segment.new.out) (g.E.Write.contents c.hand_out_segment.new.err)))
+          c.in-Ok-recovered_segment.ensures.file.1 (c.in-Ok-hand_out_segment.ensures.ok c.as_slice.result.now early late),
     )
 
 pub returns-clause-err : goal.returns-clause-err
@@ -39,7 +43,15 @@ returns-clause-err g c early late =
           c.as_slice.result.now,
           held,
           inr
-              (inr (file_as c.as_slice.result.now c.in-Ok-recovered_segment.recovered, refl, c.in-Ok-recovered_segment.ensures.file, c.in-Err-hand_out_segment.ensures.err c.as_slice.result.now early late)),
+              (inr (
+                file_as c.as_slice.result.now c.in-Ok-recovered_segment.recovered,
+                c.in-Ok-recovered_segment.ensures.file.0,
+                refl,
+                subst (λ (line : List ℕ). IsSegmentUnhanded c.args.words.now.new.now (file_as c.as_slice.result.now c.in-Ok-recovered_segment.recovered) line
+                    (world (g.D.Disk.holds c.args.disk.now) early (g.W.Write.contents c.args.out.now) (g.E.Write.contents c.args.err.now))
+                    (world (g.D.Disk.holds c.hand_out_segment.new.disk) late (g.W.Write.contents c.hand_out_segment.new.out) (g.E.Write.contents c.hand_out_segment.new.err)) c.in-Err-hand_out_segment.fault)
+                    c.in-Ok-recovered_segment.ensures.file.1 (c.in-Err-hand_out_segment.ensures.err c.as_slice.result.now early late),
+              )),
         ),
       ),
     )

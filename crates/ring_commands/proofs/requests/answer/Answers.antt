@@ -1,3 +1,8 @@
+use Rattle.std.proofs.Common.{ℕ, List, Option}
+use Rattle.ring_commands.specs.declared.faults.ToolError.{ToolError}
+use Rattle.ring_commands.specs.JoinedFolder.{IsJoinAnswer, IsJoinRefusal}
+use Rattle.ring_commands.specs.Worlds.{world}
+use Rattle.ring_commands.proofs.WithoutInput.{told, refused}
 use Rattle.ring_commands.proofs.requests.answer.Goals as goal
 
 pub returns-in-Run-clause-ok : goal.returns-in-Run-clause-ok
@@ -74,3 +79,17 @@ returns-in-Serve-clause-unread g c = rw c.in-Serve.is (λ none. absurd none)
 
 pub returns-in-Serve-clause-silent : goal.returns-in-Serve-clause-silent
 returns-in-Serve-clause-silent g c = rw c.in-Serve.is (λ none. absurd none)
+
+pub returns-in-Join-clause-ok : goal.returns-in-Join-clause-ok
+returns-in-Join-clause-ok g c = rw c.in-Join.is (told _ (λ (early late : Option (List ℕ)). IsJoinAnswer c.in-Join.words (world (g.D.Disk.holds c.args.disk.now) early (g.O.Write.contents c.args.out.now) (g.E.Write.contents c.args.err.now))
+    (world (g.D.Disk.holds c.run-in-Join.new.disk) late (g.O.Write.contents c.run-in-Join.new.out) (g.E.Write.contents c.run-in-Join.new.err))) (g.I.Read.remaining c.args.input.now) (g.I.Read.remaining c.args.input.now) c.run-in-Join.ensures.ok)
+
+pub returns-in-Join-clause-err : goal.returns-in-Join-clause-err
+returns-in-Join-clause-err g c = rw c.in-Join.is (refused _ (λ (e : ToolError) (early late : Option (List ℕ)). IsJoinRefusal c.in-Join.words (world (g.D.Disk.holds c.args.disk.now) early (g.O.Write.contents c.args.out.now) (g.E.Write.contents c.args.err.now))
+    (world (g.D.Disk.holds c.run-in-Join.new.disk) late (g.O.Write.contents c.run-in-Join.new.out) (g.E.Write.contents c.run-in-Join.new.err)) e) (g.I.Read.remaining c.args.input.now) (g.I.Read.remaining c.args.input.now) c.run-in-Join.ensures.err)
+
+pub returns-in-Join-clause-kept : goal.returns-in-Join-clause-kept
+returns-in-Join-clause-kept g c = λ _. c.run-in-Join.ensures.kept
+
+pub returns-in-Join-clause-silent : goal.returns-in-Join-clause-silent
+returns-in-Join-clause-silent g c = rw c.in-Join.is c.run-in-Join.ensures.silent

@@ -19,7 +19,7 @@ noted words saved name end before after was is old new some h = record {
   served = subst (λ (j : Option (List ℕ)). IsServed (permits_of words) j h.2 end before after was is old new) (sym some) h.4;
 }
 
-pub returns-in-Ok-run_with_journal-clause-ok : goal.returns-in-Ok-run_with_journal-clause-ok
-returns-in-Ok-run_with_journal-clause-ok g c =
-    inl (noted c.args.words.now c.args.saved c.args.name.now c.in-Ok-run_with_journal.end (g.D.Disk.holds c.args.disk.now) (g.D.Disk.holds c.run_with_journal.new.disk) (g.I.Read.remaining c.args.input.now) (g.I.Read.remaining c.run_with_journal.new.input) (g.W.Write.contents c.args.out.now) (g.W.Write.contents c.run_with_journal.new.out)
-    c.requires.named c.in-Ok-run_with_journal.ensures.ok)
+pub returns-in-Ok-run_with_made_journal-clause-ok : goal.returns-in-Ok-run_with_made_journal-clause-ok
+returns-in-Ok-run_with_made_journal-clause-ok g c =
+    inl (noted c.args.words.now c.args.saved c.args.name.now c.in-Ok-run_with_made_journal.end (g.D.Disk.holds c.args.disk.now) (g.D.Disk.holds c.run_with_made_journal.new.disk) (g.I.Read.remaining c.args.input.now) (g.I.Read.remaining c.run_with_made_journal.new.input) (g.W.Write.contents c.args.out.now) (g.W.Write.contents c.run_with_made_journal.new.out)
+    c.requires.named c.in-Ok-run_with_made_journal.ensures.ok)

@@ -5,7 +5,7 @@ use Rattle.ring_serve.specs.declared.permits.Permits.{Permits}
 use Rattle.ring_serve.specs.Standings.{Standing}
 use Rattle.ring_serve.specs.Starting.{AreResumed}
 use Rattle.ring_commands.specs.declared.faults.ToolError.{ToolError}
-use Rattle.ring_commands.specs.Served.{permits_of, IsNoted, IsServedNoted, IsUnserved, IsUnkept, IsJournalRefusal, IsUnfinished, IsRefusedFrom}
+use Rattle.ring_commands.specs.Served.{permits_of, IsNoted, IsServedNoted, IsUnserved, IsUnkept, IsJournalRefusal, IsUnfinished}
 use Rattle.ring_commands.proofs.serve.run_with_journal.Goals as goal
 
 -- the files were as they are while the journal was opened
@@ -28,7 +28,7 @@ returns-clause-ok g c =
 
 refused : (permits : Permits) (r : Result (List Standing) ToolError) (name : List ℕ) (given : Option Saved) (from : Saved) (before mid : Option Held) (was is old new : Option (List ℕ)) → mid ≡ before → IsNoted mid name given from →
     IfErr r (λ e. (IsUnserved was is old new × IsUnkept name e) ⊎ IsUnfinished permits (Some name) from.rings.items was is old new e) →
-    IfErr r (λ e. IsRefusedFrom permits before (Some name) given was is old new e)
+    IfErr r (λ e. (IsUnserved was is old new × IsJournalRefusal before name given e) ⊎ ((x : Saved) × IsNoted before name given x × IsUnfinished permits (Some name) x.rings.items was is old new e))
 refused permits (Ok end) name given from before mid was is old new same f h = tt
 refused permits (Err e) name given from before mid was is old new same f (inl u) = inl (u.0, inl u.1)
 refused permits (Err e) name given from before mid was is old new same f (inr u) = inr (from, subst (λ (x : Option Held). IsNoted x name given from) same f, u)

@@ -3,7 +3,7 @@ use Rattle.ring_salvage.proofs.salvage.salvage_journal.Given as goal
 
 abbrev pub invariant-cuts : goal.invariant-cuts
 invariant-cuts l = record {
-  left_out : AreLeftOut l.bytes l.kept l.line;
+  left_out : AreLeftOut l.bytes l.kept l.bad;
   first : IsFirstRefusal l.bytes l.kept l.first;
 }
 

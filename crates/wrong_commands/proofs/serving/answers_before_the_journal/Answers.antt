@@ -13,7 +13,7 @@ returns g c =
     let letter = c.if-index-ne103.false in
     record {
       wrong = λ h.
-          unnoted c.args.permits c.args.served.now c.serve.new.served (g.D.Disk.holds c.args.disk.now) (g.D.Disk.holds c.serve.new.disk) (g.I.Read.remaining c.args.input.now) (g.I.Read.remaining c.serve.new.input) c.args.journal.now.items out y c.index.ensures some (omega (arith, letter)) h;
+          unnoted c.args.name.now c.args.permits c.args.served.now c.serve.new.served (g.D.Disk.holds c.args.disk.now) (g.D.Disk.holds c.serve.new.disk) (g.I.Read.remaining c.args.input.now) (g.I.Read.remaining c.serve.new.input) c.args.journal.now.items out y c.index.ensures some (omega (arith, letter)) h;
       lost = λ h.
-          unkept c.args.permits c.args.served.now c.serve.new.served (g.D.Disk.holds c.args.disk.now) (g.D.Disk.holds c.serve.new.disk) (g.I.Read.remaining c.args.input.now) (g.I.Read.remaining c.serve.new.input) c.args.journal.now.items out y c.index.ensures some (omega (arith, letter)) h;
+          unkept c.args.name.now c.args.permits c.args.served.now c.serve.new.served (g.D.Disk.holds c.args.disk.now) (g.D.Disk.holds c.serve.new.disk) (g.I.Read.remaining c.args.input.now) (g.I.Read.remaining c.serve.new.input) c.args.journal.now.items out y c.index.ensures some (omega (arith, letter)) h;
     }

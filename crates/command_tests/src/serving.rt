@@ -1,0 +1,354 @@
+//! How `serve` uses its journal: when it is locked, opened, synced and left.
+
+use crate::files::memory::{bytes_of, no_files, put};
+use disks::{Disk, FolderEntry, MemoryDisk};
+use ring_commands::faults::ToolError;
+use ring_commands::serve::run;
+use ring_requests::ServeWords;
+use std::alloc::Global;
+use std::cell::Cell;
+use std::io::{self, Cursor, ErrorKind, Read, Write};
+use std::process::Abort;
+use std::test::Fail;
+
+/// A journal that tells no call.
+const BEGUN: &str = "ringjournal 1\nringfarm 2\nring 0 3 3\nstart 0 0 0\nend 0\ndone 1\n";
+
+/// The same with a call.
+const ONE_CALL: &str =
+    "ringjournal 1\nringfarm 2\nring 0 3 3\nstart 0 0 0\nend 0\ndone 1\n0 p 0 0 5 g 1 5\n";
+
+/// A file that is open to be written at its end. It is counted while it is.
+struct Opened<'a> {
+    held: Vec<u8>,
+    count: &'a Cell<u32>,
+}
+
+impl Drop for Opened<'_> {
+    fn drop(self) {
+        let Opened { held, count } = self;
+        count.set(count.get().saturating_sub(1));
+        drop(held);
+    }
+}
+
+impl Opened<'_> {
+    /// What it has, as it is closed.
+    fn closed(self) -> Vec<u8> {
+        let Opened { held, count } = self;
+        count.set(count.get().saturating_sub(1));
+        held
+    }
+}
+
+impl Write for Opened<'_> {
+    fn write(&mut self, bytes: &[u8]) -> io::Result<usize> {
+        self.held.extend_from_slice(bytes)?;
+        Ok(bytes.len())
+    }
+
+    fn flush(&mut self) -> io::Result<()> {
+        Ok(())
+    }
+}
+
+/// Files in memory that watch how they are used.
+#[derive(Drop)]
+struct Watched<'a> {
+    files: MemoryDisk,
+    /// Whether another process has each file open to be written at its end.
+    used: bool,
+    /// How many are open so here. A file is read only while one is.
+    opened: &'a Cell<u32>,
+    /// How many were opened to be synced.
+    synced: u32,
+}
+
+impl<'a> Disk for Watched<'a> {
+    type Reader = Cursor<Vec<u8>>;
+
+    type New = Vec<u8>;
+
+    type Grown = Opened<'a>;
+
+    fn open(&self, name: &str) -> io::Result<Cursor<Vec<u8>>> {
+        if self.opened.get() == 0 {
+            return Err(io::Error::from(ErrorKind::PermissionDenied));
+        }
+        self.files.open(name)
+    }
+
+    fn is_one_file(&self, one: &str, other: &str) -> io::Result<bool> {
+        self.files.is_one_file(one, other)
+    }
+
+    fn list(&self, folder: &str) -> io::Result<Vec<FolderEntry>> {
+        self.files.list(folder)
+    }
+
+    fn make(&mut self, name: &str) -> io::Result<Vec<u8>> {
+        self.files.make(name)
+    }
+
+    fn finish(&mut self, made: Vec<u8>, name: &str) -> io::Result<()> {
+        self.files.finish(made, name)
+    }
+
+    fn create(&mut self, name: &str) -> io::Result<bool> {
+        self.files.create(name)
+    }
+
+    fn discard(&mut self, name: &str) -> io::Result<bool> {
+        self.files.discard(name)
+    }
+
+    fn grow(&mut self, name: &str, synced: bool) -> io::Result<Opened<'a>> {
+        if self.used {
+            return Err(io::Error::from(ErrorKind::WouldBlock));
+        }
+        let held = self.files.grow(name, synced)?;
+        self.opened.set(self.opened.get().saturating_add(1));
+        if synced {
+            self.synced = self.synced.saturating_add(1);
+        }
+        Ok(Opened {
+            held,
+            count: self.opened,
+        })
+    }
+
+    fn close_synced(&mut self, grown: Opened<'a>, name: &str) -> io::Result<()> {
+        self.files.close_synced(grown.closed(), name)
+    }
+}
+
+/// Files of which one has this name and holds this text.
+fn files_with<'a>(
+    alloc: Global,
+    opened: &'a Cell<u32>,
+    name: &str,
+    text: &[u8],
+) -> io::Result<Watched<'a>> {
+    let mut files = no_files(alloc);
+    put(&mut files, name, text)?;
+    Ok(Watched {
+        files,
+        used: false,
+        opened,
+        synced: 0,
+    })
+}
+
+/// What is asked for, with a journal and no history.
+fn words(journal: &str, synced: bool) -> ServeWords<'_> {
+    ServeWords {
+        history: None,
+        journal: Some(journal),
+        segment: 1_000_000,
+        synced,
+        faults: false,
+        saves: None,
+    }
+}
+
+/// Gives these bytes, and then fails.
+#[derive(Drop)]
+struct Fails<'a> {
+    left: &'a [u8],
+}
+
+impl Read for Fails<'_> {
+    fn read(&mut self, buf: &mut [u8]) -> io::Result<usize> {
+        if self.left.is_empty() {
+            return Err(io::Error::from(ErrorKind::BrokenPipe));
+        }
+        self.left.read(buf)
+    }
+}
+
+/// Has the lines served, and compares the answers and the line of totals.
+fn expect_served(
+    rt: &impl Abort,
+    disk: &mut Watched<'_>,
+    words: &ServeWords<'_>,
+    lines: &[u8],
+    answers: &[u8],
+    totals: &[u8],
+) {
+    let alloc = disk.files.alloc;
+    let mut input = lines;
+    let mut out = Vec::new(alloc);
+    let mut err = Vec::new(alloc);
+    let ended = run(alloc, disk, words, &mut input, &mut out, &mut err);
+    assert!(rt; ended.is_ok());
+    assert!(rt; out.as_slice() == answers);
+    assert!(rt; err.as_slice() == totals);
+}
+
+/// Compares what the file of this name holds.
+fn expect_held(rt: &impl Abort, disk: &Watched<'_>, name: &str, text: &[u8]) -> io::Result<()> {
+    let held = bytes_of(disk.files.alloc, &disk.files, name)?;
+    assert!(rt; held.as_slice() == text);
+    Ok(())
+}
+
+#[test]
+fn a_journal_is_locked_before_it_is_read(rt: HostRuntime) -> Result<(), Fail> {
+    let opened = Cell::new(0);
+    let mut disk = files_with(rt.alloc(), &opened, "j", ONE_CALL.as_bytes())?;
+    let totals = b"total rings 1 events 2 granted 2 surveys 0\n";
+    expect_served(
+        &rt,
+        &mut disk,
+        &words("j", false),
+        b"pass 0 0 1 7\n",
+        b"granted 2 12\n",
+        totals,
+    );
+    assert!(rt; opened.get() == 0);
+    Ok(())
+}
+
+#[test]
+fn a_journal_is_synced_just_if_that_is_asked_for(rt: HostRuntime) -> Result<(), Fail> {
+    let opened = Cell::new(0);
+    for (synced, count) in [(true, 1), (false, 0)] {
+        let mut disk = files_with(rt.alloc(), &opened, "j", BEGUN.as_bytes())?;
+        let totals = b"total rings 1 events 1 granted 1 surveys 0\n";
+        expect_served(
+            &rt,
+            &mut disk,
+            &words("j", synced),
+            b"pass 0 0 0 5\n",
+            b"granted 1 5\n",
+            totals,
+        );
+        assert!(rt; disk.synced == count);
+        expect_held(&rt, &disk, "j", ONE_CALL.as_bytes())?;
+    }
+    Ok(())
+}
+
+#[test]
+fn a_journal_of_another_process_is_in_use(rt: HostRuntime) -> Result<(), Fail> {
+    let alloc = rt.alloc();
+    let opened = Cell::new(0);
+    for name in ["j", "f"] {
+        let mut disk = files_with(alloc, &opened, "j", BEGUN.as_bytes())?;
+        put(&mut disk.files, "f/lock", b"")?;
+        disk.used = true;
+        let mut input: &[u8] = b"pass 0 0 0 5\n";
+        let mut out = Vec::new(alloc);
+        let mut err = Vec::new(alloc);
+        match run(
+            alloc,
+            &mut disk,
+            &words(name, true),
+            &mut input,
+            &mut out,
+            &mut err,
+        ) {
+            Err(ToolError::InUse(told)) => assert!(rt; told == name),
+            _ => panic!(rt; "it is in use"),
+        }
+        assert!(rt; out.is_empty() && err.is_empty() && input.len() == 13);
+        expect_held(&rt, &disk, "j", BEGUN.as_bytes())?;
+    }
+    Ok(())
+}
+
+#[test]
+fn a_refused_journal_stays(rt: HostRuntime) -> Result<(), Fail> {
+    let alloc = rt.alloc();
+    let opened = Cell::new(0);
+    let mut disk = files_with(alloc, &opened, "j", b"bad\n")?;
+    let mut input: &[u8] = b"pass 0 0 0 5\n";
+    let mut out = Vec::new(alloc);
+    let mut err = Vec::new(alloc);
+    match run(
+        alloc,
+        &mut disk,
+        &words("j", true),
+        &mut input,
+        &mut out,
+        &mut err,
+    ) {
+        Err(ToolError::Journal(name, _)) => assert!(rt; name == "j"),
+        _ => panic!(rt; "it is refused"),
+    }
+    assert!(rt; out.is_empty() && err.is_empty() && input.len() == 13);
+    expect_held(&rt, &disk, "j", b"bad\n")?;
+    Ok(())
+}
+
+#[test]
+fn a_fault_leaves_the_journal(rt: HostRuntime) -> Result<(), Fail> {
+    let alloc = rt.alloc();
+    let opened = Cell::new(0);
+    let mut disk = files_with(alloc, &opened, "j", ONE_CALL.as_bytes())?;
+    let mut input = Fails {
+        left: b"pass 0 0 1 7\n",
+    };
+    let mut out = Vec::new(alloc);
+    let mut err = Vec::new(alloc);
+    match run(
+        alloc,
+        &mut disk,
+        &words("j", true),
+        &mut input,
+        &mut out,
+        &mut err,
+    ) {
+        Err(ToolError::Read(name)) => assert!(rt; name == "-"),
+        _ => panic!(rt; "the input fails"),
+    }
+    assert!(rt; out.as_slice() == b"granted 2 12\n".as_slice());
+    // In memory a file holds what was written to it once it is closed: here it has what it began with.
+    let begun =
+        b"ringjournal 1\nringfarm 2\nring 0 3 3\nstart 0 0 0\np 0 0 5 g 1 5\nend 1\ndone 1\n";
+    expect_held(&rt, &disk, "j", begun)?;
+    Ok(())
+}
+
+#[test]
+fn a_long_journal_is_resumed(rt: HostRuntime) -> Result<(), Fail> {
+    let alloc = rt.alloc();
+    let opened = Cell::new(0);
+    let mut text = Vec::from_slice(alloc, BEGUN.as_bytes())?;
+    for _ in 0..100_000 {
+        text.extend_from_slice(b"0 p 0 1 1 n\n")?;
+    }
+    let mut disk = files_with(alloc, &opened, "j", text.as_slice())?;
+    let totals = b"total rings 1 events 100001 granted 1 surveys 0\n";
+    expect_served(
+        &rt,
+        &mut disk,
+        &words("j", true),
+        b"pass 0 0 0 5\n",
+        b"granted 1 5\n",
+        totals,
+    );
+    Ok(())
+}
+
+#[test]
+fn a_journal_may_have_a_long_name(rt: HostRuntime) -> Result<(), Fail> {
+    let alloc = rt.alloc();
+    let opened = Cell::new(0);
+    let mut name = String::new(alloc);
+    for _ in 0..4_000 {
+        name.push('j')?;
+    }
+    let mut disk = files_with(alloc, &opened, name.as_str(), BEGUN.as_bytes())?;
+    let totals = b"total rings 1 events 1 granted 1 surveys 0\n";
+    expect_served(
+        &rt,
+        &mut disk,
+        &words(name.as_str(), true),
+        b"pass 0 0 0 5\n",
+        b"granted 1 5\n",
+        totals,
+    );
+    expect_held(&rt, &disk, name.as_str(), ONE_CALL.as_bytes())?;
+    Ok(())
+}

@@ -1,0 +1,71 @@
+//! Which file an open one is, where links lead, and in which folder a name lies.
+
+use std::fs::{self, File, Metadata};
+use std::io::{self, ErrorKind};
+use std::os::unix::fs::MetadataExt;
+use std::rt::Files;
+
+/// How many links are followed one after the other, as the system does.
+const MOST_LINKS: u32 = 40;
+
+/// What tells a file from each other one of the machine.
+#[derive(Clone, Copy, Debug, PartialEq, Eq)]
+pub(crate) struct FileId {
+    device: u64,
+    inode: u64,
+}
+
+/// What tells the file of this description from others.
+pub(crate) fn file_id(there: &Metadata) -> FileId {
+    FileId {
+        device: there.dev(),
+        inode: there.ino(),
+    }
+}
+
+/// Whether this name leads to the open file, links followed.
+pub(crate) fn leads_to<R: Files>(files: &R, name: &str, file: &File) -> io::Result<bool> {
+    let there = fs::metadata(files, name)?;
+    let open = file.metadata()?;
+    Ok(file_id(&there) == file_id(&open))
+}
+
+/// Whether this name is one of the open file itself, and not of a link to it.
+pub(crate) fn names<R: Files>(files: &R, name: &str, file: &File) -> io::Result<bool> {
+    let there = fs::symlink_metadata(files, name)?;
+    let open = file.metadata()?;
+    Ok(file_id(&there) == file_id(&open))
+}
+
+/// The folder in which a file of this name lies.
+pub(crate) fn folder_of(name: &str) -> &str {
+    match name.rsplit_once('/') {
+        None => ".",
+        Some(("", _)) => "/",
+        Some((folder, _)) => folder,
+    }
+}
+
+/// The name to which the link of this name leads.
+fn next_name<R: Files + AllocGlobal>(files: &R, link: &str) -> io::Result<String> {
+    let next = fs::read_link(files, link)?.into_string();
+    if next.as_str().starts_with('/') {
+        return Ok(next);
+    }
+    match link.rsplit_once('/') {
+        None => Ok(next),
+        Some((folder, _)) => Ok(format!(in files.alloc(); "{folder}/{next}")?),
+    }
+}
+
+/// The name at the end of the links that begin with this name: that of a file, or of none.
+pub(crate) fn end_of_links<R: Files + AllocGlobal>(files: &R, name: &str) -> io::Result<String> {
+    let mut end = String::from_str(files.alloc(), name)?;
+    for _ in 0..MOST_LINKS {
+        match fs::symlink_metadata(files, end.as_str()) {
+            Ok(there) if there.is_symlink() => end = next_name(files, end.as_str())?,
+            _ => return Ok(end),
+        }
+    }
+    Err(io::Error::from(ErrorKind::InvalidFilename))
+}

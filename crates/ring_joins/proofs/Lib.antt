@@ -1,0 +1,10 @@
+pub mod Quiet
+pub mod Extending
+pub mod Counting
+pub mod ShiftedEvents
+pub mod Continuing
+pub mod JoinedFiles
+pub mod RingCounts
+pub mod Ordering
+pub mod Whole
+pub mod RingHistories

@@ -1,0 +1,11 @@
+use Rattle.std.proofs.Common.{◌≡◌, length, ap, arith}
+use Rattle.ring_saved.specs.Content.{content}
+use Rattle.ring_saved.specs.Spelling.{text}
+use Rattle.ring_check.proofs.SavedLines.{lines_some}
+use Rattle.ring_report.proofs.tests.worked_history_is_reported.Goals as goal
+
+pub check_saved-requires : goal.check_saved-requires
+check_saved-requires g c =
+    let some = lines_some (content c.in-Ok.saved) in
+    let same : 99 ≡ length (text (content c.in-Ok.saved)) = ap length c.in-Ok.ensures.1 in
+    omega arith

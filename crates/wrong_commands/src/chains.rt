@@ -1,0 +1,211 @@
+//! Wrong ways to serve lines in segments.
+
+ghost use Rattle.std.specs.Prelude.{◌≡◌, ◌≢◌, ◌≤◌, ◌+◌, ◌∷◌, ℕ, List, [], true, Some, IfSome};
+ghost use Rattle.disks.specs.Held.{Held};
+ghost use Rattle.ring_segments.specs.Spelling.{digest_of, DigestFits};
+ghost use Rattle.ring_serve.specs.Due.{is_due};
+ghost use Rattle.ring_serve.specs.Standings.{standing_of};
+ghost use Rattle.chain_serve.specs.Digested.{hashed};
+ghost use Rattle.chain_serve.specs.Segments.{moment_of};
+ghost use Rattle.chain_serve.specs.Texts.{segment_text};
+ghost use Rattle.chain_serve.specs.Service.{ServesSegments};
+
+use chain_serve::{OpenSegment, SegmentRules, begin_segment, close_segment};
+use disks::Disk;
+use ring_book::Till;
+use ring_chains::Base;
+use ring_endless::EndlessRing;
+use ring_segments::{DIGEST_DIGITS, digest};
+use ring_serve::{Journal, Served, serve};
+use std::alloc::Global;
+use std::io::Read;
+
+/// The segment in which lines were served, and their answers.
+#[derive(Drop)]
+pub struct Told<W> {
+    pub segment: OpenSegment<W>,
+    pub out: Vec<u8>,
+}
+
+/// No line is answered in a segment that is due: here lines are, and it goes on. It gives up unless the first is granted.
+pub fn answers_in_a_segment_that_is_due<D: Disk, I: Read>(
+    alloc: Global,
+    served: &mut Served,
+    disk: &mut D,
+    first: OpenSegment<D::Grown>,
+    rules: SegmentRules<'_>,
+    input: &mut I,
+) -> Option<Told<D::Grown>>
+    requires { is_due (Some rules.limit) served.old ≡ true }
+    ensures wrong { IfSome result (λ told. ServesSegments rules.entry
+        (moment_of served.old (D.holds disk.old) first.number
+        (hashed (D.Grown.contents first.writer.inner) first.writer.hasher))
+        (moment_of served.new (D.holds disk.new) told.segment.number
+        (hashed (D.Grown.contents told.segment.writer.inner) told.segment.writer.hasher))
+        (I.remaining input.old) (I.remaining input.new) (Some []) (Some told.out.items) → ⊥) }
+{
+    let OpenSegment {
+        number,
+        name,
+        writer,
+    } = first;
+    let mut out = Vec::new(alloc);
+    let mut journal = Some(Journal {
+        name: name.as_str(),
+        writer,
+    });
+    match serve(
+        alloc,
+        served,
+        disk,
+        &mut journal,
+        rules.permits,
+        input,
+        &mut out,
+    ) {
+        Ok(()) => {}
+        Err(_) => return None,
+    }
+    if out.is_empty() || out[0] != b'g' {
+        return None;
+    }
+    let Some(Journal { writer, .. }) = journal else {
+        return None;
+    };
+    Some(Told {
+        segment: OpenSegment {
+            number,
+            name,
+            writer,
+        },
+        out,
+    })
+}
+
+/// Ends the segment, and begins the next one with these rings and after a file of this digest.
+fn cut<D: Disk>(
+    alloc: Global,
+    served: &mut Served,
+    next: Served,
+    disk: &mut D,
+    first: OpenSegment<D::Grown>,
+    behind: [u8; DIGEST_DIGITS],
+    rules: SegmentRules<'_>,
+) -> Option<OpenSegment<D::Grown>>
+    requires { DigestFits behind }
+    ensures number { IfSome result (λ end. end.number ≡ first.number + 1) }
+    ensures rings { IfSome result (λ _. served.new ≡ next) }
+    ensures journal { IfSome result (λ end. (bytes : List ℕ) (held : Held)
+        → hashed (D.Grown.contents first.writer.inner) first.writer.hasher ≡ Some bytes
+        → D.holds disk.old ≡ Some held
+        → hashed (D.Grown.contents end.writer.inner) end.writer.hasher
+        ≡ Some (segment_text end.number behind next)) }
+{
+    if first.number == u64::MAX {
+        return None;
+    }
+    let number = first.number + 1;
+    match close_segment(disk, first) {
+        Ok(()) => {}
+        Err(_) => return None,
+    }
+    match begin_segment(alloc, disk, &next, number, behind, rules) {
+        Ok(end) => {
+            *served = next;
+            Some(end)
+        }
+        Err(_) => None,
+    }
+}
+
+/// The digest in the next file is that of the whole file before: here of other bytes, such as its head alone.
+pub fn names_the_digest_of_the_head_alone<D: Disk>(
+    alloc: Global,
+    served: &mut Served,
+    disk: &mut D,
+    first: OpenSegment<D::Grown>,
+    rules: SegmentRules<'_>,
+    head: &[u8],
+) -> Option<OpenSegment<D::Grown>>
+    requires due { is_due (Some rules.limit) served.old ≡ true }
+    requires apart { (bytes : List ℕ)
+        → hashed (D.Grown.contents first.writer.inner) first.writer.hasher ≡ Some bytes
+        → digest_of head.now ≢ digest_of bytes }
+    ensures wrong { IfSome result (λ end. (bytes : List ℕ) (held : Held)
+        → hashed (D.Grown.contents first.writer.inner) first.writer.hasher ≡ Some bytes
+        → D.holds disk.old ≡ Some held
+        → ServesSegments rules.entry
+        (moment_of served.old (D.holds disk.old) first.number
+        (hashed (D.Grown.contents first.writer.inner) first.writer.hasher))
+        (moment_of served.new (D.holds disk.new) end.number
+        (hashed (D.Grown.contents end.writer.inner) end.writer.hasher))
+        (Some []) (Some []) (Some []) (Some []) → ⊥) }
+{
+    let next = match served.next(alloc) {
+        Ok(next) => next,
+        Err(_) => return None,
+    };
+    match cut(alloc, served, next, disk, first, digest(head), rules) {
+        Some(end) => Some(end),
+        None => None,
+    }
+}
+
+/// The base of a ring counts the grants of its segments before: here it forgets them.
+pub fn ends_with_a_base_that_forgets_the_grants<D: Disk>(
+    alloc: Global,
+    served: &mut Served,
+    disk: &mut D,
+    first: OpenSegment<D::Grown>,
+    rules: SegmentRules<'_>,
+    ring: &EndlessRing,
+) -> Option<OpenSegment<D::Grown>>
+    requires due { is_due (Some rules.limit) served.old ≡ true }
+    requires one { served.old ≡ standing_of ring.now ∷ [] }
+    requires grants { 1 ≤ ring.now.base.grants }
+    ensures wrong { IfSome result (λ end. (bytes : List ℕ) (held : Held)
+        → hashed (D.Grown.contents first.writer.inner) first.writer.hasher ≡ Some bytes
+        → D.holds disk.old ≡ Some held
+        → ServesSegments rules.entry
+        (moment_of served.old (D.holds disk.old) first.number
+        (hashed (D.Grown.contents first.writer.inner) first.writer.hasher))
+        (moment_of served.new (D.holds disk.new) end.number
+        (hashed (D.Grown.contents end.writer.inner) end.writer.hasher))
+        (Some []) (Some []) (Some []) (Some []) → ⊥) }
+{
+    let behind = match first.writer.digest() {
+        Ok(behind) => behind,
+        Err(_) => return None,
+    };
+    let Some(ring) = forgetful(alloc, ring) else {
+        return None;
+    };
+    let mut next = Served::none(alloc);
+    match next.add(ring) {
+        Ok(()) => {}
+        Err(_) => return None,
+    }
+    match cut(alloc, served, next, disk, first, behind, rules) {
+        Some(end) => Some(end),
+        None => None,
+    }
+}
+
+/// The ring with its next segment, whose base forgets the grants.
+fn forgetful(alloc: Global, ring: &EndlessRing) -> Option<EndlessRing>
+    ensures { IfSome result (λ next. next.base.grants ≡ 0) }
+{
+    let base = Base {
+        events: ring.base().events,
+        grants: 0,
+        amount: ring.base().amount,
+        calm: 0,
+    };
+    let Ok(segment) = ring.segment().successor(alloc, Till::new()) else {
+        return None;
+    };
+    if !base.has_room() {
+        return None;
+    }
+    Some(EndlessRing::after(base, segment))
+}
