@@ -1,17 +1,18 @@
 -- The files of a folder among all.
-use Rattle.std.proofs.Common.{◌≡◌, ◌≢◌, ◌<◌, ◌≤◌, ◌+◌, ◌==◌, ◌||◌, ℕ, zero, suc, length, take, drop, get_or, List, [], ◌∷◌, ◌++◌, map, Option, None, Some, Bool, true, false, cond, not, refl, sym, ap, subst, ◌∙◌, string_bytes}
+use Rattle.std.proofs.Common.{◌≡◌, ◌<◌, ◌+◌, ◌||◌, ℕ, suc, length, take, drop, get_or, List, [], ◌∷◌, ◌++◌, Bool, true, false, cond, refl, sym, ap, ◌∙◌, string_bytes}
 use Rattle.std.specs.Str.{bytes_eq}
-use Rattle.std.specs.Option.{is_some}
-use Rattle.std.specs.List.{list_any, AllByRecursion}
+use Rattle.std.specs.List.{AllByRecursion}
 use Rattle.std.proofs.lemmas.List.{take-append-drop, drop_more, length-append}
 use Rattle.std.proofs.Math.Seq.{take-append_seam, drop-append-add, get_or-append_seam}
 use Rattle.std.proofs.lemmas.Slice.Eq.{bytes_eq-Decides}
 use Rattle.std.proofs.lemmas.Bool.{false_from_ne_true, true≢false}
 use Rattle.disks.proofs.Finding.{found_push}
-use Rattle.disks.specs.Held.{Held, bytes_of}
-use Rattle.disks.specs.Entries.{found, held_of}
+use Rattle.disks.specs.Held.{Thing, Nothing, is_a_thing}
+use Rattle.disks.specs.Entries.{thing_of, found, held_of}
 use Rattle.disks.specs.Folders.{path_in, has_slash, is_among, ListsNames}
-use Rattle.disks.specs.declared.memory.StoredFile.{StoredFile}
+use Rattle.disks.specs.declared.memory.Stored.{Stored}
+use Rattle.disks.specs.declared.memory.Stored.TheVariants as stored
+use Rattle.disks.specs.declared.memory.StoredEntry.{StoredEntry}
 
 -- a name that begins with the folder's and a slash
 pub joined : (name folder : List ℕ) → length folder < length name → take (length folder) name ≡ folder → get_or name (length folder) 0 ≡ 47
@@ -53,17 +54,21 @@ same_rest folder rest n = alike (bytes_eq (path_in folder rest) (path_in folder 
     (λ y. (bytes_eq-Decides rest n).1 (sym (drop-append-add folder (47 ∷ rest) 1) ∙ ap (λ (x : List ℕ). drop (length folder + 1) x) ((bytes_eq-Decides _ _).0 y) ∙ drop-append-add folder (47 ∷ n) 1))
     (λ y. (bytes_eq-Decides _ _).1 (ap (λ (x : List ℕ). path_in folder x) ((bytes_eq-Decides rest n).0 y)))
 
-pub pick_some : (t : Bool) (x : List ℕ) (o : Option (List ℕ)) → is_some (cond t (Some x) o) ≡ (t || is_some o)
-pick_some false x o = refl
-pick_some true x o = refl
+some_thing : (s : Stored) → is_a_thing (thing_of s) ≡ true
+some_thing (stored.File v) = refl
+some_thing stored.Folder = refl
 
--- whether a file is found, with one entry more
-pub found_more : (es : List StoredFile) (e : StoredFile) (name : List ℕ)
-    → is_some (found None (es ++ e ∷ []) name) ≡ (bytes_eq (string_bytes e.name) name || is_some (found None es name))
-found_more es e name = ap is_some (found_push None es e name) ∙ pick_some (bytes_eq (string_bytes e.name) name) e.bytes.items (found None es name)
+pub pick_some : (t : Bool) (s : Stored) (o : Thing) → is_a_thing (cond t (thing_of s) o) ≡ (t || is_a_thing o)
+pick_some false s o = refl
+pick_some true s o = some_thing s
+
+-- whether anything is found, with one entry more
+pub found_more : (es : List StoredEntry) (e : StoredEntry) (name : List ℕ)
+    → is_a_thing (found Nothing (es ++ e ∷ []) name) ≡ (bytes_eq (string_bytes e.name) name || is_a_thing (found Nothing es name))
+found_more es e name = ap is_a_thing (found_push Nothing es e name) ∙ pick_some (bytes_eq (string_bytes e.name) name) e.stored (found Nothing es name)
 
 -- one entry more that lies in the folder, by the name that it has there
-pub with_name : (es : List StoredFile) (e : StoredFile) (folder rest : List ℕ) (names more : List (List ℕ))
+pub with_name : (es : List StoredEntry) (e : StoredEntry) (folder rest : List ℕ) (names more : List (List ℕ))
     → string_bytes e.name ≡ path_in folder rest
     → ListsNames (held_of es) folder names
     → (AllByRecursion (λ n. has_slash n ≡ false) names → AllByRecursion (λ n. has_slash n ≡ false) more)
@@ -74,12 +79,12 @@ with_name es e folder rest names more is listed plain added = record {
   each = λ n slashless.
       added n
       ∙ ap (λ t. bytes_eq rest n || t) (listed.each n slashless)
-      ∙ sym (found_more es e (path_in folder n) ∙ ap (λ t. t || is_some (found None es (path_in folder n)))
+      ∙ sym (found_more es e (path_in folder n) ∙ ap (λ t. t || is_a_thing (found Nothing es (path_in folder n)))
       (ap (λ (x : List ℕ). bytes_eq x (path_in folder n)) is ∙ same_rest folder rest n));
 }
 
 -- one entry more that does not lie in it
-pub without_name : (es : List StoredFile) (e : StoredFile) (folder : List ℕ) (names : List (List ℕ))
+pub without_name : (es : List StoredEntry) (e : StoredEntry) (folder : List ℕ) (names : List (List ℕ))
     → ((n : List ℕ) → has_slash n ≡ false → bytes_eq (string_bytes e.name) (path_in folder n) ≡ false)
     → ListsNames (held_of es) folder names
     → ListsNames (held_of (es ++ e ∷ [])) folder names
@@ -87,7 +92,7 @@ without_name es e folder names other listed = record {
   plain = listed.plain;
   each = λ n slashless.
       listed.each n slashless
-      ∙ sym (found_more es e (path_in folder n) ∙ ap (λ t. t || is_some (found None es (path_in folder n))) (other n slashless));
+      ∙ sym (found_more es e (path_in folder n) ∙ ap (λ t. t || is_a_thing (found Nothing es (path_in folder n))) (other n slashless));
 }
 
 -- no entry, no name

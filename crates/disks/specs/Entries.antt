@@ -1,20 +1,33 @@
--- Files in memory: the last entry with a name is the file of that name.
-use Rattle.std.specs.Prelude.{◌≡◌, ℕ, List, [], ◌∷◌, Option, None, Some, cond, not, string_bytes}
+-- Files and folders in memory: the last entry with a name is what has that name.
+use Rattle.std.specs.Prelude.{ℕ, List, [], ◌∷◌, Option, None, Some, cond, not, string_bytes}
+use Rattle.std.specs.Borrow.{Bor}
 use Rattle.std.specs.List.{filter}
 use Rattle.std.specs.Str.{bytes_eq}
-use Rattle.disks.specs.Held.{Held}
-use Rattle.disks.specs.declared.memory.StoredFile.{StoredFile}
+use Rattle.disks.specs.Held.{Held, Thing, Nothing, Folder, File}
+use Rattle.disks.specs.declared.memory.Stored.{Stored}
+use Rattle.disks.specs.declared.memory.Stored.TheVariants as stored
+use Rattle.disks.specs.declared.memory.StoredEntry.{StoredEntry}
 
--- the bytes of the last of these entries with this name, or what was found before them
-abbrev pub found : Option (List ℕ) → List StoredFile → List ℕ → Option (List ℕ)
+-- what was put at a name
+abbrev pub thing_of : Stored → Thing
+thing_of (stored.File bytes) = File bytes.items
+thing_of stored.Folder = Folder
+
+-- what was put there, if anything was
+abbrev pub thing_in : Option (Bor Stored) → Thing
+thing_in None = Nothing
+thing_in (Some s) = thing_of s.now
+
+-- what the last of these entries with this name has, or what was found before them
+abbrev pub found : Thing → List StoredEntry → List ℕ → Thing
 found before [] name = before
 found before (e ∷ es) name =
-    found (cond (bytes_eq (string_bytes e.name) name) (Some e.bytes.items) before) es name
+    found (cond (bytes_eq (string_bytes e.name) name) (thing_of e.stored) before) es name
 
--- the content of files by these entries: each name leads to a place of its own
-abbrev pub held_of : List StoredFile → Held
-held_of entries = record { place = λ name. name; at = found None entries }
+-- the files and folders by these entries: each name leads to a place of its own
+abbrev pub held_of : List StoredEntry → Held
+held_of entries = record { place = λ name. name; at = found Nothing entries }
 
 -- these entries but for those with this name
-abbrev pub without : List ℕ → List StoredFile → List StoredFile
+abbrev pub without : List ℕ → List StoredEntry → List StoredEntry
 without name entries = filter (λ e. not (bytes_eq (string_bytes e.name) name)) entries

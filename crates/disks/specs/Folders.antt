@@ -1,13 +1,12 @@
--- The files of a folder, by their names in it.
-use Rattle.std.specs.Prelude.{◌≡◌, ℕ, List, ◌∷◌, ◌++◌, ◌==◌, Bool, false, map, string_bytes, Option, None, Some, ⊤}
+-- A folder, and the names in it.
+use Rattle.std.specs.Prelude.{◌≡◌, ℕ, List, ◌∷◌, ◌++◌, ◌==◌, Bool, true, false, map, string_bytes, Option, None, Some, ⊤}
 use Rattle.std.specs.Borrow.{Bor}
-use Rattle.std.specs.Option.{is_some}
 use Rattle.std.specs.List.{list_any, AllByRecursion}
 use Rattle.std.specs.Str.{bytes_eq}
-use Rattle.disks.specs.Held.{Held, bytes_of}
+use Rattle.disks.specs.Held.{Held, is_folder, is_there}
 use Rattle.disks.specs.declared.disk.FolderEntry.{FolderEntry}
 
--- the name of the file that has this name in the folder: a slash stands between the two
+-- the name of what has this name in the folder: a slash stands between the two
 abbrev pub path_in : List ℕ → List ℕ → List ℕ
 path_in folder name = folder ++ 47 ∷ name
 
@@ -19,7 +18,7 @@ has_slash name = list_any (λ b. b == 47) name
 abbrev pub is_among : List (List ℕ) → List ℕ → Bool
 is_among names name = list_any (λ n. bytes_eq n name) names
 
--- the name in the folder that the file of this name has, if it lies there
+-- the name in the folder that what has this name has there, if it lies there
 abbrev pub IsNameIn : List ℕ → List ℕ → Option (Bor (List ℕ)) → Type 0
 IsNameIn path folder None =
     (n : List ℕ) → has_slash n ≡ false → bytes_eq path (path_in folder n) ≡ false
@@ -29,13 +28,13 @@ IsNameIn path folder (Some n) = (has_slash n.now ≡ false) × (path ≡ path_in
 abbrev pub names_of : List FolderEntry → List (List ℕ)
 names_of entries = map (λ e. string_bytes e.name) entries
 
--- These names, which have no slash, are just those that lead to a file in the folder.
+-- These names, which have no slash, are just those that lead to a file or a folder in the folder.
 pub record ListsNames (held : Held) (folder : List ℕ) (names : List (List ℕ)) : Type 0 where
   pub plain : AllByRecursion (λ n. has_slash n ≡ false) names
   pub each : (name : List ℕ) → has_slash name ≡ false
-      → is_among names name ≡ is_some (bytes_of held (path_in folder name))
+      → is_among names name ≡ is_there held (path_in folder name)
 
--- the same, where the content of files is known
+-- A folder has this name, and these names are just those in it, where that is known.
 abbrev pub Lists : Option Held → List ℕ → List (List ℕ) → Type 0
 Lists None folder names = ⊤
-Lists (Some held) folder names = ListsNames held folder names
+Lists (Some held) folder names = (is_folder held folder ≡ true) × ListsNames held folder names

@@ -1,7 +1,7 @@
 //! The operations on files.
 
-ghost use Rattle.std.specs.Prelude.{◌≡◌, ℕ, List, Option, None, IfOk, IfSome, OnOk, OnErr, false};
-ghost use Rattle.disks.specs.Held.{Held, IsOneFile, Opens, Starts, Creates, Discards, Grows, Replaces};
+ghost use Rattle.std.specs.Prelude.{◌≡◌, ℕ, List, Option, None, IfOk, IfSome, OnOk, OnErr, true, false};
+ghost use Rattle.disks.specs.Held.{Held, is_folder, IsOneFile, Opens, Starts, Creates, Discards, Grows, Replaces};
 ghost use Rattle.disks.specs.Folders.{Lists, names_of};
 
 use std::io::{self, Read, Write};
@@ -14,7 +14,7 @@ pub struct FolderEntry {
     pub is_regular: bool,
 }
 
-/// Files that are read by their names, and replaced as a whole.
+/// Files that are read by their names, and replaced as a whole, and the folders that they are in, which stay as they are.
 ///
 /// A file is made beside the one that it is to replace, which keeps its content until the new one is finished. A new
 /// file that is let go before that was never there. No call empties a file or changes its content in place; one that is
@@ -29,18 +29,21 @@ pub trait Disk {
     /// A file that is written at its end.
     type Grown: Write + Drop;
 
-    /// The content of the files, if that is known.
+    /// The folders and the content of the files, if that is known.
     ghost holds: { Self → Option Held } = { λ _. None };
 
-    /// Opens the file of this name. The reader has the bytes that the file holds now.
+    /// Opens the file of this name, which is no folder. The reader has the bytes that the file holds now.
     fn open(&self, name: &str) -> io::Result<Self::Reader>
         ensures { IfOk result
             (λ reader. Opens (holds self.now) name.now (Self.Reader.remaining reader)) };
 
-    /// Whether two names are those of one file. If it answers no, they are not; a yes may err.
+    /// Whether two names are those of one file or folder. If it answers no, they are not; a yes may err, but not of a folder.
     fn is_one_file(&self, one: &str, other: &str) -> io::Result<bool>
-        ensures { IfOk result (λ same. IfSome (holds self.now)
-            (λ held. same ≡ false → IsOneFile held one.now other.now → ⊥)) };
+        ensures no { IfOk result (λ same. IfSome (holds self.now)
+            (λ held. same ≡ false → IsOneFile held one.now other.now → ⊥)) }
+        ensures yes { IfOk result (λ same. IfSome (holds self.now)
+            (λ held. same ≡ true → is_folder held one.now ≡ true
+            → IsOneFile held one.now other.now)) };
 
     /// Whether the process reads or writes the file of this name by a standard descriptor; if not, whether a file of this name
     /// can be made is looked at too. It is asked before long work that ends with such a file.
@@ -52,11 +55,11 @@ pub trait Disk {
         Ok(false)
     }
 
-    /// The names in this folder, in any order.
+    /// The names in this folder, of files and of folders, in any order.
     ///
     /// # Errors
     ///
-    /// There is no such folder, or it cannot be read to its end, or a name in it is not UTF-8.
+    /// There is no such folder, as where a file has this name; or it cannot be read to its end, or a name in it is not UTF-8.
     fn list(&self, folder: &str) -> io::Result<Vec<FolderEntry>>
         ensures { IfOk result
             (λ entries. Lists (holds self.now) folder.now (names_of entries.items)) };
@@ -70,14 +73,18 @@ pub trait Disk {
     ///
     /// # Errors
     ///
-    /// It could not be put there, it was made for another name, or somebody else has the old file open to be written at its end.
-    /// Every file is as it was then.
+    /// It could not be put there, as where a folder has this name; it was made for another name; or somebody else has the old file
+    /// open to be written at its end. Every file is as it was then.
     fn finish(&mut self, made: Self::New, name: &str) -> io::Result<()>
         ensures replaced { OnOk result
             (Replaces (holds self.old) (holds self.new) name.now (Self.New.contents made)) }
         ensures kept { OnErr result (holds self.new ≡ holds self.old) };
 
     /// Makes an empty file of this name, if there is none. Answers whether it did.
+    ///
+    /// # Errors
+    ///
+    /// A folder has this name, or the file cannot be made.
     fn create(&mut self, name: &str) -> io::Result<bool>
         ensures created { IfOk result (Creates (holds self.old) (holds self.new) name.now) }
         ensures kept { OnErr result (holds self.new ≡ holds self.old) };
@@ -92,7 +99,8 @@ pub trait Disk {
     ///
     /// # Errors
     ///
-    /// `WouldBlock` if somebody else has it open so; `InvalidInput` if it is not a regular file; or it cannot be opened.
+    /// `WouldBlock` if somebody else has it open so; `InvalidInput` if it is not a regular file; or it cannot be opened, as where a
+    /// folder has this name.
     fn grow(&mut self, name: &str, synced: bool) -> io::Result<Self::Grown>
         ensures opened { IfOk result
             (λ grown. Grows (holds self.old) name.now (Self.Grown.contents grown)) }

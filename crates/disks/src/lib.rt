@@ -1,4 +1,4 @@
-//! Files by their names: the operations of a program on them, and their content afterwards.
+//! Files and folders by their names: the operations of a program on them, and what is there afterwards.
 #![tactic(auto)]
 
 mod descriptors;
@@ -13,7 +13,7 @@ mod system;
 pub use descriptors::take_low;
 pub use disk::{Disk, FolderEntry};
 pub use grown::GrownFile;
-pub use memory::{MemoryDisk, StoredFile};
+pub use memory::{MemoryDisk, Stored, StoredEntry};
 pub use part::NewFile;
 pub use replacing::{Contents, ContentsFault, ReplaceFault, replace};
 pub use system::SystemDisk;

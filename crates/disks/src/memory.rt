@@ -1,58 +1,71 @@
-//! Files in memory.
+//! Files and folders in memory.
 
-ghost use Rattle.std.specs.Prelude.{◌≡◌, ◌≢◌, ◌+◌, ◌||◌, ℕ, List, [], length, drop, false, None, Some, IsTrue, IsFalse, IfOk, OnOk};
+ghost use Rattle.std.specs.Prelude.{◌≡◌, ◌≢◌, ◌+◌, ◌||◌, ℕ, List, [], length, drop, false, Some, IsTrue, IsFalse, IfOk, OnOk, OnErr};
 ghost use Rattle.std.specs.List.{AllByRecursion};
 ghost use Rattle.std.specs.Str.{bytes_eq};
-ghost use Rattle.std.specs.Option.{option_map};
-ghost use Rattle.disks.specs.Held.{Held};
-ghost use Rattle.disks.specs.Entries.{found, held_of, without};
+ghost use Rattle.disks.specs.Held.{Held, Nothing, File, is_a_folder, IsReplaced};
+ghost use Rattle.disks.specs.Entries.{found, thing_in, held_of, without};
 ghost use Rattle.disks.specs.Folders.{path_in, has_slash, is_among, names_of, IsNameIn, ListsNames};
 
 use crate::disk::{Disk, FolderEntry};
 use std::alloc::Global;
 use std::io::{self, Cursor, ErrorKind};
 
-/// A file that was finished.
+/// What was put at a name.
 #[derive(Drop)]
-pub struct StoredFile {
-    pub name: String,
-    pub bytes: Vec<u8>,
+pub enum Stored {
+    File(Vec<u8>),
+    Folder,
 }
 
-/// Files in memory: the last entry with a name is the file of that name, and no two names lead to one file. A folder is there
-/// if a file is in it.
+/// A name, and what was put there.
+#[derive(Drop)]
+pub struct StoredEntry {
+    pub name: String,
+    pub stored: Stored,
+}
+
+/// Files and folders in memory: the last entry with a name is the file or the folder of that name, and no two names lead to one
+/// place. A folder is there if it has an entry of its own; what has its name before a slash lies in it.
 #[derive(Drop)]
 pub struct MemoryDisk {
     pub alloc: Global,
-    pub entries: Vec<StoredFile>,
+    pub entries: Vec<StoredEntry>,
 }
 
-/// The bytes of the last of these entries with this name.
-fn last<'e>(entries: &'e [StoredFile], name: &str) -> Option<&'e [u8]>
-    ensures { option_map (λ b. b.now) result ≡ found None entries.now name.now }
+/// What the last of these entries with this name has.
+fn last<'e>(entries: &'e [StoredEntry], name: &str) -> Option<&'e Stored>
+    ensures { thing_in result ≡ found Nothing entries.now name.now }
 {
     let mut last = None;
     for entry in entries {
         if entry.name.as_str() == name {
-            last = Some(entry.bytes.as_slice());
+            last = Some(&entry.stored);
         }
     }
     last
 }
 
-/// Whether the last of these entries with this name holds nothing.
-fn is_empty_file(entries: &[StoredFile], name: &str) -> bool
-    ensures yes { IsTrue result → found None entries.now name.now ≡ Some [] }
-    ensures no { IsFalse result → found None entries.now name.now ≢ Some [] }
+/// Whether a file of this name holds nothing.
+fn is_empty_file(entries: &[StoredEntry], name: &str) -> bool
+    ensures yes { IsTrue result → found Nothing entries.now name.now ≡ File [] }
+    ensures no { IsFalse result → found Nothing entries.now name.now ≢ File [] }
 {
     match last(entries, name) {
-        None => false,
-        Some(bytes) => bytes.is_empty(),
+        Some(Stored::File(bytes)) => bytes.is_empty(),
+        _ => false,
     }
 }
 
+/// Whether a folder has this name.
+fn is_folder(entries: &[StoredEntry], name: &str) -> bool
+    ensures { result ≡ is_a_folder (found Nothing entries.now name.now) }
+{
+    matches!(last(entries, name), Some(Stored::Folder))
+}
+
 /// Removes all entries with this name.
-fn remove_entries(entries: &mut Vec<StoredFile>, name: &str)
+fn remove_entries(entries: &mut Vec<StoredEntry>, name: &str)
     ensures { entries.new.items ≡ without name.now entries.old.items }
 {
     entries.retain(|entry| entry.name.as_str() != name);
@@ -88,7 +101,12 @@ fn name_in<'e>(name: &'e str, folder: &str) -> io::Result<Option<&'e str>>
 }
 
 /// Adds a name to those of a folder.
-fn add_name(names: &mut Vec<FolderEntry>, alloc: Global, name: &str) -> io::Result<()>
+fn add_name(
+    names: &mut Vec<FolderEntry>,
+    alloc: Global,
+    name: &str,
+    is_regular: bool,
+) -> io::Result<()>
     requires { has_slash name.now ≡ false }
     ensures plain { OnOk result (AllByRecursion (λ n. has_slash n ≡ false) (names_of names.old.items)
         → AllByRecursion (λ n. has_slash n ≡ false) (names_of names.new.items)) }
@@ -98,22 +116,50 @@ fn add_name(names: &mut Vec<FolderEntry>, alloc: Global, name: &str) -> io::Resu
 {
     names.push(FolderEntry {
         name: String::from_str(alloc, name)?,
-        is_regular: true,
+        is_regular,
     })?;
     Ok(())
 }
 
-/// The names in a folder that these files have.
-fn names_among(alloc: Global, entries: &[StoredFile], folder: &str) -> io::Result<Vec<FolderEntry>>
+/// The names in a folder that these files and folders have.
+fn names_among(alloc: Global, entries: &[StoredEntry], folder: &str) -> io::Result<Vec<FolderEntry>>
     ensures { IfOk result (λ names. ListsNames (held_of entries.now) folder.now (names_of names.items)) }
 {
     let mut names = Vec::new(alloc);
     for entry in entries {
         if let Some(name) = name_in(entry.name.as_str(), folder)? {
-            add_name(&mut names, alloc, name)?;
+            let is_regular = matches!(entry.stored, Stored::File(_));
+            add_name(&mut names, alloc, name, is_regular)?;
         }
     }
     Ok(names)
+}
+
+/// The copy of the bytes of a file.
+fn copied(alloc: Global, entries: &[StoredEntry], name: &str) -> io::Result<Vec<u8>>
+    ensures { IfOk result (λ bytes. found Nothing entries.now name.now ≡ File bytes.items) }
+{
+    match last(entries, name) {
+        Some(Stored::File(bytes)) => Ok(Vec::from_slice(alloc, bytes.as_slice())?),
+        Some(Stored::Folder) => Err(io::Error::from(ErrorKind::IsADirectory)),
+        None => Err(io::Error::from(ErrorKind::NotFound)),
+    }
+}
+
+/// Puts a file at a name, in place of what has it, which is no folder.
+fn put_file(disk: &mut MemoryDisk, name: &str, bytes: Vec<u8>) -> io::Result<()>
+    ensures put { OnOk result
+        (IsReplaced (held_of disk.old.entries.items) (held_of disk.new.entries.items) name.now
+        bytes.items) }
+    ensures kept { OnErr result (disk.new.entries.items ≡ disk.old.entries.items) }
+{
+    if is_folder(&disk.entries, name) {
+        return Err(io::Error::from(ErrorKind::IsADirectory));
+    }
+    let name = String::from_str(disk.alloc, name)?;
+    let stored = Stored::File(bytes);
+    disk.entries.push(StoredEntry { name, stored })?;
+    Ok(())
 }
 
 impl Disk for MemoryDisk {
@@ -126,10 +172,7 @@ impl Disk for MemoryDisk {
     ghost holds = { λ s. Some (held_of s.entries.items) };
 
     fn open(&self, name: &str) -> io::Result<Cursor<Vec<u8>>> {
-        match last(&self.entries, name) {
-            None => Err(io::Error::from(ErrorKind::NotFound)),
-            Some(bytes) => Ok(Cursor::new(Vec::from_slice(self.alloc, bytes)?)),
-        }
+        Ok(Cursor::new(copied(self.alloc, &self.entries, name)?))
     }
 
     fn is_one_file(&self, one: &str, other: &str) -> io::Result<bool> {
@@ -137,11 +180,10 @@ impl Disk for MemoryDisk {
     }
 
     fn list(&self, folder: &str) -> io::Result<Vec<FolderEntry>> {
-        let names = names_among(self.alloc, &self.entries, folder)?;
-        if names.is_empty() {
+        if !is_folder(&self.entries, folder) {
             return Err(io::Error::from(ErrorKind::NotFound));
         }
-        Ok(names)
+        names_among(self.alloc, &self.entries, folder)
     }
 
     fn make(&mut self, _name: &str) -> io::Result<Vec<u8>> {
@@ -149,18 +191,15 @@ impl Disk for MemoryDisk {
     }
 
     fn finish(&mut self, made: Vec<u8>, name: &str) -> io::Result<()> {
-        let name = String::from_str(self.alloc, name)?;
-        self.entries.push(StoredFile { name, bytes: made })?;
-        Ok(())
+        put_file(self, name, made)
     }
 
     fn create(&mut self, name: &str) -> io::Result<bool> {
-        if last(&self.entries, name).is_some() {
+        if let Some(Stored::File(_)) = last(&self.entries, name) {
             return Ok(false);
         }
-        let name = String::from_str(self.alloc, name)?;
         let bytes = Vec::new(self.alloc);
-        self.entries.push(StoredFile { name, bytes })?;
+        put_file(self, name, bytes)?;
         Ok(true)
     }
 
@@ -173,15 +212,10 @@ impl Disk for MemoryDisk {
     }
 
     fn grow(&mut self, name: &str, _synced: bool) -> io::Result<Vec<u8>> {
-        match last(&self.entries, name) {
-            Some(bytes) => Ok(Vec::from_slice(self.alloc, bytes)?),
-            _ => Err(io::Error::from(ErrorKind::NotFound)),
-        }
+        copied(self.alloc, &self.entries, name)
     }
 
     fn close_synced(&mut self, grown: Vec<u8>, name: &str) -> io::Result<()> {
-        let name = String::from_str(self.alloc, name)?;
-        self.entries.push(StoredFile { name, bytes: grown })?;
-        Ok(())
+        put_file(self, name, grown)
     }
 }

@@ -35,7 +35,11 @@ impl<'a, R: Files<File = File> + AllocGlobal> Disk for SystemDisk<'a, R> {
     type Grown = GrownFile;
 
     fn open(&self, name: &str) -> io::Result<File> {
-        fs::open(self.files, name)
+        let file = fs::open(self.files, name)?;
+        if file.metadata()?.is_dir() {
+            return Err(io::Error::from(ErrorKind::IsADirectory));
+        }
+        Ok(file)
     }
 
     fn is_one_file(&self, one: &str, other: &str) -> io::Result<bool> {
@@ -81,6 +85,7 @@ impl<'a, R: Files<File = File> + AllocGlobal> Disk for SystemDisk<'a, R> {
 
     fn create(&mut self, name: &str) -> io::Result<bool> {
         match fs::metadata(self.files, name) {
+            Ok(there) if there.is_dir() => return Err(io::Error::from(ErrorKind::IsADirectory)),
             Ok(_) => return Ok(false),
             Err(e) if e.kind() == ErrorKind::NotFound => {}
             Err(e) => return Err(e),

@@ -2,6 +2,7 @@ pub mod Buffers
 pub mod Drawings
 pub mod Entries
 pub mod FirstFaults
+pub mod Folders
 pub mod FreshRings
 pub mod FreshTexts
 pub mod JournalStarts
@@ -9,6 +10,7 @@ pub mod HandedLines
 pub mod Keeping
 pub mod Leads
 pub mod Making
+pub mod Parents
 pub mod JoinedLeads
 pub mod ListTexts
 pub mod Recoveries
@@ -16,4 +18,3 @@ pub mod ServeRefusals
 pub mod Settling
 pub mod StepLemmas
 pub mod Upgrades
-pub mod WithoutInput

@@ -24,14 +24,16 @@ pub noted_before : (before there : Option Held) (name : List ℕ) (made : Bool) 
 noted_before None there name made given from c h = subst (λ (x : Option Held). IsNoted x name given from) c h
 noted_before (Some was) there name false given from c h = subst (λ (x : Option Held). IsNoted x name given from) c.0 h
 noted_before (Some was) None name true given from c h = absurd c.1
-noted_before (Some was) (Some is) name true given from c (inl h) = inl (subst (λ (o : Option (List ℕ)). IfSome o (λ bytes. bytes ≡ [])) (sym c.0) tt, h.1)
-noted_before (Some was) (Some is) name true given from c (inr h) =
+noted_before (Some was) (Some is) name true given from c (plain, inl h) =
+    (sym (c.1.folders name) ∙ plain, inl (subst (λ (o : Option (List ℕ)). IfSome o (λ bytes. bytes ≡ [])) (sym c.0) tt, h.1))
+noted_before (Some was) (Some is) name true given from c (plain, inr h) =
     absurd (unrecovered h.bytes (content from) (ap (λ (o : Option (List ℕ)). unwrap_or o []) (sym h.held ∙ c.1.here name refl)) h.recovered)
 
 -- what replaces an empty file that was made replaces none
 put_before : (was there begun : Held) (name bytes : List ℕ) → IsReplaced was there name [] → IsReplaced there begun name bytes → IsReplaced was begun name bytes
 put_before was there begun name bytes made put = record {
   places = λ other. put.places other ∙ made.places other;
+  folders = λ other. put.folders other ∙ made.folders other;
   here = λ other same. put.here other (made.places name ∙ same ∙ sym (made.places other));
   others = λ other differs. put.others other (λ same. differs (sym (made.places name) ∙ same ∙ made.places other)) ∙ made.others other differs;
 }

@@ -87,7 +87,7 @@ of_folder words folder saved files was is old new (inr (there, l, inr h)) = h.0
 
 of_serving : (words : ServeWords) (files : Option Held) (saved : Option Saved) (was is old new : Option (List ℕ)) → IsRefusedTo words files saved was is old new tool.BadList → ⊥
 of_serving words files saved was is old new (inl h) = of_value (permits_of words) files (journal_of words) saved was is old new h
-of_serving words files saved was is old new (inr h) = of_folder words h.0 saved files was is old new h.2
+of_serving words files saved was is old new (inr h) = of_folder words h.0 saved files was is old new h.3
 
 of_end : (words : ServeWords) (saved : Option Saved) (before after : Option Held) (was is old new early late : Option (List ℕ)) →
     IsRefusedTo words before saved was is old new tool.BadList

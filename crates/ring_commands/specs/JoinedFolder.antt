@@ -80,7 +80,7 @@ IsJoinRefusal words was is e =
     ⊎ ((r : SegmentNumbers)
     × IsRightNumbers entries (Ok (Some r))
     × (IsLaterBegin words.folder.now r e
-    ⊎ (IsOutsideRefusal (file_of (Some words.new.now)) e
+    ⊎ (IsOutsideRefusal was.files words.folder.now (file_of (Some words.new.now)) e
     ⊎ (AreUnjoined was.files words.folder.now r e
     ⊎ ((fs : List File)
     × IsChainIn was.files words.folder.now r fs

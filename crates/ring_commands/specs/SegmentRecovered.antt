@@ -118,7 +118,7 @@ IsFolderUnrecovered words was is e =
     × (IsUnreadSegment was.files words.file.now r.last e
     ⊎ ((bytes : List ℕ)
     × IsHeld was.files (segment_file words.file.now r.last) bytes
-    × (IsOutsideRefusal (file_of (Some words.new.now)) e
+    × (IsOutsideRefusal was.files words.file.now (file_of (Some words.new.now)) e
     ⊎ (IsSegmentFault words.salvage words.file.now r.last bytes e
     ⊎ ((f : File)
     × (k : IsFileKept words.salvage f)

@@ -1,7 +1,7 @@
 -- The answer of `serve`: without a journal, with a journal in a file, or in a folder of segments.
 use Rattle.std.specs.Prelude.{◌≡◌, ℕ, ◌⊎◌, ◌≤◌, ◌^◌, List, length, Option, Some}
 use Rattle.std.specs.Io.KnownBytes.{Appends}
-use Rattle.disks.specs.Held.{Held}
+use Rattle.disks.specs.Held.{Held, LeadsToFolder}
 use Rattle.ring_saved.specs.declared.saved.Saved.{Saved}
 use Rattle.ring_text.specs.Report.{total_line}
 use Rattle.ring_serve.specs.Standings.{Standing}
@@ -14,13 +14,15 @@ use Rattle.ring_requests.specs.declared.requests.ServeWords.{ServeWords}
 use Rattle.ring_commands.specs.declared.faults.ToolError.{ToolError}
 use Rattle.ring_commands.specs.declared.faults.ToolError.TheVariants as tool
 
--- all lines were served: without a journal or with one in a file, or in the segments of a folder
+-- All lines were served: without a journal; with one in a file, if its name was no folder's
+-- (`IsNoted`); or with one in segments, if it was a folder's.
 abbrev pub IsServedTo : ServeWords → Option Saved → List Standing → Option Held → Option Held
     → Option (List ℕ) → Option (List ℕ) → Option (List ℕ) → Option (List ℕ) → Type 0
 IsServedTo words saved end before after was is old new =
     IsServedFrom words saved end before after was is old new
     ⊎ ((folder : List ℕ)
     × (journal_of words ≡ Some folder)
+    × LeadsToFolder before folder
     × IsServedIn words folder saved end before after was is old new)
 
 -- The history was read, if one is given, the rings began there or where their journal ended, all
@@ -34,13 +36,15 @@ pub record IsServeAnswer (words : ServeWords) (was is : World) : Type 0 where
 
 -- ---- refusals
 
--- the lines were not served, or not to their end
+-- the lines were not served, or not to their end: in segments only if the journal's name was a
+-- folder's
 abbrev pub IsRefusedTo : ServeWords → Option Held → Option Saved → Option (List ℕ)
     → Option (List ℕ) → Option (List ℕ) → Option (List ℕ) → ToolError → Type 0
 IsRefusedTo words files saved was is old new e =
     IsRefusedFrom (permits_of words) files (journal_of words) saved was is old new e
     ⊎ ((folder : List ℕ)
     × (journal_of words ≡ Some folder)
+    × LeadsToFolder files folder
     × IsRefusedIn words folder saved files was is old new e)
 
 -- All lines were served, and what adds up over the rings is not told: there are 2^32 rings or more,

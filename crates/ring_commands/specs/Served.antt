@@ -1,7 +1,7 @@
 -- The answer of `serve`.
 use Rattle.std.specs.Prelude.{◌≡◌, ℕ, ◌≤◌, ◌<◌, ◌^◌, ◌⊎◌, List, [], length, codes, Bool, true, false, Option, None, Some, IfSome, Err, ⊤}
 use Rattle.std.specs.Option.{option_map, is_some}
-use Rattle.disks.specs.Held.{Held, bytes_of, Creates, Grows, Replaces}
+use Rattle.disks.specs.Held.{Held, bytes_of, LeadsToNoFolder, Creates, Grows, Replaces}
 use Rattle.ring_saved.specs.declared.saved.Saved.{Saved}
 use Rattle.ring_saved.specs.declared.saved.SavedRing.{SavedRing}
 use Rattle.ring_saved.specs.Content.{content}
@@ -67,11 +67,12 @@ abbrev pub HoldsNothing : Option Held → List ℕ → Type 0
 HoldsNothing None name = ⊤
 HoldsNothing (Some held) name = IfSome (bytes_of held name) (λ bytes. bytes ≡ [])
 
--- where the rings begin if a journal is kept: with the given value if the journal's file held
--- nothing or was not there, else at the journal's end
+-- where the rings begin if a journal is kept in a file, the name of which is no folder's: with the
+-- given value if that file held nothing or was not there, else at the journal's end
 abbrev pub IsNoted : Option Held → List ℕ → Option Saved → Saved → Type 0
 IsNoted files name saved from =
-    (HoldsNothing files name × (saved ≡ Some from)) ⊎ IsOfJournal files name from
+    LeadsToNoFolder files name
+    × ((HoldsNothing files name × (saved ≡ Some from)) ⊎ IsOfJournal files name from)
 
 -- where they begin
 abbrev pub BeginsAt : Option Held → Option (List ℕ) → Option Saved → Saved → Type 0

@@ -100,6 +100,22 @@ pub enum ToolError<'a> {
     Begins(&'a str, u64),
     /// A file that is to be made lies in the folder that is read.
     InFolder(&'a str),
+    /// A list has more locks than there may be.
+    ManyLocks,
+    /// The lock at this place of a list has the name of one before it.
+    Twice(usize),
+    /// No locks are named, and a folder has no file of locks.
+    NoLocks(&'a str),
+    /// A folder has segments, but no file of locks.
+    NoLocksFile(&'a str),
+    /// The file of locks in a folder cannot be read.
+    UnreadLocks(&'a str),
+    /// It is not the text of a list of locks.
+    BadLocks(&'a str),
+    /// The lock at this place in a folder is not the one that is named, or none is named there.
+    OtherLock(&'a str, usize),
+    /// The ring at this place in a folder is not of the size of its lock, or there is no such lock.
+    OtherRing(&'a str, usize),
 }
 
 impl ToolError<'_> {
@@ -119,8 +135,14 @@ impl ToolError<'_> {
 }
 
 impl ToolError<'_> {
+    ghost use Rattle.std.specs.Prelude.{◌≡◌};
+    ghost use Rattle.std.specs.Option.{option_map};
+    ghost use Rattle.ring_commands.specs.FaultLines.{fixed_line};
+
     /// The line of a refusal that has no value.
-    fn fixed_line(&self) -> Option<&'static str> {
+    fn fixed_line(&self) -> Option<&'static str>
+        ensures { option_map (λ line. line.now) result ≡ fixed_line self.now }
+    {
         match self {
             ToolError::BadList => Some("bad list"),
             ToolError::TooFew => Some("n is less than 2"),
@@ -140,6 +162,7 @@ impl ToolError<'_> {
             ToolError::ManyDrawn => Some("a picture has at most 20000 events"),
             ToolError::TotalsTooLarge => Some("the totals are too large"),
             ToolError::NoHistory => Some("no history is given, and no journal tells of rings"),
+            ToolError::ManyLocks => Some("there are more than 1000000 locks"),
             _ => None,
         }
     }
@@ -161,6 +184,30 @@ impl ToolError<'_> {
             ),
             ToolError::Syntax(line) => write!(f, "line {line}: syntax"),
             _ => self.put_file_refusal(f),
+        }
+    }
+
+    /// Writes the line of a refusal of locks.
+    fn put_locks_refusal<W: fmt::Write>(&self, f: &mut W) -> fmt::Result {
+        match self {
+            ToolError::Twice(place) => write!(f, "lock {place} has the name of a lock before it"),
+            ToolError::NoLocks(folder) => write!(f, "no locks are named, and {folder} has none"),
+            ToolError::NoLocksFile(folder) => {
+                write!(f, "{folder} has segments, but no file `locks`")
+            }
+            ToolError::UnreadLocks(folder) => write!(f, "cannot read {folder}/locks"),
+            ToolError::BadLocks(folder) => write!(f, "{folder}/locks is not a list of locks"),
+            ToolError::OtherLock(folder, place) => {
+                write!(f, "lock {place} in {folder}/locks is another one")
+            }
+            ToolError::OtherRing(folder, place) => {
+                write!(
+                    f,
+                    "ring {place} in {folder} is not of the size in {folder}/locks"
+                )
+            }
+            // the lines of the others are written before
+            _ => Ok(()),
         }
     }
 
@@ -187,8 +234,7 @@ impl ToolError<'_> {
             }
             ToolError::Begins(folder, number) => write!(f, "{folder} begins at segment {number}"),
             ToolError::InFolder(name) => write!(f, "{name} is in the folder that is read"),
-            // the lines of the others are written before
-            _ => Ok(()),
+            _ => self.put_locks_refusal(f),
         }
     }
 
@@ -212,6 +258,10 @@ impl ToolError<'_> {
 }
 
 impl fmt::Display for ToolError<'_> {
+    ghost use Rattle.ring_commands.specs.FaultLines.{fixed_line};
+
+    ghost output = { λ e. fixed_line e };
+
     fn fmt<W: fmt::Write>(&self, f: &mut fmt::Formatter<W>) -> fmt::Result {
         match self.fixed_line() {
             Some(line) => f.write_str(line),
@@ -220,7 +270,7 @@ impl fmt::Display for ToolError<'_> {
     }
 }
 
-/// The same line: a derived form would be proved for 40 variants and shown only by tests.
+/// The same line: a derived form would be proved for 50 variants and shown only by tests.
 impl fmt::Debug for ToolError<'_> {
     fn fmt<W: fmt::Write>(&self, f: &mut fmt::Formatter<W>) -> fmt::Result {
         fmt::Display::fmt(self, f)

@@ -214,8 +214,8 @@ fn hand_out_segment<'a, D: Disk, W: Write, E: Write>(
 ///
 /// # Errors
 ///
-/// Those of [`folder_numbers`] and [`segment_bytes`]; `InFolder` if the other name is that of a file in the folder; `Segment` if
-/// nothing is recovered: no file is made then. Those of handing out, as for a journal.
+/// Those of [`folder_numbers`] and [`segment_bytes`]; `InFolder` if the other name lies in the folder, `SameFile` if it is another
+/// one of a file there; `Segment` if nothing is recovered: no file is made then. Those of handing out, as for a journal.
 pub(crate) fn recover_folder<'a, D: Disk, W: Write, E: Write>(
     alloc: Global,
     disk: &mut D,

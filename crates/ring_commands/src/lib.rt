@@ -19,7 +19,6 @@ mod outside;
 pub mod picture;
 pub mod reading;
 pub mod recover;
-pub mod requests;
 mod resuming;
 pub mod run;
 pub mod serve;

@@ -1,9 +1,10 @@
 //! Whether a file that is to be made lies outside of a folder that is read.
 
 ghost use Rattle.std.specs.Prelude.{◌≡◌, Some, OnOk, IfOk, IfErr, string_bytes};
+ghost use Rattle.disks.specs.Held.{LeadsToFolder};
 ghost use Rattle.disks.specs.Folders.{path_in};
 ghost use Rattle.ring_commands.specs.Named.{IsApart};
-ghost use Rattle.ring_commands.specs.Outside.{IsOutside, IsOutsideRefusal};
+ghost use Rattle.ring_commands.specs.Outside.{before_slash, parent_of, LiesElsewhere, IsNoneOf, IsOutside, IsOutsideRefusal};
 ghost use Rattle.ring_commands.specs.Ran.{file_of};
 
 use crate::faults::ToolError;
@@ -21,11 +22,19 @@ fn path_of(alloc: Global, folder: &str, name: &str) -> Result<String, AllocError
     Ok(path)
 }
 
+/// What stands before a slash, as the name of a folder.
+fn before_slash(front: &str) -> &str
+    ensures { result.now ≡ before_slash front.now }
+{
+    if front.is_empty() { "/" } else { front }
+}
+
 /// The name of the folder that a file of this name lies in.
-fn parent_of(name: &str) -> &str {
+fn parent_of(name: &str) -> &str
+    ensures { result.now ≡ parent_of name.now }
+{
     match name.rsplit_once('/') {
-        Some((parent, _)) if parent.is_empty() => "/",
-        Some((parent, _)) => parent,
+        Some((front, _)) => before_slash(front),
         None => ".",
     }
 }
@@ -36,7 +45,10 @@ fn keep_parent_apart<'a, D: Disk>(
     folder: &str,
     made: &'a str,
 ) -> Result<(), ToolError<'a>>
-    ensures { IfErr result (λ e. IsOutsideRefusal (Some made.now) e) }
+    requires folder { LeadsToFolder (D.holds disk.now) folder.now }
+    ensures ok { OnOk result (LiesElsewhere (D.holds disk.now) folder.now (Some made.now)) }
+    ensures err { IfErr result
+        (λ e. IsOutsideRefusal (D.holds disk.now) folder.now (Some made.now) e) }
 {
     match disk.is_one_file(folder, parent_of(made)) {
         Ok(false) => Ok(()),
@@ -55,14 +67,15 @@ fn keep_entry_apart<'a, D: Disk>(
 ) -> Result<(), ToolError<'a>>
     ensures ok { OnOk result (IsApart (D.holds disk.now)
         (path_in folder.now (string_bytes entry.now.name)) (Some made.now)) }
-    ensures err { IfErr result (λ e. IsOutsideRefusal (Some made.now) e) }
+    ensures err { IfErr result
+        (λ e. IsOutsideRefusal (D.holds disk.now) folder.now (Some made.now) e) }
 {
     let Ok(path) = path_of(alloc, folder, entry.name.as_str()) else {
         return Err(ToolError::OutOfMemory);
     };
     match keep_apart(disk, path.as_str(), made) {
         Ok(()) => Ok(()),
-        Err(ToolError::SameFile(_)) => Err(ToolError::InFolder(made)),
+        Err(ToolError::SameFile(_)) => Err(ToolError::SameFile(made)),
         Err(_) => Err(ToolError::Save(made)),
     }
 }
@@ -76,8 +89,9 @@ fn keep_entries_apart<'a, D: Disk>(
     made: &'a str,
 ) -> Result<(), ToolError<'a>>
     ensures ok { OnOk result
-        (IsOutside (D.holds disk.now) folder.now entries.now (Some made.now)) }
-    ensures err { IfErr result (λ e. IsOutsideRefusal (Some made.now) e) }
+        (IsNoneOf (D.holds disk.now) folder.now entries.now (Some made.now)) }
+    ensures err { IfErr result
+        (λ e. IsOutsideRefusal (D.holds disk.now) folder.now (Some made.now) e) }
 {
     for entry in entries {
         match keep_entry_apart(alloc, disk, folder, entry, made) {
@@ -93,7 +107,8 @@ fn keep_entries_apart<'a, D: Disk>(
 ///
 /// # Errors
 ///
-/// `InFolder` with the name if it does, `Save` with it if this cannot be decided, and `OutOfMemory`.
+/// `InFolder` with the name if it lies there by its own name, `SameFile` with it if it is one of the files there by another, `Save`
+/// with it if this cannot be decided, and `OutOfMemory`.
 pub(crate) fn keep_outside<'a, D: Disk>(
     alloc: Global,
     disk: &D,
@@ -101,9 +116,11 @@ pub(crate) fn keep_outside<'a, D: Disk>(
     entries: &[FolderEntry],
     word: &'a str,
 ) -> Result<(), ToolError<'a>>
+    requires folder { LeadsToFolder (D.holds disk.now) folder.now }
     ensures ok { OnOk result
         (IsOutside (D.holds disk.now) folder.now entries.now (file_of (Some word.now))) }
-    ensures err { IfErr result (λ e. IsOutsideRefusal (file_of (Some word.now)) e) }
+    ensures err { IfErr result (λ e.
+        IsOutsideRefusal (D.holds disk.now) folder.now (file_of (Some word.now)) e) }
 {
     if names_stream(word) {
         return Ok(());

@@ -250,7 +250,7 @@ fn keep_saves_apart<'a, D: Disk>(
 /// # Errors
 ///
 /// `InUse` if another has it, `Save` if it cannot be had, and `OutOfMemory`.
-fn lock_folder<'a, D: Disk>(
+pub fn lock_folder<'a, D: Disk>(
     alloc: Global,
     disk: &mut D,
     folder: &'a str,

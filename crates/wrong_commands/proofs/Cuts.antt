@@ -149,7 +149,7 @@ part_quiet s p rings number journal more is none at =
     }
 
 -- files that are known stay known
-known_after : (was is : Option Held) (name : List ℕ) (journal : Option (List ℕ)) (held : Held) (bytes : List ℕ) → was ≡ Some held → journal ≡ Some bytes → Replaces was is name journal → (h : Held) × (is ≡ Some h)
+pub known_after : (was is : Option Held) (name : List ℕ) (journal : Option (List ℕ)) (held : Held) (bytes : List ℕ) → was ≡ Some held → journal ≡ Some bytes → Replaces was is name journal → (h : Held) × (is ≡ Some h)
 known_after was is name journal held bytes w j r =
     go is (subst (λ (x : Option (List ℕ)). Replaces (Some held) is name x) j (subst (λ (x : Option Held). Replaces x is name journal) w r))
   where
@@ -157,7 +157,7 @@ known_after was is name journal held bytes w j r =
     go None r = absurd r
     go (Some h) r = (h, refl)
 
-if_some : {A : Type 0} (o : Option A) (a : A) (P : A → Type 0) → o ≡ Some a → IfSome o P → P a
+pub if_some : {A : Type 0} (o : Option A) (a : A) (P : A → Type 0) → o ≡ Some a → IfSome o P → P a
 if_some o a P e h = subst (λ (x : Option _). IfSome x P) e h
 
 -- what a segment that stays has in its file
@@ -257,6 +257,10 @@ pub not_forgotten : (r s : Standing) (more : List Standing) → 1 ≤ r.base.gra
 not_forgotten r s more some none h =
     let grants : s.base.grants ≡ r.base.grants + granted_count r.history = ap (λ (b : Base). b.grants) h.0.base in
     omega (arith, some, none, grants)
+
+-- a ring's next segment has no call
+pub none_called : (r s : Standing) (more : List Standing) → (s.history ≡ [] → ⊥) → AreNext (r ∷ []) (s ∷ more) → ⊥
+none_called r s more called h = called h.0.history
 
 -- ---- one text has one digest of the file before
 

@@ -1,10 +1,9 @@
 -- Why an empty list of a folder, and of next segments, is wrong.
 use Rattle.std.proofs.Common.{◌≡◌, ℕ, ◌<◌, ◌≤◌, List, [], ◌∷◌, length, Option, Some, None, Bool, true, false, refl, sym, ap, ◌∙◌, arith}
 use Rattle.std.specs.Prelude.{◌||◌, IsSome}
-use Rattle.std.specs.Option.{is_some}
 use Rattle.std.proofs.lemmas.Bool.{false≢true}
 use Rattle.std.proofs.lemmas.Slice.Eq.{bytes_eq-Decides}
-use Rattle.disks.specs.Held.{Held, bytes_of}
+use Rattle.disks.specs.Held.{Held, is_there}
 use Rattle.disks.specs.Folders.{path_in, is_among, Lists}
 use Rattle.ring_serve.specs.Standings.{Standing}
 use Rattle.ring_serve.specs.Segments.{AreNext}
@@ -20,6 +19,6 @@ pub not_empty : (held : Option Held) (folder : List ℕ) (names : List (List ℕ
 not_empty None folder names known some a b = false≢true known
 not_empty (Some held) folder [] known some a b = omega (arith, some)
 not_empty (Some held) folder (n ∷ ns) known some a b =
-    let there : true ≡ is_some (bytes_of held (path_in folder n)) = sym (first_among n ns) ∙ a.each n a.plain.0 in
-    let missing : false ≡ is_some (bytes_of held (path_in folder n)) = b.each n a.plain.0 in
+    let there : true ≡ is_there held (path_in folder n) = sym (first_among n ns) ∙ a.1.each n a.1.plain.0 in
+    let missing : false ≡ is_there held (path_in folder n) = b.1.each n a.1.plain.0 in
     false≢true (missing ∙ sym there)

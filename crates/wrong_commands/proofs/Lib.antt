@@ -11,3 +11,5 @@ pub mod Unchained
 pub mod Gapped
 pub mod Emptied
 pub mod Cuts
+pub mod Places
+pub mod Elsewhere

@@ -5,18 +5,19 @@ ghost use Rattle.disks.specs.Held.{Held};
 ghost use Rattle.ring_segments.specs.Spelling.{digest_of, DigestFits};
 ghost use Rattle.ring_serve.specs.Due.{is_due};
 ghost use Rattle.ring_serve.specs.Standings.{standing_of};
-ghost use Rattle.chain_serve.specs.Digested.{hashed};
+ghost use Rattle.segment_loop.specs.Digested.{hashed};
 ghost use Rattle.chain_serve.specs.Segments.{moment_of};
 ghost use Rattle.chain_serve.specs.Texts.{segment_text};
 ghost use Rattle.chain_serve.specs.Service.{ServesSegments};
 
-use chain_serve::{OpenSegment, SegmentRules, begin_segment, close_segment};
+use chain_serve::{SegmentRules, begin_segment, close_segment};
 use disks::Disk;
 use ring_book::Till;
 use ring_chains::Base;
 use ring_endless::EndlessRing;
 use ring_segments::{DIGEST_DIGITS, digest};
 use ring_serve::{Journal, Served, serve};
+use segment_loop::OpenSegment;
 use std::alloc::Global;
 use std::io::Read;
 
@@ -208,4 +209,57 @@ fn forgetful(alloc: Global, ring: &EndlessRing) -> Option<EndlessRing>
         return None;
     }
     Some(EndlessRing::after(base, segment))
+}
+
+/// The next segment has no call of its own yet: here one is made before it begins, so that it begins one call late.
+pub fn begins_one_call_late<D: Disk>(
+    alloc: Global,
+    served: &mut Served,
+    disk: &mut D,
+    first: OpenSegment<D::Grown>,
+    rules: SegmentRules<'_>,
+    ring: &EndlessRing,
+    machine: u32,
+) -> Option<OpenSegment<D::Grown>>
+    requires due { is_due (Some rules.limit) served.old ≡ true }
+    requires one { served.old ≡ standing_of ring.now ∷ [] }
+    ensures wrong { IfSome result (λ end. (bytes : List ℕ) (held : Held)
+        → hashed (D.Grown.contents first.writer.inner) first.writer.hasher ≡ Some bytes
+        → D.holds disk.old ≡ Some held
+        → ServesSegments rules.entry
+        (moment_of served.old (D.holds disk.old) first.number
+        (hashed (D.Grown.contents first.writer.inner) first.writer.hasher))
+        (moment_of served.new (D.holds disk.new) end.number
+        (hashed (D.Grown.contents end.writer.inner) end.writer.hasher))
+        (Some []) (Some []) (Some []) (Some []) → ⊥) }
+{
+    let behind = match first.writer.digest() {
+        Ok(behind) => behind,
+        Err(_) => return None,
+    };
+    let Some(ring) = called_already(alloc, ring, machine) else {
+        return None;
+    };
+    let mut next = Served::none(alloc);
+    match next.add(ring) {
+        Ok(()) => {}
+        Err(_) => return None,
+    }
+    match cut(alloc, served, next, disk, first, behind, rules) {
+        Some(end) => Some(end),
+        None => None,
+    }
+}
+
+/// The ring with its next segment, in which a call was made.
+fn called_already(alloc: Global, ring: &EndlessRing, machine: u32) -> Option<EndlessRing>
+    ensures { IfSome result (λ next. next.ring.book.history ≢ []) }
+{
+    let Ok(mut next) = ring.next(alloc) else {
+        return None;
+    };
+    match next.pass(0, machine, 0) {
+        Ok(_) => Some(next),
+        Err(_) => None,
+    }
 }

@@ -1,14 +1,18 @@
-//! Wrong answers for a folder of segments: each accepts one that is refused, or leaves a file out.
+//! Wrong answers for a folder of segments: each accepts one that is refused, leaves a file out, or refuses what is allowed.
 
-ghost use Rattle.std.specs.Prelude.{◌≡◌, ◌≤◌, ◌+◌, List, IfSome, IfOk};
+ghost use Rattle.std.specs.Prelude.{◌≡◌, ◌≤◌, ◌+◌, ℕ, List, Option, Some, IsSome, IfSome, IfOk, IfErr};
 ghost use Rattle.ring_segments.specs.Spelling.{no_digest};
 ghost use Rattle.ring_segments.specs.Files.{File};
 ghost use Rattle.segment_folder.specs.Numbers.{IsRightNumbers};
 ghost use Rattle.ring_commands.specs.Chained.{IsChainIn, sums_of, last_digest};
+ghost use Rattle.ring_commands.specs.JoinedFolder.{IsJoinRefusal};
+ghost use Rattle.ring_commands.specs.Outside.{LiesElsewhere};
+ghost use Rattle.ring_commands.specs.Worlds.{world};
 
 use disks::{Disk, FolderEntry};
 use ring_commands::chain::chain_in;
 use ring_commands::faults::ToolError;
+use ring_requests::JoinWords;
 use ring_segments::{ChainSums, DIGEST_DIGITS};
 use segment_folder::{FolderError, SegmentNumbers, numbers_among};
 use std::alloc::Global;
@@ -62,4 +66,19 @@ pub fn skips_the_first_file<'a, D: Disk>(
         Ok(found) => Ok(found),
         Err(fault) => Err(fault),
     }
+}
+
+/// Only of a file that is to be made in the folder it is said that it lies there: here it is said of one elsewhere.
+pub fn refuses_a_file_elsewhere<'a, D: Disk>(
+    _disk: &D,
+    words: &JoinWords<'a>,
+) -> Result<(), ToolError<'a>>
+    requires known { IsSome (D.holds _disk.now) }
+    requires elsewhere { LiesElsewhere (D.holds _disk.now) words.now.folder.now
+        (Some words.now.new.now) }
+    ensures wrong { IfErr result (λ e. (input out err : Option (List ℕ))
+        → IsJoinRefusal words.now (world (D.holds _disk.now) input out err)
+        (world (D.holds _disk.now) input out err) e → ⊥) }
+{
+    Err(ToolError::InFolder(words.new))
 }

@@ -1,8 +1,6 @@
-use Rattle.std.proofs.Common.{◌≡◌, ◌+◌, ◌<◌, ℕ, List, length, take, drop, false, IsTrue, IsFalse, Bool, true, nat_eq, slice_index_or, arith, sym, ap, ◌∙◌}
-use Rattle.std.specs.Str.{bytes_eq}
+use Rattle.std.proofs.Common.{arith, sym, ◌∙◌}
 use Rattle.std.proofs.lemmas.Slice.Eq.{bytes_eq-Decides}
 use Rattle.std.proofs.lemmas.Bool.{eqb-true, eq-eqb, false≢true, not-true, not-false}
-use Rattle.disks.specs.Folders.{path_in}
 use Rattle.disks.proofs.Listing.{joined, front_of, slash_of, longer_than}
 use Rattle.disks.proofs.memory.is_in.Goals.{then-name-end-via-then-name-end, then-name-end-via-else-name-end+then-ne}
 use Rattle.disks.proofs.memory.is_in.Goals as goal

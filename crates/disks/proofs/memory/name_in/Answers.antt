@@ -1,7 +1,6 @@
-use Rattle.std.proofs.Common.{◌≡◌, ◌+◌, ◌==◌, ℕ, List, length, drop, false, true, Bool, slice_index_or, sym, ap, ◌∙◌}
-use Rattle.std.specs.Str.{bytes_eq}
+use Rattle.std.proofs.Common.{◌==◌, ℕ, List, sym, ap, ◌∙◌}
 use Rattle.std.proofs.lemmas.List.Folds.{list_any_at}
-use Rattle.disks.specs.Folders.{path_in, has_slash}
+use Rattle.disks.specs.Folders.{has_slash}
 use Rattle.disks.proofs.Listing.{deeper}
 use Rattle.disks.proofs.memory.name_in.Goals as goal
 

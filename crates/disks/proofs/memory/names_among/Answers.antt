@@ -1,8 +1,8 @@
-use Rattle.std.proofs.Common.{◌≡◌, ◌+◌, ◌++◌, ◌∷◌, ℕ, List, [], length, take, drop, arith, ap, sym, subst, refl, string_bytes, ◌∙◌}
+use Rattle.std.proofs.Common.{◌++◌, ◌∷◌, ℕ, List, [], take, arith, ap, sym, subst, ◌∙◌}
 use Rattle.std.specs.Str.{bytes_eq}
 use Rattle.std.proofs.lemmas.List.{take_more, take_all}
 use Rattle.disks.specs.Entries.{held_of}
-use Rattle.disks.specs.Folders.{path_in, has_slash, is_among, names_of, IsNameIn, ListsNames}
+use Rattle.disks.specs.Folders.{path_in, names_of, IsNameIn, ListsNames}
 use Rattle.disks.proofs.Listing.{with_name, without_name, no_names}
 use Rattle.disks.proofs.memory.names_among.Goals.{in-Some+in_ok-add_name, in_default}
 use Rattle.disks.proofs.memory.names_among.Goals as goal

@@ -5,7 +5,11 @@ use Rattle.ring_check.specs.Legal.{IsLegalText, summary_of}
 use Rattle.ring_commands.specs.CheckText.{legal_line}
 use Rattle.ring_commands.specs.Handed.{IsHanded, IsHandRefusal}
 use Rattle.ring_commands.specs.Worlds.{world}
+use Rattle.ring_commands.proofs.Folders.{entered}
 use Rattle.ring_commands.proofs.join.join_folder.Goals as goal
+
+pub keep_outside-requires : goal.keep_outside-requires
+keep_outside-requires g c = record { folder = entered (g.D.Disk.holds c.args.disk.now) c.args.words.now.folder.now c.args.entries.now c.requires }
 
 pub returns-in-Err-clause-err : goal.returns-in-Err-clause-err
 returns-in-Err-clause-err g c early late =

@@ -3,7 +3,11 @@ use Rattle.segment_folder.specs.Names.{segment_file}
 use Rattle.ring_commands.specs.Named.{IsHeld}
 use Rattle.ring_commands.specs.SegmentRecovered.{file_as, IsSegmentHanded, IsSegmentUnhanded}
 use Rattle.ring_commands.specs.Worlds.{world}
+use Rattle.ring_commands.proofs.Folders.{entered}
 use Rattle.ring_commands.proofs.last_segment.recover_folder.Goals as goal
+
+pub keep_outside-requires : goal.keep_outside-requires
+keep_outside-requires g c = record { folder = entered (g.D.Disk.holds c.args.disk.now) c.args.words.now.file.now c.args.entries.now c.requires }
 
 pub returns-in-Err-keep_outside-clause-err : goal.returns-in-Err-keep_outside-clause-err
 returns-in-Err-keep_outside-clause-err g c early late =

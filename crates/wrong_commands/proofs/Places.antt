@@ -1,0 +1,228 @@
+-- What is there in the end, if a journal was kept in a file or in segments.
+use Rattle.std.proofs.Common.{◌≡◌, ◌++◌, ℕ, List, [], ◌∷◌, Bool, true, false, Option, None, Some, refl, sym, ap, subst, ◌∙◌, inl, inr}
+use Rattle.std.specs.Prelude.{IsSome, IfSome, ◌⊎◌}
+use Rattle.std.specs.Option.{is_some}
+use Rattle.std.specs.Io.KnownBytes.{Appends}
+use Rattle.std.proofs.lemmas.Bool.{false≢true, true≢false}
+use Rattle.disks.specs.Held.{Held, Thing, Nothing, Folder, File, file_bytes, is_a_folder, is_a_thing, bytes_of, is_folder, is_there, LeadsToFolder, IsOneFile, IsReplaced, Grows, Creates, Replaces}
+use Rattle.disks.specs.Folders.{path_in}
+use Rattle.segment_folder.specs.Names.{segment_file}
+use Rattle.ring_saved.specs.declared.saved.Saved.{Saved}
+use Rattle.ring_serve.specs.declared.answers.Answer.{Answer}
+use Rattle.ring_serve.specs.declared.answers.Answer.TheVariants as answer
+use Rattle.ring_serve.specs.declared.answers.Refusal.{Refusal}
+use Rattle.ring_serve.specs.declared.permits.Permits.{Permits}
+use Rattle.ring_serve.specs.Permits.{Terms}
+use Rattle.ring_serve.specs.Standings.{Standing}
+use Rattle.ring_serve.specs.Serving.{IsSaved, IsSaveGiven, IsGiven, IsAnswered, Answers, name_in}
+use Rattle.chain_serve.specs.declared.segments.SegmentRules.{SegmentRules}
+use Rattle.chain_serve.specs.Segments.{Moment, IsReady, HasEnded, file_of}
+use Rattle.chain_serve.specs.Texts.{segment_text}
+use Rattle.chain_serve.specs.Service.{part_terms, Part, IsPart, AreParts}
+use Rattle.chain_serve.specs.Beginning.{HasBegun}
+use Rattle.ring_requests.specs.declared.requests.ServeWords.{ServeWords}
+use Rattle.ring_commands.specs.Served.{journal_of, permits_of, IsNoted, BeginsAt, IsServedNoted, IsServed, IsServedFrom}
+use Rattle.ring_commands.specs.ServedFolder.{Place, IsRun, IsLocked, IsServedIn}
+use Rattle.ring_commands.specs.ServeAnswer.{IsServedTo}
+use Rattle.wrong_commands.proofs.Cuts.{known_after, if_some}
+
+-- ---- files that are known stay known, and so does what a journal holds
+
+abbrev pub Known : Option Held → Type 0
+Known files = (h : Held) × (files ≡ Some h)
+
+replaced_known : (was is : Option Held) (name bytes : List ℕ) → Known was → Replaces was is name (Some bytes) → Known is
+replaced_known was is name bytes k r = known_after was is name (Some bytes) k.0 bytes k.1 refl r
+
+same_known : (was is : Option Held) → Known was → is ≡ was → Known is
+same_known was is k same = (k.0, same ∙ k.1)
+
+saved_known : (journal : Option (List ℕ)) (was is : Option Held) (file : List ℕ) (rings : List Standing) (given : Answer) → Known was → IsSaved journal was is file rings given → Known is
+saved_known journal was is file rings given k (inl h) = replaced_known was is file _ k h.1
+saved_known journal was is file rings given k (inr h) = same_known was is k h.1
+
+save_known : (journal saves : Option (List ℕ)) (was is : Option Held) (name : List ℕ) (rings : List Standing) (given : Answer) → Known was → IsSaveGiven journal saves was is name rings given → Known is
+save_known journal None was is name rings given k h = same_known was is k h.1
+save_known journal (Some folder) was is name rings given k (inl h) = saved_known journal was is _ rings given k h.1
+save_known journal (Some folder) was is name rings given k (inr h) = same_known was is k h.2
+
+given_known : (journal saves : Option (List ℕ)) (was is : Option Held) (name : List ℕ) (rings : List Standing) (asked given : Answer) → Known was → IsGiven journal saves was is name rings asked given → Known is
+given_known journal saves was is name rings answer.Saved given k h = save_known journal saves was is name rings given k h
+given_known journal saves was is name rings (answer.Granted number result) given k h = same_known was is k h.1
+given_known journal saves was is name rings answer.Waits given k h = same_known was is k h.1
+given_known journal saves was is name rings (answer.Corrupted old) given k h = same_known was is k h.1
+given_known journal saves was is name rings (answer.Survey survey) given k h = same_known was is k h.1
+given_known journal saves was is name rings (answer.Block first count) given k h = same_known was is k h.1
+given_known journal saves was is name rings (answer.Refused why) given k h = same_known was is k h.1
+
+answers_known : (terms : Terms) (old new : List Standing) (was is : Option Held) (lines : List (List ℕ)) (said noted : List ℕ) → Known was → Answers terms old was lines said noted new is → Known is
+answers_known terms old new was is [] said noted k h = same_known was is k h.3
+answers_known terms old new was is (line ∷ lines) said noted k h =
+    let one = given_known terms.journal terms.saves was h.1 (name_in line) h.0 h.6.turn.answer h.6.given k h.6.gives in
+    answers_known terms h.0 new h.1 is lines h.3 h.5 one h.9
+
+abbrev pub Has : Option (List ℕ) → Type 0
+Has contents = (bytes : List ℕ) × (contents ≡ Some bytes)
+
+appended_has : (was is : Option (List ℕ)) (bytes : List ℕ) → Has was → Appends was is bytes → Has is
+appended_has was is bytes k a = go is (subst (λ (x : Option (List ℕ)). Appends x is bytes) k.1 a)
+  where
+    go : (is : Option (List ℕ)) → Appends (Some k.0) is bytes → Has is
+    go None a = absurd a
+    go (Some xs) a = (xs, refl)
+
+-- what is replaced holds its bytes
+abbrev pub Holds : Option Held → List ℕ → Type 0
+Holds files name = (h : Held) × (bytes : List ℕ) × (files ≡ Some h) × (bytes_of h name ≡ Some bytes)
+
+put_holds : (was is : Option Held) (name : List ℕ) (journal : Option (List ℕ)) → Known was → Has journal → Replaces was is name journal → Holds is name
+put_holds was is name journal k j r =
+    go is (subst (λ (x : Option (List ℕ)). Replaces (Some k.0) is name x) j.1 (subst (λ (x : Option Held). Replaces x is name journal) k.1 r))
+  where
+    go : (is : Option Held) → Replaces (Some k.0) is name (Some j.0) → Holds is name
+    go None r = absurd r
+    go (Some h) r = (h, j.0, refl, r.here name refl)
+
+-- ---- a journal in a file
+
+grown_has : (files : Option Held) (name : List ℕ) (contents : Option (List ℕ)) → Known files → Grows files name contents → Has contents
+grown_has files name contents k g =
+    let opened = subst (λ (x : Option Held). Grows x name contents) k.1 g in (opened.0, opened.2)
+
+noted_there : (permits : Permits) (name : List ℕ) (start end : List Standing) (before after : Option Held) (was is old new : Option (List ℕ)) → Known before → IsServedNoted permits name start end before after was is old new → Holds after name
+noted_there permits name start end before after was is old new k h =
+    let begun = replaced_known before h.begun name _ k h.put in
+    let first = grown_has h.begun name h.first begun h.opened in
+    let ended = answers_known _ start end h.begun h.ended h.served.told.answered.lines h.served.told.said h.served.told.noted begun h.served.told.answered.answers in
+    let last = appended_has h.first h.last h.served.told.noted first h.served.told.wrote_notes in
+    put_holds h.ended after name h.last ended last h.settled
+
+-- ---- a journal in segments
+
+record IsKnown (m : Moment) : Type 0 where
+  pub files : Known m.files
+  pub journal : Has m.journal
+
+ready_known : (s : SegmentRules) (r : Option Refusal) (a b : Moment) → IsKnown a → IsReady s r a b → IsKnown b
+ready_known s None a b k (inl h) = subst IsKnown (sym h.1) k
+ready_known s None a b k (inr h) =
+    let e = h.1 in
+    let between = known_after a.files e.between (file_of s a.number) a.journal k.files.0 k.journal.0 k.files.1 k.journal.1 e.settled in
+    record {
+      files = replaced_known e.between b.files (file_of s b.number) _ between e.begun;
+      journal = (segment_text b.number e.behind b.rings, if_some e.between between.0 (λ _. b.journal ≡ Some (segment_text b.number e.behind b.rings)) between.1 e.journal);
+    }
+ready_known s (Some why) a b k h = kept h.2.file
+  where
+    kept : ((b.files ≡ a.files) × (b.journal ≡ a.journal)) ⊎ (Replaces a.files b.files (file_of s a.number) a.journal × IfSome a.files (λ _. IfSome a.journal (λ bytes. b.journal ≡ Some bytes))) → IsKnown b
+    kept (inl f) = record { files = same_known a.files b.files k.files f.0; journal = (k.journal.0, f.1 ∙ k.journal.1) }
+    kept (inr f) = record {
+      files = known_after a.files b.files (file_of s a.number) a.journal k.files.0 k.journal.0 k.files.1 k.journal.1 f.0;
+      journal = (k.journal.0, if_some a.journal k.journal.0 (λ (bytes : List ℕ). b.journal ≡ Some bytes) k.journal.1 (if_some a.files k.files.0 (λ _. IfSome a.journal (λ (bytes : List ℕ). b.journal ≡ Some bytes)) k.files.1 f.1));
+    }
+
+part_known : (s : SegmentRules) (p : Part) → IsKnown p.from → IsPart s p → IsKnown p.to
+part_known s p k h = record {
+  files = answers_known (part_terms s p.from.number p.refusing) p.from.rings p.to.rings p.from.files p.to.files p.lines p.said p.noted k.files h.answers;
+  journal = appended_has p.from.journal p.to.journal p.noted k.journal h.wrote;
+}
+
+parts_known : (s : SegmentRules) (a b : Moment) (ps : List Part) → IsKnown a → AreParts s a ps b → IsKnown b
+parts_known s a b [] k h = subst IsKnown (sym h) k
+parts_known s a b (p ∷ ps) k h = parts_known s p.to b ps (part_known s p (ready_known s p.refusing a p.from k h.0) h.1) h.2
+
+run_there : (s : SegmentRules) (start : Place) (first last : Moment) (end : List Standing) (before after : Option Held) (was is old new : Option (List ℕ)) → Known before → IsRun s start first last end before after was is old new → Holds after (file_of s last.number)
+run_there s start first last end before after was is old new k h =
+    let begun : IsKnown first = record {
+      files = replaced_known before first.files (file_of s start.number) _ k h.begun.put;
+      journal = (segment_text start.number start.behind start.rings, if_some before k.0 (λ _. first.journal ≡ Some (segment_text start.number start.behind start.rings)) k.1 h.begun.journal);
+    } in
+    let ended = parts_known s first last h.served.parts begun h.served.served in
+    put_holds last.files after (file_of s last.number) last.journal ended.files ended.journal h.settled
+
+created_known : (was is : Option Held) (name : List ℕ) (made : Bool) → Known was → Creates was is name made → Known is
+created_known was is name made k c = go made (subst (λ (x : Option Held). Creates x is name made) k.1 c)
+  where
+    go : (made : Bool) → Creates (Some k.0) is name made → Known is
+    go true c = replaced_known (Some k.0) is name [] (k.0, refl) c.1
+    go false c = (k.0, c.0)
+
+-- some segment's file is there
+segments_there : (words : ServeWords) (folder : List ℕ) (saved : Option Saved) (end : List Standing) (before after : Option Held) (was is old new : Option (List ℕ)) → Known before → IsServedIn words folder saved end before after was is old new
+    → (n : ℕ) × Holds after (segment_file folder n)
+segments_there words folder saved end before after was is old new k h =
+    let there = created_known before h.there (path_in folder _) h.locked.0 k h.locked.1 in
+    (h.last.number, subst (λ (f : List ℕ). Holds after (segment_file f h.last.number)) h.by_words.0 (run_there h.rules h.start h.first h.last end h.there after was is old new there h.run))
+
+-- ---- neither
+
+pub known_of : (files : Option Held) → IsSome files → Known files
+known_of None s = absurd (false≢true s)
+known_of (Some held) s = (held, refl)
+
+nothing_there : (t : Thing) → is_a_thing t ≡ false → (file_bytes t ≡ None) × (is_a_folder t ≡ false)
+nothing_there Nothing h = (refl, refl)
+nothing_there Folder h = absurd (true≢false h)
+nothing_there (File bytes) h = absurd (true≢false h)
+
+one_name : (a b : List ℕ) → Some a ≡ Some b → a ≡ b
+one_name a b p = cc
+
+none_some : {A : Type 0} (o : Option A) (a : A) → o ≡ None → o ≡ Some a → ⊥
+none_some o a n s = false≢true (ap is_some (sym n ∙ s))
+
+-- in the end nothing is there, though it was served as a file
+pub not_in_a_file : (words : ServeWords) (name : List ℕ) (saved : Option Saved) (end : List Standing) (before after : Option Held) (was is old new : Option (List ℕ)) → journal_of words ≡ Some name → Known before
+    → ((h : Held) → after ≡ Some h → bytes_of h name ≡ None) → IsServedFrom words saved end before after was is old new → ⊥
+not_in_a_file words name saved end before after was is old new named k none h =
+    let noted = subst (λ (j : Option (List ℕ)). IsServed (permits_of words) j h.start end before after was is old new) named h.served in
+    let there = noted_there (permits_of words) name h.start end before after was is old new k noted in
+    none_some (bytes_of there.0 name) there.1 (none there.0 there.2) there.3
+
+pub new_name_is_no_folder : (words : ServeWords) (name : List ℕ) (held : Held) (before after : Option Held) (saved : Option Saved) (end : List Standing) (was is old new : Option (List ℕ)) → journal_of words ≡ Some name → before ≡ Some held
+    → is_there held name ≡ false → ((h : Held) → after ≡ Some h → bytes_of h name ≡ None) → IsServedTo words saved end before after was is old new → ⊥
+new_name_is_no_folder words name held before after saved end was is old new named files nothing none (inl h) =
+    not_in_a_file words name saved end before after was is old new named (held, files) none h
+new_name_is_no_folder words name held before after saved end was is old new named files nothing none (inr h) =
+    let same : h.0 ≡ name = one_name h.0 name (sym h.1 ∙ named) in
+    let folder : is_folder held name ≡ true = subst (λ (x : Option Held). LeadsToFolder x name) files (subst (λ (n : List ℕ). LeadsToFolder before n) same h.2) in
+    false≢true (sym (nothing_there (held.at (held.place name)) nothing).1 ∙ folder)
+
+pub folder_is_no_file : (words : ServeWords) (name : List ℕ) (held : Held) (before after : Option Held) (saved : Option Saved) (end : List Standing) (was is old new : Option (List ℕ)) → journal_of words ≡ Some name → before ≡ Some held
+    → is_folder held name ≡ true → ((h : Held) (n : ℕ) → after ≡ Some h → bytes_of h (segment_file name n) ≡ None) → IsServedTo words saved end before after was is old new → ⊥
+folder_is_no_file words name held before after saved end was is old new named files folder none (inl h) =
+    let begins = subst (λ (x : Option Held). IsNoted x name saved h.from) files (subst (λ (j : Option (List ℕ)). BeginsAt before j saved h.from) named h.begins) in
+    false≢true (sym begins.0 ∙ folder)
+folder_is_no_file words name held before after saved end was is old new named files folder none (inr h) =
+    let same : h.0 ≡ name = one_name h.0 name (sym h.1 ∙ named) in
+    let there = segments_there words h.0 saved end before after was is old new (held, files) h.3 in
+    let file = subst (λ (f : List ℕ). Holds after (segment_file f there.0)) same there.1 in
+    none_some (bytes_of file.0 (segment_file name there.0)) file.1 (none file.0 there.0 file.2) file.3
+
+-- ---- what the twins leave
+
+-- a file elsewhere is as it was
+pub elsewhere : (was : Held) (after : Option Held) (name other bytes : List ℕ) → Replaces (Some was) after name (Some bytes) → (IsOneFile was name other → ⊥) → bytes_of was other ≡ None → (h : Held) → after ≡ Some h → bytes_of h other ≡ None
+elsewhere was after name other bytes r apart none h is =
+    let put : IsReplaced was h name bytes = subst (λ (x : Option Held). Replaces (Some was) x name (Some bytes)) is r in
+    put.others other apart ∙ none
+
+pub begun_and_closed : (s : SegmentRules) (rings : List Standing) (behind : List ℕ) (held : Held) (before after : Option Held) (m : Moment) (name : List ℕ) → before ≡ Some held → HasBegun s rings 1 behind before m
+    → name ≡ file_of s m.number → Replaces m.files after name m.journal → is_there held s.folder.now ≡ false → (IsOneFile held (segment_file s.folder.now 1) s.folder.now → ⊥)
+    → (h : Held) → after ≡ Some h → bytes_of h s.folder.now ≡ None
+begun_and_closed s rings behind held before after m name files b named r nothing apart h is =
+    let text = segment_text 1 behind rings in
+    let there = subst (λ (x : Option Held). Replaces x m.files (file_of s 1) (Some text)) files b.put in
+    let mid = replaced_known (Some held) m.files (file_of s 1) text (held, refl) there in
+    let put : IsReplaced held mid.0 (file_of s 1) text = subst (λ (x : Option Held). Replaces (Some held) x (file_of s 1) (Some text)) mid.1 there in
+    let journal = if_some before held (λ _. m.journal ≡ Some text) files b.journal in
+    let closed = subst (λ (x : Option Held). Replaces x after (file_of s 1) (Some text)) mid.1
+    (subst (λ (j : Option (List ℕ)). Replaces m.files after (file_of s 1) j) journal
+    (subst (λ (n : List ℕ). Replaces m.files after n m.journal) (named ∙ ap (λ (n : ℕ). file_of s n) b.number_is) r)) in
+    elsewhere mid.0 after (file_of s 1) s.folder.now text closed
+    (λ same. apart (sym (put.places (file_of s 1)) ∙ same ∙ put.places s.folder.now))
+    (put.others s.folder.now apart ∙ (nothing_there (held.at (held.place s.folder.now)) nothing).0) h is
+
+pub at_known : (files : Option Held) (P : Held → Type 0) → IsSome files → IfSome files P → (held : Held) × (files ≡ Some held) × P held
+at_known None P s p = absurd (false≢true s)
+at_known (Some held) P s p = (held, refl, p)

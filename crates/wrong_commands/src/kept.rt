@@ -1,0 +1,73 @@
+//! Journals that are kept wrongly: in segments where no folder is, and in a file where one is.
+
+ghost use Rattle.std.specs.Prelude.{◌≡◌, ℕ, List, Option, true, false, Some, None, IsSome, IfSome, OnOk};
+ghost use Rattle.disks.specs.Held.{bytes_of, is_folder, is_there, IsOneFile};
+ghost use Rattle.segment_folder.specs.Names.{segment_file};
+ghost use Rattle.ring_saved.specs.declared.saved.Saved.{Saved};
+ghost use Rattle.ring_segments.specs.Spelling.{DigestFits};
+ghost use Rattle.ring_serve.specs.Standings.{Standing};
+ghost use Rattle.ring_commands.specs.Served.{journal_of};
+ghost use Rattle.ring_commands.specs.ServeAnswer.{IsServedTo};
+
+use chain_serve::{SegmentRules, begin_segment, close_segment};
+use disks::{Contents, Disk, ReplaceFault, replace};
+use ring_requests::ServeWords;
+use ring_segments::DIGEST_DIGITS;
+use ring_serve::{Refusal, Served};
+use std::alloc::Global;
+
+/// A journal is kept in segments only if its name is a folder's: here it is, where there was nothing.
+pub fn serves_a_new_name_as_a_folder<D: Disk>(
+    alloc: Global,
+    disk: &mut D,
+    _words: &ServeWords<'_>,
+    served: &Served,
+    behind: [u8; DIGEST_DIGITS],
+    rules: SegmentRules<'_>,
+) -> Result<(), Refusal>
+    requires digits { DigestFits behind }
+    requires named { journal_of _words.now ≡ Some rules.folder.now }
+    requires known { IsSome (D.holds disk.old) }
+    requires new { IfSome (D.holds disk.old) (λ held. is_there held rules.folder.now ≡ false) }
+    requires apart { IfSome (D.holds disk.old) (λ held.
+        IsOneFile held (segment_file rules.folder.now 1) rules.folder.now → ⊥) }
+    ensures wrong { OnOk result ((saved : Option Saved) (end : List Standing)
+        (was is old new : Option (List ℕ)) → IsServedTo _words.now saved end (D.holds disk.old)
+        (D.holds disk.new) was is old new → ⊥) }
+{
+    let first = match begin_segment(alloc, disk, served, 1, behind, rules) {
+        Ok(first) => first,
+        Err(why) => return Err(why),
+    };
+    match close_segment(disk, first) {
+        Ok(()) => Ok(()),
+        Err(_) => Err(Refusal::File),
+    }
+}
+
+/// A journal is kept in a file only if its name is no folder's: here it is put into one beside an empty folder.
+pub fn serves_an_empty_folder_as_a_file<D: Disk, C: Contents>(
+    alloc: Global,
+    disk: &mut D,
+    _words: &ServeWords<'_>,
+    _folder: &str,
+    file: &str,
+    journal: &C,
+) -> Result<(), ReplaceFault>
+    requires ready { C.ready journal.now }
+    requires named { journal_of _words.now ≡ Some _folder.now }
+    requires known { IsSome (D.holds disk.old) }
+    requires folder { IfSome (D.holds disk.old) (λ held. is_folder held _folder.now ≡ true) }
+    requires empty { IfSome (D.holds disk.old) (λ held. (n : ℕ)
+        → bytes_of held (segment_file _folder.now n) ≡ None) }
+    requires apart { IfSome (D.holds disk.old) (λ held. (n : ℕ)
+        → IsOneFile held file.now (segment_file _folder.now n) → ⊥) }
+    ensures wrong { OnOk result ((saved : Option Saved) (end : List Standing)
+        (was is old new : Option (List ℕ)) → IsServedTo _words.now saved end (D.holds disk.old)
+        (D.holds disk.new) was is old new → ⊥) }
+{
+    match replace(alloc, disk, file, journal) {
+        Ok(()) => Ok(()),
+        Err(fault) => Err(fault),
+    }
+}
