@@ -1,39 +1,16 @@
--- What is known of the file of a segment that is opened.
-use Rattle.std.proofs.Common.{◌≡◌, ℕ, ◌+◌, List, Option, None, Some, refl, sym, ap, subst, ◌∙◌, inl, inr}
+-- The segment has ended, or goes on.
+use Rattle.std.proofs.Common.{◌≡◌, ℕ, ◌+◌, List, Option, Some, refl, sym, subst, ◌∙◌, inr}
 use Rattle.std.specs.Prelude.{IfSome}
-use Rattle.disks.specs.Held.{Held, bytes_of, Grows, Replaces}
+use Rattle.disks.specs.Held.{Held, Replaces}
 use Rattle.ring_segments.specs.Spelling.{digest_of}
 use Rattle.ring_serve.specs.Standings.{Standing}
 use Rattle.ring_serve.specs.Segments.{AreNext}
 use Rattle.sha2.specs.Hashers.{Holds256}
 use Rattle.sha2.specs.declared.Sha256.{Sha256}
+use Rattle.segment_loop.proofs.Changing.{Knows, placed_known, kept_known}
 use Rattle.chain_serve.specs.declared.segments.SegmentRules.{SegmentRules}
 use Rattle.chain_serve.specs.Texts.{segment_text}
 use Rattle.chain_serve.specs.Segments.{moment_of, file_of, HasEnded, IsKept}
-
--- what its writer has, if the file holds what the hasher has taken in
-abbrev pub Knows : Option Held → List ℕ → Sha256 → Option (List ℕ) → Type 0
-Knows files name s w = IfSome files (λ (held : Held). (bytes : List ℕ) → bytes_of held name ≡ Some bytes → Holds256 s bytes → w ≡ Some bytes)
-
-pub grown_known : (files : Option Held) (name : List ℕ) (contents : Option (List ℕ)) (s : Sha256) (w : Option (List ℕ)) → Grows files name contents → ((bytes : List ℕ) → contents ≡ Some bytes → Holds256 s bytes → w ≡ Some bytes) → Knows files name s w
-grown_known None name contents s w k f = tt
-grown_known (Some held) name contents s w k f = λ bytes e h. f bytes (k.2 ∙ sym k.1 ∙ e) h
-
--- of a file that was just put there
-pub placed_known : (was is : Option Held) (name bytes : List ℕ) (s : Sha256) (w : Option (List ℕ)) → Replaces was is name (Some bytes) → Holds256 s bytes → Knows is name s w → IfSome was (λ (held : Held). w ≡ Some bytes)
-placed_known None is name bytes s w r h k = tt
-placed_known (Some was) None name bytes s w r h k = absurd r
-placed_known (Some was) (Some is) name bytes s w r h k = k bytes (r.here name refl) h
-
--- of one that was settled, and is opened again
-pub kept_known : (was is : Option Held) (name : List ℕ) (old : Option (List ℕ)) (s : Sha256) (w : Option (List ℕ)) → Replaces was is name old → ((bytes : List ℕ) → old ≡ Some bytes → Holds256 s bytes) → Knows is name s w →
-    IfSome was (λ (held : Held). IfSome old (λ (bytes : List ℕ). w ≡ Some bytes))
-kept_known None is name old s w r f k = tt
-kept_known (Some was) is name None s w r f k = tt
-kept_known (Some was) None name (Some bytes) s w r f k = absurd r
-kept_known (Some was) (Some is) name (Some bytes) s w r f k = k bytes (r.here name refl) (f bytes refl)
-
--- ---- the segment has ended, or goes on
 
 pub has_ended : (s : SegmentRules) (rings next : List Standing) (was mid put is : Option Held) (number n b : ℕ) (journal w : Option (List ℕ)) (behind text old_name new_name : List ℕ) (hasher : Sha256) →
     AreNext rings next → n ≡ number + 1 → b ≡ n → IfSome journal (λ (bytes : List ℕ). behind ≡ digest_of bytes) →

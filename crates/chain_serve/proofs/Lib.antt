@@ -1,4 +1,3 @@
-pub mod Hashing
 pub mod Changing
 pub mod Parts
 pub mod Recovering

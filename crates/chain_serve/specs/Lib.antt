@@ -1,4 +1,3 @@
-pub mod Digested
 pub mod Texts
 pub mod Segments
 pub mod Service

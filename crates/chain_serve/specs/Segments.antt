@@ -11,7 +11,6 @@ use Rattle.ring_serve.specs.Due.{is_due}
 use Rattle.chain_serve.specs.Texts.{segment_text}
 use Rattle.sha2.specs.Hashers.{Holds256}
 use Rattle.chain_serve.specs.declared.segments.SegmentRules.{SegmentRules}
-use Rattle.chain_serve.specs.declared.segments.OpenSegment.{OpenSegment}
 use Rattle.chain_serve.specs.declared.ending.NextSegment.{NextSegment}
 
 -- a moment between two lines: the rings, the content of files, and the segment that is being
@@ -85,7 +84,3 @@ pub record IsPrepared (rings : List Standing) (number : ℕ) (journal : Option (
   pub digest : IfSome journal (λ bytes. behind ≡ digest_of bytes)
   pub text : next.text.items ≡ segment_text next.number behind next.served
   pub hashes : Holds256 next.hasher next.text.items
-
--- the name is that of the segment's file
-abbrev pub IsNamed : {W : Type 0} → List ℕ → OpenSegment W → Type 0
-IsNamed folder segment = string_bytes segment.name ≡ segment_file folder segment.number

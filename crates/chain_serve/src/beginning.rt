@@ -2,17 +2,19 @@
 
 ghost use Rattle.std.specs.Prelude.{◌<◌, IfOk, IfErr};
 ghost use Rattle.ring_segments.specs.Spelling.{DigestFits};
-ghost use Rattle.chain_serve.specs.Digested.{hashed};
-ghost use Rattle.chain_serve.specs.Segments.{IsCause, IsNamed, moment_of};
+ghost use Rattle.segment_loop.specs.Digested.{hashed};
+ghost use Rattle.segment_loop.specs.Segments.{IsNamed};
+ghost use Rattle.chain_serve.specs.Segments.{IsCause, moment_of};
 ghost use Rattle.chain_serve.specs.Beginning.{HasBegun};
 
-use crate::ending::{Beginning, cause_of, open_segment};
-use crate::segments::{OpenSegment, SegmentRules};
+use crate::ending::{cause_of, open_segment};
+use crate::segments::SegmentRules;
 use crate::texts::segment_text;
 use disks::{Disk, replace};
 use ring_segments::DIGEST_DIGITS;
 use ring_serve::{Refusal, Served};
 use segment_folder::segment_file;
+use segment_loop::{Beginning, OpenSegment};
 use sha2::{Digest, Sha256};
 use std::alloc::Global;
 

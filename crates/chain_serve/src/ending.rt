@@ -7,21 +7,21 @@ ghost use Rattle.ring_segments.specs.Spelling.{digest_of};
 ghost use Rattle.ring_serve.specs.declared.serving.ServeFault.TheVariants as fault;
 ghost use Rattle.ring_serve.specs.Segments.{AreNext};
 ghost use Rattle.ring_serve.specs.Due.{is_due};
-ghost use Rattle.chain_serve.specs.Digested.{hashed};
+ghost use Rattle.segment_loop.specs.Digested.{hashed};
+ghost use Rattle.segment_loop.specs.Segments.{IsNamed};
 ghost use Rattle.chain_serve.specs.Texts.{segment_text};
-ghost use Rattle.chain_serve.specs.Segments.{IsCause, IsPrepared, IsNamed, IsReady, moment_of, file_of};
+ghost use Rattle.chain_serve.specs.Segments.{IsCause, IsPrepared, IsReady, moment_of, file_of};
 
-use crate::digested::Digested;
-use crate::segments::{OpenSegment, SegmentRules};
+use crate::segments::SegmentRules;
 use crate::texts::segment_text;
-use disks::{Contents, ContentsFault, Disk, ReplaceFault, replace};
+use disks::{Disk, ReplaceFault, replace};
 use ring_endless::NextError;
 use ring_serve::{Refusal, ServeFault, Served};
 use segment_folder::segment_file;
+use segment_loop::{Beginning, OpenSegment, settle};
 use sha2::{Digest, Sha256};
 use std::alloc::Global;
 use std::io::Write;
-use text_lines::put;
 
 /// What a next segment needs, before the one before it is closed.
 #[derive(Drop)]
@@ -91,43 +91,6 @@ fn prepare<W: Write>(
     })
 }
 
-/// The beginning of a segment, which its file is to hold.
-#[derive(Drop)]
-pub(crate) struct Beginning<'a> {
-    pub(crate) text: &'a [u8],
-}
-
-impl Contents for Beginning<'_> {
-    ghost bytes = { λ b. b.text.now };
-
-    fn write_to<W: Write>(&self, out: &mut W) -> Result<(), ContentsFault> {
-        match put(out, self.text) {
-            Ok(()) => Ok(()),
-            Err(_) => Err(ContentsFault::Write),
-        }
-    }
-}
-
-/// Settles the file of a segment, and returns the hasher of its bytes.
-fn settle<D: Disk>(
-    disk: &mut D,
-    writer: Digested<D::Grown>,
-    name: &str,
-) -> Result<Sha256, ServeFault>
-    ensures ok { IfOk result (λ hasher. Replaces (D.holds disk.old) (D.holds disk.new) name.now
-        (hashed (D.Grown.contents writer.inner) writer.hasher)) }
-    ensures hasher { IfOk result (λ hasher. (bytes : List ℕ)
-        → hashed (D.Grown.contents writer.inner) writer.hasher ≡ Some bytes
-        → Holds256 hasher bytes) }
-    ensures err { IfErr result (λ e. e ≡ fault.Journal) }
-{
-    let Digested { inner, hasher } = writer;
-    match disk.close_synced(inner, name) {
-        Ok(()) => Ok(hasher),
-        Err(_) => Err(ServeFault::Journal),
-    }
-}
-
 /// Why every line is refused, where a file was not replaced.
 pub(crate) fn cause_of(fault: ReplaceFault) -> Refusal
     ensures { IsCause result }
@@ -152,10 +115,9 @@ pub fn close_segment<D: Disk>(
         (hashed (D.Grown.contents segment.writer.inner) segment.writer.hasher)) }
     ensures err { IfErr result (λ e. e ≡ fault.Journal) }
 {
-    let OpenSegment { name, writer, .. } = segment;
-    match settle(disk, writer, name.as_str()) {
-        Ok(_) => Ok(()),
-        Err(fault) => Err(fault),
+    match segment_loop::close_segment(disk, segment) {
+        Ok(()) => Ok(()),
+        Err(_) => Err(ServeFault::Journal),
     }
 }
 
@@ -179,15 +141,10 @@ pub fn open_segment<D: Disk>(
     ensures kept { D.holds disk.new ≡ D.holds disk.old }
     ensures err { IfErr result (λ e. e ≡ fault.Journal) }
 {
-    let Ok(inner) = disk.grow(name.as_str(), synced) else {
-        return Err(ServeFault::Journal);
-    };
-    let writer = Digested::new(inner, hasher);
-    Ok(OpenSegment {
-        number,
-        name,
-        writer,
-    })
+    match segment_loop::open_segment(disk, number, name, hasher, synced) {
+        Ok(segment) => Ok(segment),
+        Err(_) => Err(ServeFault::Journal),
+    }
 }
 
 /// Ends the segment and begins the next one; or opens its file again, if there is no next file.
@@ -219,7 +176,7 @@ fn change<D: Disk>(
     } = segment;
     let hasher = match settle(disk, writer, name.as_str()) {
         Ok(hasher) => hasher,
-        Err(fault) => return Err(fault),
+        Err(_) => return Err(ServeFault::Journal),
     };
     let beginning = Beginning {
         text: next.text.as_slice(),

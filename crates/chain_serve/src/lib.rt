@@ -2,14 +2,12 @@
 #![tactic(auto)]
 
 mod beginning;
-mod digested;
 mod ending;
 mod segments;
 mod service;
 mod texts;
 
 pub use beginning::begin_segment;
-pub use digested::Digested;
 pub use ending::{close_segment, open_segment};
-pub use segments::{OpenSegment, SegmentRules};
+pub use segments::SegmentRules;
 pub use service::serve_segments;

@@ -1,6 +1,5 @@
-//! Segments whose files are written.
+//! How lines are served in segments.
 
-use crate::digested::Digested;
 use ring_serve::Permits;
 
 /// How lines are served in segments.
@@ -14,12 +13,4 @@ pub struct SegmentRules<'n> {
     pub synced: bool,
     /// What a line may do beside calling the rings.
     pub permits: Permits<'n>,
-}
-
-/// The segment that is being written: its number, from 1, the name of its file, and the writer of the file.
-#[derive(Drop)]
-pub struct OpenSegment<W> {
-    pub number: u64,
-    pub name: String,
-    pub writer: Digested<W>,
 }

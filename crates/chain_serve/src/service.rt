@@ -5,15 +5,17 @@ ghost use Rattle.std.specs.List.{AllByRecursion};
 ghost use Rattle.ring_serve.specs.Saved.{IsRight};
 ghost use Rattle.ring_serve.specs.Permits.{IsOpen};
 ghost use Rattle.ring_serve.specs.Serving.{HasBegun, ServesPart, IsEnding, ServesSomeOf, IsFaultOf as IsPartFault};
-ghost use Rattle.chain_serve.specs.Digested.{hashed};
-ghost use Rattle.chain_serve.specs.Segments.{IsNamed, moment_of};
+ghost use Rattle.segment_loop.specs.Digested.{hashed};
+ghost use Rattle.segment_loop.specs.Segments.{IsNamed};
+ghost use Rattle.chain_serve.specs.Segments.{moment_of};
 ghost use Rattle.chain_serve.specs.Recovered.{AnsweredCallsAreRecovered};
 ghost use Rattle.chain_serve.specs.Service.{part_terms, ServesSegments, ServesSomeSegments, IsFaultOf};
 
 use crate::ending::{Ready, make_ready};
-use crate::segments::{OpenSegment, SegmentRules};
+use crate::segments::SegmentRules;
 use disks::Disk;
 use ring_serve::{Ending, Ends, Journal, ServeFault, Served, Unread, serve_part};
+use segment_loop::OpenSegment;
 use std::alloc::Global;
 use std::io::{Read, Write};
 

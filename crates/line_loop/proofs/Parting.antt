@@ -4,7 +4,8 @@ use Rattle.std.proofs.lemmas.List.{append-nil, drop-drop, drop-take, length-take
 use Rattle.std.specs.Io.KnownBytes.{Consumes}
 use Rattle.text_lines.proofs.Writing.{appends_nil}
 use Rattle.line_loop.specs.Answering.{Answering, HasBegun}
-use Rattle.line_loop.specs.Loop.{Written, Rests, Stops, IsTaken, ServesPart}
+use Rattle.line_loop.specs.declared.faults.Ending.{Ending}
+use Rattle.line_loop.specs.Loop.{Written, Rests, Stops, IsTaken, HasRead, ServesPart}
 use Rattle.line_loop.proofs.LongLines.{cut_nil}
 use Rattle.line_loop.proofs.Telling.{stops_more, rests_stops, none_answered}
 
@@ -65,8 +66,8 @@ going_filled {unread = unread} {read = read} {left = left} more none h = record 
   rests = h.rests;
 }
 
-pub going_part : {S : Type 0} {A : Answering S} {old new : S} {begun unread read left line : List ℕ} {before after : Written} {input rest : Option (List ℕ)} → Consumes input rest read → Going A old begun unread read left line before after new → ServesPart A old new begun unread left line input rest before after
-going_part {read = read} c h = record { read = read; taken = h.taken; consumed = c; split = h.split; rests = h.rests }
+pub going_part : {S : Type 0} {A : Answering S} {old new : S} {begun unread read left line : List ℕ} {before after : Written} {input rest : Option (List ℕ)} {end : Ending} → Consumes input rest read → HasRead end read → Going A old begun unread read left line before after new → ServesPart end A old new begun unread left line input rest before after
+going_part {read = read} c some h = record { read = read; taken = h.taken; consumed = c; reads = some; split = h.split; rests = h.rests }
 
 -- the rest of a block was not taken
 pub block_stops : {S : Type 0} {A : Answering S} {old new : S} {before after : Written} (bytes unread taken left : List ℕ) → unread ≡ taken ++ left → Stops A old before after (bytes ++ taken) new → Stops A old before after (bytes ++ unread) new

@@ -92,14 +92,20 @@ abbrev pub IsTaken : Bool → List ℕ → List ℕ → (List ℕ → Type 0) �
 IsTaken over unread left serves =
     (taken : List ℕ) × (unread ≡ taken ++ left) × (over ≡ false → left ≡ []) × serves taken
 
+-- a part that ended since the next block was read has read a byte at least
+abbrev pub HasRead : Ending → List ℕ → Type 0
+HasRead ending.Block read = 1 ≤ length read
+HasRead _ read = Unit {0}
+
 -- A part of the input was served, from the line that had begun and the rest of a block on. All
 -- answers to its lines have left, and this is the rest.
-pub record ServesPart {S : Type 0} (A : Answering S) (old new : S)
+pub record ServesPart {S : Type 0} (end : Ending) (A : Answering S) (old new : S)
     (begun unread left line : List ℕ) (input rest : Option (List ℕ)) (before after : Written) :
     Type 0 where
   pub read : List ℕ
   pub taken : List ℕ
   pub consumed : Consumes input rest read
+  pub reads : HasRead end read
   pub split : unread ++ read ≡ taken ++ left
   pub rests : Rests A old before after (begun ++ taken) new line
 

@@ -99,8 +99,8 @@ pub fn serve_part<S: AnswersLines, I: Read, J: Write, W: Write>(
     out: &mut W,
 ) -> Result<Ending, LoopFault>
     requires { S.is_over service.old ≡ false }
-    ensures ok { OnOk result ((begun : List ℕ) → HasBegun begun line.old.items
-        → ServesPart S.is_answered service.old service.new begun unread.old unread.new
+    ensures ok { IfOk result (λ ending. (begun : List ℕ) → HasBegun begun line.old.items
+        → ServesPart ending S.is_answered service.old service.new begun unread.old unread.new
         line.new.items (I.remaining input.old) (I.remaining input.new)
         (record { journal = held_by J.contents journal.old; out = W.contents out.old })
         (record { journal = held_by J.contents journal.new; out = W.contents out.new })) }

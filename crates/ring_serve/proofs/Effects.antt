@@ -75,7 +75,7 @@ right_at [] i r all e = absurd (some_none r (sym e))
 right_at (x ∷ rings) zero r all e = subst IsRight (some_one x r e) all.0
 right_at (x ∷ rings) (suc i) r all e = right_at rings i r all.1 e
 
-set_same : (rings : List Standing) (i : ℕ) (r : Standing) → slice_get rings i ≡ Some r → slice_set rings i r ≡ rings
+pub set_same : (rings : List Standing) (i : ℕ) (r : Standing) → slice_get rings i ≡ Some r → slice_set rings i r ≡ rings
 set_same [] i r e = refl
 set_same (x ∷ rings) zero r e = ap (λ (y : Standing). y ∷ rings) (sym (some_one x r e))
 set_same (x ∷ rings) (suc i) r e = ap (λ (xs : List Standing). x ∷ xs) (set_same rings i r e)

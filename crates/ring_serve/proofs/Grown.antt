@@ -70,10 +70,10 @@ log_more cs seat es i = elim (cases_eq i seat) [
 
 -- ---- one ring
 
-grown_same : (r : Standing) → HasGrown r r
+pub grown_same : (r : Standing) → HasGrown r r
 grown_same r = record { base = refl; start = refl; history = all_of r.history; logs = λ seat. all_of (log_of r seat) }
 
-grown_then : (r s t : Standing) → HasGrown r s → HasGrown s t → HasGrown r t
+pub grown_then : (r s t : Standing) → HasGrown r s → HasGrown s t → HasGrown r t
 grown_then r s t p q = record {
   base = q.base ∙ p.base;
   start = q.start ∙ p.start;
@@ -81,10 +81,10 @@ grown_then r s t p q = record {
   logs = λ seat. prefix_then (log_of r seat) (log_of s seat) (log_of t seat) (p.logs seat) (q.logs seat);
 }
 
-with_more : (r : Standing) (seat : ℕ) (es : List Event) → HasGrown r (with_events r seat es)
+pub with_more : (r : Standing) (seat : ℕ) (es : List Event) → HasGrown r (with_events r seat es)
 with_more r seat es = record { base = refl; start = refl; history = (es, refl); logs = log_more r.clients seat (receipts_from (length r.history) es) }
 
-looked_more : (r : Standing) (seat : ℕ) → HasGrown r (with_survey r seat (survey_now r))
+pub looked_more : (r : Standing) (seat : ℕ) → HasGrown r (with_survey r seat (survey_now r))
 looked_more r seat = record { base = refl; start = refl; history = all_of r.history; logs = log_more r.clients seat (entry.Survey (survey_now r) ∷ []) }
 
 -- ---- all rings
@@ -105,12 +105,12 @@ some_one x y e = cc
 some_none : (x : Standing) → None ≡ Some x → ⊥
 some_none x e = cc
 
-have_set : (rs : List Standing) (i : ℕ) (r s : Standing) → slice_get rs i ≡ Some r → HasGrown r s → HaveGrown rs (slice_set rs i s)
+pub have_set : (rs : List Standing) (i : ℕ) (r s : Standing) → slice_get rs i ≡ Some r → HasGrown r s → HaveGrown rs (slice_set rs i s)
 have_set [] i r s e g = refl
 have_set (x ∷ rs) zero r s e g = (subst (λ (y : Standing). HasGrown y s) (sym (some_one x r e)) g, have_same rs)
 have_set (x ∷ rs) (suc i) r s e g = (grown_same x, have_set rs i r s e g)
 
-grown_at : (rs ss : List Standing) (i : ℕ) (r : Standing) → HaveGrown rs ss → slice_get rs i ≡ Some r → (s : Standing) × (slice_get ss i ≡ Some s) × HasGrown r s
+pub grown_at : (rs ss : List Standing) (i : ℕ) (r : Standing) → HaveGrown rs ss → slice_get rs i ≡ Some r → (s : Standing) × (slice_get ss i ≡ Some s) × HasGrown r s
 grown_at [] ss i r h e = absurd (some_none r e)
 grown_at (x ∷ rs) [] i r h e = absurd h
 grown_at (x ∷ rs) (s ∷ ss) zero r h e = (s, refl, subst (λ (y : Standing). HasGrown y s) (some_one x r e) h.0)

@@ -12,7 +12,7 @@ use Rattle.ring_endless.specs.Endless.{EndlessView}
 use Rattle.ring_serve.specs.Standings.{Standing, standing_of, AreRight}
 use Rattle.ring_serve.specs.Saved.{IsRight, block_at, blocks_from, content_of}
 
-right_block : (place : ℕ) (r : Standing) → IsRight r → IsRightBlock latest_version place (block_at place r)
+pub right_block : (place : ℕ) (r : Standing) → IsRight r → IsRightBlock latest_version place (block_at place r)
 right_block place r k = subst (λ (x : Standing). IsRightBlock latest_version place (block_at place x)) k.2 (ring_right place k.0.ring k.1.ring)
 
 right_blocks : (place : ℕ) (rs : List Standing) → AllByRecursion IsRight rs → AreRightBlocks latest_version place (blocks_from place rs)

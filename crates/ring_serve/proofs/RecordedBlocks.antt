@@ -96,7 +96,7 @@ told_at from (suc i) (c ∷ cs) d e n =
     ∙ (ap (λ (ss : List SavedSurvey). ss ++ filter (is_of (from + suc i)) (surveys_told cs)) (others (from + suc i) c.number c.log (λ f. omega (arith, number, f)))
     ∙ (ap (λ (m : ℕ). filter (is_of m) (surveys_told cs)) next ∙ (told_at (from + 1) i cs d e n.1 ∙ ap (λ (m : ℕ). entry_surveys m (get_or cs i d).log) (sym next))))
 
-told_seat : (seat : ℕ) (cs : List LogView) → Numbered 0 cs → filter (is_of seat) (surveys_told cs) ≡ told_by cs seat
+pub told_seat : (seat : ℕ) (cs : List LogView) → Numbered 0 cs → filter (is_of seat) (surveys_told cs) ≡ told_by cs seat
 told_seat seat cs n =
     let same : 0 + seat ≡ seat = omega arith in
     ap (λ (m : ℕ). filter (is_of m) (surveys_told cs)) (sym same) ∙ (told_at 0 seat cs (nobody seat) refl n ∙ ap (λ (m : ℕ). entry_surveys m (get_or cs seat (nobody seat)).log) same)
@@ -219,7 +219,7 @@ one_kept place (b ∷ bs) [] ring was is e f t = absurd t
 one_kept place (b ∷ bs) (r ∷ rs) zero was is e f t = (f place b (subst (λ (x : Standing). Tells place b x) (some_one r was e) t.0), t.1)
 one_kept place (b ∷ bs) (r ∷ rs) (suc ring) was is e f t = (t.0, one_kept (place + 1) bs rs ring was is e f t.1)
 
-set_twice : (rs : List Standing) (i : ℕ) (x y : Standing) → slice_set (slice_set rs i x) i y ≡ slice_set rs i y
+pub set_twice : (rs : List Standing) (i : ℕ) (x y : Standing) → slice_set (slice_set rs i x) i y ≡ slice_set rs i y
 set_twice [] i x y = refl
 set_twice (r ∷ rs) zero x y = refl
 set_twice (r ∷ rs) (suc i) x y = ap (λ (xs : List Standing). r ∷ xs) (set_twice rs i x y)

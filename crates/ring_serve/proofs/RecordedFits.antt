@@ -49,12 +49,12 @@ use Rattle.ring_serve.proofs.RecordedBlocks.{right_numbered}
 
 -- ---- the numbers of a call
 
-abbrev SmallOp : Op → Type 0
+abbrev pub SmallOp : Op → Type 0
 SmallOp (op.Pass machine order) = order < 2 ^ 64
 SmallOp (op.Member machine order left) = (order < 2 ^ 64) × (left < 2 ^ 32)
 SmallOp (op.Corrupt machine value) = Unit {0}
 
-abbrev SmallCall : Event → Type 0
+abbrev pub SmallCall : Event → Type 0
 SmallCall e = (e.seat < 2 ^ 32) × SmallOp e.op
 
 abbrev AreSmall : List RingTrace → Type 0
@@ -119,13 +119,13 @@ pub record IsBounded (r : Standing) : Type 0 where
   pub legal : IsLegal till (opening r.start 0) r.history
   pub few : length r.history ≤ event_limit
 
-bounded : (r : Standing) → IsRight r → IsBounded r
+pub bounded : (r : Standing) → IsRight r → IsBounded r
 bounded r k = subst IsBounded k.2 (
     let book = k.1.ring.book in
     let most = book.bounded in
     record { ring = subst (λ (s : State ℕ). IsRingState s.ring) (sym book.current) book.now_ring; legal = book.legal; few = omega (arith, most) })
 
-grew_fits : (rings ring : ℕ) (was : Standing) (turn : Turn Standing) → IsRight was → (g : Grew ring was turn) → ring < rings → rings < 2 ^ 32 → AllByRecursion SmallCall g.es → AllByRecursion (JournalLineFits latest_version rings) (map (line_of_event ring) g.es)
+pub grew_fits : (rings ring : ℕ) (was : Standing) (turn : Turn Standing) → IsRight was → (g : Grew ring was turn) → ring < rings → rings < 2 ^ 32 → AllByRecursion SmallCall g.es → AllByRecursion (JournalLineFits latest_version rings) (map (line_of_event ring) g.es)
 grew_fits rings ring was turn k g l few small =
     let old = bounded was k in
     let new = bounded (with_events was g.seat g.es) g.right in
@@ -154,7 +154,7 @@ survey_fits ring seat position calm k s p c =
       rest = omega (arith, low, small);
     }
 
-looked_fits : (rings ring seat : ℕ) (was : Standing) → IsRight was → seat < length was.clients → ring < rings → rings < 2 ^ 32 → JournalLineFits latest_version rings (line_of_survey ring seat (survey_now was))
+pub looked_fits : (rings ring seat : ℕ) (was : Standing) → IsRight was → seat < length was.clients → ring < rings → rings < 2 ^ 32 → JournalLineFits latest_version rings (line_of_survey ring seat (survey_now was))
 looked_fits rings ring seat was k within l few =
     let b = bounded was k in
     let h : List Event = was.history in

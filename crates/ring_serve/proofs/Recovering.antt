@@ -84,10 +84,10 @@ no_line version rings tail none r more f e =
 
 -- ---- notes as lines of calls
 
-abbrev lines_of : List JournalLine → List ℕ
+abbrev pub lines_of : List JournalLine → List ℕ
 lines_of calls = flat_map journal_line calls
 
-events_are : (ring : ℕ) (es : List Event) → event_lines ring es ≡ lines_of (map (line_of_event ring) es)
+pub events_are : (ring : ℕ) (es : List Event) → event_lines ring es ≡ lines_of (map (line_of_event ring) es)
 events_are ring [] = refl
 events_are ring (e ∷ es) = ap (λ (x : List ℕ). journal_line (line_of_event ring e) ++ x) (events_are ring es)
 
@@ -106,18 +106,18 @@ noted_is terms turn noted noting e = e ∙ (ap (λ (b : Bool). cond b (notes_of 
 
 -- ---- the calls at the front of bytes that lack the end of the last
 
-split : (bytes more head rest : List ℕ) → bytes ++ more ≡ head ++ rest → length head ≤ length bytes → bytes ≡ head ++ drop (length head) bytes
+pub split : (bytes more head rest : List ℕ) → bytes ++ more ≡ head ++ rest → length head ≤ length bytes → bytes ≡ head ++ drop (length head) bytes
 split bytes more head rest e le =
     sym (take-append-drop (length head) bytes)
     ∙ ap (λ (u : List ℕ). u ++ drop (length head) bytes) (sym (take-append-le (length head) bytes more le) ∙ (ap (take (length head)) e ∙ take-append_seam head rest))
 
 -- what follows the head in bytes that have it all
-after_head : (bytes more head rest : List ℕ) → bytes ++ more ≡ head ++ rest → (le : length head ≤ length bytes) → drop (length head) bytes ++ more ≡ rest
+pub after_head : (bytes more head rest : List ℕ) → bytes ++ more ≡ head ++ rest → (le : length head ≤ length bytes) → drop (length head) bytes ++ more ≡ rest
 after_head bytes more head rest e le =
     append_cancel_left head (drop (length head) bytes ++ more) rest
     (sym (append_assoc head (drop (length head) bytes) more) ∙ (ap (λ (u : List ℕ). u ++ more) (sym (split bytes more head rest e le)) ∙ e))
 
-record IsCut (calls : List JournalLine) (bytes : List ℕ) : Type 0 where
+pub record IsCut (calls : List JournalLine) (bytes : List ℕ) : Type 0 where
   pub front : List JournalLine
   pub next : JournalLine
   pub back : List JournalLine
@@ -126,7 +126,7 @@ record IsCut (calls : List JournalLine) (bytes : List ℕ) : Type 0 where
   pub is : bytes ≡ lines_of front ++ tail
   pub none : has_line_end tail ≡ false
 
-cut_calls : (version rings : ℕ) (calls : List JournalLine) (bytes more others : List ℕ) → AllByRecursion (JournalLineFits version rings) calls → bytes ++ more ≡ lines_of calls ++ others → length bytes < length (lines_of calls) → IsCut calls bytes
+pub cut_calls : (version rings : ℕ) (calls : List JournalLine) (bytes more others : List ℕ) → AllByRecursion (JournalLineFits version rings) calls → bytes ++ more ≡ lines_of calls ++ others → length bytes < length (lines_of calls) → IsCut calls bytes
 cut_calls version rings [] bytes more others f e short = absurd (omega (arith, short))
 cut_calls version rings (r ∷ rs) bytes more others f e short = elim (cases_lt (length bytes) (length (journal_line r))) [
   | inl lt ↦
@@ -152,7 +152,7 @@ cut_calls version rings (r ∷ rs) bytes more others f e short = elim (cases_lt 
 
 -- ---- how far bytes reach in the notes of lines
 
-all_front : {A : Type 0} (P : A → Type 0) (xs ys : List A) → AllByRecursion P (xs ++ ys) → AllByRecursion P xs
+pub all_front : {A : Type 0} (P : A → Type 0) (xs ys : List A) → AllByRecursion P (xs ++ ys) → AllByRecursion P xs
 all_front P [] ys f = tt
 all_front P (x ∷ xs) ys f = (f.0, all_front P xs ys f.1)
 
@@ -356,7 +356,7 @@ module _ (old rings : List Standing) (calls open_calls : List JournalLine) (tail
       ap (λ (x : List JournalLine). let c : Content = record { version = latest_version; rings = map in_order (with_calls (blocks_from 0 old) x); rings_said = length old } in c) (whole_front calls open_calls o) in
       sym (same ∙ stands_tell old calls rings s)
 
-  is_recovered : AllByRecursion IsRight old → Fits begun → Stands old calls rings → are_open open_calls ≡ true → AllByRecursion (JournalLineFits latest_version (length old)) (calls ++ open_calls) → has_line_end tail ≡ false →
+  pub is_recovered : AllByRecursion IsRight old → Fits begun → Stands old calls rings → are_open open_calls ≡ true → AllByRecursion (JournalLineFits latest_version (length old)) (calls ++ open_calls) → has_line_end tail ≡ false →
       IsRecovered (journal_text kept_journal ++ tail) (content_of rings)
   is_recovered all fits s o fit none =
       let many : length old ≡ length (blocks_from 0 old) = sym (as_many 0 old) in

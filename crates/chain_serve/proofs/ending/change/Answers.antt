@@ -1,8 +1,8 @@
-use Rattle.std.proofs.Common.{List, ℕ, Option, Some, inr, ◌∙◌, subst, sym}
-use Rattle.disks.specs.Held.{Held, Replaces}
+use Rattle.std.proofs.Common.{List, ℕ, Some, inr, subst}
+use Rattle.disks.specs.Held.{Replaces}
 use Rattle.std.specs.Prelude.{string_bytes}
-use Rattle.chain_serve.specs.Digested.{hashed}
-use Rattle.chain_serve.proofs.Changing.{Knows, has_ended, is_kept}
+use Rattle.segment_loop.specs.Digested.{hashed}
+use Rattle.chain_serve.proofs.Changing.{has_ended, is_kept}
 use Rattle.chain_serve.proofs.ending.change.Goals as goal
 
 pub returns-in-Ok-open_segment-clause-ok : goal.returns-in-Ok-open_segment-clause-ok

@@ -1,8 +1,8 @@
-use Rattle.std.proofs.Common.{ℕ, ap, refl, sym, subst, ◌∙◌, ◌++◌, arith}
+use Rattle.std.proofs.Common.{ℕ, ap, refl, sym, subst, ◌∙◌, arith}
 use Rattle.segment_folder.specs.Names.{segment_file}
 use Rattle.ring_serve.specs.declared.serving.Ending.{Ending}
 use Rattle.ring_serve.specs.Serving.{IsEnding}
-use Rattle.chain_serve.specs.Digested.{hashed}
+use Rattle.segment_loop.specs.Digested.{hashed}
 use Rattle.chain_serve.specs.Segments.{Moment, moment_of}
 use Rattle.chain_serve.specs.Service.{part_terms}
 use Rattle.chain_serve.proofs.Parts.{long_part, no_long, none_served, one_served, one_counted, one_stops, parts_end, ready_open}

@@ -1,6 +1,6 @@
-use Rattle.std.proofs.Common.{ℕ}
-use Rattle.chain_serve.specs.Digested.{hashed}
-use Rattle.chain_serve.specs.Segments.{moment_of, IsNamed}
+use Rattle.segment_loop.specs.Digested.{hashed}
+use Rattle.segment_loop.specs.Segments.{IsNamed}
+use Rattle.chain_serve.specs.Segments.{moment_of}
 use Rattle.chain_serve.proofs.Parts.{Served, IsCounted}
 use Rattle.chain_serve.proofs.service.serve_segments.Given as goal
 

@@ -1,4 +1,4 @@
-use Rattle.std.proofs.Common.{[], ◌++◌, ◌∙◌, sym, refl, arith, length-append}
+use Rattle.std.proofs.Common.{◌≤◌, [], ◌++◌, length, ◌∙◌, sym, refl, arith, length-append}
 use Rattle.line_loop.specs.Loop.{Written, held_by}
 use Rattle.line_loop.proofs.Telling.{consumes_nil, consumes_then, consumes_kept}
 use Rattle.line_loop.proofs.Parting.{going_begins, going_block, going_stops, going_ends, going_filled, going_part}
@@ -29,7 +29,7 @@ returns-then-over-clause-ok g c = λ begun h.
     let inv = c.rounds.invariant in
     let going = inv.7 begun h in
     let before : Written = record { journal = held_by g.J.Write.contents c.args.journal.now; out = g.W.Write.contents c.args.out.now } in
-    going_part inv.1 (going_block c.in-Ok.over going (c.in-Ok.ensures.serves c.args.service.now before (begun ++ going.taken) going.rests))
+    going_part inv.1 tt (going_block c.in-Ok.over going (c.in-Ok.ensures.serves c.args.service.now before (begun ++ going.taken) going.rests))
 
 pub returns-in-Err-fill-clause-err : goal.returns-in-Err-fill-clause-err
 returns-in-Err-fill-clause-err g c = λ begun h.
@@ -46,7 +46,7 @@ returns-then-count-eq0-clause-ok g c = λ begun h.
     let before : Written = record { journal = held_by g.J.Write.contents c.args.journal.now; out = g.W.Write.contents c.args.out.now } in
     let taken = c.in-Ok.ensures.serves c.args.service.now before (begun ++ going.taken) going.rests in
     let more = going_filled c.fill.new.self (taken.2 c.if-over.false) (going_block c.in-Ok.over going taken) in
-    going_part (consumes_then (g.I.Read.remaining c.args.input.now) (g.I.Read.remaining c.rounds.input) (g.I.Read.remaining c.fill.new.input) inv.0 c.fill.new.self inv.1 c.in-Ok-fill.ensures.ok.0) more
+    going_part (consumes_then (g.I.Read.remaining c.args.input.now) (g.I.Read.remaining c.rounds.input) (g.I.Read.remaining c.fill.new.input) inv.0 c.fill.new.self inv.1 c.in-Ok-fill.ensures.ok.0) tt more
 
 pub returns-then-once-clause-ok : goal.returns-then-once-clause-ok
 returns-then-once-clause-ok g c = λ begun h.
@@ -55,7 +55,8 @@ returns-then-once-clause-ok g c = λ begun h.
     let before : Written = record { journal = held_by g.J.Write.contents c.args.journal.now; out = g.W.Write.contents c.args.out.now } in
     let taken = c.in-Ok.ensures.serves c.args.service.now before (begun ++ going.taken) going.rests in
     let more = going_filled c.fill.new.self (taken.2 c.if-over.false) (going_block c.in-Ok.over going taken) in
-    going_part (consumes_then (g.I.Read.remaining c.args.input.now) (g.I.Read.remaining c.rounds.input) (g.I.Read.remaining c.fill.new.input) inv.0 c.fill.new.self inv.1 c.in-Ok-fill.ensures.ok.0) more
+    let some : 1 ≤ length (inv.0 ++ c.fill.new.self) = omega (arith, length-append inv.0 c.fill.new.self, c.in-Ok-fill.ensures.ok.1, c.if-count-eq0.false) in
+    going_part (consumes_then (g.I.Read.remaining c.args.input.now) (g.I.Read.remaining c.rounds.input) (g.I.Read.remaining c.fill.new.input) inv.0 c.fill.new.self inv.1 c.in-Ok-fill.ensures.ok.0) some more
 
 pub rounds-preserved : goal.rounds-preserved
 rounds-preserved g c =

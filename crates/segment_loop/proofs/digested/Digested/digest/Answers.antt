@@ -1,9 +1,9 @@
-use Rattle.std.proofs.Common.{List, ℕ, ap, subst, sym, ◌∙◌}
+use Rattle.std.proofs.Common.{ap, subst, sym, ◌∙◌}
 use Rattle.hex.specs.Hex.{encode_lower}
 use Rattle.sha2.specs.Hashers.{Holds256}
 use Rattle.sha2.specs.declared.Sha256.{Sha256}
-use Rattle.chain_serve.proofs.Hashing.{is_hashed}
-use Rattle.chain_serve.proofs.digested.Digested.digest.Goals as goal
+use Rattle.segment_loop.proofs.Hashing.{is_hashed}
+use Rattle.segment_loop.proofs.digested.Digested.digest.Goals as goal
 
 pub returns-clause-value : goal.returns-clause-value
 returns-clause-value g c = λ bytes e.

@@ -1,6 +1,6 @@
 use Rattle.std.proofs.Common.{take}
-use Rattle.chain_serve.proofs.Hashing.{write_hashed, keep_hashed}
-use Rattle.chain_serve.proofs.digested.DigestedWrite.write.Goals as goal
+use Rattle.segment_loop.proofs.Hashing.{write_hashed, keep_hashed}
+use Rattle.segment_loop.proofs.digested.DigestedWrite.write.Goals as goal
 
 pub returns-clause-bytes : goal.returns-clause-bytes
 returns-clause-bytes g c =

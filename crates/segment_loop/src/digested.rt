@@ -3,7 +3,7 @@
 ghost use Rattle.std.specs.Prelude.{◌≡◌, ℕ, List, Some, IfOk};
 ghost use Rattle.ring_segments.specs.Spelling.{digest_of, DigestFits};
 ghost use Rattle.sha2.specs.Hashers.{Holds256};
-ghost use Rattle.chain_serve.specs.Digested.{hashed};
+ghost use Rattle.segment_loop.specs.Digested.{hashed};
 
 use ring_segments::{DIGEST_DIGITS, digits};
 use sha2::{Digest, Sha256};
@@ -19,7 +19,7 @@ pub struct Digested<W> {
 }
 
 impl<W: Write> Write for Digested<W> {
-    ghost use Rattle.chain_serve.specs.Digested.{hashed};
+    ghost use Rattle.segment_loop.specs.Digested.{hashed};
 
     ghost contents = { λ d. hashed (W.contents d.inner) d.hasher };
 

@@ -1,9 +1,9 @@
 use Rattle.std.proofs.Common.{List, ℕ, subst}
 use Rattle.std.specs.Prelude.{string_bytes}
 use Rattle.disks.specs.Held.{Grows}
-use Rattle.chain_serve.specs.Digested.{hashed}
-use Rattle.chain_serve.proofs.Changing.{grown_known}
-use Rattle.chain_serve.proofs.ending.open_segment.Goals as goal
+use Rattle.segment_loop.specs.Digested.{hashed}
+use Rattle.segment_loop.proofs.Changing.{grown_known}
+use Rattle.segment_loop.proofs.ending.open_segment.Goals as goal
 
 pub returns-clause-known : goal.returns-clause-known
 returns-clause-known g c =

@@ -1,0 +1,4 @@
+pub mod Hashing
+pub mod Changing
+pub mod Parts
+pub mod Noting

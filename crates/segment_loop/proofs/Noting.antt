@@ -1,0 +1,156 @@
+-- The file of the last segment has the notes of its parts.
+use Rattle.std.proofs.Common.{◌≡◌, ℕ, List, [], ◌∷◌, ◌++◌, Option, None, Some, refl, sym, ap, subst, ◌∙◌, ◌⊎◌, inl, inr, append_assoc, arith}
+use Rattle.std.specs.Prelude.{IfSome}
+use Rattle.std.specs.Io.KnownBytes.{Appends, Consumes}
+use Rattle.std.proofs.lemmas.List.{append-nil}
+use Rattle.disks.specs.Held.{Held, Replaces}
+use Rattle.text_lines.proofs.Writing.{appends_then, appends_nil}
+use Rattle.segment_folder.specs.Names.{segment_file}
+use Rattle.line_loop.specs.Answering.{Answering, AreAnswered, joined_lines}
+use Rattle.line_loop.specs.Loop.{Stops}
+use Rattle.line_loop.proofs.Telling.{none_answered}
+use Rattle.segment_loop.specs.declared.segmented.EndFault.{EndFault}
+use Rattle.segment_loop.specs.Segmenting.{Segmenting}
+use Rattle.segment_loop.specs.Segments.{Moment, moment_of, IsReady}
+use Rattle.segment_loop.specs.Service.{Part, IsPart, AreParts, all_lines, all_said}
+use Rattle.segment_loop.specs.Notes.{all_noted, AreIn, KeepsLast, ToldLinesAreNoted}
+use Rattle.segment_loop.proofs.Parts.{Served, parts_more, lines_more, said_more}
+
+-- ---- within a segment
+
+-- if the files are known they stay so, and the file of the segment has got these bytes since then
+abbrev Goes : {S : Type 0} → Moment S → Moment S → List ℕ → Type 0
+Goes m b bytes = (held : Held) → m.files ≡ Some held → ((h : Held) × (b.files ≡ Some h)) × Appends m.journal b.journal bytes
+
+goes_none : {S : Type 0} (m : Moment S) → Goes m m []
+goes_none m = λ held e. ((held, e), appends_nil m.journal)
+
+goes_then : {S : Type 0} (m n b : Moment S) (x y : List ℕ) → Goes m n x → Goes n b y → Goes m b (x ++ y)
+goes_then m n b x y p q = λ held e.
+    let one = p held e in
+    let two = q one.0.0 one.0.1 in
+    (two.0, appends_then m.journal n.journal b.journal x y one.1 two.1)
+
+still_held : (was is : Option Held) (name : List ℕ) (journal : Option (List ℕ)) (held : Held) → was ≡ Some held → Replaces was is name journal → (h : Held) × (is ≡ Some h)
+still_held was None name journal held e r = absurd (subst (λ (w : Option Held). Replaces w None name journal) e r)
+still_held was (Some h) name journal held e r = (h, refl)
+
+same_known : (files : Option Held) (held : Held) (old new : Option (List ℕ)) → files ≡ Some held → IfSome files (λ (h : Held). IfSome old (λ (bytes : List ℕ). new ≡ Some bytes)) → Appends old new []
+same_known files held None new e k = tt
+same_known files held (Some bytes) new e k =
+    let same : new ≡ Some bytes = subst (λ (f : Option Held). IfSome f (λ (h : Held). new ≡ Some bytes)) e k in
+    subst (λ (x : Option (List ℕ)). Appends (Some bytes) x []) (sym same) (appends_nil (Some bytes))
+
+kept_goes : {S : Type 0} (m b : Moment S) (name : List ℕ) → ((b.files ≡ m.files) × (b.journal ≡ m.journal)) ⊎ (Replaces m.files b.files name m.journal × IfSome m.files (λ (h : Held). IfSome m.journal (λ (bytes : List ℕ). b.journal ≡ Some bytes))) → Goes m b []
+kept_goes m b name (inl k) = λ held e. ((held, k.0 ∙ e), subst (λ (x : Option (List ℕ)). Appends m.journal x []) (sym k.1) (appends_nil m.journal))
+kept_goes m b name (inr k) = λ held e. (still_held m.files b.files name m.journal held e k.0, same_known m.files held m.journal b.journal e k.1)
+
+-- between two parts of one segment nothing is written
+ready_goes : {S : Type 0} (G : Segmenting S) (folder : List ℕ) (kept : Option EndFault) (m b : Moment S) → IsReady G folder kept m b → b.number ≡ m.number → Goes m b []
+ready_goes G folder None m b (inl h) same = subst (λ (x : Moment _). Goes m x []) (sym h.1) (goes_none m)
+ready_goes G folder None m b (inr h) same = let up = h.1.number in absurd (omega (arith, up, same))
+ready_goes G folder (Some why) m b h same = kept_goes m b (segment_file folder m.number) h.1.file
+
+part_goes : {S : Type 0} (A : Answering S) (p : Part S) → IsPart A p → Goes p.from p.to p.noted
+part_goes A p is = λ held e. ((held, is.files ∙ e), is.wrote)
+
+parts_go : {S : Type 0} (A : Answering S) (G : Segmenting S) (folder : List ℕ) (m b : Moment S) (ps : List (Part S)) (number : ℕ) → m.number ≡ number → AreParts A G folder m ps b → AreIn number ps → Goes m b (all_noted ps)
+parts_go A G folder m b [] number same served within = subst (λ (x : Moment _). Goes m x []) (sym served) (goes_none m)
+parts_go A G folder m b (p ∷ ps) number same served within =
+    goes_then m p.from b [] (p.noted ++ all_noted ps) (ready_goes G folder p.kept m p.from served.0 (within.0 ∙ sym same))
+    (goes_then p.from p.to b p.noted (all_noted ps) (part_goes A p served.1) (parts_go A G folder p.to b ps number (served.1.number ∙ within.0) served.2 within.1))
+
+-- ---- one of the parts
+
+record IsAt {S : Type 0} (A : Answering S) (G : Segmenting S) (folder : List ℕ) (first : Part S) (others : List (Part S)) (b : Moment S) : Type 0 where
+  pub is : IsPart A first
+  pub then_ : AreParts A G folder first.to others b
+
+parts_at : {S : Type 0} (A : Answering S) (G : Segmenting S) (folder : List ℕ) (a b : Moment S) (earlier : List (Part S)) (first : Part S) (others : List (Part S)) → AreParts A G folder a (earlier ++ first ∷ others) b → IsAt A G folder first others b
+parts_at A G folder a b [] first others h = record { is = h.1; then_ = h.2 }
+parts_at A G folder a b (q ∷ qs) first others h = parts_at A G folder q.to b qs first others h.2
+
+if_known : (f : Option Held) (P : Type 0) → ((held : Held) → f ≡ Some held → P) → IfSome f (λ (h : Held). P)
+if_known None P k = tt
+if_known (Some held) P k = k held refl
+
+pub keeps_last : {S : Type 0} (A : Answering S) (G : Segmenting S) (folder : List ℕ) (a mid : Moment S) (parts : List (Part S)) (more : List ℕ) (journal : Option (List ℕ)) → AreParts A G folder a parts mid → Appends mid.journal journal more → KeepsLast parts more journal
+keeps_last A G folder a mid parts more journal served got earlier first others parted within =
+    let at = parts_at A G folder a mid earlier first others (subst (λ (x : List (Part _)). AreParts A G folder a x mid) parted served) in
+    let goes : Goes first.from mid (all_noted (first ∷ others)) = goes_then first.from first.to mid first.noted (all_noted others) (part_goes A first at.is) (parts_go A G folder first.to mid others first.from.number at.is.number at.then_ within) in
+    if_known first.from.files (Appends first.from.journal journal (all_noted (first ∷ others) ++ more))
+    (λ held e. appends_then first.from.journal mid.journal journal (all_noted (first ∷ others)) more (goes held e).1 got)
+
+-- ---- wherever serving ends
+
+-- all that was answered was told
+pub all_told : {S : Type 0} (A : Answering S) (G : Segmenting S) (folder : List ℕ) (a b : Moment S) (unread line : List ℕ) (input rest out after : Option (List ℕ)) (new : S) (d : Served A G folder a b unread line input rest out after) → new ≡ b.service → ToldLinesAreNoted A G folder a new input rest out after b.journal
+all_told A G folder a b unread line input rest out after new d same = record {
+  parts = d.parts;
+  mid = b;
+  bytes = d.read;
+  behind = d.begun ++ unread;
+  left = [];
+  untaken = d.begun ++ unread;
+  unsaid = [];
+  more = [];
+  back = [];
+  told = d.served;
+  untold = subst (λ (x : _). AreAnswered A b.service (d.begun ++ unread) (d.begun ++ unread) [] [] x) (sym same) (none_answered A b.service (d.begun ++ unread));
+  read = d.consumed;
+  split = d.split;
+  wrote = (all_said d.parts, sym (append-nil (all_said d.parts)), d.wrote);
+  wrote_notes = appends_nil b.journal;
+  keeps = keeps_last A G folder a b d.parts [] b.journal d.served (appends_nil b.journal);
+}
+
+-- ---- where a part stopped
+
+abbrev after_notes : Option (List ℕ) → List ℕ → Option (List ℕ)
+after_notes None noted = None
+after_notes (Some xs) noted = Some (xs ++ noted)
+
+with_notes : (before : Option (List ℕ)) (noted : List ℕ) → Appends before (after_notes before noted) noted
+with_notes None noted = tt
+with_notes (Some xs) noted = refl
+
+then_more : (before after : Option (List ℕ)) (noted more : List ℕ) → Appends before after (noted ++ more) → Appends (after_notes before noted) after more
+then_more None after noted more h = tt
+then_more (Some xs) None noted more h = absurd h
+then_more (Some xs) (Some ys) noted more h = h ∙ sym (append_assoc xs noted more)
+
+module _ {S : Type 0} (A : Answering S) (G : Segmenting S) (folder : List ℕ) (a b from : Moment S) (kept : Option EndFault) (unread line : List ℕ) (input middle out before : Option (List ℕ)) (d : Served A G folder a b unread line input middle out before) (ready : IsReady G folder kept b from) where
+  pub some_told : (new : S) (journal rest after : Option (List ℕ)) → (read : List ℕ) → Consumes input rest (d.read ++ read) →
+      Stops A from.service (record { journal = from.journal; out = before }) (record { journal = journal; out = after }) (d.begun ++ (unread ++ read)) new →
+      ToldLinesAreNoted A G folder a new input rest out after journal
+  some_told new journal rest after read consumed st =
+      let part : Part S = record { kept = kept; from = from; to = moment_of st.mid from.files from.number (after_notes from.journal st.noted); lines = st.told.lines; said = st.said; noted = st.noted } in
+      let parts : List (Part S) = d.parts ++ part ∷ [] in
+      let served : AreParts A G folder a parts part.to = parts_more A G folder a b d.parts part d.served ready (record { number = refl; files = refl; each = st.told.each; answers = st.told.answers; wrote = with_notes from.journal st.noted }) in
+      let joined = joined_lines st.told.lines in
+      let got = then_more from.journal journal st.noted st.front st.wrote_notes in
+      record {
+        parts = parts;
+        mid = part.to;
+        bytes = d.read ++ read;
+        behind = st.behind;
+        left = st.left;
+        untaken = st.rest;
+        unsaid = st.unsaid;
+        more = st.front;
+        back = st.back;
+        told = served;
+        untold = st.untold;
+        read = consumed;
+        split = ap (λ (x : List ℕ). x ++ read) d.split
+            ∙ (append_assoc (all_lines d.parts) (d.begun ++ unread) read
+            ∙ (ap (λ (x : List ℕ). all_lines d.parts ++ x) (append_assoc d.begun unread read ∙ st.told.split)
+            ∙ (sym (append_assoc (all_lines d.parts) joined st.behind) ∙ ap (λ (x : List ℕ). x ++ st.behind) (sym (lines_more d.parts part)))));
+        wrote = (
+          all_said d.parts ++ st.wrote.0,
+          said_more d.parts part ∙ (ap (λ (x : List ℕ). all_said d.parts ++ x) st.wrote.1 ∙ sym (append_assoc (all_said d.parts) st.wrote.0 st.left)),
+          appends_then out before after (all_said d.parts) st.wrote.0 d.wrote st.wrote.2,
+        );
+        wrote_notes = got;
+        keeps = keeps_last A G folder a part.to parts st.front journal served got;
+      }

@@ -1,0 +1,148 @@
+use Rattle.std.proofs.Common.{ℕ, ap, refl, sym, subst, ◌∙◌, inl, arith}
+use Rattle.std.specs.Prelude.{is_some}
+use Rattle.segment_folder.specs.Names.{segment_file}
+use Rattle.line_loop.specs.declared.faults.Ending.{Ending}
+use Rattle.line_loop.specs.Loop.{IsEnding}
+use Rattle.line_loop.proofs.Telling.{consumes_then}
+use Rattle.segment_loop.specs.Digested.{hashed}
+use Rattle.segment_loop.specs.Segments.{Moment, moment_of}
+use Rattle.segment_loop.proofs.Parts.{long_part, no_long, none_served, one_served, one_counted, one_stops, many_long, parts_end, parts_stop}
+use Rattle.segment_loop.proofs.Noting.{all_told, some_told}
+use Rattle.segment_loop.proofs.service.serve_segments.Goals as goal
+
+pub parts-init : goal.parts-init
+parts-init g c =
+    let u = c.args.first.writer in
+    let start : Moment _ = moment_of c.args.service.now (g.D.Disk.holds c.args.disk.now) c.args.first.number (hashed (g.D.Grown.Write.contents u.inner) u.hasher) in
+    (c.requires, none_served g.S.AnswersLines.is_answered g.S.Segmented.segmenting c.args.rules.folder.now start c.none-unread.result c.new-line.result.items (g.I.Read.remaining c.args.input.now) (g.W.Write.contents c.args.out.now) c.none-unread.ensures c.new-line.ensures.items, omega arith)
+
+pub returns-in-Err-clause-err : goal.returns-in-Err-clause-err
+returns-in-Err-clause-err g c =
+    let u = c.args.first.writer in
+    let start : Moment _ = moment_of c.args.service.now (g.D.Disk.holds c.args.disk.now) c.args.first.number (hashed (g.D.Grown.Write.contents u.inner) u.hasher) in
+    let w = c.parts.segment.writer in
+    let at : Moment _ = moment_of c.parts.service (g.D.Disk.holds c.parts.disk) c.parts.segment.number (hashed (g.D.Grown.Write.contents w.inner) w.hasher) in
+    let d = c.parts.invariant.1 in
+    parts_stop g.S.AnswersLines.is_answered g.S.Segmented.segmenting c.args.rules.folder.now start at c.parts.unread c.parts.line.items (g.I.Read.remaining c.args.input.now) (g.I.Read.remaining c.parts.input) (g.W.Write.contents c.args.out.now) (g.W.Write.contents c.parts.out) c.make_ready.new.service (g.D.Disk.holds c.make_ready.new.disk) d c.in-Err.ensures.err.1 c.in-Err.ensures.left
+
+pub returns-in-Err-clause-long : goal.returns-in-Err-clause-long
+returns-in-Err-clause-long g c = no_long c.in-Err.fault (g.I.Read.remaining c.args.input.now) (g.I.Read.remaining c.parts.input) c.in-Err.ensures.err.0
+
+pub returns-in-Err-clause-noted : goal.returns-in-Err-clause-noted
+returns-in-Err-clause-noted g c =
+    let u = c.args.first.writer in
+    let start : Moment _ = moment_of c.args.service.now (g.D.Disk.holds c.args.disk.now) c.args.first.number (hashed (g.D.Grown.Write.contents u.inner) u.hasher) in
+    let w = c.parts.segment.writer in
+    let at : Moment _ = moment_of c.parts.service (g.D.Disk.holds c.parts.disk) c.parts.segment.number (hashed (g.D.Grown.Write.contents w.inner) w.hasher) in
+    let d = c.parts.invariant.1 in
+    (at.journal, all_told g.S.AnswersLines.is_answered g.S.Segmented.segmenting c.args.rules.folder.now start at c.parts.unread c.parts.line.items (g.I.Read.remaining c.args.input.now) (g.I.Read.remaining c.parts.input) (g.W.Write.contents c.args.out.now) (g.W.Write.contents c.parts.out) c.make_ready.new.service d c.in-Err.ensures.err.1)
+
+pub returns-in-Err-serve_in-clause-err : goal.returns-in-Err-serve_in-clause-err
+returns-in-Err-serve_in-clause-err g c =
+    let u = c.args.first.writer in
+    let start : Moment _ = moment_of c.args.service.now (g.D.Disk.holds c.args.disk.now) c.args.first.number (hashed (g.D.Grown.Write.contents u.inner) u.hasher) in
+    let w = c.parts.segment.writer in
+    let at : Moment _ = moment_of c.parts.service (g.D.Disk.holds c.parts.disk) c.parts.segment.number (hashed (g.D.Grown.Write.contents w.inner) w.hasher) in
+    let d = c.parts.invariant.1 in
+    let v = c.in-Ok.ready.segment.writer in
+    let from : Moment _ = moment_of c.make_ready.new.service (g.D.Disk.holds c.make_ready.new.disk) c.in-Ok.ready.segment.number (hashed (g.D.Grown.Write.contents v.inner) v.hasher) in
+    let p = c.in-Err-serve_in.ensures.err d.begun d.keeps in
+    one_stops g.S.AnswersLines.is_answered g.S.Segmented.segmenting c.args.rules.folder.now start at from c.in-Ok.ready.kept c.parts.unread c.parts.line.items (g.I.Read.remaining c.args.input.now) (g.I.Read.remaining c.parts.input) (g.W.Write.contents c.args.out.now) (g.W.Write.contents c.parts.out) d c.in-Ok.ensures.ok c.serve_in.new.service p.0 (g.I.Read.remaining c.serve_in.new.input) (g.W.Write.contents c.serve_in.new.out) p.1
+
+pub returns-in-Err-serve_in-clause-long : goal.returns-in-Err-serve_in-clause-long
+returns-in-Err-serve_in-clause-long g c =
+    let d = c.parts.invariant.1 in
+    long_part c.in-Err-serve_in.fault (g.I.Read.remaining c.args.input.now) (g.I.Read.remaining c.parts.input) (g.I.Read.remaining c.serve_in.new.input) d.read d.consumed c.in-Err-serve_in.ensures.long
+
+pub returns-in-Err-serve_in-clause-noted : goal.returns-in-Err-serve_in-clause-noted
+returns-in-Err-serve_in-clause-noted g c =
+    let u = c.args.first.writer in
+    let start : Moment _ = moment_of c.args.service.now (g.D.Disk.holds c.args.disk.now) c.args.first.number (hashed (g.D.Grown.Write.contents u.inner) u.hasher) in
+    let w = c.parts.segment.writer in
+    let at : Moment _ = moment_of c.parts.service (g.D.Disk.holds c.parts.disk) c.parts.segment.number (hashed (g.D.Grown.Write.contents w.inner) w.hasher) in
+    let d = c.parts.invariant.1 in
+    let v = c.in-Ok.ready.segment.writer in
+    let from : Moment _ = moment_of c.make_ready.new.service (g.D.Disk.holds c.make_ready.new.disk) c.in-Ok.ready.segment.number (hashed (g.D.Grown.Write.contents v.inner) v.hasher) in
+    let p = c.in-Err-serve_in.ensures.err d.begun d.keeps in (
+      p.0,
+      some_told g.S.AnswersLines.is_answered g.S.Segmented.segmenting c.args.rules.folder.now start at from c.in-Ok.ready.kept c.parts.unread c.parts.line.items (g.I.Read.remaining c.args.input.now) (g.I.Read.remaining c.parts.input) (g.W.Write.contents c.args.out.now) (g.W.Write.contents c.parts.out) d c.in-Ok.ensures.ok c.serve_in.new.service p.0 (g.I.Read.remaining c.serve_in.new.input) (g.W.Write.contents c.serve_in.new.out) p.1.0 (consumes_then (g.I.Read.remaining c.args.input.now) (g.I.Read.remaining c.parts.input) (g.I.Read.remaining c.serve_in.new.input) d.read p.1.0 d.consumed p.1.1) p.1.2,
+    )
+
+pub returns-in-End-clause-ok : goal.returns-in-End-clause-ok
+returns-in-End-clause-ok g c =
+    let u = c.args.first.writer in
+    let start : Moment _ = moment_of c.args.service.now (g.D.Disk.holds c.args.disk.now) c.args.first.number (hashed (g.D.Grown.Write.contents u.inner) u.hasher) in
+    let w = c.parts.segment.writer in
+    let at : Moment _ = moment_of c.parts.service (g.D.Disk.holds c.parts.disk) c.parts.segment.number (hashed (g.D.Grown.Write.contents w.inner) w.hasher) in
+    let d = c.parts.invariant.1 in
+    let v = c.in-Ok.ready.segment.writer in
+    let from : Moment _ = moment_of c.make_ready.new.service (g.D.Disk.holds c.make_ready.new.disk) c.in-Ok.ready.segment.number (hashed (g.D.Grown.Write.contents v.inner) v.hasher) in
+    let x = c.in-Ok-serve_in.end.segment in
+    let journal = hashed (g.D.Grown.Write.contents x.writer.inner) x.writer.hasher in
+    let to : Moment _ = moment_of c.serve_in.new.service from.files x.number journal in
+    let more = one_served g.S.AnswersLines.is_answered g.S.Segmented.segmenting c.args.rules.folder.now start at from c.in-Ok.ready.kept c.parts.unread c.parts.line.items (g.I.Read.remaining c.args.input.now) (g.I.Read.remaining c.parts.input) (g.W.Write.contents c.args.out.now) (g.W.Write.contents c.parts.out) d c.in-Ok.ensures.ok
+    c.in-Ok-serve_in.end.ending c.serve_in.new.service journal x.number c.serve_in.new.unread c.serve_in.new.line.items (g.I.Read.remaining c.serve_in.new.input) (g.W.Write.contents c.serve_in.new.out) c.in-Ok-serve_in.ensures.same.0 (c.in-Ok-serve_in.ensures.ok d.begun d.keeps) in
+    let ends = subst (λ (e : Ending). IsEnding e (g.S.AnswersLines.is_over c.serve_in.new.service) (is_some c.in-Ok.ready.kept) c.serve_in.new.unread (g.I.Read.remaining c.serve_in.new.input)) c.in-End.is c.in-Ok-serve_in.ensures.ends in
+    parts_end g.S.AnswersLines.is_answered g.S.Segmented.segmenting c.args.rules.folder.now start to c.serve_in.new.unread c.serve_in.new.line.items (g.I.Read.remaining c.args.input.now) (g.I.Read.remaining c.serve_in.new.input) (g.W.Write.contents c.args.out.now) (g.W.Write.contents c.serve_in.new.out) more ends.0 ends.1
+
+pub returns-in-End-clause-named : goal.returns-in-End-clause-named
+returns-in-End-clause-named g c =
+    let same = c.in-Ok-serve_in.ensures.same in
+    same.1 ∙ (c.in-Ok.ensures.named ∙ ap (λ (n : ℕ). segment_file c.args.rules.folder.now n) (sym same.0))
+
+pub returns-in-End-clause-noted : goal.returns-in-End-clause-noted
+returns-in-End-clause-noted g c =
+    let u = c.args.first.writer in
+    let start : Moment _ = moment_of c.args.service.now (g.D.Disk.holds c.args.disk.now) c.args.first.number (hashed (g.D.Grown.Write.contents u.inner) u.hasher) in
+    let w = c.parts.segment.writer in
+    let at : Moment _ = moment_of c.parts.service (g.D.Disk.holds c.parts.disk) c.parts.segment.number (hashed (g.D.Grown.Write.contents w.inner) w.hasher) in
+    let d = c.parts.invariant.1 in
+    let v = c.in-Ok.ready.segment.writer in
+    let from : Moment _ = moment_of c.make_ready.new.service (g.D.Disk.holds c.make_ready.new.disk) c.in-Ok.ready.segment.number (hashed (g.D.Grown.Write.contents v.inner) v.hasher) in
+    let x = c.in-Ok-serve_in.end.segment in
+    let journal = hashed (g.D.Grown.Write.contents x.writer.inner) x.writer.hasher in
+    let to : Moment _ = moment_of c.serve_in.new.service from.files x.number journal in
+    let more = one_served g.S.AnswersLines.is_answered g.S.Segmented.segmenting c.args.rules.folder.now start at from c.in-Ok.ready.kept c.parts.unread c.parts.line.items (g.I.Read.remaining c.args.input.now) (g.I.Read.remaining c.parts.input) (g.W.Write.contents c.args.out.now) (g.W.Write.contents c.parts.out) d c.in-Ok.ensures.ok
+    c.in-Ok-serve_in.end.ending c.serve_in.new.service journal x.number c.serve_in.new.unread c.serve_in.new.line.items (g.I.Read.remaining c.serve_in.new.input) (g.W.Write.contents c.serve_in.new.out) c.in-Ok-serve_in.ensures.same.0 (c.in-Ok-serve_in.ensures.ok d.begun d.keeps) in
+    all_told g.S.AnswersLines.is_answered g.S.Segmented.segmenting c.args.rules.folder.now start to c.serve_in.new.unread c.serve_in.new.line.items (g.I.Read.remaining c.args.input.now) (g.I.Read.remaining c.serve_in.new.input) (g.W.Write.contents c.args.out.now) (g.W.Write.contents c.serve_in.new.out) c.serve_in.new.service more refl
+
+pub parts-preserved : goal.parts-preserved
+parts-preserved g c =
+    let u = c.args.first.writer in
+    let start : Moment _ = moment_of c.args.service.now (g.D.Disk.holds c.args.disk.now) c.args.first.number (hashed (g.D.Grown.Write.contents u.inner) u.hasher) in
+    let w = c.parts.segment.writer in
+    let at : Moment _ = moment_of c.parts.service (g.D.Disk.holds c.parts.disk) c.parts.segment.number (hashed (g.D.Grown.Write.contents w.inner) w.hasher) in
+    let d = c.parts.invariant.1 in
+    let v = c.in-Ok.ready.segment.writer in
+    let from : Moment _ = moment_of c.make_ready.new.service (g.D.Disk.holds c.make_ready.new.disk) c.in-Ok.ready.segment.number (hashed (g.D.Grown.Write.contents v.inner) v.hasher) in
+    let x = c.in-Ok-serve_in.end.segment in
+    let journal = hashed (g.D.Grown.Write.contents x.writer.inner) x.writer.hasher in
+    let part = c.in-Ok-serve_in.ensures.ok d.begun d.keeps in
+    let same = c.in-Ok-serve_in.ensures.same in (
+      same.1 ∙ (c.in-Ok.ensures.named ∙ ap (λ (n : ℕ). segment_file c.args.rules.folder.now n) (sym same.0)),
+      one_served g.S.AnswersLines.is_answered g.S.Segmented.segmenting c.args.rules.folder.now start at from c.in-Ok.ready.kept c.parts.unread c.parts.line.items (g.I.Read.remaining c.args.input.now) (g.I.Read.remaining c.parts.input) (g.W.Write.contents c.args.out.now) (g.W.Write.contents c.parts.out) d c.in-Ok.ensures.ok
+          c.in-Ok-serve_in.end.ending c.serve_in.new.service journal x.number c.serve_in.new.unread c.serve_in.new.line.items (g.I.Read.remaining c.serve_in.new.input) (g.W.Write.contents c.serve_in.new.out) same.0 part,
+      one_counted g.S.AnswersLines.is_answered g.S.Segmented.segmenting c.args.rules.folder.now start at from c.in-Ok.ready.kept c.parts.unread c.parts.line.items (g.I.Read.remaining c.args.input.now) (g.I.Read.remaining c.parts.input) (g.W.Write.contents c.args.out.now) (g.W.Write.contents c.parts.out) d c.in-Ok.ensures.ok
+          c.in-Ok-serve_in.end.ending g.S.AnswersLines.is_over (is_some c.in-Ok.ready.kept) c.parts.part c.parts.invariant.2 c.serve_in.new.service journal x.number c.serve_in.new.unread c.serve_in.new.line.items (g.I.Read.remaining c.serve_in.new.input) (g.W.Write.contents c.serve_in.new.out) same.0 part c.in-Ok.ensures.open c.in-Over.is c.in-Ok-serve_in.ensures.ends,
+    )
+
+pub returns-clause-long : goal.returns-clause-long
+returns-clause-long g c = many_long c.parts.part c.parts.invariant.1 c.parts.invariant.2 c.parts-test.false
+
+pub returns-clause-err : goal.returns-clause-err
+returns-clause-err g c =
+    let u = c.args.first.writer in
+    let start : Moment _ = moment_of c.args.service.now (g.D.Disk.holds c.args.disk.now) c.args.first.number (hashed (g.D.Grown.Write.contents u.inner) u.hasher) in
+    let w = c.parts.segment.writer in
+    let at : Moment _ = moment_of c.parts.service (g.D.Disk.holds c.parts.disk) c.parts.segment.number (hashed (g.D.Grown.Write.contents w.inner) w.hasher) in
+    let d = c.parts.invariant.1 in
+    parts_stop g.S.AnswersLines.is_answered g.S.Segmented.segmenting c.args.rules.folder.now start at c.parts.unread c.parts.line.items (g.I.Read.remaining c.args.input.now) (g.I.Read.remaining c.parts.input) (g.W.Write.contents c.args.out.now) (g.W.Write.contents c.parts.out) c.parts.service (g.D.Disk.holds c.parts.disk) d refl (inl refl)
+
+pub returns-clause-noted : goal.returns-clause-noted
+returns-clause-noted g c =
+    let u = c.args.first.writer in
+    let start : Moment _ = moment_of c.args.service.now (g.D.Disk.holds c.args.disk.now) c.args.first.number (hashed (g.D.Grown.Write.contents u.inner) u.hasher) in
+    let w = c.parts.segment.writer in
+    let at : Moment _ = moment_of c.parts.service (g.D.Disk.holds c.parts.disk) c.parts.segment.number (hashed (g.D.Grown.Write.contents w.inner) w.hasher) in
+    let d = c.parts.invariant.1 in
+    (at.journal, all_told g.S.AnswersLines.is_answered g.S.Segmented.segmenting c.args.rules.folder.now start at c.parts.unread c.parts.line.items (g.I.Read.remaining c.args.input.now) (g.I.Read.remaining c.parts.input) (g.W.Write.contents c.args.out.now) (g.W.Write.contents c.parts.out) c.parts.service d refl)

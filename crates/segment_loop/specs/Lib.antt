@@ -1,0 +1,5 @@
+pub mod Segmenting
+pub mod Digested
+pub mod Segments
+pub mod Service
+pub mod Notes

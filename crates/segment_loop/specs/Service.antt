@@ -1,0 +1,95 @@
+-- Lines that are served with a journal in a chain of segment files (this project's own).
+use Rattle.std.specs.Prelude.{◌≡◌, ℕ, ◌≤◌, ◌^◌, List, [], ◌∷◌, ◌++◌, length, Option, ◌⊎◌}
+use Rattle.std.specs.List.{AllByRecursion}
+use Rattle.std.specs.Io.KnownBytes.{Appends, Consumes, IsAtEnd}
+use Rattle.disks.specs.Held.{Held}
+use Rattle.line_loop.specs.declared.faults.LoopFault.{LoopFault}
+use Rattle.line_loop.specs.declared.faults.LoopFault.TheVariants as fault
+use Rattle.line_loop.specs.Answering.{Answering, IsLine, HasNoEnd, Answers, joined_lines}
+use Rattle.line_loop.specs.Loop.{Stops}
+use Rattle.segment_loop.specs.declared.segmented.EndFault.{EndFault}
+use Rattle.segment_loop.specs.Segmenting.{Segmenting}
+use Rattle.segment_loop.specs.Segments.{Moment, IsReady, IsLeft}
+
+-- lines that are served in one segment: from which moment to which, their text, the answers and
+-- the notes; and why the segment goes on, if it was due
+pub record Part (S : Type 0) : Type 0 where
+  pub kept : Option EndFault
+  pub from : Moment S
+  pub to : Moment S
+  pub lines : List (List ℕ)
+  pub said : List ℕ
+  pub noted : List ℕ
+
+-- The lines were answered so, and the segment's file got all notes; no other file has changed.
+pub record IsPart {S : Type 0} (A : Answering S) (p : Part S) : Type 0 where
+  pub number : p.to.number ≡ p.from.number
+  pub files : p.to.files ≡ p.from.files
+  pub each : AllByRecursion IsLine p.lines
+  pub answers : Answers A p.from.service p.lines p.said p.noted p.to.service
+  pub wrote : Appends p.from.journal p.to.journal p.noted
+
+-- The parts follow one another, from a moment to a moment: before each the segment is ended, if it
+-- is due.
+abbrev pub AreParts : {S : Type 0} → Answering S → Segmenting S → List ℕ → Moment S
+    → List (Part S) → Moment S → Type 0
+AreParts A G folder a [] b = b ≡ a
+AreParts A G folder a (p ∷ ps) b =
+    IsReady G folder p.kept a p.from × IsPart A p × AreParts A G folder p.to ps b
+
+-- the lines of all parts, and their answers
+abbrev pub all_lines : {S : Type 0} → List (Part S) → List ℕ
+all_lines [] = []
+all_lines (p ∷ ps) = joined_lines p.lines ++ all_lines ps
+
+abbrev pub all_said : {S : Type 0} → List (Part S) → List ℕ
+all_said [] = []
+all_said (p ∷ ps) = p.said ++ all_said ps
+
+-- The whole input was served, part by part; the output has all answers.
+pub record ServesSegments {S : Type 0} (A : Answering S) (G : Segmenting S) (folder : List ℕ)
+    (a b : Moment S) (input rest out after : Option (List ℕ)) : Type 0 where
+  pub parts : List (Part S)
+  pub bytes : List ℕ
+  pub begun : List ℕ
+  pub served : AreParts A G folder a parts b
+  pub read : Consumes input rest bytes
+  pub split : bytes ≡ all_lines parts ++ begun
+  pub partial : HasNoEnd begun
+  pub ended : IsAtEnd rest
+  pub wrote : Appends out after (all_said parts)
+
+-- After some parts no more was answered, and this is what the disk has; or some of the lines behind
+-- them were answered, as the serving of a part stops.
+abbrev pub IsStopped : {S : Type 0} → Answering S → Segmenting S → List ℕ → Moment S → S
+    → Option Held → Option (List ℕ) → Option (List ℕ) → List ℕ → Type 0
+IsStopped A G folder mid new is before after behind =
+    ((new ≡ mid.service) × (after ≡ before) × IsLeft G folder mid is)
+    ⊎ ((kept : Option EndFault)
+    × (from : Moment _)
+    × (journal : Option (List ℕ))
+    × IsReady G folder kept mid from
+    × (is ≡ from.files)
+    × Stops A from.service (record { journal = from.journal; out = before })
+    (record { journal = journal; out = after }) behind new)
+
+-- only of an input of so many bytes it is said that it is too long: for a byte two parts may end
+abbrev pub IsFaultOf : LoopFault → Option (List ℕ) → Option (List ℕ) → Type 0
+IsFaultOf fault.TooLong input rest =
+    (bytes : List ℕ) × Consumes input rest bytes × (2 ^ 63 ≤ length bytes)
+IsFaultOf _ input rest = Unit {0}
+
+-- Of what the reader gave some lines were answered.
+pub record ServesSomeSegments {S : Type 0} (A : Answering S) (G : Segmenting S) (folder : List ℕ)
+    (a : Moment S) (new : S) (is : Option Held) (input rest out after : Option (List ℕ)) :
+    Type 0 where
+  pub parts : List (Part S)
+  pub mid : Moment S
+  pub bytes : List ℕ
+  pub behind : List ℕ
+  pub before : Option (List ℕ)
+  pub served : AreParts A G folder a parts mid
+  pub read : Consumes input rest bytes
+  pub split : bytes ≡ all_lines parts ++ behind
+  pub wrote : Appends out before (all_said parts)
+  pub stopped : IsStopped A G folder mid new is before after behind

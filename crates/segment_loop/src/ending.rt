@@ -1,0 +1,283 @@
+//! A segment that is due is ended, and the next one begun.
+
+ghost use Rattle.std.specs.Prelude.{◌≡◌, ◌+◌, ◌<◌, ℕ, List, true, false, IfOk, IfErr, IfSome, OnOk, OnErr, Some, string_bytes};
+ghost use Rattle.disks.specs.Held.{Replaces, bytes_of};
+ghost use Rattle.sha2.specs.Hashers.{Holds256};
+ghost use Rattle.line_loop.specs.declared.faults.LoopFault.TheVariants as fault;
+ghost use Rattle.segment_loop.specs.Digested.{hashed};
+ghost use Rattle.segment_loop.specs.Segments.{IsPrepared, IsNamed, IsReady, IsLeft, moment_of};
+
+use crate::digested::Digested;
+use crate::segmented::{EndFault, Segmented};
+use crate::segments::{OpenSegment, SegmentRules};
+use disks::{Contents, ContentsFault, Disk, ReplaceFault, replace};
+use line_loop::LoopFault;
+use segment_folder::segment_file;
+use sha2::{Digest, Sha256};
+use std::alloc::Global;
+use std::io::Write;
+use text_lines::put;
+
+/// What a next segment needs, before the one before it is closed.
+#[derive(Drop)]
+pub struct NextSegment<S> {
+    service: S,
+    number: u64,
+    name: String,
+    text: Vec<u8>,
+    hasher: Sha256,
+}
+
+/// Where lines are served next: the segment, and why it goes on, if it is due and could not be ended.
+#[derive(Drop)]
+pub struct Ready<W> {
+    pub(crate) segment: OpenSegment<W>,
+    pub(crate) kept: Option<EndFault>,
+}
+
+/// What the next segment needs.
+fn prepare<S: Segmented, W: Write>(
+    alloc: Global,
+    service: &S,
+    segment: &OpenSegment<W>,
+    folder: &str,
+) -> Result<NextSegment<S>, EndFault>
+    ensures ok { IfOk result (λ next. IsPrepared S.segmenting service.now segment.now.number
+        (hashed (W.contents segment.now.writer.inner) segment.now.writer.hasher) folder.now next) }
+    ensures open { IfOk result (λ next. S.is_over next.service ≡ false) }
+{
+    let next = match service.next(alloc) {
+        Ok(next) => next,
+        Err(why) => return Err(why),
+    };
+    if segment.number == u64::MAX {
+        return Err(EndFault::Full);
+    }
+    let number = segment.number + 1;
+    let Ok(name) = segment_file(alloc, folder, number) else {
+        return Err(EndFault::OutOfMemory);
+    };
+    let Ok(behind) = segment.writer.digest() else {
+        return Err(EndFault::OutOfMemory);
+    };
+    let text = match next.text(alloc, number, behind) {
+        Ok(text) => text,
+        Err(why) => return Err(why),
+    };
+    let hasher = Sha256::new_with_prefix(text.as_slice());
+    Ok(NextSegment {
+        service: next,
+        number,
+        name,
+        text,
+        hasher,
+    })
+}
+
+/// The text with which the file of a segment begins, which it is to hold.
+#[derive(Drop)]
+pub struct Beginning<'a> {
+    pub text: &'a [u8],
+}
+
+impl Contents for Beginning<'_> {
+    ghost bytes = { λ b. b.text.now };
+
+    fn write_to<W: Write>(&self, out: &mut W) -> Result<(), ContentsFault> {
+        match put(out, self.text) {
+            Ok(()) => Ok(()),
+            Err(_) => Err(ContentsFault::Write),
+        }
+    }
+}
+
+/// Settles the file of this name, which the writer has, and returns the hasher of its bytes.
+///
+/// # Errors
+///
+/// `Journal` if it is not known to be on the disk. No file has changed.
+pub fn settle<D: Disk>(
+    disk: &mut D,
+    writer: Digested<D::Grown>,
+    name: &str,
+) -> Result<Sha256, LoopFault>
+    ensures ok { IfOk result (λ hasher. Replaces (D.holds disk.old) (D.holds disk.new) name.now
+        (hashed (D.Grown.contents writer.inner) writer.hasher)) }
+    ensures hasher { IfOk result (λ hasher. (bytes : List ℕ)
+        → hashed (D.Grown.contents writer.inner) writer.hasher ≡ Some bytes
+        → Holds256 hasher bytes) }
+    ensures err { IfErr result (λ e. e ≡ fault.Journal) }
+    ensures kept { OnErr result (D.holds disk.new ≡ D.holds disk.old) }
+{
+    let Digested { inner, hasher } = writer;
+    match disk.close_synced(inner, name) {
+        Ok(()) => Ok(hasher),
+        Err(_) => Err(LoopFault::Journal),
+    }
+}
+
+/// Why a segment goes on, where the next file was not made.
+pub(crate) fn cause_of(fault: ReplaceFault) -> EndFault {
+    match fault {
+        ReplaceFault::OutOfMemory => EndFault::OutOfMemory,
+        _ => EndFault::File,
+    }
+}
+
+/// Ends writing to the file of a segment: it holds what its writer has, and is on the disk.
+///
+/// # Errors
+///
+/// `Journal` if it is not known to be on the disk.
+pub fn close_segment<D: Disk>(disk: &mut D, segment: OpenSegment<D::Grown>) -> Result<(), LoopFault>
+    ensures ok { OnOk result (Replaces (D.holds disk.old) (D.holds disk.new)
+        (string_bytes segment.name)
+        (hashed (D.Grown.contents segment.writer.inner) segment.writer.hasher)) }
+    ensures err { IfErr result (λ e. e ≡ fault.Journal) }
+{
+    let OpenSegment { name, writer, .. } = segment;
+    match settle(disk, writer, name.as_str()) {
+        Ok(_) => Ok(()),
+        Err(fault) => Err(fault),
+    }
+}
+
+/// Opens the file of a segment to write at its end. The hasher has taken in what the file holds.
+///
+/// # Errors
+///
+/// `Journal` if it cannot be opened. No file has changed.
+pub fn open_segment<D: Disk>(
+    disk: &mut D,
+    number: u64,
+    name: String,
+    hasher: Sha256,
+    synced: bool,
+) -> Result<OpenSegment<D::Grown>, LoopFault>
+    ensures ok { IfOk result (λ segment. (segment.number ≡ number)
+        × (string_bytes segment.name ≡ string_bytes name)) }
+    ensures known { IfOk result (λ segment. IfSome (D.holds disk.old) (λ held. (bytes : List ℕ)
+        → bytes_of held (string_bytes name) ≡ Some bytes → Holds256 hasher bytes
+        → hashed (D.Grown.contents segment.writer.inner) segment.writer.hasher ≡ Some bytes)) }
+    ensures kept { D.holds disk.new ≡ D.holds disk.old }
+    ensures err { IfErr result (λ e. e ≡ fault.Journal) }
+{
+    let Ok(inner) = disk.grow(name.as_str(), synced) else {
+        return Err(LoopFault::Journal);
+    };
+    let writer = Digested::new(inner, hasher);
+    Ok(OpenSegment {
+        number,
+        name,
+        writer,
+    })
+}
+
+/// Ends the segment and begins the next one; or opens its file again, if there is no next file.
+fn change<S: Segmented, D: Disk>(
+    alloc: Global,
+    service: &mut S,
+    disk: &mut D,
+    segment: OpenSegment<D::Grown>,
+    next: NextSegment<S>,
+    rules: SegmentRules<'_>,
+) -> Result<Ready<D::Grown>, LoopFault>
+    requires named { IsNamed rules.folder.now segment }
+    requires due { S.segmenting.is_due service.old ≡ true }
+    requires prepared { IsPrepared S.segmenting service.old segment.number
+        (hashed (D.Grown.contents segment.writer.inner) segment.writer.hasher) rules.folder.now
+        next }
+    requires open { S.is_over next.service ≡ false }
+    ensures ok { IfOk result (λ ready. IsReady S.segmenting rules.entry.folder.now ready.kept
+        (moment_of service.old (D.holds disk.old) segment.number
+        (hashed (D.Grown.contents segment.writer.inner) segment.writer.hasher))
+        (moment_of service.new (D.holds disk.new) ready.segment.number
+        (hashed (D.Grown.contents ready.segment.writer.inner) ready.segment.writer.hasher))) }
+    ensures open { OnOk result (S.is_over service.new ≡ false) }
+    ensures named { IfOk result (λ ready. IsNamed rules.entry.folder.now ready.segment) }
+    ensures err { IfErr result (λ e. (e ≡ fault.Journal) × (service.new ≡ service.old)) }
+    ensures left { OnErr result (IsLeft S.segmenting rules.entry.folder.now
+        (moment_of service.old (D.holds disk.old) segment.number
+        (hashed (D.Grown.contents segment.writer.inner) segment.writer.hasher))
+        (D.holds disk.new)) }
+{
+    let OpenSegment {
+        number,
+        name,
+        writer,
+    } = segment;
+    let hasher = match settle(disk, writer, name.as_str()) {
+        Ok(hasher) => hasher,
+        Err(fault) => return Err(fault),
+    };
+    let beginning = Beginning {
+        text: next.text.as_slice(),
+    };
+    match replace(alloc, disk, next.name.as_str(), &beginning) {
+        Ok(()) => match open_segment(disk, next.number, next.name, next.hasher, rules.synced) {
+            Ok(segment) => {
+                *service = next.service;
+                Ok(Ready {
+                    segment,
+                    kept: None,
+                })
+            }
+            Err(fault) => Err(fault),
+        },
+        Err(fault) => match open_segment(disk, number, name, hasher, rules.synced) {
+            Ok(segment) => {
+                let why = cause_of(fault);
+                service.keep_on(why);
+                Ok(Ready {
+                    segment,
+                    kept: Some(why),
+                })
+            }
+            Err(fault) => Err(fault),
+        },
+    }
+}
+
+/// Before lines are answered: ends the segment if it is due, and begins the next one. If it cannot be ended, it goes on.
+///
+/// # Errors
+///
+/// `Journal` if the file of the segment cannot be settled, or that file or the next one not be opened.
+pub(crate) fn make_ready<S: Segmented, D: Disk>(
+    alloc: Global,
+    service: &mut S,
+    disk: &mut D,
+    segment: OpenSegment<D::Grown>,
+    rules: SegmentRules<'_>,
+) -> Result<Ready<D::Grown>, LoopFault>
+    requires { IsNamed rules.folder.now segment }
+    ensures ok { IfOk result (λ ready. IsReady S.segmenting rules.entry.folder.now ready.kept
+        (moment_of service.old (D.holds disk.old) segment.number
+        (hashed (D.Grown.contents segment.writer.inner) segment.writer.hasher))
+        (moment_of service.new (D.holds disk.new) ready.segment.number
+        (hashed (D.Grown.contents ready.segment.writer.inner) ready.segment.writer.hasher))) }
+    ensures open { OnOk result (S.is_over service.new ≡ false) }
+    ensures named { IfOk result (λ ready. IsNamed rules.entry.folder.now ready.segment) }
+    ensures err { IfErr result (λ e. (e ≡ fault.Journal) × (service.new ≡ service.old)) }
+    ensures left { OnErr result (IsLeft S.segmenting rules.entry.folder.now
+        (moment_of service.old (D.holds disk.old) segment.number
+        (hashed (D.Grown.contents segment.writer.inner) segment.writer.hasher))
+        (D.holds disk.new)) }
+{
+    if !service.is_due() {
+        return Ok(Ready {
+            segment,
+            kept: None,
+        });
+    }
+    match prepare(alloc, service, &segment, rules.folder) {
+        Ok(next) => change(alloc, service, disk, segment, next, rules),
+        Err(why) => {
+            service.keep_on(why);
+            Ok(Ready {
+                segment,
+                kept: Some(why),
+            })
+        }
+    }
+}

@@ -1,0 +1,18 @@
+//! A loop that answers the lines of a reader with a journal in a chain of segment files: it is generic over what answers a line.
+#![tactic(auto)]
+
+mod beginning;
+mod digested;
+mod ending;
+mod segmented;
+mod segments;
+mod service;
+#[cfg(test)]
+mod tests;
+
+pub use beginning::begin_segment;
+pub use digested::Digested;
+pub use ending::{Beginning, close_segment, open_segment, settle};
+pub use segmented::{EndFault, Segmented};
+pub use segments::{OpenSegment, SegmentRules};
+pub use service::serve_segments;

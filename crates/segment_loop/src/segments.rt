@@ -1,0 +1,20 @@
+//! Segments whose files are written.
+
+use crate::digested::Digested;
+
+/// How lines are served in segments.
+#[derive(Clone, Copy)]
+pub struct SegmentRules<'n> {
+    /// The folder of the segments.
+    pub folder: &'n str,
+    /// Whether each flush puts the journal on the disk.
+    pub synced: bool,
+}
+
+/// The segment that is being written: its number, from 1, the name of its file, and the writer of the file.
+#[derive(Drop)]
+pub struct OpenSegment<W> {
+    pub number: u64,
+    pub name: String,
+    pub writer: Digested<W>,
+}

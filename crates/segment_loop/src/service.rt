@@ -1,0 +1,169 @@
+//! Lines that are served in segments.
+
+ghost use Rattle.std.specs.Prelude.{◌≡◌, ℕ, List, Option, false, IfOk, IfErr, OnErr, MatchResult, is_some, string_bytes};
+ghost use Rattle.line_loop.specs.Answering.{HasBegun};
+ghost use Rattle.line_loop.specs.Loop.{ServesPart, IsEnding, ServesSomeOf, IsFaultOf as IsPartFault};
+ghost use Rattle.segment_loop.specs.Digested.{hashed};
+ghost use Rattle.segment_loop.specs.Segments.{IsNamed, moment_of};
+ghost use Rattle.segment_loop.specs.Service.{ServesSegments, ServesSomeSegments, IsFaultOf};
+ghost use Rattle.segment_loop.specs.Notes.{ToldLinesAreNoted};
+
+use crate::ending::{Ready, make_ready};
+use crate::segmented::Segmented;
+use crate::segments::{OpenSegment, SegmentRules};
+use disks::Disk;
+use line_loop::{AnswersLines, Ending, LoopFault, Unread, serve_part};
+use std::alloc::Global;
+use std::io::{Read, Write};
+
+/// A part of the lines that was served: why it ended, and its segment.
+#[derive(Drop)]
+pub struct PartEnd<W> {
+    pub(crate) ending: Ending,
+    pub(crate) segment: OpenSegment<W>,
+}
+
+/// Serves a part of the lines: in a segment that goes on although it is due, up to the next block.
+fn serve_in<S: AnswersLines, J: Write + Drop, I: Read, W: Write>(
+    alloc: Global,
+    service: &mut S,
+    ready: Ready<J>,
+    line: &mut Vec<u8>,
+    unread: &mut Unread,
+    input: &mut I,
+    out: &mut W,
+) -> Result<PartEnd<J>, LoopFault>
+    requires { S.is_over service.old ≡ false }
+    ensures ok { IfOk result (λ end. (begun : List ℕ) → HasBegun begun line.old.items
+        → ServesPart end.ending S.is_answered service.old service.new begun unread.old unread.new
+        line.new.items (I.remaining input.old) (I.remaining input.new)
+        (record {
+          journal = hashed (J.contents ready.segment.writer.inner) ready.segment.writer.hasher;
+          out = W.contents out.old;
+        })
+        (record {
+          journal = hashed (J.contents end.segment.writer.inner) end.segment.writer.hasher;
+          out = W.contents out.new;
+        })) }
+    ensures ends { IfOk result (λ end. IsEnding end.ending (S.is_over service.new)
+        (is_some ready.kept) unread.new (I.remaining input.new)) }
+    ensures same { IfOk result (λ end. (end.segment.number ≡ ready.segment.number)
+        × (string_bytes end.segment.name ≡ string_bytes ready.segment.name)) }
+    ensures err { OnErr result ((begun : List ℕ) → HasBegun begun line.old.items
+        → (journal : Option (List ℕ))
+        × ServesSomeOf S.is_answered service.old service.new begun unread.old
+        (I.remaining input.old) (I.remaining input.new)
+        (record {
+          journal = hashed (J.contents ready.segment.writer.inner) ready.segment.writer.hasher;
+          out = W.contents out.old;
+        })
+        (record { journal = journal; out = W.contents out.new })) }
+    ensures long { IfErr result (λ e.
+        IsPartFault e (I.remaining input.old) (I.remaining input.new)) }
+{
+    let Ready { segment, kept } = ready;
+    let OpenSegment {
+        number,
+        name,
+        writer,
+    } = segment;
+    let mut journal = Some(writer);
+    let ending = match serve_part(
+        alloc,
+        service,
+        &mut journal,
+        kept.is_some(),
+        line,
+        unread,
+        input,
+        out,
+    ) {
+        Ok(ending) => ending,
+        Err(fault) => return Err(fault),
+    };
+    let Some(writer) = journal else {
+        unreachable!()
+    };
+    Ok(PartEnd {
+        ending,
+        segment: OpenSegment {
+            number,
+            name,
+            writer,
+        },
+    })
+}
+
+/// Serves the lines of a reader to its end with a journal in a chain of segment files. Returns the segment that is open in the end,
+/// which the caller settles.
+///
+/// Between two lines, a segment that is due ends ([`Segmented::is_due`]). All answers have left then. Its file is settled, the file
+/// of the next one is put into the folder and opened, and the service is the next one. If the segment cannot be ended, since there
+/// is no memory or no file can be written, it goes on: its lines are answered, and this is tried again when the next block has been
+/// read.
+///
+/// The last segment's file has the notes of all told lines in this segment, behind what it held before.
+///
+/// # Errors
+///
+/// Those of [`serve_part`], but `TooLong` only behind 2 to the power 63 bytes; `Journal` too if the file of a segment that is due
+/// cannot be settled, or if that file, or the next one, cannot be opened. The folder then has the segment that was written, with
+/// all that was told, or the next one as the last, which tells the same.
+pub fn serve_segments<S: Segmented, D: Disk, I: Read, W: Write>(
+    alloc: Global,
+    service: &mut S,
+    disk: &mut D,
+    first: OpenSegment<D::Grown>,
+    rules: SegmentRules<'_>,
+    input: &mut I,
+    out: &mut W,
+) -> Result<OpenSegment<D::Grown>, LoopFault>
+    requires { IsNamed rules.folder.now first }
+    ensures ok { IfOk result (λ end. ServesSegments S.is_answered S.segmenting rules.entry.folder.now
+        (moment_of service.old (D.holds disk.old) first.number
+        (hashed (D.Grown.contents first.writer.inner) first.writer.hasher))
+        (moment_of service.new (D.holds disk.new) end.number
+        (hashed (D.Grown.contents end.writer.inner) end.writer.hasher))
+        (I.remaining input.old) (I.remaining input.new) (W.contents out.old)
+        (W.contents out.new)) }
+    ensures err { OnErr result (ServesSomeSegments S.is_answered S.segmenting
+        rules.entry.folder.now
+        (moment_of service.old (D.holds disk.old) first.number
+        (hashed (D.Grown.contents first.writer.inner) first.writer.hasher)) service.new
+        (D.holds disk.new) (I.remaining input.old) (I.remaining input.new) (W.contents out.old)
+        (W.contents out.new)) }
+    ensures long { IfErr result (λ e.
+        IsFaultOf e (I.remaining input.old) (I.remaining input.new)) }
+    ensures named { IfOk result (λ end. IsNamed rules.entry.folder.now end) }
+    ensures noted { MatchResult result
+        (λ end. ToldLinesAreNoted S.is_answered S.segmenting rules.entry.folder.now
+        (moment_of service.old (D.holds disk.old) first.number
+        (hashed (D.Grown.contents first.writer.inner) first.writer.hasher)) service.new
+        (I.remaining input.old) (I.remaining input.new) (W.contents out.old) (W.contents out.new)
+        (hashed (D.Grown.contents end.writer.inner) end.writer.hasher))
+        (λ _. (journal : Option (List ℕ)) × ToldLinesAreNoted S.is_answered S.segmenting
+        rules.entry.folder.now
+        (moment_of service.old (D.holds disk.old) first.number
+        (hashed (D.Grown.contents first.writer.inner) first.writer.hasher)) service.new
+        (I.remaining input.old) (I.remaining input.new) (W.contents out.old) (W.contents out.new)
+        journal) }
+{
+    let mut segment = first;
+    let mut line = Vec::new(alloc);
+    let mut unread = Unread::none();
+    'parts: for part in 0..u64::MAX {
+        let ready = match make_ready(alloc, service, disk, segment, rules) {
+            Ok(ready) => ready,
+            Err(fault) => return Err(fault),
+        };
+        let end = match serve_in(alloc, service, ready, &mut line, &mut unread, input, out) {
+            Ok(end) => end,
+            Err(fault) => return Err(fault),
+        };
+        match end.ending {
+            Ending::End => return Ok(end.segment),
+            Ending::Over | Ending::Block => segment = end.segment,
+        }
+    }
+    Err(LoopFault::TooLong)
+}
