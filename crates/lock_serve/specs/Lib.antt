@@ -1,4 +1,9 @@
 pub mod Asking
 pub mod Noting
+pub mod Segments
+pub mod Due
+pub mod Counting
 pub mod Serving
 pub mod Starts
+pub mod Segmented
+pub mod Goes

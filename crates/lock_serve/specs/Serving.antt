@@ -1,12 +1,14 @@
 -- How each line is answered (this project's own).
-use Rattle.std.specs.Prelude.{◌≡◌, ℕ, Bool, true, false, cond, List, [], ◌++◌, Option, None, Some}
+use Rattle.std.specs.Prelude.{◌≡◌, ℕ, Bool, true, false, cond, ◌&&◌, if◌then◌else◌, List, [], ◌++◌, Option, None, Some, is_some}
 use Rattle.ring_locks.specs.declared.answers.Answers.{Answers}
 use Rattle.ring_locks.specs.declared.answers.Left.{Left}
 use Rattle.ring_locks.specs.Locks.{Ask}
-use Rattle.ring_locks.specs.Kept.{LockView, answers_of, IsLeft}
+use Rattle.ring_locks.specs.Kept.{answers_of, IsLeft}
+use Rattle.lock_lines.specs.declared.answers.Denial.{Denial}
 use Rattle.lock_lines.specs.declared.answers.Denial.TheVariants as denial
 use Rattle.lock_lines.specs.declared.inputs.Input.{Input}
 use Rattle.lock_lines.specs.declared.inputs.Input.TheVariants as input
+use Rattle.lock_lines.specs.declared.inputs.Fault.{Fault}
 use Rattle.lock_lines.specs.declared.inputs.Fault.TheVariants as fault
 use Rattle.lock_lines.specs.Asks as lines
 use Rattle.lock_lines.specs.Asks.{seen}
@@ -15,77 +17,88 @@ use Rattle.lock_lines.specs.Answers.{denial_line}
 use Rattle.line_loop.specs.declared.pending.Pending.{Pending}
 use Rattle.lock_serve.specs.declared.service.LockService.{LockService}
 use Rattle.lock_serve.specs.Asking.{one_ask, is_off, IsAnswerTo}
+use Rattle.lock_serve.specs.declared.service.Stage.{Stage}
+use Rattle.lock_serve.specs.declared.service.Stage.TheVariants as stage
+use Rattle.lock_serve.specs.declared.service.Terms.{Terms}
+use Rattle.lock_serve.specs.Due.{is_due}
+use Rattle.lock_serve.specs.Counting.{SegmentView, IsCounted, count_about, count_of_all}
 use Rattle.lock_serve.specs.Noting.{lines_about, note_about, lines_of_left, notes_of_left}
 
--- whether a journal is kept, and whether a line may be a fault
-pub record Terms : Type 0 where
-  pub noting : Bool
-  pub faults : Bool
-
 -- nothing happens but that this is said
-pub record IsSaid (text : List ℕ) (old : List LockView) (said noted : List ℕ) (new : List LockView) :
+pub record IsSaid (text : List ℕ) (old : SegmentView) (said noted : List ℕ) (new : SegmentView) :
     Type 0 where
   pub says : said ≡ text
   pub notes : noted ≡ []
   pub leaves : new ≡ old
 
 -- A lock answers. Those who asked or are granted are told, and the journal has what is new.
-pub record IsToldOf (noting : Bool) (client lock : ℕ) (ask : Ask) (old : List LockView)
-    (said noted : List ℕ) (new : List LockView) : Type 0 where
+pub record IsToldOf (noting : Bool) (client lock : ℕ) (ask : Ask) (old : SegmentView)
+    (said noted : List ℕ) (new : SegmentView) : Type 0 where
   pub answers : Answers
-  pub done : IsAnswerTo old new client lock ask answers
+  pub done : IsAnswerTo old.locks new.locks client lock ask answers
   pub says : said ≡ lines_about lock (answers_of client answers)
-  pub notes : noted ≡ cond noting (note_about lock old new answers.ended) []
+  pub notes : noted ≡ cond noting (note_about lock old.locks new.locks answers.ended) []
+  pub counted : IsCounted old new (count_about lock old.locks new.locks answers.ended)
 
 -- A client leaves all locks. Those who are granted are told, and the journal has what is new.
-pub record IsToldOfLeave (noting : Bool) (client : ℕ) (old : List LockView) (said noted : List ℕ)
-    (new : List LockView) : Type 0 where
+pub record IsToldOfLeave (noting : Bool) (client : ℕ) (old : SegmentView) (said noted : List ℕ)
+    (new : SegmentView) : Type 0 where
   pub left : List Left
-  pub done : IsLeft old new client left
+  pub done : IsLeft old.locks new.locks client left
   pub says : said ≡ lines_of_left left
-  pub notes : noted ≡ cond noting (notes_of_left new left) []
+  pub notes : noted ≡ cond noting (notes_of_left new.locks left) []
+  pub counted : IsCounted old new (count_of_all new.locks left)
 
-abbrev pub IsTold : Bool → ℕ → Option (ℕ × Ask) → List LockView → List ℕ → List ℕ → List LockView
+abbrev pub IsTold : Bool → ℕ → Option (ℕ × Ask) → SegmentView → List ℕ → List ℕ → SegmentView
     → Type 0
 IsTold noting client None old said noted new = IsToldOfLeave noting client old said noted new
 IsTold noting client (Some (lock, ask)) old said noted new =
     IsToldOf noting client lock ask old said noted new
 
 -- an ask is answered: a fault that is not permitted is refused
-abbrev pub IsAnsweredIf : Bool → Bool → ℕ → lines.Ask → List LockView → List ℕ → List ℕ
-    → List LockView → Type 0
+abbrev pub IsAnsweredIf : Bool → Bool → ℕ → lines.Ask → SegmentView → List ℕ → List ℕ
+    → SegmentView → Type 0
 IsAnsweredIf true noting client ask old said noted new =
     IsSaid (denial_line client denial.Off) old said noted new
 IsAnsweredIf false noting client ask old said noted new =
     IsTold noting client (one_ask ask) old said noted new
 
+-- what a client is told of a line that has a fault
+abbrev pub denial_of : Fault → Denial
+denial_of fault.Syntax = denial.Syntax
+denial_of fault.Number = denial.Number
+
 -- what was read of a line is answered
-abbrev pub IsInputAnswered : Terms → Input → List LockView → List ℕ → List ℕ → List LockView
-    → Type 0
+abbrev pub IsInputAnswered : Terms → Input → SegmentView → List ℕ → List ℕ → SegmentView → Type 0
 IsInputAnswered terms (input.Asked client ask) old said noted new =
     IsAnsweredIf (is_off terms.faults (seen ask)) terms.noting client (seen ask) old said noted new
-IsInputAnswered terms (input.Refused client fault.Syntax) old said noted new =
-    IsSaid (denial_line client denial.Syntax) old said noted new
-IsInputAnswered terms (input.Refused client fault.Number) old said noted new =
-    IsSaid (denial_line client denial.Number) old said noted new
+IsInputAnswered terms (input.Refused client why) old said noted new =
+    IsSaid (denial_line client (denial_of why)) old said noted new
 IsInputAnswered terms input.Nobody old said noted new = IsSaid [] old said noted new
 
 -- A line is answered: by what is read of it.
-abbrev pub IsLineAnswered : Terms → List LockView → List ℕ → List ℕ → List ℕ → List LockView
+abbrev pub IsLineAnswered : Terms → SegmentView → List ℕ → List ℕ → List ℕ → SegmentView
     → Type 0
 IsLineAnswered terms old line said noted new =
     (i : Input) × IsReadAs line i × IsInputAnswered terms i old said noted new
 
 -- ---- the service
 
-abbrev pub terms_of : LockService → Terms
-terms_of s = record { noting = s.noting; faults = s.faults }
+-- whether its segment is due, where segments have a limit
+abbrev pub is_past : Terms → SegmentView → Bool
+is_past terms s = is_some terms.limit && is_due s.remaining s.short
+
+-- A segment that is due is over, but one that was kept on stays so.
+abbrev pub stage_after : Stage → Bool → Stage
+stage_after stage.KeptOn past = stage.KeptOn
+stage_after stage.Open past = if past then stage.Due else stage.Open
+stage_after stage.Due past = if past then stage.Due else stage.Open
 
 -- from one state of the service to another a line was answered, on the same terms
-abbrev pub IsServed : LockService → List ℕ → List ℕ → List ℕ → LockService → Type 0
-IsServed old line said noted new =
-    IsLineAnswered (terms_of old) old.locks line said noted new.locks
-    × (terms_of new ≡ terms_of old)
+pub record IsServed (old : LockService) (line said noted : List ℕ) (new : LockService) : Type 0 where
+  pub answered : IsLineAnswered old.terms old.segment line said noted new.segment
+  pub terms : new.terms ≡ old.terms
+  pub stage : new.stage ≡ stage_after old.stage (is_past old.terms new.segment)
 
 -- what is pending has grown by an answer and its notes
 abbrev pub IsAdded : Pending → Pending → List ℕ → List ℕ → Type 0

@@ -5,4 +5,9 @@ use Rattle.lock_serve.specs.Serving.{IsServed}
 
 pub by_start : IsByStart IsServed
 unfolding cut
-by_start old new full said noted long a = ((a.0.0, long_reads full a.0.0 long a.0.1, a.0.2), a.1)
+by_start old new full said noted long a =
+    let i = a.answered in record {
+      answered = (i.0, long_reads full i.0 long i.1, i.2);
+      terms = a.terms;
+      stage = a.stage;
+    }

@@ -1,11 +1,17 @@
-//! Locks that answer the lines of clients.
+//! Locks that answer the lines of clients, segment by segment.
 #![tactic(auto)]
 
 mod asking;
+mod counting;
+mod due;
+pub mod laws;
 mod lines;
 mod noting;
+mod segment;
+mod segmented;
 mod service;
 #[cfg(test)]
 mod tests;
+mod texts;
 
-pub use service::LockService;
+pub use service::{LockService, Terms};

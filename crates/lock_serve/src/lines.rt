@@ -1,29 +1,43 @@
 //! Lines are answered by locks.
 
-ghost use Rattle.std.specs.Prelude.{false};
+ghost use Rattle.std.specs.Prelude.{◌≡◌, ◌++◌, ℕ, List, OnOk, OnErr};
+ghost use Rattle.lock_serve.specs.Serving.{IsServed};
 
-use crate::service::{LockService, answer_input};
+use crate::service::{LockService, Stage, answer};
 use line_loop::{AnswersLines, Pending};
 use lock_lines::read_input;
 use std::alloc::AllocError;
 
 impl AnswersLines for LockService {
-    ghost use Rattle.std.specs.Prelude.{false};
+    ghost use Rattle.lock_serve.specs.Segmented.{is_over};
     ghost use Rattle.lock_serve.specs.Serving.{IsServed};
     ghost use Rattle.lock_serve.specs.Starts.{by_start};
 
     ghost is_answered = { IsServed };
 
-    ghost is_over = { λ _. false };
+    ghost is_over = { λ s. is_over s.stage };
 
     ghost by_start = { by_start };
 
-    fn answer(&mut self, line: &[u8], pending: &mut Pending) -> Result<(), AllocError> {
+    /// The line is answered in any case: only to tell of it memory may be wanted.
+    fn answer(&mut self, line: &[u8], pending: &mut Pending) -> Result<(), AllocError>
+        ensures ok { OnOk result ((said : List ℕ)
+            × (noted : List ℕ)
+            × IsServed self.old line.now said noted self.new
+            × (pending.new.answers.items ≡ pending.old.answers.items ++ said)
+            × (pending.new.notes.items ≡ pending.old.notes.items ++ noted)) }
+        ensures err { OnErr result ((said : List ℕ)
+            × (noted : List ℕ)
+            × IsServed self.old line.now said noted self.new) }
+    {
         let input = read_input(line);
-        answer_input(self, input, pending)
+        answer(self, input, pending)
     }
 
     fn is_over(&self) -> bool {
-        false
+        match self.stage {
+            Stage::Due => true,
+            Stage::Open | Stage::KeptOn => false,
+        }
     }
 }

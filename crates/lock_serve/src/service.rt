@@ -1,49 +1,96 @@
 //! Locks that answer lines.
 
-ghost use Rattle.std.specs.Prelude.{◌≡◌, ◌⊎◌, List, ℕ, OnOk, OnErr};
+ghost use Rattle.std.specs.Prelude.{◌≡◌, List, ℕ, OnOk, IfOk};
+ghost use Rattle.text_lines.specs.Writing.{Writes};
+ghost use Rattle.ring_journal.specs.Spelling.{head_text as journal_text};
+ghost use Rattle.ring_locks.specs.declared.answers.Refusal.{Refusal};
 ghost use Rattle.lock_lines.specs.Asks.{seen};
 ghost use Rattle.lock_serve.specs.Asking.{is_off, asked};
-ghost use Rattle.lock_serve.specs.Serving.{IsToldOf, IsToldOfLeave, IsAnsweredIf, IsInputAnswered, IsAdded, terms_of};
+ghost use Rattle.lock_serve.specs.Segments.{content_of};
+ghost use Rattle.lock_serve.specs.Counting.{IsStart};
+ghost use Rattle.lock_serve.specs.Segmented.{limit_of};
+ghost use Rattle.lock_serve.specs.Serving.{IsToldOf, IsToldOfLeave, IsAnsweredIf, denial_of, IsInputAnswered, IsAdded, is_past, stage_after};
 
-use crate::asking::{OneAsk, ask_lock, is_off, one_ask};
+use crate::asking::{OneAsk, is_off, one_ask};
 use crate::noting::{events_at, note_if, note_left_if, tell, tell_left};
+use crate::segment::Segment;
+use crate::texts::put_beginning;
 use line_loop::Pending;
 use lock_lines::{Ask, Denial, Fault, Input, put_denial};
-use ring_locks::Locks;
+use ring_locks::{Locks, Refusal};
+use segment_loop::EndFault;
 use std::alloc::{AllocError, Global};
+use std::io::Write;
+use text_lines::WriteFault;
+
+/// On which terms lines are answered.
+#[derive(Clone, Copy)]
+pub struct Terms {
+    /// Whether a line may be a fault.
+    pub faults: bool,
+    /// Whether there are notes for a journal.
+    pub noting: bool,
+    /// A segment is due once its journal has so many lines, or before a lock's ring has no room for an ask. Without a limit none
+    /// is.
+    pub limit: Option<u64>,
+}
+
+/// Whether lines are answered in a segment.
+#[derive(Clone, Copy)]
+pub(crate) enum Stage {
+    Open,
+    /// It is to end first.
+    Due,
+    /// It is to end, and goes on until it can be ended.
+    KeptOn,
+}
 
 /// Locks that answer the lines of clients.
 #[derive(Drop)]
 pub struct LockService {
-    pub(crate) locks: Locks,
-    alloc: Global,
-    /// Whether a line may be a fault.
-    pub(crate) faults: bool,
-    /// Whether a journal is kept.
-    pub(crate) noting: bool,
+    pub(crate) segment: Segment,
+    pub(crate) terms: Terms,
+    pub(crate) stage: Stage,
+}
+
+/// How many lines the journal of a segment may have.
+pub(crate) fn limit_of(limit: Option<u64>) -> u64
+    ensures { result ≡ limit_of limit }
+{
+    match limit {
+        Some(limit) => limit,
+        None => 0,
+    }
+}
+
+/// Why a segment that is due is not ended.
+pub(crate) fn end_fault(why: Refusal) -> EndFault {
+    match why {
+        Refusal::Full => EndFault::Full,
+        _ => EndFault::OutOfMemory,
+    }
 }
 
 /// Asks one lock, and tells the answers.
 fn answer_one(
-    service: &mut LockService,
+    segment: &mut Segment,
+    noting: bool,
     client: u64,
     lock: u32,
     ask: OneAsk,
     pending: &mut Pending,
 ) -> Result<(), AllocError>
-    ensures same { terms_of service.new ≡ terms_of service.old }
-    ensures told { (said : List ℕ)
+    ensures { (said : List ℕ)
         × (noted : List ℕ)
-        × IsToldOf service.old.noting client lock (asked ask) service.old.locks said noted
-        service.new.locks
+        × IsToldOf noting client lock (asked ask) segment.old said noted segment.new
         × OnOk result (IsAdded pending.old pending.new said noted) }
 {
-    let place = events_at(&service.locks, lock);
-    let answers = ask_lock(&mut service.locks, client, lock, ask);
+    let place = events_at(segment.locks(), lock);
+    let answers = segment.ask(client, lock, ask);
     match tell(&mut pending.answers, client, lock, answers) {
         Ok(()) => note_if(
-            service.noting,
-            &service.locks,
+            noting,
+            segment.locks(),
             lock,
             answers.ended,
             place,
@@ -54,111 +101,155 @@ fn answer_one(
 }
 
 /// A client leaves all locks, and the grants are told.
-fn leave(service: &mut LockService, client: u64, pending: &mut Pending) -> Result<(), AllocError>
-    ensures same { terms_of service.new ≡ terms_of service.old }
-    ensures ok { OnOk result ((said : List ℕ)
+fn leave(
+    segment: &mut Segment,
+    noting: bool,
+    client: u64,
+    pending: &mut Pending,
+) -> Result<(), AllocError>
+    ensures { (said : List ℕ)
         × (noted : List ℕ)
-        × IsToldOfLeave service.old.noting client service.old.locks said noted service.new.locks
-        × IsAdded pending.old pending.new said noted) }
-    ensures err { OnErr result ((service.new ≡ service.old)
-        ⊎ ((said : List ℕ)
-        × (noted : List ℕ)
-        × IsToldOfLeave service.old.noting client service.old.locks said noted
-        service.new.locks)) }
+        × IsToldOfLeave noting client segment.old said noted segment.new
+        × OnOk result (IsAdded pending.old pending.new said noted) }
 {
-    let Ok(mut left) = Vec::with_capacity(service.alloc, service.locks.count() as usize) else {
-        return Err(AllocError);
-    };
-    service.locks.leave(client, &mut left);
-    match tell_left(&mut pending.answers, left.as_slice()) {
-        Ok(()) => note_left_if(
-            service.noting,
-            &service.locks,
-            left.as_slice(),
-            &mut pending.notes,
-        ),
+    segment.leave(client);
+    match tell_left(&mut pending.answers, segment.left()) {
+        Ok(()) => note_left_if(noting, segment.locks(), segment.left(), &mut pending.notes),
         Err(error) => Err(error),
     }
 }
 
 /// Answers what a client asks.
 fn answer_ask(
-    service: &mut LockService,
+    segment: &mut Segment,
+    terms: Terms,
     client: u64,
     ask: Ask,
     pending: &mut Pending,
 ) -> Result<(), AllocError>
-    ensures same { terms_of service.new ≡ terms_of service.old }
-    ensures ok { OnOk result ((said : List ℕ)
+    ensures { (said : List ℕ)
         × (noted : List ℕ)
-        × IsAnsweredIf (is_off service.old.faults (seen ask)) service.old.noting client (seen ask)
-        service.old.locks said noted service.new.locks
-        × IsAdded pending.old pending.new said noted) }
-    ensures err { OnErr result ((service.new ≡ service.old)
-        ⊎ ((said : List ℕ)
-        × (noted : List ℕ)
-        × IsAnsweredIf (is_off service.old.faults (seen ask)) service.old.noting client (seen ask)
-        service.old.locks said noted service.new.locks)) }
+        × IsAnsweredIf (is_off terms.faults (seen ask)) terms.noting client (seen ask)
+        segment.old said noted segment.new
+        × OnOk result (IsAdded pending.old pending.new said noted) }
 {
-    if is_off(service.faults, ask) {
+    if is_off(terms.faults, ask) {
         return put_denial(&mut pending.answers, client, Denial::Off);
     }
     match one_ask(ask) {
-        Some((lock, ask)) => answer_one(service, client, lock, ask, pending),
-        None => leave(service, client, pending),
+        Some((lock, ask)) => answer_one(segment, terms.noting, client, lock, ask, pending),
+        None => leave(segment, terms.noting, client, pending),
+    }
+}
+
+/// What a client is told of a line that has a fault.
+fn denial_of(why: Fault) -> Denial
+    ensures { result ≡ denial_of why }
+{
+    match why {
+        Fault::Syntax => Denial::Syntax,
+        Fault::Number => Denial::Number,
     }
 }
 
 /// Answers what was read of a line.
-pub(crate) fn answer_input(
-    service: &mut LockService,
+fn answer_input(
+    segment: &mut Segment,
+    terms: Terms,
     input: Input,
     pending: &mut Pending,
 ) -> Result<(), AllocError>
-    ensures same { terms_of service.new ≡ terms_of service.old }
-    ensures ok { OnOk result ((said : List ℕ)
+    ensures { (said : List ℕ)
         × (noted : List ℕ)
-        × IsInputAnswered (terms_of service.old) input service.old.locks said noted
-        service.new.locks
-        × IsAdded pending.old pending.new said noted) }
-    ensures err { OnErr result ((service.new ≡ service.old)
-        ⊎ ((said : List ℕ)
-        × (noted : List ℕ)
-        × IsInputAnswered (terms_of service.old) input service.old.locks said noted
-        service.new.locks)) }
+        × IsInputAnswered terms input segment.old said noted segment.new
+        × OnOk result (IsAdded pending.old pending.new said noted) }
 {
     match input {
-        Input::Asked { client, ask } => answer_ask(service, client, ask, pending),
-        Input::Refused {
-            client,
-            why: Fault::Syntax,
-        } => put_denial(&mut pending.answers, client, Denial::Syntax),
-        Input::Refused {
-            client,
-            why: Fault::Number,
-        } => put_denial(&mut pending.answers, client, Denial::Number),
+        Input::Asked { client, ask } => answer_ask(segment, terms, client, ask, pending),
+        Input::Refused { client, why } => {
+            put_denial(&mut pending.answers, client, denial_of(why))
+        }
         Input::Nobody => Ok(()),
     }
 }
 
+/// Whether the segment is due, where segments have a limit.
+fn is_past(terms: Terms, segment: &Segment) -> bool
+    ensures { result ≡ is_past terms segment.now }
+{
+    terms.limit.is_some() && segment.is_due()
+}
+
+/// Whether lines are answered after a line.
+fn stage_after(stage: Stage, past: bool) -> Stage
+    ensures { result ≡ stage_after stage past }
+{
+    match stage {
+        Stage::KeptOn => Stage::KeptOn,
+        Stage::Open | Stage::Due => { if past { Stage::Due } else { Stage::Open } }
+    }
+}
+
+/// Answers what was read of a line, and sees whether the segment is due.
+pub(crate) fn answer(
+    service: &mut LockService,
+    input: Input,
+    pending: &mut Pending,
+) -> Result<(), AllocError>
+    ensures told { (said : List ℕ)
+        × (noted : List ℕ)
+        × IsInputAnswered service.old.terms input service.old.segment said noted
+        service.new.segment
+        × OnOk result (IsAdded pending.old pending.new said noted) }
+    ensures terms { service.new.terms ≡ service.old.terms }
+    ensures stage { service.new.stage
+        ≡ stage_after service.old.stage (is_past service.old.terms service.new.segment) }
+{
+    let terms = service.terms;
+    let told = answer_input(&mut service.segment, terms, input, pending);
+    service.stage = stage_after(service.stage, is_past(terms, &service.segment));
+    told
+}
+
 impl LockService {
-    /// Locks that answer lines: with `faults` a line may be a fault, with `noting` there are notes for a journal.
-    pub fn new(alloc: Global, locks: Locks, faults: bool, noting: bool) -> LockService
-        ensures locks { result.locks ≡ locks }
-        ensures terms { terms_of result ≡ record { noting = noting; faults = faults } }
+    /// Locks that answer lines, with the segment with which they start.
+    ///
+    /// # Errors
+    ///
+    /// Out of memory alone. The locks are let go then.
+    pub fn new(alloc: Global, locks: Locks, terms: Terms) -> Result<LockService, AllocError>
+        ensures start { IfOk result (λ s. IsStart (limit_of terms.limit) locks s.segment) }
+        ensures terms { IfOk result (λ s. s.terms ≡ terms) }
+        ensures stage { IfOk result (λ s. s.stage
+            ≡ stage_after Stage.Open (is_past terms s.segment)) }
     {
-        LockService {
-            locks,
-            alloc,
-            faults,
-            noting,
-        }
+        let Ok(segment) = Segment::start(alloc, locks, limit_of(terms.limit)) else {
+            return Err(AllocError);
+        };
+        let stage = stage_after(Stage::Open, is_past(terms, &segment));
+        Ok(LockService {
+            segment,
+            terms,
+            stage,
+        })
     }
 
     /// The locks.
     pub fn locks(&self) -> &Locks
-        ensures { result.now ≡ self.now.locks }
+        ensures { result.now ≡ self.now.segment.locks }
     {
-        &self.locks
+        self.segment.locks()
+    }
+
+    /// Writes the beginning of a journal of the locks as they start.
+    ///
+    /// # Errors
+    ///
+    /// `WriteFault` at the first error of the writer: it holds a prefix of the text then.
+    pub fn write_beginning<W: Write>(&self, out: &mut W) -> Result<(), WriteFault>
+        ensures { Writes (W.contents out.old) (W.contents out.new) result
+            (journal_text (content_of self.now.segment.locks)) }
+    {
+        put_beginning(out, self.segment.locks())
     }
 }

@@ -1,8 +1,8 @@
 -- A lock goes on over the next segment of its ring.
-use Rattle.std.proofs.Common.{◌≡◌, ℕ, zero, suc, ◌+◌, ◌<◌, ◌≤◌, Bool, true, false, List, [], ◌∷◌, map, length, refl, sym, ◌∙◌, ap, subst, inl, inr, arith, Option, Some}
-use Rattle.std.specs.Prelude.{◌==◌, if◌then◌else◌, slice_get, slice_set, option_map, Result, Ok, Err, IfOk, IfErr}
-use Rattle.std.proofs.lemmas.List.{length-map, length-set, map-set}
-use Rattle.std.proofs.lemmas.Option.{slice_get-map}
+use Rattle.std.proofs.Common.{◌≡◌, ℕ, zero, suc, ◌+◌, ◌<◌, ◌≤◌, Bool, true, false, List, [], ◌∷◌, ◌++◌, map, length, take, get_or, refl, sym, ◌∙◌, ap, subst, inl, arith, Option, Some, None}
+use Rattle.std.specs.Prelude.{◌==◌, if◌then◌else◌, slice_get, option_map}
+use Rattle.std.proofs.lemmas.List.{take_more, map-append}
+use Rattle.std.proofs.lemmas.Option.{slice_get-map, slice_get_read}
 use Rattle.ring_model.specs.Ring.{Ring}
 use Rattle.ring_model.specs.History.{State, opening, after}
 use Rattle.ring_model.specs.Resources.{till}
@@ -14,20 +14,20 @@ use Rattle.ring_chains.specs.declared.bases.Base.{Base}
 use Rattle.ring_model.specs.Resources.{add_order}
 use Rattle.ring_chains.proofs.Shifts.{add_order-none, add_order-amount, grants_legal}
 use Rattle.ring_endless.specs.Endless.{EndlessView, IsEndless, IsSameEndless, IsCalled, IsNext}
+use Rattle.ring_locks.specs.declared.answers.Waiter.{Waiter}
 use Rattle.ring_locks.specs.declared.parts.LockParts.{LockParts}
 use Rattle.ring_locks.specs.Lines.{Lock}
 use Rattle.ring_locks.specs.Grants.{carried, other_machine}
 use Rattle.ring_locks.specs.Locks.{Call, called}
-use Rattle.ring_locks.specs.Promises.{AreRight, token_of, events_of, carries}
-use Rattle.ring_locks.specs.Kept.{LockView, state_of, lock_of, locks_of, IsKeptRing, IsKeptLock, AreKept, AreMade}
+use Rattle.ring_locks.specs.Promises.{AreRight, IsRightLock, token_of, events_of, carries}
+use Rattle.ring_locks.specs.Kept.{LockView, state_of, lock_of, locks_of, lock_limit, IsKeptRing, IsKeptLock, AreKept, AreMade}
 use Rattle.ring_locks.specs.Parts.{view_of, views_of}
-use Rattle.ring_locks.specs.Cuts.{IsNextOf, IsNoNext, gone_on}
+use Rattle.ring_locks.specs.Cuts.{IsNextOf, IsNoNext, IsNextLock, AreNext, HaveNoNext}
 use Rattle.ring_locks.specs.Waiting.{AreWaits}
 use Rattle.ring_locks.specs.declared.answers.Refusal.{Refusal}
-use Rattle.ring_locks.proofs.AllLeft.{there_is}
-use Rattle.ring_locks.proofs.Standing.{get_set}
 use Rattle.ring_locks.proofs.Calls.{made_of_same, made_state, same_state, called_makes}
-use Rattle.ring_locks.proofs.Shown.{carried_changes_nothing}
+use Rattle.ring_locks.proofs.Shown.{carries_nothing}
+use Rattle.ring_locks.proofs.Lifting.{view_there}
 
 -- ---- the state where a segment begins
 
@@ -81,83 +81,78 @@ next_of v empty reserved next k f n s m r room =
       room = room;
     }
 
--- ---- the locks go on
+-- ---- a lock goes on
 
-pub goes_on : (ls : List Lock) (i : ℕ) (v : LockView) (next : EndlessView) → AreRight ls → slice_get ls i ≡ Some (lock_of v) → IsEndless v.ring → IsNextOf v next → state_of next ≡ state_of v.ring
-goes_on ls i v next r at j n =
-    let begun : state_of n.empty ≡ state_of v.ring = next_state v.ring n.empty j n.kept.endless n.begun in
-    made_state n.empty next (carries (lock_of v)) n.carried ∙ ap (λ (a : State ℕ). after till a (events_of (carries (lock_of v)))) begun ∙ carried_changes_nothing ls i (lock_of v) r at
-
--- the locks, where one goes on
-pub record AreGoneOn (vs ws : List LockView) (es : List (ℕ × ℕ)) : Type 0 where
-  pub same : locks_of ws ≡ locks_of vs
-  pub kept : AreKept ws es
-
-set_there : {X : Type 0} (xs : List X) (i : ℕ) (x : X) → slice_get xs i ≡ Some x → slice_set xs i x ≡ xs
-set_there [] i x e = refl
-set_there {X = X} (y ∷ xs) zero x e = let p : ◌≡◌ {A = Option X} (Some y) (Some x) = e in ap (λ (z : X). z ∷ xs) (one y x p)
-  where
-    one : (y x : X) → ◌≡◌ {A = Option X} (Some y) (Some x) → x ≡ y
-    one y x e = cc
-set_there {X = X} (y ∷ xs) (suc i) x e = ap (λ (z : List X). y ∷ z) (set_there xs i x e)
-
-pub cut_views : (vs : List LockView) (es : List (ℕ × ℕ)) (i : ℕ) (v : LockView) (next : EndlessView) → AreKept vs es → slice_get vs i ≡ Some v → IsNextOf v next → AreGoneOn vs (slice_set vs i (gone_on v next)) es
-cut_views vs es i v next k at n =
-    let there : slice_get (locks_of vs) i ≡ Some (lock_of v) = slice_get-map lock_of vs i ∙ ap (λ (x : Option LockView). option_map lock_of x) at in
-    let state : state_of next ≡ state_of v.ring = goes_on (locks_of vs) i v next k.right there (k.each i v at).ring.endless n in
-    let lock : lock_of (gone_on v next) ≡ lock_of v = ap (λ (a : State ℕ). record { ring = a; line = v.line; holder = v.holder }) state in
-    let same : locks_of (slice_set vs i (gone_on v next)) ≡ locks_of vs = map-set lock_of vs i (gone_on v next) ∙ ap (λ (x : Lock). slice_set (locks_of vs) i x) lock ∙ set_there (locks_of vs) i (lock_of v) there in
-    let m : length (slice_set vs i (gone_on v next)) ≡ length vs = length-set vs i (gone_on v next) in
-    let few = k.few in record {
-      same = same;
-      kept = record {
-        right = subst (λ (x : List Lock). AreRight x) (sym same) k.right;
-        few = omega arith;
-        each = λ j x e. elim (get_set vs i j (gone_on v next) v x at e) [
-          | inl p ↦ subst (λ (y : LockView). IsKeptLock y) (sym p.1) (record { ring = n.ring; room = n.room })
-          | inr p ↦ k.each j x p.1
-        ];
-        waits = subst (λ (x : List Lock). AreWaits x es) (sym same) k.waits;
-      };
+pub next_lock : (v : LockView) (next : EndlessView) (line : List Waiter) → IsKeptLock v → IsRightLock (lock_of v) → IsNextOf v next → line ≡ v.line → IsNextLock v (record { ring = next; line = line; holder = v.holder })
+next_lock v next line k r n e =
+    let begun : state_of n.empty ≡ state_of v.ring = next_state v.ring n.empty k.ring.endless n.kept.endless n.begun in
+    let state : state_of next ≡ state_of v.ring =
+    made_state n.empty next (carries (lock_of v)) n.carried ∙ ap (λ (a : State ℕ). after till a (events_of (carries (lock_of v)))) begun ∙ carries_nothing (lock_of v) r in record {
+      ring = n;
+      same = ap (λ (a : State ℕ). let l : Lock = record { ring = a; line = line; holder = v.holder } in l) state
+          ∙ ap (λ (x : List Waiter). let l : Lock = record { ring = state_of v.ring; line = x; holder = v.holder } in l) e;
     }
 
--- ---- by a number
+-- ---- all of them, one by one
 
-pub view_at : (ps : List LockParts) (vs : List LockView) (i : ℕ) (p : LockParts) (v : LockView) → views_of ps ≡ vs → slice_get ps i ≡ Some p → slice_get vs i ≡ Some v → view_of p ≡ v
-view_at ps vs i p v e at f =
-    let there : slice_get vs i ≡ Some (view_of p) = ap (λ (x : List LockView). slice_get x i) (sym e) ∙ slice_get-map view_of ps i ∙ ap (λ (x : Option LockParts). option_map view_of x) at in
-    same (view_of p) v (sym there ∙ f)
+next_push : (vs ws : List LockView) (v w : LockView) → AreNext vs ws → IsNextLock v w → AreNext (vs ++ v ∷ []) (ws ++ w ∷ [])
+next_push [] ws v w a i = subst (λ (x : List LockView). AreNext (v ∷ []) (x ++ w ∷ [])) (sym a) (i, refl)
+next_push (x ∷ vs) [] v w a i = absurd a
+next_push (x ∷ vs) (y ∷ ws) v w a i = (a.0, next_push vs ws v w a.1 i)
+
+pub next_more : (ps qs qs' : List LockParts) (n : ℕ) (p q : LockParts) → n < length ps → p ≡ get_or ps n p → AreNext (views_of (take n ps)) (views_of qs) → IsNextLock (view_of p) (view_of q) → qs' ≡ qs ++ q ∷ [] →
+    AreNext (views_of (take (n + 1) ps)) (views_of qs')
+next_more ps qs qs' n p q l is a i grown =
+    let more : views_of (take (n + 1) ps) ≡ views_of (take n ps) ++ view_of p ∷ [] =
+    ap (λ (x : List LockParts). views_of x) (take_more ps n p l ∙ ap (λ (x : LockParts). take n ps ++ x ∷ []) (sym is)) ∙ map-append view_of (take n ps) (p ∷ []) in
+    let ends : views_of qs' ≡ views_of qs ++ view_of q ∷ [] = ap (λ (x : List LockParts). views_of x) grown ∙ map-append view_of qs (q ∷ []) in
+    subst (λ (x : List LockView). AreNext (views_of (take (n + 1) ps)) x) (sym ends)
+    (subst (λ (x : List LockView). AreNext x (views_of qs ++ view_of q ∷ [])) (sym more) (next_push (views_of (take n ps)) (views_of qs) (view_of p) (view_of q) a i))
+
+pub next_same : (vs ws : List LockView) → AreNext vs ws → locks_of ws ≡ locks_of vs
+next_same [] ws a = ap (λ (x : List LockView). locks_of x) a
+next_same (v ∷ vs) [] a = absurd a
+next_same (v ∷ vs) (w ∷ ws) a =
+    ap (λ (l : Lock). l ∷ locks_of ws) a.0.same ∙ ap (λ (ls : List Lock). lock_of v ∷ ls) (next_same vs ws a.1)
+
+next_long : (vs ws : List LockView) → AreNext vs ws → length ws ≡ length vs
+next_long [] ws a = ap (λ (x : List LockView). length x) a
+next_long (v ∷ vs) [] a = absurd a
+next_long (v ∷ vs) (w ∷ ws) a = ap (λ (n : ℕ). suc n) (next_long vs ws a.1)
+
+no_view : (vs : List LockView) (i : ℕ) (w : LockView) → vs ≡ [] → slice_get vs i ≡ Some w → ⊥
+no_view vs i w e f = none (ap (λ (x : List LockView). slice_get x i) (sym e) ∙ f)
   where
-    same : (x y : LockView) → ◌≡◌ {A = Option LockView} (Some x) (Some y) → x ≡ y
-    same x y e = cc
+    none : ◌≡◌ {A = Option LockView} None (Some w) → ⊥
+    none p = cc
 
-pub view_in : (ps : List LockParts) (vs : List LockView) (i : ℕ) (p : LockParts) → views_of ps ≡ vs → slice_get ps i ≡ Some p → slice_get vs i ≡ Some (view_of p)
-view_in ps vs i p e at = ap (λ (x : List LockView). slice_get x i) (sym e) ∙ slice_get-map view_of ps i ∙ ap (λ (x : Option LockParts). option_map view_of x) at
+one_view : (x y : LockView) → ◌≡◌ {A = Option LockView} (Some x) (Some y) → x ≡ y
+one_view x y e = cc
 
-pub below_is : (ps : List LockParts) (vs : List LockView) (i : ℕ) → views_of ps ≡ vs → i < length vs → i < length ps
-below_is ps vs i e l =
-    let n : length (views_of ps) ≡ length ps = length-map ps view_of in
-    let m : length (views_of ps) ≡ length vs = ap (λ (x : List LockView). length x) e in
-    omega arith
+kept_lock : (v w : LockView) → IsNextLock v w → IsKeptLock w
+kept_lock v w n =
+    let line : w.line ≡ v.line = ap (λ (l : Lock). l.line) n.same in record {
+      ring = n.ring.ring;
+      room = subst (λ (x : List Waiter). length x ≤ w.ring.ring.book.room) (sym line) n.ring.room;
+    }
 
-pub set_is : (ps qs : List LockParts) (vs : List LockView) (i : ℕ) (v : LockView) (next : EndlessView) → views_of ps ≡ vs → i < length vs → slice_get vs i ≡ Some v →
-    ((p : LockParts) → slice_get ps i ≡ Some p → views_of qs ≡ slice_set (views_of ps) i (gone_on (view_of p) next)) → views_of qs ≡ slice_set vs i (gone_on v next)
-set_is ps qs vs i v next e l f new =
-    let p = there_is ps i (below_is ps vs i e l) in
-    new p.0 p.1 ∙ ap (λ (x : List LockView). slice_set x i (gone_on (view_of p.0) next)) e ∙ ap (λ (x : LockView). slice_set vs i (gone_on x next)) (view_at ps vs i p.0 v e p.1 f)
+kept_each : (vs ws : List LockView) (i : ℕ) (w : LockView) → AreNext vs ws → slice_get ws i ≡ Some w → IsKeptLock w
+kept_each [] ws i w a e = absurd (no_view ws i w a e)
+kept_each (v ∷ vs) [] i w a e = absurd a
+kept_each (v ∷ vs) (x ∷ ws) zero w a e = subst (λ (y : LockView). IsKeptLock y) (one_view x w e) (kept_lock v x a.0)
+kept_each (v ∷ vs) (x ∷ ws) (suc i) w a e = kept_each vs ws i w a.1 e
 
--- an answer about a lock, by its view
-pub next_by : (p : LockView) (At : LockView → Type 0) (r : Result EndlessView Refusal) → ((v : LockView) → At v → p ≡ v) → IfOk r (λ next. IsNextOf p next) → IfOk r (λ next. (v : LockView) → At v → IsNextOf v next)
-next_by p At (Ok x) e h = λ v a. subst (λ (y : LockView). IsNextOf y x) (e v a) h
-next_by p At (Err x) e h = tt
+pub next_all : (vs ws : List LockView) (es fs : List (ℕ × ℕ)) → AreKept vs es → AreNext vs ws → fs ≡ es → AreKept ws fs
+next_all vs ws es fs k a f =
+    let same = next_same vs ws a in record {
+      right = subst (λ (x : List Lock). AreRight x) (sym same) k.right;
+      few = subst (λ (n : ℕ). n ≤ lock_limit) (sym (next_long vs ws a)) k.few;
+      each = λ i w e. kept_each vs ws i w a e;
+      waits = subst (λ (x : List (ℕ × ℕ)). AreWaits (locks_of ws) x) (sym f) (subst (λ (x : List Lock). AreWaits x es) (sym same) k.waits);
+    }
 
-pub no_next_by : (p : LockView) (At : LockView → Type 0) (r : Result EndlessView Refusal) → ((v : LockView) → At v → p ≡ v) → IfErr r (λ why. IsNoNext p why) → IfErr r (λ why. (v : LockView) → At v → IsNoNext v why)
-no_next_by p At (Ok x) e h = tt
-no_next_by p At (Err x) e h = λ v a. subst (λ (y : LockView). IsNoNext y x) (e v a) h
+pub none_at : (ps : List LockParts) (i : ℕ) (p : LockParts) (why : Refusal) → i < length ps → p ≡ get_or ps i p → IsNoNext (view_of p) why → HaveNoNext (views_of ps) why
+none_at ps i p why l e n = inl (i, view_of p, slice_get-map view_of ps i ∙ ap (λ (x : Option LockParts). option_map view_of x) (slice_get_read ps (length ps) i p refl l e), n)
 
-pub cut_parts : (ps : List LockParts) (es : List (ℕ × ℕ)) (i : ℕ) (p q : LockParts) (next : EndlessView) → AreKept (views_of ps) es → slice_get ps i ≡ Some p → view_of q ≡ gone_on (view_of p) next → IsNextOf (view_of p) next →
-    (views_of (slice_set ps i q) ≡ slice_set (views_of ps) i (gone_on (view_of p) next)) × AreGoneOn (views_of ps) (views_of (slice_set ps i q)) es
-cut_parts ps es i p q next k at e n =
-    let there : slice_get (views_of ps) i ≡ Some (view_of p) = slice_get-map view_of ps i ∙ ap (λ (x : Option LockParts). option_map view_of x) at in
-    let set : views_of (slice_set ps i q) ≡ slice_set (views_of ps) i (gone_on (view_of p) next) = map-set view_of ps i q ∙ ap (λ (x : LockView). slice_set (views_of ps) i x) e in
-    (set, subst (λ (x : List LockView). AreGoneOn (views_of ps) x es) (sym set) (cut_views (views_of ps) es i (view_of p) next k there n))
+pub lock_right : (ps : List LockParts) (es : List (ℕ × ℕ)) (i : ℕ) (p : LockParts) → AreKept (views_of ps) es → slice_get ps i ≡ Some p → IsRightLock (lock_of (view_of p))
+lock_right ps es i p k e = k.right.each i (lock_of (view_of p)) (slice_get-map lock_of (views_of ps) i ∙ ap (λ (x : Option LockView). option_map lock_of x) (view_there ps i p e))

@@ -13,7 +13,7 @@ use Rattle.ring_locks.specs.declared.answers.Holder.{Holder}
 use Rattle.ring_locks.specs.declared.answers.Answer.{Answer}
 use Rattle.ring_locks.specs.Lines.{Lock, without}
 use Rattle.ring_locks.specs.Locks.{Ask, Mark, Call, Survey, Turn, granted, advanced, ended, joined, fault, Input, Asked, Restart, turn, step, step_at, restarted}
-use Rattle.ring_locks.specs.Promises.{locks_after, names, marks_of, events_of, most_events, most_of_fault, OneEventEach, open_behind, open_after, Alternate, carries, SegmentsShowHolds, SegmentsRecover, CarriedChangesNothing, token_of, IsShown, HistoryShowsHolds, recovered, RestartsRecover}
+use Rattle.ring_locks.specs.Promises.{IsRightLock, locks_after, names, marks_of, events_of, most_events, most_of_fault, OneEventEach, open_behind, open_after, Alternate, carries, SegmentsShowHolds, SegmentsRecover, CarriedChangesNothing, token_of, IsShown, HistoryShowsHolds, recovered, RestartsRecover}
 use Rattle.ring_locks.specs.Grants.{carried}
 use Rattle.ring_locks.proofs.Rings.{IsGood, carry_step, grant_step, grant_number, fault_is, fault_no_holds, fault_few, events_of_calls}
 use Rattle.ring_locks.proofs.Moves.{Move, Stays, Waits, Gets, Ends, Drops, Faults, IsEnd, Released, Left, IsAsking, Acquires, Tries, waiter, move_of}
@@ -175,10 +175,11 @@ segments_recover ls is at l r e =
     ap (λ (x : List Lock). slice_get x at) (locks_append ls is (Restart ∷ [])) ∙ slice_get-map restarted (locks_after ls is) at ∙ ap (λ (x : Option Lock). option_map restarted x) h.1
     ∙ ap (λ (x : Lock). Some x) (recovers (record l { holder = None }) h.0 (carries l ++ marks_of at ls is) h.2)
 
+pub carries_nothing : (l : Lock) → IsRightLock l → after till l.ring (events_of (carries l)) ≡ l.ring
+carries_nothing l right = sym (carried_shown l (record { ring = right.ring; settled = right.settled })).ring
+
 pub carried_changes_nothing : CarriedChangesNothing
-carried_changes_nothing ls at l r e =
-    let right = r.each at l e in
-    sym (carried_shown l (record { ring = right.ring; settled = right.settled })).ring
+carried_changes_nothing ls at l r e = carries_nothing l (r.each at l e)
 
 -- ---- one event
 

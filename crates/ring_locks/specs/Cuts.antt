@@ -1,5 +1,5 @@
--- The ring of a lock's next segment (this project's own).
-use Rattle.std.specs.Prelude.{◌≡◌, ◌+◌, ◌<◌, ◌≤◌, ◌⊎◌, length}
+-- Locks whose rings go on in their next segments (this project's own).
+use Rattle.std.specs.Prelude.{◌≡◌, ℕ, ◌+◌, ◌<◌, ◌≤◌, ◌⊎◌, List, [], ◌∷◌, length, slice_get, Some}
 use Rattle.ring_model.specs.Limits.{event_limit}
 use Rattle.ring_chains.specs.Bases.{IsBase, base_after}
 use Rattle.ring_endless.specs.Endless.{EndlessView, IsNext}
@@ -8,8 +8,8 @@ use Rattle.ring_locks.specs.declared.answers.Refusal.TheVariants as refusal
 use Rattle.ring_locks.specs.Promises.{carries}
 use Rattle.ring_locks.specs.Kept.{LockView, lock_of, IsKeptRing, AreMade}
 
--- It goes on from the end of this segment, and its history has no event but the one that carries
--- the open hold. It has room for a grant to each client that waits.
+-- The ring of a lock's next segment goes on from the end of this segment, and its history has no
+-- event but the one that carries the open hold. It has room for a grant to each client that waits.
 pub record IsNextOf (v : LockView) (next : EndlessView) : Type 0 where
   pub empty : EndlessView
   pub kept : IsKeptRing empty
@@ -27,6 +27,19 @@ IsNoNext v why =
     ⊎ (event_limit < length v.line + 1)))
     ⊎ (why ≡ refusal.Memory)
 
--- the lock, of which the ring goes on so
-abbrev pub gone_on : LockView → EndlessView → LockView
-gone_on v next = record v { ring = next }
+-- the lock goes on in its next segment, and nothing of it changes
+pub record IsNextLock (old new : LockView) : Type 0 where
+  pub ring : IsNextOf old new.ring
+  pub same : lock_of new ≡ lock_of old
+
+-- each of the locks, one by one
+abbrev pub AreNext : List LockView → List LockView → Type 0
+AreNext [] new = new ≡ []
+AreNext (v ∷ vs) [] = ⊥
+AreNext (v ∷ vs) (w ∷ ws) = IsNextLock v w × AreNext vs ws
+
+-- they do not: one of the rings has no next segment, or there is no memory
+abbrev pub HaveNoNext : List LockView → Refusal → Type 0
+HaveNoNext locks why =
+    ((i : ℕ) × (v : LockView) × (slice_get locks i ≡ Some v) × IsNoNext v why)
+    ⊎ (why ≡ refusal.Memory)

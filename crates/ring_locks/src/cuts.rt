@@ -1,24 +1,22 @@
-//! The rings of locks go on over their next segments.
+//! Locks go on in the next segments of their rings.
 
-ghost use Rattle.std.specs.Prelude.{◌≡◌, ℕ, ◌<◌, List, length, true, slice_get, slice_set, Some, IfOk, IfErr};
-ghost use Rattle.ring_model.specs.Ring.{is_settled};
+ghost use Rattle.std.specs.Prelude.{◌≡◌, ℕ, List, slice_get, Some, IfOk, IfErr};
 ghost use Rattle.ring_locks.specs.declared.parts.LockParts.{LockParts};
-ghost use Rattle.ring_locks.specs.Kept.{state_of, locks_of, IsKeptRing, IsKeptLock, AreKept};
-ghost use Rattle.ring_locks.specs.Cuts.{IsNextOf, IsNoNext, gone_on};
+ghost use Rattle.ring_locks.specs.Promises.{IsRightLock};
+ghost use Rattle.ring_locks.specs.Kept.{lock_of, IsKeptLock};
+ghost use Rattle.ring_locks.specs.Cuts.{IsNextOf, IsNoNext, IsNextLock, AreNext, HaveNoNext};
 ghost use Rattle.ring_locks.specs.Parts.{view_of, views_of};
 
 use crate::answers::Refusal;
 use crate::marks;
 use crate::parts::LockParts;
-use crate::waits::Waits;
 use ring_endless::EndlessRing;
 use std::alloc::Global;
 
 /// The ring of a lock's next segment, with the hold that is open as its first event.
-pub(crate) fn next_ring(lock: &LockParts, alloc: Global) -> Result<EndlessRing, Refusal>
+fn next_ring(lock: &LockParts, alloc: Global) -> Result<EndlessRing, Refusal>
     requires kept { IsKeptLock (view_of lock.now) }
     ensures ok { IfOk result (λ next. IsNextOf (view_of lock.now) next) }
-    ensures kept { IfOk result (λ next. IsKeptRing next) }
     ensures why { IfErr result (λ e. IsNoNext (view_of lock.now) e) }
 {
     let mut ring = match marks::next(&lock.ring, alloc) {
@@ -33,24 +31,40 @@ pub(crate) fn next_ring(lock: &LockParts, alloc: Global) -> Result<EndlessRing, 
     Ok(ring)
 }
 
-/// The lock goes on in this ring.
-fn go_on(lock: &mut LockParts, ring: EndlessRing)
-    ensures { view_of lock.new ≡ gone_on (view_of lock.old) ring }
+/// The lock in its next segment: who waits and who holds stay the same.
+fn next_lock(lock: &LockParts, alloc: Global) -> Result<LockParts, Refusal>
+    requires kept { IsKeptLock (view_of lock.now) }
+    requires right { IsRightLock (lock_of (view_of lock.now)) }
+    ensures ok { IfOk result (λ next. IsNextLock (view_of lock.now) (view_of next)) }
+    ensures why { IfErr result (λ e. IsNoNext (view_of lock.now) e) }
 {
-    lock.ring = ring;
+    let ring = match next_ring(lock, alloc) {
+        Ok(ring) => ring,
+        Err(why) => return Err(why),
+    };
+    let Ok(line) = lock.line.clone() else {
+        return Err(Refusal::Memory);
+    };
+    let holder = lock.holder;
+    Ok(LockParts { ring, line, holder })
 }
 
-/// The lock of this number goes on in its next segment.
-pub(crate) fn cut(locks: &mut Vec<LockParts>, waits: &Waits, lock: u32, next: EndlessRing)
-    requires kept { AreKept (views_of locks.old.items) waits.now }
-    requires lock { lock < length locks.old.items }
-    requires next { (p : LockParts) → slice_get locks.old.items lock ≡ Some p
-        → IsNextOf (view_of p) next }
-    ensures new { (p : LockParts) → slice_get locks.old.items lock ≡ Some p
-        → views_of locks.new.items
-        ≡ slice_set (views_of locks.old.items) lock (gone_on (view_of p) next) }
-    ensures same { locks_of (views_of locks.new.items) ≡ locks_of (views_of locks.old.items) }
-    ensures kept { AreKept (views_of locks.new.items) waits.now }
+/// The locks in their next segments.
+pub(crate) fn next_locks(locks: &[LockParts], alloc: Global) -> Result<Vec<LockParts>, Refusal>
+    requires { (i : ℕ) (p : LockParts) → slice_get locks.now i ≡ Some p
+        → IsKeptLock (view_of p) × IsRightLock (lock_of (view_of p)) }
+    ensures ok { IfOk result (λ next. AreNext (views_of locks.now) (views_of next.items)) }
+    ensures why { IfErr result (λ e. HaveNoNext (views_of locks.now) e) }
 {
-    go_on(&mut locks[lock as usize], next);
+    let mut next = Vec::new(alloc);
+    for lock in locks {
+        let one = match next_lock(lock, alloc) {
+            Ok(one) => one,
+            Err(why) => return Err(why),
+        };
+        let Ok(()) = next.push(one) else {
+            return Err(Refusal::Memory);
+        };
+    }
+    Ok(next)
 }

@@ -1,9 +1,9 @@
 //! Locks that are called by their numbers.
 
-ghost use Rattle.std.specs.Prelude.{◌≡◌, ℕ, ◌+◌, ◌<◌, ◌≤◌, ◌⊎◌, ◌++◌, ◌∷◌, [], List, length, slice_get, slice_set, Some, IfOk, IfErr, OnOk, OnErr, vec_len, vec_capacity};
+ghost use Rattle.std.specs.Prelude.{◌≡◌, ℕ, ◌+◌, ◌<◌, ◌≤◌, ◌⊎◌, ◌++◌, ◌∷◌, [], List, length, slice_get, Some, IfOk, IfErr, OnOk, OnErr, vec_len, vec_capacity};
 ghost use Rattle.ring_locks.specs.Lines.{stands, waits_for, client_of, holder_of, comes_to};
 ghost use Rattle.ring_locks.specs.Locks.{Acquire, Try, Release, Cancel, Corrupt, Stats, acquire_refusal, try_refusal};
-ghost use Rattle.ring_locks.specs.Cuts.{IsNextOf, IsNoNext, gone_on};
+ghost use Rattle.ring_locks.specs.Cuts.{AreNext, HaveNoNext};
 ghost use Rattle.ring_locks.specs.Kept.{LockView, lock_of, locks_of, lock_limit, IsKeptRing, IsKeptLock, AreKept, IsDone, IsAnswer, IsLeft};
 ghost use Rattle.ring_locks.specs.Opened.{holder_behind, IsAdded};
 ghost use Rattle.ring_locks.specs.Parts.{view_of, views_of};
@@ -11,7 +11,7 @@ ghost use Rattle.ring_locks.specs.declared.answers.Left.{Left};
 ghost use Rattle.ring_locks.specs.declared.parts.LockParts.{LockParts};
 
 use crate::answers::{Answers, Holder, Left, Refusal, Waiter};
-use crate::cuts::{cut, next_ring};
+use crate::cuts::next_locks;
 use crate::leaving::leave_all;
 use crate::opened::open_hold;
 use crate::parts::{LockParts, refused};
@@ -314,32 +314,33 @@ impl Locks {
         &self.locks[lock as usize].ring
     }
 
-    /// The ring of a lock's next segment, which has no event but the one that carries a hold that is open: a pass by seat 3 of a
-    /// machine that is not privileged, whose order is the hold's token. It has room for a grant to each client that waits.
+    /// How many clients wait for a lock.
+    pub fn waiters(&self, lock: u32) -> usize
+        requires { lock < length self.now }
+        ensures { (v : LockView) → slice_get self.now lock ≡ Some v → result ≡ length v.line }
+    {
+        self.locks[lock as usize].line.len()
+    }
+
+    /// The locks as they go on in the next segments of their rings: nothing of them changes. The history of such a segment has no
+    /// event but the one that carries a hold that is open: a pass by seat 3 of a machine that is not privileged, whose order is the
+    /// hold's token. It has room for a grant to each client that waits. These locks stay as they are.
     ///
     /// # Errors
     ///
     /// `Full` where no segment has room, `Memory`.
-    pub fn next(&self, alloc: Global, lock: u32) -> Result<EndlessRing, Refusal>
-        requires { lock < length self.now }
-        ensures ok { IfOk result (λ next. (v : LockView) → slice_get self.now lock ≡ Some v
-            → IsNextOf v next) }
-        ensures kept { IfOk result (λ next. IsKeptRing next) }
-        ensures why { IfErr result (λ e. (v : LockView) → slice_get self.now lock ≡ Some v
-            → IsNoNext v e) }
+    pub fn next(&self, alloc: Global) -> Result<Locks, Refusal>
+        ensures ok { IfOk result (λ next. AreNext self.now next) }
+        ensures why { IfErr result (λ e. HaveNoNext self.now e) }
     {
-        next_ring(&self.locks[lock as usize], alloc)
-    }
-
-    /// Goes on with a lock in its next segment. Nothing of the lock changes.
-    pub fn cut(&mut self, lock: u32, next: EndlessRing)
-        requires lock { lock < length self.old }
-        requires next { (v : LockView) → slice_get self.old lock ≡ Some v → IsNextOf v next }
-        ensures new { (v : LockView) → slice_get self.old lock ≡ Some v
-            → self.new ≡ slice_set self.old lock (gone_on v next) }
-        ensures same { locks_of self.new ≡ locks_of self.old }
-    {
-        cut(&mut self.locks, &self.waits, lock, next);
+        let locks = match next_locks(self.locks.as_slice(), alloc) {
+            Ok(locks) => locks,
+            Err(why) => return Err(why),
+        };
+        let Ok(waits) = self.waits.copy() else {
+            return Err(Refusal::Memory);
+        };
+        Ok(Locks { locks, waits })
     }
 
     /// Acquires a lock for a client, with an order that the client chooses: it is granted at once if nobody holds the lock, or

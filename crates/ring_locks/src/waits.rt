@@ -1,6 +1,6 @@
 //! For which lock each client waits.
 
-ghost use Rattle.std.specs.Prelude.{◌≡◌, ℕ, ◌==◌, cond, Some, None, OnOk, OnErr};
+ghost use Rattle.std.specs.Prelude.{◌≡◌, ℕ, ◌==◌, cond, Some, None, IfOk, OnOk, OnErr};
 ghost use Rattle.ring_locks.specs.Waiting.{lock_in};
 
 use std::alloc::{AllocError, Global};
@@ -36,6 +36,16 @@ impl Waits {
         ensures { result ≡ lock_in self.now client }
     {
         self.locks.get(&client).copied()
+    }
+
+    /// The same, in memory of its own.
+    pub(crate) fn copy(&self) -> Result<Waits, AllocError>
+        ensures { IfOk result (λ copy. copy ≡ self.now) }
+    {
+        let Ok(locks) = self.locks.clone() else {
+            return Err(AllocError);
+        };
+        Ok(Waits { locks })
     }
 
     /// The client waits for this lock from now on.

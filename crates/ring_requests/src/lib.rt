@@ -5,6 +5,6 @@
 mod requests;
 
 pub use requests::{
-    CheckWords, JoinWords, NewWords, PictureWords, RecoverWords, Request, RingSize, RunWords,
-    ServeWords, StepWords, UpgradeWords,
+    CheckWords, JoinWords, LocksWords, NewWords, PictureWords, RecoverWords, Request, RingSize,
+    RunWords, ServeWords, StepWords, UpgradeWords,
 };

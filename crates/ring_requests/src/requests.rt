@@ -103,6 +103,21 @@ pub struct ServeWords<'a> {
     pub saves: Option<&'a str>,
 }
 
+/// The words of `locks`.
+#[derive(Clone, Copy)]
+pub struct LocksWords<'a> {
+    /// The name of the folder of the journal's segments.
+    pub journal: &'a str,
+    /// The list of locks, as it was given.
+    pub locks: Option<&'a str>,
+    /// How many lines a segment has before the next one begins.
+    pub segment: u32,
+    /// Whether each answer waits until the journal is on the disk.
+    pub synced: bool,
+    /// Whether a line may be a fault.
+    pub faults: bool,
+}
+
 /// A command, with its words.
 #[derive(Drop)]
 pub enum Request<'a> {

@@ -1,18 +1,17 @@
-use Rattle.std.proofs.Common.{ℕ, Bool, Option, ◌∙◌, sym, subst, inl, inr}
-use Rattle.ring_locks.specs.Locks.{Ask}
+use Rattle.std.proofs.Common.{Bool, [], sym, ◌∙◌, subst, refl}
+use Rattle.std.proofs.lemmas.List.{append-nil}
+use Rattle.lock_lines.specs.declared.answers.Denial.TheVariants as denial
 use Rattle.lock_lines.specs.Asks.{seen}
-use Rattle.lock_serve.specs.Serving.{IsTold, IsAnsweredIf}
-use Rattle.lock_serve.proofs.Telling.{on_err}
+use Rattle.lock_lines.specs.Answers.{denial_line}
+use Rattle.lock_serve.specs.Serving.{IsAnsweredIf}
+use Rattle.lock_serve.proofs.Telling.{on_ok}
 use Rattle.lock_serve.proofs.service.answer_ask.Goals as goal
 
-pub returns-in-None-clause-err : goal.returns-in-None-clause-err
-returns-in-None-clause-err c =
-    let noting = c.args.service.now.noting in
-    let old = c.args.service.now.locks in
-    let new = c.leave.new.service.locks in
-    on_err c.leave.result _ _ c.leave.ensures.err (elim [
-      | inl e ↦ inl e
-      | inr (said, noted, t) ↦
-          let told = subst (λ (x : Option (ℕ × Ask)). IsTold noting c.args.client x old said noted new) c.in-None.ensures t in
-          inr (said, noted, subst (λ (b : Bool). IsAnsweredIf b noting c.args.client (seen c.args.ask) old said noted new) (sym (sym c.is_off.ensures ∙ c.if-is_off.false)) told)
-    ])
+pub returns-then-is_off : goal.returns-then-is_off
+returns-then-is_off c =
+    let said = denial_line c.args.client denial.Off in (
+      said,
+      [],
+      subst (λ (b : Bool). IsAnsweredIf b c.args.terms.noting c.args.client (seen c.args.ask) c.args.segment.now said [] c.args.segment.now) (sym (sym c.is_off.ensures ∙ c.if-is_off.true)) (record { says = refl; notes = refl; leaves = refl }),
+      on_ok c.put_denial.result _ _ c.put_denial.ensures.ok (λ e. (e, sym (append-nil c.args.pending.now.notes.items))),
+    )

@@ -1,25 +1,28 @@
-use Rattle.std.proofs.Common.{[], sym, subst, inl, inr, refl}
+use Rattle.std.proofs.Common.{[], ◌++◌, ap, sym, ◌∙◌, subst, refl}
 use Rattle.std.proofs.lemmas.List.{append-nil}
+use Rattle.lock_lines.specs.declared.answers.Denial.{Denial}
 use Rattle.lock_lines.specs.declared.inputs.Input.{Input}
-use Rattle.lock_serve.specs.Serving.{terms_of, IsInputAnswered}
-use Rattle.lock_serve.proofs.Telling.{on_err}
+use Rattle.lock_lines.specs.Answers.{denial_line}
+use Rattle.lock_serve.specs.Serving.{denial_of, IsInputAnswered}
+use Rattle.lock_serve.proofs.Telling.{on_ok}
 use Rattle.lock_serve.proofs.service.answer_input.Goals as goal
 
-pub returns-in-Asked-clause-err : goal.returns-in-Asked-clause-err
-returns-in-Asked-clause-err c =
-    let terms = terms_of c.args.service.now in
-    let old = c.args.service.now.locks in
-    let new = c.answer_ask.new.service.locks in
-    on_err c.answer_ask.result _ _ c.answer_ask.ensures.err (elim [
-      | inl e ↦ inl e
-      | inr (said, noted, t) ↦ inr (said, noted, subst (λ (i : Input). IsInputAnswered terms i old said noted new) (sym c.in-Asked.is) t)
-    ])
-
-pub returns-in-Nobody-clause-ok : goal.returns-in-Nobody-clause-ok
-returns-in-Nobody-clause-ok c =
-    let old = c.args.service.now.locks in (
+pub returns-in-Refused : goal.returns-in-Refused
+returns-in-Refused c =
+    let said = denial_line c.in-Refused.client (denial_of c.in-Refused.why) in (
+      said,
       [],
-      [],
-      subst (λ (i : Input). IsInputAnswered (terms_of c.args.service.now) i old [] [] old) (sym c.in-Nobody.is) (record { says = refl; notes = refl; leaves = refl }),
-      (sym (append-nil c.args.pending.now.answers.items), sym (append-nil c.args.pending.now.notes.items)),
+      subst (λ (i : Input). IsInputAnswered c.args.terms i c.args.segment.now said [] c.args.segment.now) (sym c.in-Refused.is) (record { says = refl; notes = refl; leaves = refl }),
+      on_ok c.put_denial.result _ _ c.put_denial.ensures.ok (λ e. (
+        e ∙ ap (λ (d : Denial). c.args.pending.now.answers.items ++ denial_line c.in-Refused.client d) c.denial_of.ensures,
+        sym (append-nil c.args.pending.now.notes.items),
+      )),
     )
+
+pub returns-in-Nobody : goal.returns-in-Nobody
+returns-in-Nobody c = (
+  [],
+  [],
+  subst (λ (i : Input). IsInputAnswered c.args.terms i c.args.segment.now [] [] c.args.segment.now) (sym c.in-Nobody.is) (record { says = refl; notes = refl; leaves = refl }),
+  (sym (append-nil c.args.pending.now.answers.items), sym (append-nil c.args.pending.now.notes.items)),
+)

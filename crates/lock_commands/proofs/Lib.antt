@@ -1,0 +1,2 @@
+mod Summing
+pub mod UnreadLists

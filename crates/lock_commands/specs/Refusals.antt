@@ -1,0 +1,82 @@
+-- The program's names for what is refused of locks (this project's own).
+use Rattle.std.specs.Prelude.{◌≡◌, ℕ, List, codes, Option, None, Some}
+use Rattle.ring_state.specs.declared.sizes.ParamsError.{ParamsError}
+use Rattle.ring_state.specs.declared.sizes.ParamsError.TheVariants as params
+use Rattle.ring_settings.specs.declared.faults.RingCause.{RingCause}
+use Rattle.ring_settings.specs.declared.faults.RingCause.TheVariants as ring
+use Rattle.line_loop.specs.declared.faults.LoopFault.{LoopFault}
+use Rattle.line_loop.specs.declared.faults.LoopFault.TheVariants as loop
+use Rattle.lock_lists.specs.declared.locks.ListError.{ListError}
+use Rattle.lock_lists.specs.declared.locks.ListError.TheVariants as list
+use Rattle.lock_lists.specs.Lists.{Listed, IsLockList, IsWordFault}
+use Rattle.lock_folder.specs.declared.faults.StartFault.{StartFault}
+use Rattle.lock_folder.specs.declared.faults.StartFault.TheVariants as start
+use Rattle.segment_loop.specs.declared.segmented.EndFault.{EndFault}
+use Rattle.segment_loop.specs.declared.segmented.EndFault.TheVariants as end
+use Rattle.ring_commands.specs.declared.faults.ToolError.{ToolError}
+use Rattle.ring_commands.specs.declared.faults.ToolError.TheVariants as tool
+use Rattle.ring_commands.specs.Chained.{IsFolderFault}
+
+-- the fault of a size
+abbrev pub cause_of : ParamsError → RingCause
+cause_of params.TooFew = ring.TooFew
+cause_of params.TooMany = ring.TooMany
+cause_of params.FewValues = ring.FewValues
+cause_of params.ManyValues = ring.ManyValues
+
+-- the refusal of a list of locks
+abbrev pub fault_of_list : ListError → ToolError
+fault_of_list list.Syntax = tool.BadList
+fault_of_list list.Many = tool.ManyLocks
+fault_of_list (list.Size place error) = tool.Ring place (cause_of error)
+fault_of_list (list.Twice place) = tool.Twice place
+fault_of_list list.OutOfMemory = tool.OutOfMemory
+
+-- the refusal for locks of this folder that do not start
+abbrev pub IsStartName : List ℕ → StartFault → ToolError → Type 0
+IsStartName folder (start.Folder error) e = IsFolderFault folder error e
+IsStartName folder (start.Word error) e = e ≡ fault_of_list error
+IsStartName folder start.NoLocks (tool.NoLocks named) = named.now ≡ folder
+IsStartName folder start.NoLocksFile (tool.NoLocksFile named) = named.now ≡ folder
+IsStartName folder start.UnreadLocks (tool.UnreadLocks named) = named.now ≡ folder
+IsStartName folder start.BadLocks (tool.BadLocks named) = named.now ≡ folder
+IsStartName folder (start.OtherLock i) (tool.OtherLock named place) =
+    (named.now ≡ folder) × (place ≡ i)
+IsStartName folder (start.UnreadSegment n) (tool.UnreadSegment named number) =
+    (named.now ≡ folder) × (number ≡ n)
+IsStartName folder (start.Segment n error) (tool.Segment named number cause) =
+    (named.now ≡ folder) × (number ≡ n) × (cause ≡ error)
+IsStartName folder (start.OtherRing i) (tool.OtherRing named place) =
+    (named.now ≡ folder) × (place ≡ i)
+IsStartName folder (start.Full i) (tool.Full place) = place ≡ i
+IsStartName folder start.Unsaved (tool.Save named) = named.now ≡ folder
+IsStartName folder start.OutOfMemory tool.OutOfMemory = Unit {0}
+IsStartName folder _ _ = ⊥
+
+-- the refusal for a segment in this folder that cannot be begun
+abbrev pub IsBeginName : List ℕ → EndFault → ToolError → Type 0
+IsBeginName folder end.OutOfMemory tool.OutOfMemory = Unit {0}
+IsBeginName folder end.File (tool.Save named) = named.now ≡ folder
+IsBeginName folder end.Full (tool.Save named) = named.now ≡ folder
+IsBeginName folder _ _ = ⊥
+
+-- the refusal for a fault while lines were served
+abbrev pub IsLoopName : List ℕ → LoopFault → ToolError → Type 0
+IsLoopName folder loop.Read (tool.Read named) = named.now ≡ codes "-"
+IsLoopName folder loop.TooLong (tool.TooLarge named) = named.now ≡ codes "-"
+IsLoopName folder loop.Journal (tool.Save named) = named.now ≡ folder
+IsLoopName folder loop.Write tool.Write = Unit {0}
+IsLoopName folder loop.OutOfMemory tool.OutOfMemory = Unit {0}
+IsLoopName folder _ _ = ⊥
+
+-- ---- a list that is named
+
+-- the word, if there is one, is a list of locks
+abbrev pub IsListIf : Option (List ℕ) → Type 0
+IsListIf None = Unit {0}
+IsListIf (Some word) = (locks : List Listed) × IsLockList word locks
+
+-- the word is none, and is refused so
+abbrev pub IsNoListFor : Option (List ℕ) → ToolError → Type 0
+IsNoListFor None e = ⊥
+IsNoListFor (Some word) e = (error : ListError) × IsWordFault word error × (e ≡ fault_of_list error)

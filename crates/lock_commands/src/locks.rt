@@ -1,0 +1,171 @@
+//! `locks`: the locks of a folder answer the lines of standard input, with a journal in the folder's segments.
+
+ghost use Rattle.std.specs.Prelude.{◌≡◌, ◌<◌, OnOk, IfOk, IfErr};
+ghost use Rattle.std.specs.Option.{option_map};
+ghost use Rattle.ring_segments.specs.Spelling.{DigestFits};
+ghost use Rattle.lock_folder.specs.Folders.{place_of};
+ghost use Rattle.ring_commands.specs.Worlds.{world};
+ghost use Rattle.lock_commands.specs.Refusals.{IsListIf, IsNoListFor};
+ghost use Rattle.lock_commands.specs.Locks.{terms_of, BeginsWith, IsRun, IsServedIn, IsLocksAnswer, IsRunRefused, IsRefusedIn, IsLocksRefusal};
+
+use crate::refusals::{begin_refusal, list_refusal, serving_refusal, start_refusal};
+use crate::totals::tell_totals;
+use disks::Disk;
+use lock_folder::{Start, start_locks};
+use lock_lists::read_list_word;
+use lock_serve::{LockService, Terms};
+use ring_commands::faults::ToolError;
+use ring_commands::serve_folder::lock_folder;
+use ring_locks::Locks;
+use ring_requests::LocksWords;
+use segment_loop::{SegmentRules, begin_segment, close_segment, serve_segments};
+use std::alloc::Global;
+use std::io::{Read, Write};
+
+/// The terms on which lines are answered.
+fn terms_of(words: &LocksWords<'_>) -> Terms
+    ensures { result ≡ terms_of words.now }
+{
+    Terms {
+        faults: words.faults,
+        noting: true,
+        limit: Some((words.segment as u64).max(1)),
+    }
+}
+
+/// The service as it begins with these locks.
+fn service_of(
+    alloc: Global,
+    locks: Locks,
+    words: &LocksWords<'_>,
+) -> Result<LockService, ToolError<'static>>
+    ensures ok { IfOk result (λ service. BeginsWith words.now locks service) }
+    ensures err { IfErr result (λ e. e ≡ ToolError.OutOfMemory) }
+{
+    match LockService::new(alloc, locks, terms_of(words)) {
+        Ok(service) => Ok(service),
+        Err(_) => Err(ToolError::OutOfMemory),
+    }
+}
+
+/// Serves from where the locks start, in a folder that is locked, and settles the last segment.
+fn serve_from<'a, D: Disk, I: Read, W: Write>(
+    alloc: Global,
+    disk: &mut D,
+    start: Start,
+    words: &LocksWords<'a>,
+    input: &mut I,
+    out: &mut W,
+) -> Result<LockService, ToolError<'a>>
+    requires digest { DigestFits start.behind }
+    requires number { 0 < start.number }
+    ensures ok { IfOk result (λ end.
+        IsRun words.now (place_of start) end (D.holds disk.old) (D.holds disk.new)
+        (I.remaining input.old) (I.remaining input.new) (W.contents out.old) (W.contents out.new)) }
+    ensures err { IfErr result (λ e.
+        IsRunRefused words.now (place_of start) (D.holds disk.old) (D.holds disk.new)
+        (I.remaining input.old) (I.remaining input.new) (W.contents out.old) (W.contents out.new)
+        e) }
+{
+    let Start {
+        locks,
+        number,
+        behind,
+    } = start;
+    let rules = SegmentRules {
+        folder: words.journal,
+        synced: words.synced,
+    };
+    let mut service = match service_of(alloc, locks, words) {
+        Ok(service) => service,
+        Err(fault) => return Err(fault),
+    };
+    let first = match begin_segment(alloc, disk, &service, number, behind, rules) {
+        Ok(first) => first,
+        Err(why) => return Err(begin_refusal(why, words.journal)),
+    };
+    let last = match serve_segments(alloc, &mut service, disk, first, rules, input, out) {
+        Ok(last) => last,
+        Err(fault) => return Err(serving_refusal(fault, words.journal)),
+    };
+    match close_segment(disk, last) {
+        Ok(()) => Ok(service),
+        Err(_) => Err(ToolError::Save(words.journal)),
+    }
+}
+
+/// The locks of a folder, when all lines have been served. The folder is locked from before it is listed.
+fn run_in_folder<'a, D: Disk, I: Read, W: Write>(
+    alloc: Global,
+    disk: &mut D,
+    words: &LocksWords<'a>,
+    input: &mut I,
+    out: &mut W,
+) -> Result<LockService, ToolError<'a>>
+    ensures ok { IfOk result (λ end.
+        IsServedIn words.now end (D.holds disk.old) (D.holds disk.new) (I.remaining input.old)
+        (I.remaining input.new) (W.contents out.old) (W.contents out.new)) }
+    ensures err { IfErr result (λ e.
+        IsRefusedIn words.now (D.holds disk.old) (D.holds disk.new) (I.remaining input.old)
+        (I.remaining input.new) (W.contents out.old) (W.contents out.new) e) }
+{
+    let lock = match lock_folder(alloc, disk, words.journal) {
+        Ok(lock) => lock,
+        Err(fault) => return Err(fault),
+    };
+    let start = match start_locks(alloc, disk, words.journal, words.locks) {
+        Ok(start) => start,
+        Err(fault) => return Err(start_refusal(fault, words.journal)),
+    };
+    let end = serve_from(alloc, disk, start, words, input, out);
+    drop(lock);
+    end
+}
+
+/// Checks the list that is named, before any file is made.
+fn check_named(alloc: Global, word: Option<&str>) -> Result<(), ToolError<'static>>
+    ensures ok { OnOk result (IsListIf (option_map (λ w. w.now) word.entry)) }
+    ensures err { IfErr result (λ e. IsNoListFor (option_map (λ w. w.now) word.entry) e) }
+{
+    let Some(word) = word else {
+        return Ok(());
+    };
+    match read_list_word(alloc, word) {
+        Ok(_) => Ok(()),
+        Err(error) => Err(list_refusal(error)),
+    }
+}
+
+/// `locks`, from its words: the locks of the folder answer the lines of `input` on `out`; when all have been, the sums over the
+/// locks are reported on `err`.
+pub fn run<'a, D: Disk, I: Read, W: Write, E: Write>(
+    alloc: Global,
+    disk: &mut D,
+    words: &LocksWords<'a>,
+    input: &mut I,
+    out: &mut W,
+    err: &mut E,
+) -> Result<(), ToolError<'a>>
+    ensures ok { OnOk result (IsLocksAnswer words.now
+        (world (D.holds disk.old) (I.remaining input.old) (W.contents out.old) (E.contents err.old))
+        (world (D.holds disk.new) (I.remaining input.new) (W.contents out.new)
+        (E.contents err.new))) }
+    ensures err { IfErr result (λ e.
+        IsLocksRefusal words.now
+        (world (D.holds disk.old) (I.remaining input.old) (W.contents out.old) (E.contents err.old))
+        (world (D.holds disk.new) (I.remaining input.new) (W.contents out.new)
+        (E.contents err.new)) e) }
+{
+    match check_named(alloc, words.locks) {
+        Ok(()) => {}
+        Err(fault) => return Err(fault),
+    }
+    let end = match run_in_folder(alloc, disk, words, input, out) {
+        Ok(end) => end,
+        Err(fault) => return Err(fault),
+    };
+    match tell_totals(end.locks(), err) {
+        Ok(()) => Ok(()),
+        Err(fault) => Err(fault),
+    }
+}

@@ -1,0 +1,84 @@
+//! The line of the sums over locks.
+
+ghost use Rattle.std.specs.Prelude.{◌≡◌, OnOk, IfErr, IfSome, IsNone};
+ghost use Rattle.std.specs.Io.KnownBytes.{Appends};
+ghost use Rattle.text_lines.specs.Writing.{Writes};
+ghost use Rattle.lock_commands.specs.Totals.{sums_of, with_ring, AreTooLarge, sums_line, total_line, IsUntold};
+
+use itoa::Buffer;
+use ring_commands::faults::ToolError;
+use ring_endless::EndlessRing;
+use ring_locks::Locks;
+use std::io::Write;
+use text_lines::{WriteFault, put_all};
+
+/// The events and the grants of rings, over all their segments.
+#[derive(Clone, Copy)]
+pub(crate) struct Sums {
+    events: u64,
+    granted: u64,
+}
+
+/// These sums with one ring more; none if one of them has more than 64 bits.
+fn with_ring(all: Sums, ring: &EndlessRing) -> Option<Sums>
+    ensures some { IfSome result (λ sums. sums ≡ with_ring all ring.now) }
+    ensures none { IsNone result → AreTooLarge (with_ring all ring.now) }
+{
+    let events = all.events.checked_add(ring.base().events)?;
+    Some(Sums {
+        events: events.checked_add(ring.segment().history().len() as u64)?,
+        granted: all.granted.checked_add(ring.grants())?,
+    })
+}
+
+/// The sums over the rings of all locks; none if one of them has more than 64 bits.
+fn sums_of(locks: &Locks) -> Option<Sums>
+    ensures some { IfSome result (λ sums. sums ≡ sums_of locks.now) }
+    ensures none { IsNone result → AreTooLarge (sums_of locks.now) }
+{
+    let count = locks.count();
+    let mut all = Sums {
+        events: 0,
+        granted: 0,
+    };
+    for lock in 0..count {
+        all = with_ring(all, locks.ring(lock))?;
+    }
+    Some(all)
+}
+
+/// Writes the line of so many locks with these sums.
+fn put_sums<W: Write>(out: &mut W, locks: u32, sums: Sums) -> Result<(), WriteFault>
+    ensures { Writes (W.contents out.old) (W.contents out.new) result (sums_line locks sums) }
+{
+    let mut buffers = (Buffer::new(), Buffer::new(), Buffer::new());
+    let locks = buffers.0.format(locks).as_bytes();
+    let events = buffers.1.format(sums.events).as_bytes();
+    let granted = buffers.2.format(sums.granted).as_bytes();
+    put_all(
+        out,
+        &[
+            b"total locks ",
+            locks,
+            b" events ",
+            events,
+            b" granted ",
+            granted,
+            b"\n",
+        ],
+    )
+}
+
+/// Writes the line of the sums over the locks.
+pub(crate) fn tell_totals<W: Write>(locks: &Locks, err: &mut W) -> Result<(), ToolError<'static>>
+    ensures ok { OnOk result (Appends (W.contents err.old) (W.contents err.new)
+        (total_line locks.now)) }
+    ensures err { IfErr result
+        (λ e. IsUntold locks.now (W.contents err.old) (W.contents err.new) e) }
+{
+    let Some(sums) = sums_of(locks) else {
+        return Err(ToolError::TotalsTooLarge);
+    };
+    put_sums(err, locks.count(), sums)?;
+    Ok(())
+}

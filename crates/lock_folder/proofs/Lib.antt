@@ -1,0 +1,3 @@
+mod Entries
+mod Begun
+mod Refused

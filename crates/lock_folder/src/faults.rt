@@ -1,0 +1,35 @@
+//! Why the locks of a folder do not start.
+
+use lock_lists::ListError;
+use ring_segments::SegmentError;
+use segment_folder::FolderError;
+
+/// Why the locks of a folder do not start. Places are from 0.
+#[derive(Clone, Copy)]
+pub enum StartFault {
+    /// The names in the folder are not those of a folder of segments.
+    Folder(FolderError),
+    /// The word is not a list of locks.
+    Word(ListError),
+    /// No locks are named, and the folder has none.
+    NoLocks,
+    /// The folder has segments, but no file of locks.
+    NoLocksFile,
+    /// The file of locks cannot be read.
+    UnreadLocks,
+    /// It is not that of a list of locks.
+    BadLocks,
+    /// The lock at this place in the folder is not the one that is named, or none is named there.
+    OtherLock(usize),
+    /// The last segment, which has this number, cannot be read.
+    UnreadSegment(u64),
+    /// No chain can end with it, or it says another number.
+    Segment(u64, SegmentError),
+    /// Its ring at this place is not of the size of its lock, or there is no such lock.
+    OtherRing(usize),
+    /// Its ring at this place has no room for its repair.
+    Full(usize),
+    /// The file of locks cannot be written.
+    Unsaved,
+    OutOfMemory,
+}

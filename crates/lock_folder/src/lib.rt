@@ -1,0 +1,14 @@
+//! The locks of a folder: their names and sizes, and where their rings stand.
+#![tactic(auto)]
+
+mod faults;
+mod folder;
+mod lists;
+mod places;
+mod rings;
+#[cfg(test)]
+mod tests;
+
+pub use faults::StartFault;
+pub use folder::start_locks;
+pub use places::Start;

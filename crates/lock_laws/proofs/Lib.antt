@@ -1,0 +1,11 @@
+pub mod Shadows
+pub mod Chains
+pub mod Marks
+pub mod Answering
+pub mod Following
+pub mod Lines
+pub mod Longer
+pub mod Recovering
+pub mod Restarting
+pub mod Keeping
+pub mod Segments

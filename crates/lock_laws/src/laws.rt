@@ -1,0 +1,33 @@
+//! The laws of locks whose lines are answered with a journal: what is recovered of it. Each law is the contract of a function
+//! that does nothing; the statements are in `specs/Recovered.antt`.
+
+ghost use Rattle.lock_laws.specs.Begun.{ServedLinesAreAnswered, AnsweredLinesFollow};
+ghost use Rattle.lock_laws.specs.Recovered.{LocksComeBack, NothingToldIsLost, AddedLocksBegin, NextLocksBegin};
+
+/// Lines that the service answers are answered so, whether its segment is kept on or not; and lines that are answered in parts, one
+/// behind the other, are answered as a whole.
+pub fn answered_lines_follow()
+    ensures served { ServedLinesAreAnswered }
+    ensures follow { AnsweredLinesFollow }
+{}
+
+/// Of a journal that has the beginning of a segment and the notes of the lines that were told, and perhaps a torn line behind
+/// them, one history is recovered. The locks that are made of it are those that stood behind the last of these lines, restarted:
+/// nobody waits for them, and a hold that is open is client 0's, with its token.
+pub fn locks_come_back()
+    ensures { LocksComeBack }
+{}
+
+/// Of whatever is kept of a journal, if it has the beginning of a segment and the notes of the lines that were told, rings are
+/// recovered. They have gone on from those that the journal tells behind the last of these lines, where each grant and each
+/// release that was told is at its place. A hold that was told is open in them as long as the journal has no end of it.
+pub fn nothing_told_is_lost()
+    ensures { NothingToldIsLost }
+{}
+
+/// Locks that were added one after the other show their holds, so they can begin a segment: a fresh ring shows none, and one that
+/// was recovered shows the hold that goes on as client 0's. So do locks that go on in their next segments.
+pub fn locks_begin_segments()
+    ensures added { AddedLocksBegin }
+    ensures next { NextLocksBegin }
+{}

@@ -1,0 +1,10 @@
+pub mod Reading
+pub mod Told
+pub mod Refusing
+pub mod Excluding
+pub mod Parts
+pub mod Files
+pub mod ChainHolds
+pub mod ChainPlaces
+pub mod LineLaws
+pub mod Counting

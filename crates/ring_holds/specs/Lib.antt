@@ -1,0 +1,10 @@
+pub mod Signs
+pub mod Holds
+pub mod Known
+pub mod Ends
+pub mod Chains
+pub mod ChainSteps
+pub mod ChainLaws
+pub mod Lines
+pub mod Labels
+pub mod Laws

@@ -1,0 +1,27 @@
+//! Laws of holds: functions with an empty body, whose contract is the law.
+
+ghost use Rattle.ring_holds.specs.ChainLaws.{ChainHoldsExclude, ReadFilesTell};
+ghost use Rattle.ring_holds.specs.Chains.{FilesTellHolds, BlocksTellHolds};
+ghost use Rattle.ring_holds.specs.Laws.{ReadAreHolds, RefusedAreNoHolds, HoldsAreOne, HoldsExclude, SignsRise};
+
+/// What a reader knows behind signs are the holds of which they tell, the only ones; and signs that it refuses tell of none.
+pub fn holds_of_signs()
+    ensures read { ReadAreHolds }
+    ensures refused { RefusedAreNoHolds }
+    ensures one { HoldsAreOne }
+{}
+
+/// Of a lock no two holds are open at a time, over all segments of a chain, and their tokens rise.
+pub fn holds_exclude_each_other()
+    ensures exclude { HoldsExclude }
+    ensures signs { SignsRise }
+    ensures chains { ChainHoldsExclude }
+{}
+
+/// Files that [`HoldChain`](crate::HoldChain) has read are a chain. What is known of a lock behind them, or behind a saved
+/// history, are its holds.
+pub fn holds_of_chains()
+    ensures chain { ReadFilesTell }
+    ensures files { FilesTellHolds }
+    ensures blocks { BlocksTellHolds }
+{}
