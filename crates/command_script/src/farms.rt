@@ -51,10 +51,10 @@ pub fn run_farm<R: AllocGlobal + Files<File = File> + Threads + Wait + Sync, W: 
     let (corrupted, history) = line.split_once('|').unwrap_or((line, ""));
     let mut words = words_of(rt.alloc(), "run|-|--history")?;
     words.push(String::from_str(rt.alloc(), history)?)?;
-    let ran = run_plainly(rt, &words, text);
+    let ran = run_plainly(rt, &words, text)?;
     let mut words = words_of(rt.alloc(), "check")?;
     words.push(String::from_str(rt.alloc(), history)?)?;
-    let checked = run_plainly(rt, &words, b"");
+    let checked = run_plainly(rt, &words, b"")?;
     writeln!(out, "&{line}")?;
     if do_agree(rt.alloc(), &ran, &checked, corrupted)? {
         let lines = ran

@@ -4,7 +4,7 @@ use std::alloc::Global;
 use std::io::{self, ErrorKind, Read, Write};
 
 /// A writer into memory. It takes at most `at_most` bytes a call. Bytes past the first `room` it does not take, and then
-/// fails or, where it is `mute`, takes none. Its flush fails where it is `stuck`.
+/// fails or, where it is `mute`, takes none. Its flush fails where it is `stuck`, and then it notes so in `refused`.
 #[derive(Drop)]
 pub struct Paper {
     pub text: Vec<u8>,
@@ -12,6 +12,7 @@ pub struct Paper {
     pub room: usize,
     pub mute: bool,
     pub stuck: bool,
+    pub refused: bool,
 }
 
 impl Paper {
@@ -22,6 +23,7 @@ impl Paper {
             room: usize::MAX,
             mute: false,
             stuck: false,
+            refused: false,
         }
     }
 }
@@ -39,6 +41,7 @@ impl Write for Paper {
 
     fn flush(&mut self) -> io::Result<()> {
         if self.stuck {
+            self.refused = true;
             return Err(io::Error::from(ErrorKind::BrokenPipe));
         }
         Ok(())

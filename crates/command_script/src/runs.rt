@@ -5,7 +5,7 @@ use disks::SystemDisk;
 use ring_program::run_tool_on;
 use std::alloc::{AllocError, Global};
 use std::fs::File;
-use std::io::{self, Read, Write};
+use std::io::{self, BufWriter, Read, Write};
 use std::rt::Files;
 use std::sync::Wait;
 use std::thread::Threads;
@@ -35,16 +35,17 @@ pub fn run_over<R: AllocGlobal + Files<File = File> + Threads + Wait + Sync, I: 
     rt: &R,
     words: &[String],
     input: &mut I,
-    mut printed: Paper,
+    printed: Paper,
     mut told: Paper,
-) -> Ended {
+) -> io::Result<Ended> {
     let mut disk = SystemDisk::new(rt);
-    let status = run_tool_on(rt, &mut disk, words, input, &mut printed, &mut told);
-    Ended {
-        status,
-        printed,
+    let out = BufWriter::new(rt.alloc(), printed)?;
+    let ending = run_tool_on(rt, &mut disk, words, input, out, &mut told);
+    Ok(Ended {
+        status: ending.status,
+        printed: ending.out,
         told,
-    }
+    })
 }
 
 /// Runs the program on these words and this text, over writers that take all.
@@ -52,7 +53,7 @@ pub fn run_plainly<R: AllocGlobal + Files<File = File> + Threads + Wait + Sync>(
     rt: &R,
     words: &[String],
     mut text: &[u8],
-) -> Ended {
+) -> io::Result<Ended> {
     let (printed, told) = (Paper::new(rt.alloc()), Paper::new(rt.alloc()));
     run_over(rt, words, &mut text, printed, told)
 }
@@ -75,7 +76,7 @@ pub fn run<R: AllocGlobal + Files<File = File> + Threads + Wait + Sync, W: Write
     let words = words_of(rt.alloc(), line)?;
     let mut input = text;
     let (printed, told) = (Paper::new(rt.alloc()), Paper::new(rt.alloc()));
-    let ended = run_over(rt, &words, &mut input, printed, told);
+    let ended = run_over(rt, &words, &mut input, printed, told)?;
     writeln!(out, "${line}")?;
     write_ended(&ended, out)?;
     if input.is_empty() {
@@ -94,7 +95,7 @@ pub fn run_broken<R: AllocGlobal + Files<File = File> + Threads + Wait + Sync, W
     let words = words_of(rt.alloc(), line)?;
     let mut input = Broken { rest: text };
     let (printed, told) = (Paper::new(rt.alloc()), Paper::new(rt.alloc()));
-    let ended = run_over(rt, &words, &mut input, printed, told);
+    let ended = run_over(rt, &words, &mut input, printed, told)?;
     writeln!(out, "?{line}")?;
     write_ended(&ended, out)
 }

@@ -42,27 +42,27 @@ fn is_cut_at<R: AllocGlobal + Files<File = File> + Threads + Wait + Sync>(
     text: &[u8],
     whole: &Ended,
     (room, mute): (usize, bool),
-) -> bool {
+) -> io::Result<bool> {
     let cut = paper_of(rt.alloc(), room, mute);
     let all = Paper::new(rt.alloc());
     let mut input = Slow { rest: text };
     if whole.status == 0 {
-        let ended = run_over(rt, words, &mut input, cut, all);
-        is_cut(&ended, &whole.printed.text, room)
+        let ended = run_over(rt, words, &mut input, cut, all)?;
+        Ok(is_cut(&ended, &whole.printed.text, room))
     } else {
-        let ended = run_over(rt, words, &mut input, all, cut);
-        is_cut_error(&ended, whole, room)
+        let ended = run_over(rt, words, &mut input, all, cut)?;
+        Ok(is_cut_error(&ended, whole, room))
     }
 }
 
-/// Whether a run that reads and writes a byte at a time does the same, and one whose output cannot leave its buffer says so.
+/// Whether a run that reads and writes a byte at a time does the same, and one that could not flush its output says so.
 fn is_same_slowly<R: AllocGlobal + Files<File = File> + Threads + Wait + Sync>(
     rt: &R,
     words: &[String],
     text: &[u8],
     whole: &Ended,
     stuck: bool,
-) -> bool {
+) -> io::Result<bool> {
     let printed = Paper {
         at_most: 1,
         stuck,
@@ -72,13 +72,13 @@ fn is_same_slowly<R: AllocGlobal + Files<File = File> + Threads + Wait + Sync>(
         at_most: 1,
         ..Paper::new(rt.alloc())
     };
-    let ended = run_over(rt, words, &mut Slow { rest: text }, printed, told);
-    let is_told = if stuck && whole.status == 0 {
+    let ended = run_over(rt, words, &mut Slow { rest: text }, printed, told)?;
+    let is_told = if ended.printed.refused {
         ended.status == 1 && ended.told.text.as_slice() == b"cannot write\n".as_slice()
     } else {
         ended.status == whole.status && ended.told.text == whole.told.text
     };
-    is_told && ended.printed.text == whole.printed.text
+    Ok(is_told && ended.printed.text == whole.printed.text)
 }
 
 /// Runs the program on a line of words and writes what it did. Then runs it again with a reader and writers of a byte at a
@@ -91,11 +91,11 @@ pub fn run_hindered<R: AllocGlobal + Files<File = File> + Threads + Wait + Sync,
     out: &mut W,
 ) -> io::Result<()> {
     let words = words_of(rt.alloc(), line)?;
-    let whole = run_plainly(rt, &words, text);
+    let whole = run_plainly(rt, &words, text)?;
     writeln!(out, "%{line}")?;
     write_ended(&whole, out)?;
     for stuck in [false, true] {
-        if !is_same_slowly(rt, &words, text, &whole, stuck) {
+        if !is_same_slowly(rt, &words, text, &whole, stuck)? {
             writeln!(out, "slowly, stuck {stuck}: wrong")?;
         }
     }
@@ -118,7 +118,7 @@ fn write_rooms<R: AllocGlobal + Files<File = File> + Threads + Wait + Sync, W: W
 ) -> io::Result<()> {
     for room in 0..rooms {
         for mute in [false, true] {
-            if !is_cut_at(rt, words, text, whole, (room, mute)) {
+            if !is_cut_at(rt, words, text, whole, (room, mute))? {
                 writeln!(out, "room {room}, mute {mute}: wrong")?;
             }
         }
@@ -166,7 +166,7 @@ pub fn run_cuts<R: AllocGlobal + Files<File = File> + Threads + Wait + Sync, W: 
     let words = words_of(rt.alloc(), line)?;
     let mut answers = Vec::new(rt.alloc());
     for end in 0..text.len() {
-        let ended = run_plainly(rt, &words, &text[..end]);
+        let ended = run_plainly(rt, &words, &text[..end])?;
         count_answer(rt.alloc(), &mut answers, &ended)?;
     }
     writeln!(out, "<{line}")?;
@@ -197,7 +197,7 @@ pub fn run_other_bytes<R: AllocGlobal + Files<File = File> + Threads + Wait + Sy
     for (place, old) in text.iter().enumerate() {
         for byte in OTHERS {
             if byte != *old {
-                let ended = run_plainly(rt, &words, &changed_at(rt.alloc(), text, place, byte)?);
+                let ended = run_plainly(rt, &words, &changed_at(rt.alloc(), text, place, byte)?)?;
                 count_answer(rt.alloc(), &mut answers, &ended)?;
             }
         }

@@ -1,6 +1,6 @@
 //! Which segments a folder has, and `check` and `recover` of one, over files in memory.
 
-use crate::files::memory::{bytes_of, no_files, put};
+use crate::files::memory::{bytes_of, make_folder, no_files, put};
 use crate::segments::{FIRST, SECOND, THIRD, THIRD_DIGEST};
 use disks::{Disk, MemoryDisk};
 use ring_commands::faults::ToolError;
@@ -15,6 +15,7 @@ use std::test::Fail;
 /// A folder `f` with the three files of a chain, from the one of this number on.
 fn chain_from(alloc: Global, first: usize) -> io::Result<MemoryDisk> {
     let mut disk = no_files(alloc);
+    make_folder(&mut disk, "f")?;
     let files = [
         ("f/0000000001.ring", FIRST),
         ("f/0000000002.ring", SECOND),
@@ -45,6 +46,7 @@ fn a_segment_has_ten_digits_at_least(rt: HostRuntime) -> Result<(), Fail> {
 #[test]
 fn a_folder_has_the_segments_from_the_first_to_the_last(rt: HostRuntime) -> Result<(), Fail> {
     let mut disk = no_files(rt.alloc());
+    make_folder(&mut disk, "f")?;
     put(&mut disk, "f/lock", b"")?;
     let found = numbers_in(rt.alloc(), &disk, "f");
     assert!(rt; matches!(found, Ok(None)));

@@ -1,14 +1,19 @@
 //! `join` of folders whose files are the chain of the tests of segments, over files in memory.
 
-use crate::files::memory::{bytes_of, no_files, put};
+use crate::files::memory::{bytes_of, make_folder, no_files, put};
+use crate::files::system::{
+    expect, expect_count, folder_of as new_folder, link_in, within, write_in,
+};
 use crate::segments::{FIRST, SECOND, THIRD};
-use disks::MemoryDisk;
+use disks::{MemoryDisk, SystemDisk};
 use ring_commands::faults::ToolError;
 use ring_commands::join;
 use ring_requests::JoinWords;
 use ring_segments::SegmentError;
 use std::alloc::Global;
+use std::fs::{self, File};
 use std::io::{self, ErrorKind};
+use std::rt::Files;
 use std::test::Fail;
 
 const WORDS: JoinWords<'static> = JoinWords {
@@ -61,6 +66,7 @@ const SURVEYED: &str = "ringfarm 2\n\
 /// A folder `f` with the first file of the chain, and this one as the second.
 fn folder_of(alloc: Global, second: &[u8]) -> io::Result<MemoryDisk> {
     let mut disk = no_files(alloc);
+    make_folder(&mut disk, "f")?;
     put(&mut disk, "f/0000000001.ring", FIRST.as_bytes())?;
     put(&mut disk, "f/0000000002.ring", second)?;
     Ok(disk)
@@ -114,7 +120,7 @@ fn is_refused(alloc: Global, second: &[u8], why: SegmentError) -> Result<bool, F
         }
         _ => false,
     };
-    Ok(refused && out.is_empty() && err.is_empty() && disk.entries.len() == 2)
+    Ok(refused && out.is_empty() && err.is_empty() && disk.entries.len() == 3)
 }
 
 #[test]
@@ -122,5 +128,38 @@ fn files_that_do_not_follow_are_not_joined(rt: HostRuntime) -> Result<(), Fail> 
     let alloc = rt.alloc();
     assert!(rt; is_refused(alloc, THIRD.as_bytes(), SegmentError::Number)?);
     assert!(rt; is_refused(alloc, &SECOND.as_bytes()[..100], SegmentError::Truncated)?);
+    Ok(())
+}
+
+/// Whether `join` says of NEW that it lies in the folder, or that it is another name of a file there; or none of both.
+fn lies_in<R: AllocGlobal + Files<File = File>>(rt: &R, folder: &str, new: &str) -> Option<bool> {
+    let words = JoinWords { folder, new };
+    let mut disk = SystemDisk::new(rt);
+    let mut out = Vec::new(rt.alloc());
+    let mut err = Vec::new(rt.alloc());
+    match join::run(rt.alloc(), &mut disk, &words, &mut out, &mut err) {
+        Err(ToolError::InFolder(name)) if name == new => Some(true),
+        Err(ToolError::SameFile(name)) if name == new => Some(false),
+        _ => None,
+    }
+}
+
+#[test]
+fn no_file_of_the_folder_is_written_by_another_name(rt: HostRuntime) -> Result<(), Fail> {
+    let folder = new_folder(&rt, "joined")?;
+    let elsewhere = new_folder(&rt, "elsewhere")?;
+    write_in(&rt, &folder, "0000000001.ring", FIRST)?;
+    let segment = within(&rt, &folder, "0000000001.ring")?;
+    link_in(&rt, &elsewhere, "link", &segment)?;
+    let hard = within(&rt, &elsewhere, "hard")?;
+    fs::hard_link(&rt, segment.as_str(), hard.as_str())?;
+    let inside = within(&rt, &folder, "new.txt")?;
+    assert_eq!(rt; lies_in(&rt, &folder, &inside), Some(true));
+    assert_eq!(rt; lies_in(&rt, &folder, &hard), Some(false));
+    let link = within(&rt, &elsewhere, "link")?;
+    assert_eq!(rt; lies_in(&rt, &folder, &link), Some(false));
+    expect(&rt, &folder, "0000000001.ring", Some(FIRST))?;
+    expect_count(&rt, &folder, 1)?;
+    expect_count(&rt, &elsewhere, 2)?;
     Ok(())
 }

@@ -1,6 +1,6 @@
 //! Files in memory.
 
-use disks::{Disk, MemoryDisk};
+use disks::{Disk, MemoryDisk, Stored, StoredEntry};
 use std::alloc::Global;
 use std::io::{self, ErrorKind, Read, Write};
 use std::test::Fail;
@@ -26,6 +26,15 @@ pub fn no_files(alloc: Global) -> MemoryDisk {
         alloc,
         entries: Vec::new(alloc),
     }
+}
+
+/// Has a folder of this name be there.
+pub fn make_folder(disk: &mut MemoryDisk, name: &str) -> io::Result<()> {
+    disk.entries.push(StoredEntry {
+        name: String::from_str(disk.alloc, name)?,
+        stored: Stored::Folder,
+    })?;
+    Ok(())
 }
 
 #[test]
@@ -85,22 +94,60 @@ fn a_name_is_one_file_with_itself_alone(rt: HostRuntime) -> Result<(), Fail> {
     Ok(())
 }
 
-#[test]
-fn a_folder_has_the_files_with_its_name_before_a_slash(rt: HostRuntime) -> Result<(), Fail> {
-    let mut disk = no_files(rt.alloc());
-    for name in ["f/a", "a", "f/b", "g/a", "f/g/a", "ff/c", "f"] {
+/// A folder with two files and a folder, and files elsewhere.
+fn one_folder(alloc: Global) -> io::Result<MemoryDisk> {
+    let mut disk = no_files(alloc);
+    make_folder(&mut disk, "f")?;
+    make_folder(&mut disk, "f/g")?;
+    make_folder(&mut disk, "e")?;
+    for name in ["f/a", "a", "f/b", "g/a", "f/g/a", "ff/c"] {
         put(&mut disk, name, b"text")?;
     }
+    Ok(disk)
+}
+
+#[test]
+fn a_folder_has_what_has_its_name_before_a_slash(rt: HostRuntime) -> Result<(), Fail> {
+    let disk = one_folder(rt.alloc())?;
     let listed = disk.list("f")?;
     let mut names = listed
         .iter()
         .map(|entry| (entry.name.as_str(), entry.is_regular));
+    assert_eq!(rt; names.next(), Some(("g", false)));
     assert_eq!(rt; names.next(), Some(("a", true)));
     assert_eq!(rt; names.next(), Some(("b", true)));
     assert_eq!(rt; names.next(), None);
-    let Err(fault) = disk.list("h") else {
-        panic!(rt; "a folder with nothing in it");
-    };
-    assert!(rt; fault.kind() == ErrorKind::NotFound);
+    assert!(rt; disk.list("e")?.is_empty());
+    for name in ["a", "f/a", "h", "ff"] {
+        let Err(fault) = disk.list(name) else {
+            panic!(rt; "listed {name}");
+        };
+        assert!(rt; fault.kind() == ErrorKind::NotFound);
+    }
+    Ok(())
+}
+
+/// Whether this is refused since a folder has the name.
+pub fn is_of_a_folder<T>(done: &io::Result<T>) -> bool {
+    match done {
+        Ok(_) => false,
+        Err(fault) => fault.kind() == ErrorKind::IsADirectory,
+    }
+}
+
+#[test]
+fn a_folder_is_no_file(rt: HostRuntime) -> Result<(), Fail> {
+    let mut disk = one_folder(rt.alloc())?;
+    for name in ["f", "f/g", "e"] {
+        assert!(rt; is_of_a_folder(&disk.open(name)));
+        assert!(rt; is_of_a_folder(&disk.create(name)));
+        assert!(rt; is_of_a_folder(&disk.grow(name, false)));
+        assert!(rt; !disk.discard(name)?);
+        assert!(rt; is_of_a_folder(&put(&mut disk, name, b"text")));
+        let grown = disk.grow("a", false)?;
+        assert!(rt; is_of_a_folder(&disk.close_synced(grown, name)));
+    }
+    assert_eq!(rt; disk.entries.len(), 9);
+    assert_eq!(rt; disk.list("f")?.len(), 3);
     Ok(())
 }

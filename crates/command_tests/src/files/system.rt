@@ -1,6 +1,6 @@
 //! The system's files.
 
-use crate::files::memory::{bytes_of, put};
+use crate::files::memory::{bytes_of, is_of_a_folder, put};
 use disks::{Disk, FolderEntry, SystemDisk};
 use std::fs::{self, File};
 use std::io::{self, ErrorKind, Write};
@@ -305,6 +305,42 @@ fn what_cannot_be_made_is_refused(rt: HostRuntime) -> Result<(), Fail> {
     assert!(rt; disk.make(&missing).is_err());
     assert!(rt; disk.make(&folder).is_err());
     expect_count(&rt, &folder, 0)?;
+    Ok(())
+}
+
+/// A file and an empty folder in a folder.
+fn make_both<R: AllocGlobal + Files>(rt: &R, folder: &str) -> io::Result<()> {
+    write_in(rt, folder, "a", "one")?;
+    fs::create_dir(rt, within(rt, folder, "e")?.as_str())
+}
+
+#[test]
+fn an_empty_folder_is_listed_and_a_file_is_not(rt: HostRuntime) -> Result<(), Fail> {
+    let folder = folder_of(&rt, "both")?;
+    make_both(&rt, &folder)?;
+    let disk = SystemDisk::new(&rt);
+    assert!(rt; disk.list(&within(&rt, &folder, "e")?)?.is_empty());
+    assert!(rt; disk.list(&within(&rt, &folder, "a")?).is_err());
+    expect_count(&rt, &folder, 2)?;
+    Ok(())
+}
+
+#[test]
+fn a_folder_of_the_system_is_no_file(rt: HostRuntime) -> Result<(), Fail> {
+    let folder = folder_of(&rt, "folders")?;
+    make_both(&rt, &folder)?;
+    let empty = within(&rt, &folder, "e")?;
+    let mut disk = SystemDisk::new(&rt);
+    for name in [&folder, &empty] {
+        assert!(rt; is_of_a_folder(&disk.open(name)));
+        assert!(rt; is_of_a_folder(&disk.create(name)));
+        assert!(rt; is_of_a_folder(&disk.grow(name, false)));
+        assert!(rt; is_of_a_folder(&disk.make(name)));
+        assert!(rt; !disk.discard(name)?);
+        assert!(rt; disk.is_one_file(name, name)?);
+    }
+    assert!(rt; !disk.is_one_file(&folder, &empty)?);
+    expect_count(&rt, &folder, 2)?;
     Ok(())
 }
 

@@ -1,23 +1,31 @@
--- From the answer of a command, and whether its output left, to how the program ends.
-use Rattle.std.proofs.Common.{◌≡◌, ◌∙◌, ◌≢◌, ℕ, List, Bool, true, false, cond, Option, Result, Ok, Err, ◌⊎◌, inl, inr, refl, ap, sym, subst, arith}
+-- From the answer of a command, and whether its output left, to how the request ends.
+use Rattle.std.proofs.Common.{◌≡◌, ◌∙◌, ◌≢◌, ◌≤◌, ℕ, List, Bool, true, false, cond, Option, Result, Ok, Err, inl, inr, refl, ap, sym, subst, arith}
 use Rattle.std.specs.Prelude.{OnOk, IfErr}
 use Rattle.std.proofs.lemmas.Bool.{false≢true}
-use Rattle.std.specs.Io.KnownBytes.{Keeps}
 use Rattle.disks.specs.Held.{Held}
 use Rattle.ring_requests.specs.declared.requests.Request.{Request}
 use Rattle.ring_requests.specs.declared.requests.Request.TheVariants as asked
-use Rattle.ring_commands.specs.Answered.{IsAnswer, IsRefusal, IsOfLines}
+use Rattle.ring_shell.specs.Answered.{IsAnswer, IsRefusal, IsOfLines, IsOfFile, IsSilent}
+use Rattle.ring_shell.specs.Ended.{IsRefused, HasEnded}
+use Rattle.ring_shell.specs.Left.{HasFront, HasLine, HasEndedAnswered}
 use Rattle.ring_commands.specs.ServeAnswer.{IsServeRefusal}
 use Rattle.ring_commands.proofs.ServeRefusals.{no_list}
-use Rattle.ring_commands.specs.Faults.{is_bad_list, end_status}
+use Rattle.ring_commands.specs.Faults.{is_bad_list, status_of}
 use Rattle.ring_commands.specs.Worlds.{World, world}
 use Rattle.ring_commands.specs.declared.faults.ToolError.{ToolError}
 use Rattle.ring_commands.specs.declared.faults.ToolError.TheVariants as tool
-use Rattle.ring_program.specs.Ended.{HasEnded}
 
 some : (b : Bool) → cond {A = ℕ} b 2 1 ≡ 0 → ⊥
 some true h = omega (arith, h)
 some false h = omega (arith, h)
+
+one : (b : Bool) → cond {A = ℕ} b 2 1 ≡ 1 → b ≡ false
+one true h = absurd (omega (arith, h))
+one false h = refl
+
+most : (b : Bool) → cond {A = ℕ} b 2 1 ≤ 2
+most true = omega arith
+most false = omega arith
 
 two : (b : Bool) → cond {A = ℕ} b 2 1 ≡ 2 → b ≡ true
 two true h = refl
@@ -73,6 +81,14 @@ bad_list (tool.LargeSegment a b) h = absurd (false≢true h)
 bad_list (tool.Segment a b d) h = absurd (false≢true h)
 bad_list (tool.Begins a b) h = absurd (false≢true h)
 bad_list (tool.InFolder a) h = absurd (false≢true h)
+bad_list tool.ManyLocks h = absurd (false≢true h)
+bad_list (tool.Twice a) h = absurd (false≢true h)
+bad_list (tool.NoLocks a) h = absurd (false≢true h)
+bad_list (tool.NoLocksFile a) h = absurd (false≢true h)
+bad_list (tool.UnreadLocks a) h = absurd (false≢true h)
+bad_list (tool.BadLocks a) h = absurd (false≢true h)
+bad_list (tool.OtherLock a b) h = absurd (false≢true h)
+bad_list (tool.OtherRing a b) h = absurd (false≢true h)
 
 -- a request that serves lines is not refused for a list
 no_lines : (request : Request) (was is : World) (e : ToolError) → is_bad_list e ≡ true → IsRefusal request was is e → IsOfLines request → ⊥
@@ -87,31 +103,44 @@ no_lines (asked.New words) was is e bad refused lines = lines
 no_lines (asked.Serve words) was is e bad refused lines =
     no_list words was is (subst (λ (x : ToolError). IsServeRefusal words was is x) (bad_list e bad) refused)
 
--- an equation of two values holds of a part of them
-pub silent_of : {A B : Type 0} {E F : Type 0} (part : A → B) (late early : A) (r : Result (Unit {0}) E) (f : Result (Unit {0}) F) → OnOk r (OnOk f (late ≡ early)) →
-    OnOk r (OnOk f (part late ≡ part early))
-silent_of part late early (Ok u) (Ok v) same = ap part same
-silent_of part late early (Ok u) (Err e) same = tt
-silent_of part late early (Err e) f same = tt
+-- what holds of an answer, or of a refusal
+pub of_ok : {E : Type 0} (P : Type 0) (r : Result (Unit {0}) E) (u : Unit {0}) → r ≡ Ok u → OnOk r P → P
+of_ok {E} P r u is h = subst (λ (x : Result (Unit {0}) E). OnOk x P) is h
 
--- the world that a command leaves, once its output is flushed, or a fault is reported
-pub ended : {F : Type 0} (r : Result (Unit {0}) ToolError) (f : Result (Unit {0}) F) (request : Request) (was : World) (files : Option Held) (input mid new told late : Option (List ℕ)) →
-    OnOk r (IsAnswer request was (world files input mid told)) → IfErr r (λ e. IsRefusal request was (world files input mid told) e) →
-    ((IsOfLines request → ⊥) → IfErr r (λ e. e ≢ tool.Write → files ≡ was.files)) → Keeps mid new → OnOk r (OnOk f (late ≡ told)) → HasEnded (end_status r f) was (world files input new late)
-ended (Ok u) (Ok v) request was files input mid new told late answered refused kept keeps same = record {
-  done = λ s. inl (mid, (request, subst (λ (l : Option (List ℕ)). IsAnswer request was (world files input mid l)) (sym same) answered), keeps);
-  unread = λ s. absurd (omega (arith, s));
-  refused = λ s. absurd (omega (arith, s));
+pub of_err : {E : Type 0} (P : E → Type 0) (r : Result (Unit {0}) E) (e : E) → r ≡ Err e → IfErr r P → P e
+of_err {E} P r e is h = subst (λ (x : Result (Unit {0}) E). IfErr x P) is h
+
+-- the end of a request that was answered
+pub ended_answered : (request : Request) (was : World) (status : ℕ) (told : Bool) (files : Option Held) (input printed out said err : Option (List ℕ)) →
+    IsAnswer request was (world files input printed said) → (IsSilent request → said ≡ was.err) → (IsOfFile request → input ≡ was.input) → status ≤ 1 →
+    HasEndedAnswered status told printed out said err → HasEnded request status told was (world files input out err)
+ended_answered request was status told files input printed out said err answered silent unread bound ends = record {
+  most = omega (arith, bound);
+  done = λ s.
+      let whole = ends.whole s in
+      (printed, subst (λ (e : Option (List ℕ)). IsAnswer request was (world files input printed e)) (sym whole.1) answered, (λ q. whole.1 ∙ silent q), whole.0);
+  failed = λ s.
+      let cut = ends.cut s in
+      inl (printed, said, answered, silent, cut.0, cut.1);
+  unread = λ s. absurd (omega (arith, s, bound));
+  kept = unread;
 }
-ended (Ok u) (Err e) request was files input mid new told late answered refused kept keeps same = record {
-  done = λ s. absurd (omega (arith, s));
-  unread = λ s. absurd (omega (arith, s));
-  refused = λ s. inr (mid, told, inl (request, answered));
-}
-ended (Err e) f request was files input mid new told late answered refused kept keeps same = record {
-  done = λ s. absurd (some (is_bad_list e) s);
-  unread = λ s.
-      let bad = two (is_bad_list e) s in
-      kept (no_lines request was (world files input mid told) e bad refused) (not_write e bad);
-  refused = λ s. inr (mid, told, inr (request, e, refused, kept));
-}
+
+-- the end of a request that was refused
+pub ended_refused : (request : Request) (was : World) (e : ToolError) (status : ℕ) (told : Bool) (files : Option Held) (input printed out said err : Option (List ℕ)) →
+    status ≡ status_of e → IsRefusal request was (world files input printed said) e → (IsSilent request → said ≡ was.err) → (IsOfFile request → input ≡ was.input) →
+    ((IsOfLines request → ⊥) → e ≢ tool.Write → files ≡ was.files) → HasFront printed out → HasLine e told said err → HasEnded request status told was (world files input out err)
+ended_refused request was e status told files input printed out said err same refused silent unread kept front line =
+    let is = world files input out err in
+    let all : IsRefused request e told was is = (printed, said, refused, silent, front, line, kept) in
+    record {
+      most = subst (λ (s : ℕ). s ≤ 2) (sym same) (most (is_bad_list e));
+      done = λ s. absurd (some (is_bad_list e) (sym same ∙ s));
+      failed = λ s. inr (e, one (is_bad_list e) (sym same ∙ s), all);
+      unread = λ s.
+          let bad = two (is_bad_list e) (sym same ∙ s) in (
+            subst (λ (x : ToolError). IsRefused request x told was is) (bad_list e bad) all,
+            kept (no_lines request was (world files input printed said) e bad refused) (not_write e bad),
+          );
+      kept = unread;
+    }

@@ -1,0 +1,3 @@
+pub mod CutTexts
+pub mod Endings
+pub mod WithoutInput
