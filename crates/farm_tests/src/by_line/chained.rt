@@ -1,14 +1,15 @@
 //! Lines that are served with a journal in a chain of segment files.
 
 ghost use Rattle.std.specs.Prelude.{◌≡◌};
-ghost use Rattle.chain_serve.specs.Segments.{IsNamed};
+ghost use Rattle.segment_loop.specs.Segments.{IsNamed};
 
 use super::streams::Drops;
 use super::{NOTHING, served};
-use chain_serve::{OpenSegment, SegmentRules, close_segment, open_segment, serve_segments};
-use disks::{Disk, FolderEntry, MemoryDisk, StoredFile};
+use chain_serve::{SegmentRules, close_segment, open_segment, serve_segments};
+use disks::{Disk, FolderEntry, MemoryDisk, Stored, StoredEntry};
 use ring_serve::ServeFault;
 use segment_folder::segment_file;
+use segment_loop::OpenSegment;
 use sha2::{Digest, Sha256};
 use std::alloc::Global;
 use std::io::{self, Cursor, ErrorKind, Read};
@@ -118,7 +119,8 @@ fn disk_of(rt: &impl Abort, alloc: Global, fails: u32) -> Full {
     ) else {
         panic!(rt; "there is memory");
     };
-    assert!(rt; entries.push(StoredFile { name, bytes }).is_ok());
+    let stored = Stored::File(bytes);
+    assert!(rt; entries.push(StoredEntry { name, stored }).is_ok());
     Full {
         files: MemoryDisk { alloc, entries },
         fails,

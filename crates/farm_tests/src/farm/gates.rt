@@ -4,9 +4,12 @@ use ring_farm::Gate;
 use std::sync::atomic::{AtomicU64, Ordering};
 use std::thread;
 
-/// Waits until the word has this bit, at most 1,000,000 turns.
+/// How many turns a gate waits at most: for many seconds, whatever else runs.
+const MOST_TURNS: u64 = 30_000_000;
+
+/// Waits until the word has this bit, or so long as a gate waits.
 fn waits_for(word: &AtomicU64, bit: u64) -> bool {
-    for _ in 0..1000000 {
+    for _ in 0..MOST_TURNS {
         if word.load(Ordering::SeqCst) & bit != 0 {
             return true;
         }
@@ -67,7 +70,7 @@ impl Gate for Together {
             return false;
         }
         self.arrived.fetch_add(1, Ordering::SeqCst);
-        for _ in 0..1000000 {
+        for _ in 0..MOST_TURNS {
             if self.arrived.load(Ordering::SeqCst) == self.all {
                 return true;
             }
