@@ -58,10 +58,11 @@ cc -shared -o "$folder/libwozgirt.so" -Wl,--whole-archive "$folder/libring_desk_
 WOZGIRT_LIBRARY=$folder/libwozgirt.so PYTHONPATH=$top/python PYTHONDONTWRITEBYTECODE=1 python3 "$top/examples/python/four_threads.py" "$folder/python.txt"
 judge python
 
-rm -rf "$folder/rust"
-cp -r "$top/examples/rust" "$folder/rust"
-(cd "$folder/rust" && WOZGIRT_LIBRARIES=$folder cargo build -q --release --offline --target-dir "$folder/rust-target")
-"$folder/rust-target/release/four_threads" "$folder/rust.txt"
+rust=$folder/rust-target
+(cd "$top/rust" && export WOZGIRT_LIBRARIES="$folder" CARGO_TARGET_DIR="$rust" &&
+    cargo test -q --release --offline && cargo build -q --release --offline --example four_threads &&
+    cargo doc -q --offline --no-deps && cargo package -q --offline --workspace --allow-dirty)
+"$rust/release/examples/four_threads" "$folder/rust.txt"
 judge rust
 
 if [ -n "$measure" ]; then

@@ -1,0 +1,234 @@
+//! A ring, and its calls.
+
+use crate::{Reason, Refused};
+use alloc::vec::Vec;
+use core::cell::UnsafeCell;
+use core::{fmt, mem, ptr};
+use wozgirt_sys as sys;
+
+/// A pass that was granted.
+#[derive(Clone, Copy, Debug, PartialEq, Eq, Hash)]
+pub struct Grant {
+    /// How many events of the history are before it.
+    pub position: u64,
+    /// Which grant of the ring it is, from 1 and without a gap: a fencing token.
+    pub number: u64,
+    /// The resource's answer: over a till the sum of all orders so far, at most 2^64 - 1.
+    pub result: u64,
+}
+
+/// Passes of a group that were granted.
+#[derive(Clone, Copy, Debug, PartialEq, Eq, Hash)]
+pub struct Group {
+    /// How many events are before its first member.
+    pub first: u64,
+    /// How many members it has.
+    pub count: u32,
+}
+
+/// A survey of a ring.
+#[derive(Clone, Copy, Debug, PartialEq, Eq, Hash)]
+pub struct Survey {
+    /// How many events the history has.
+    pub position: u64,
+    /// How many passes were granted since the last fault.
+    pub calm: u64,
+    /// At most this many granted passes are left until one machine is privileged.
+    pub rest: u64,
+    /// How many machines are privileged.
+    pub privileged: u32,
+    /// The least of them.
+    pub first: u32,
+}
+
+/// A ring of machines that pass a privilege, with its history. It is freed when it is dropped.
+///
+/// It is `Send`, and not `Sync`: threads share a `Mutex<Ring>`. In a forked child a ring gives the same numbers again.
+///
+/// ```compile_fail
+/// fn shared<T: Sync>() {}
+/// shared::<wozgirt::Ring>();
+/// ```
+pub struct Ring {
+    raw: UnsafeCell<sys::wozgirt_ring>,
+}
+
+// SAFETY: the library keeps nothing of a thread. The memory behind the pointer is this ring's alone, and malloc's.
+unsafe impl Send for Ring {}
+
+const NONE: sys::wozgirt_ring = sys::wozgirt_ring { at: ptr::null_mut() };
+
+fn done(code: u32) -> Result<(), Refused> {
+    match code {
+        sys::WOZGIRT_DONE => Ok(()),
+        code => Err(Refused::by(code)),
+    }
+}
+
+fn granted(code: u32, answer: sys::wozgirt_answer) -> Result<Option<Grant>, Refused> {
+    match code {
+        sys::WOZGIRT_DONE => {
+            Ok(Some(Grant { position: answer.position, number: answer.number, result: answer.result }))
+        }
+        sys::WOZGIRT_WAITS => Ok(None),
+        code => Err(Refused::by(code)),
+    }
+}
+
+fn surveyed(sight: sys::wozgirt_sight) -> Survey {
+    let sys::wozgirt_sight { position, calm, rest, privileged, first } = sight;
+    Survey { position, calm, rest, privileged, first }
+}
+
+impl Ring {
+    fn opened(open: impl FnOnce(*mut sys::wozgirt_ring) -> u32) -> Result<Ring, Refused> {
+        let mut raw = NONE;
+        done(open(&mut raw))?;
+        Ok(Ring { raw: UnsafeCell::new(raw) })
+    }
+
+    /// Opens a ring of `n` machines with `k` values that starts so, with seats 0 to `seats` - 1, over a till: each granted pass adds
+    /// its order, and the answer is the new sum. The numbers of its grants begin at 1.
+    ///
+    /// # Errors
+    ///
+    /// The first that applies: [`Reason::BadSeats`] (1 to 10), [`Reason::BadMachines`] (2 to 1,024), [`Reason::BadValues`] (`n` to
+    /// 65,536), [`Reason::BadLength`], [`Reason::BadStart`], [`Reason::NoMemory`].
+    pub fn open(n: u32, k: u32, start: &[u32], seats: u32) -> Result<Ring, Refused> {
+        // SAFETY: the struct is empty, and the list has this length
+        Ring::opened(|raw| unsafe { sys::wozgirt_open(raw, n, k, start.as_ptr(), start.len(), seats) })
+    }
+
+    /// The same over a resource that does no work: it cannot be saved.
+    ///
+    /// # Errors
+    ///
+    /// Those of [`Ring::open`].
+    pub fn open_idle(n: u32, k: u32, start: &[u32], seats: u32) -> Result<Ring, Refused> {
+        // SAFETY: as in `open`
+        Ring::opened(|raw| unsafe { sys::wozgirt_open_idle(raw, n, k, start.as_ptr(), start.len(), seats) })
+    }
+
+    /// Opens a ring that resumes the one at this place, from 0, of a saved text, with its surveys and the numbers of its grants.
+    ///
+    /// # Errors
+    ///
+    /// [`Reason::Syntax`], [`Reason::Truncated`]; [`Reason::NoRing`]; the refusal of a call of the history, as [`Reason::NoSeat`] for
+    /// too few seats; [`Reason::Differs`] if the history is not legal; [`Reason::NoMemory`].
+    pub fn from_saved(text: &[u8], place: u32, seats: u32) -> Result<Ring, Refused> {
+        // SAFETY: the struct is empty, and the text has this length
+        Ring::opened(|raw| unsafe { sys::wozgirt_open_saved(raw, text.as_ptr(), text.len(), place, seats) })
+    }
+
+    /// A seat asks for a machine's pass: none where the machine is not privileged, which the history records too.
+    ///
+    /// # Errors
+    ///
+    /// [`Reason::NoSeat`], [`Reason::NoMachine`], [`Reason::HistoryFull`] (4,000,000 events), [`Reason::NoMemory`].
+    pub fn pass(&mut self, seat: u32, machine: u32, order: u64) -> Result<Option<Grant>, Refused> {
+        let mut answer = Default::default();
+        // SAFETY: the ring is open, and nobody else has it
+        granted(unsafe { sys::wozgirt_pass(self.raw.get_mut(), seat, machine, order, &mut answer) }, answer)
+    }
+
+    /// The same, but nothing is recorded where the machine is not privileged: the call to poll with.
+    ///
+    /// # Errors
+    ///
+    /// Those of [`Ring::pass`], but a full history only where the machine is privileged.
+    pub fn try_pass(&mut self, seat: u32, machine: u32, order: u64) -> Result<Option<Grant>, Refused> {
+        let mut answer = Default::default();
+        // SAFETY: as in `pass`
+        granted(unsafe { sys::wozgirt_try(self.raw.get_mut(), seat, machine, order, &mut answer) }, answer)
+    }
+
+    /// A seat asks for the passes of machines whose numbers rise, all at once: all are granted, or none.
+    ///
+    /// # Errors
+    ///
+    /// [`Reason::NoSeat`], [`Reason::NotRising`], [`Reason::WholeRing`], [`Reason::NotPrivileged`] with the least such machine,
+    /// [`Reason::HistoryFull`], [`Reason::NoMemory`].
+    pub fn pass_group(&mut self, seat: u32, machines: &[u32], order: u64) -> Result<Group, Refused> {
+        let mut group = sys::wozgirt_group::default();
+        // SAFETY: as in `pass`, and the list has this length
+        match unsafe {
+            sys::wozgirt_pass_group(self.raw.get_mut(), seat, machines.as_ptr(), machines.len(), order, &mut group)
+        } {
+            sys::WOZGIRT_DONE => Ok(Group { first: group.first, count: group.count }),
+            sys::WOZGIRT_NOT_PRIVILEGED => Err(Refused { reason: Reason::NotPrivileged, machine: Some(group.machine) }),
+            code => Err(Refused::by(code)),
+        }
+    }
+
+    /// A fault: writes a value into a machine, and returns the old one.
+    ///
+    /// # Errors
+    ///
+    /// [`Reason::NoSeat`], [`Reason::NoMachine`], [`Reason::NoValue`], [`Reason::HistoryFull`], [`Reason::NoMemory`].
+    pub fn corrupt(&mut self, seat: u32, machine: u32, value: u32) -> Result<u64, Refused> {
+        let mut answer = sys::wozgirt_answer::default();
+        // SAFETY: as in `pass`
+        done(unsafe { sys::wozgirt_corrupt(self.raw.get_mut(), seat, machine, value, &mut answer) })?;
+        Ok(answer.result)
+    }
+
+    /// The survey of the ring, which the seat's log keeps.
+    ///
+    /// # Errors
+    ///
+    /// [`Reason::NoSeat`], [`Reason::NoMemory`].
+    pub fn survey(&mut self, seat: u32) -> Result<Survey, Refused> {
+        let mut sight = Default::default();
+        // SAFETY: as in `pass`
+        done(unsafe { sys::wozgirt_survey(self.raw.get_mut(), seat, &mut sight) })?;
+        Ok(surveyed(sight))
+    }
+
+    /// The same, which nothing keeps.
+    pub fn glance(&self) -> Survey {
+        let mut sight = Default::default();
+        // SAFETY: a ring is not shared between threads, and no call is made within another one
+        unsafe { sys::wozgirt_glance(self.raw.get(), &mut sight) };
+        surveyed(sight)
+    }
+
+    /// How many events the history has.
+    pub fn history_length(&self) -> u64 {
+        // SAFETY: as in `glance`
+        unsafe { sys::wozgirt_history_length(self.raw.get()) }
+    }
+
+    /// The saved text of the ring as it is now.
+    ///
+    /// # Errors
+    ///
+    /// [`Reason::NoTill`] for a ring over a resource that does no work, [`Reason::NoMemory`].
+    pub fn save(&self) -> Result<Vec<u8>, Refused> {
+        let (mut text, mut size) = (Vec::new(), 0);
+        loop {
+            // SAFETY: as in `glance`, and the buffer has this length
+            match unsafe { sys::wozgirt_save(self.raw.get(), text.as_mut_ptr(), text.len(), &mut size) } {
+                sys::WOZGIRT_DONE => return Ok(text),
+                sys::WOZGIRT_TOO_SMALL => {
+                    let size = size as usize;
+                    text.try_reserve_exact(size).map_err(|_| Refused::by(sys::WOZGIRT_NO_MEMORY))?;
+                    text.resize(size, 0);
+                }
+                code => return Err(Refused::by(code)),
+            }
+        }
+    }
+}
+
+impl fmt::Debug for Ring {
+    fn fmt(&self, out: &mut fmt::Formatter<'_>) -> fmt::Result {
+        out.debug_struct("Ring").field("history_length", &self.history_length()).finish_non_exhaustive()
+    }
+}
+
+impl Drop for Ring {
+    fn drop(&mut self) {
+        // SAFETY: the ring is open, and not used after this
+        unsafe { sys::wozgirt_close(mem::replace(self.raw.get_mut(), NONE)) }
+    }
+}

@@ -1,0 +1,80 @@
+//! Exact answers of a ring of three machines.
+
+use wozgirt::{check, version, Fault, Grant, Group, NotLegal, Reason, Refused, Ring, Sums, Survey};
+
+const TEXT: &str =
+    "ringfarm 2\nring 0 3 3\nstart 0 2 0\np 0 0 5 g 1 5\np 0 0 1 n\np 0 2 4 g 2 9\nend 3\ns 0 3 1 1 2 0\ndone 1\n";
+
+fn refused<T>(reason: Reason) -> Result<T, Refused> {
+    Err(Refused { reason, machine: None })
+}
+
+/// The ring that `TEXT` tells of.
+fn ring() -> Result<Ring, Refused> {
+    let mut ring = Ring::open(3, 3, &[0, 2, 0], 1)?;
+    assert_eq!(ring.pass(0, 0, 5), Ok(Some(Grant { position: 0, number: 1, result: 5 })));
+    assert_eq!(ring.try_pass(0, 0, 1), Ok(None));
+    assert_eq!(ring.history_length(), 1);
+    assert_eq!(ring.pass(0, 0, 1), Ok(None));
+    assert_eq!(ring.try_pass(0, 2, 4), Ok(Some(Grant { position: 2, number: 2, result: 9 })));
+    assert_eq!(ring.glance(), ring.survey(0)?);
+    Ok(ring)
+}
+
+#[test]
+fn saves_and_resumes() -> Result<(), Refused> {
+    let text = ring()?.save()?;
+    assert_eq!(String::from_utf8_lossy(&text), TEXT);
+    assert_eq!(check(&text), Ok(Sums { rings: 1, events: 3, granted: 2, corrupted: 0, surveys: 1 }));
+    let mut again = Ring::from_saved(&text, 0, 1)?;
+    assert_eq!(again.save()?, text);
+    let Survey { position, privileged, first, .. } = again.glance();
+    assert_eq!((position, privileged), (3, 1));
+    assert_eq!(again.pass(0, first, 1), Ok(Some(Grant { position: 3, number: 3, result: 10 })));
+    Ok(())
+}
+
+#[test]
+fn refuses() -> Result<(), Refused> {
+    let mut ring = ring()?;
+    assert_eq!(ring.pass(1, 0, 0), refused(Reason::NoSeat));
+    assert_eq!(ring.pass(0, 3, 0), refused(Reason::NoMachine));
+    assert_eq!(ring.corrupt(0, 0, 3), refused(Reason::NoValue));
+    assert_eq!(ring.pass_group(0, &[], 1), refused(Reason::NotRising));
+    assert_eq!(ring.pass_group(0, &[0, 1, 2], 1), refused(Reason::WholeRing));
+    let first = ring.glance().first;
+    let other = (0..3).find(|machine| *machine != first).expect("one machine of three is privileged");
+    assert_eq!(ring.pass_group(0, &[other], 1), Err(Refused { reason: Reason::NotPrivileged, machine: Some(other) }));
+    assert_eq!(ring.pass_group(0, &[first], 1), Ok(Group { first: 3, count: 1 }));
+    for (n, k, start, seats, reason) in [
+        (3, 3, &[0, 0, 0][..], 11, Reason::BadSeats),
+        (1, 3, &[0][..], 1, Reason::BadMachines),
+        (3, 2, &[0, 0, 0][..], 1, Reason::BadValues),
+        (3, 3, &[0, 0][..], 1, Reason::BadLength),
+        (3, 3, &[0, 3, 0][..], 1, Reason::BadStart),
+    ] {
+        assert_eq!(Ring::open(n, k, start, seats).map(|_| ()), refused(reason));
+    }
+    assert_eq!(Ring::from_saved(b"no text", 0, 1).map(|_| ()), refused(Reason::Syntax));
+    assert_eq!(Ring::from_saved(TEXT.as_bytes(), 1, 1).map(|_| ()), refused(Reason::NoRing));
+    assert_eq!(Ring::open_idle(2, 2, &[0, 0], 1)?.save(), refused(Reason::NoTill));
+    Ok(())
+}
+
+#[test]
+fn judges() {
+    let changed = TEXT.replace("g 2 9", "g 2 8");
+    assert_eq!(check(changed.as_bytes()), Err(NotLegal { fault: Fault::Reply, line: Some(6) }));
+    assert_eq!(check(&TEXT.as_bytes()[..TEXT.len() - 1]), Err(NotLegal { fault: Fault::Truncated, line: None }));
+    let fault = NotLegal { fault: Fault::Reply, line: Some(6) };
+    assert_eq!(fault.to_string(), "line 6: reply");
+    assert_eq!((Fault::Reply.code(), version()), (66, 100));
+}
+
+#[test]
+fn goes_to_another_thread() -> Result<(), Refused> {
+    let ring = ring()?;
+    let length = std::thread::spawn(move || ring.history_length()).join().expect("it does not panic");
+    assert_eq!(length, 3);
+    Ok(())
+}
