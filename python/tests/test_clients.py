@@ -10,7 +10,7 @@ import unittest
 
 sys.path.insert(0, os.path.join(os.path.dirname(os.path.abspath(__file__)), "..", "..", "server", "tests"))
 
-from harness import Server, needs_programs  # noqa: E402
+from harness import PATIENCE, Server, by_the_clock, needs_loopback, needs_programs  # noqa: E402
 from wozgirt import (Circle, Client, Holds, Lock, LockLost, NoSuchLock, NotHolder, NotInTime, TooMany, Waits,  # noqa: E402
                      aio)
 
@@ -41,13 +41,11 @@ class Threads(unittest.TestCase):
         with Server() as server, Client(server.path) as one, Client(server.path) as two:
             token = one.acquire("a")
             self.assertIsNone(two.try_acquire("a"))
-            begun = time.monotonic()
             with self.assertRaises(NotInTime):
                 two.acquire("a", wait=0.2)
-            self.assertLess(time.monotonic() - begun, 5)
             self.assertEqual(server.waiters("a"), 0)
             one.release("a", token)
-            later = two.acquire("a", wait=5)
+            later = two.acquire("a", wait=PATIENCE)
             self.assertGreater(later, token)
             two.release("a", later)
 
@@ -74,7 +72,7 @@ class Threads(unittest.TestCase):
             with self.assertRaises(Circle):
                 two.acquire("a")
             two.leave()
-            thread.join(10)
+            thread.join(PATIENCE)
             self.assertEqual(got, [2])
 
     def test_status(self):
@@ -84,63 +82,68 @@ class Threads(unittest.TestCase):
             self.assertEqual((free.name, free.state, free.token, free.waiting), ("a", "free", None, 0))
             self.assertEqual((held.name, held.state, held.label, held.token, held.grants), ("b", "held", 77, token, 1))
 
-    def test_lease_is_kept_while_nothing_is_said(self):
-        with Server(lease="0.8") as server, Client(server.path, lease=0.8) as client, Client(server.path) as other:
+    @by_the_clock
+    def test_lease_is_kept_while_nothing_is_said(self, longer):
+        lease = 0.8 * longer
+        with Server(lease=lease) as server, Client(server.path, lease=lease) as client, Client(server.path) as other:
             client.acquire("a")
-            time.sleep(2)
+            time.sleep(2.5 * lease)
             client.check()
             self.assertIsNone(other.try_acquire("a"))
 
-    def test_lease_is_kept_while_waiting(self):
-        with Server(lease="0.8") as server, Client(server.path, lease=0.8) as one, Client(server.path, lease=0.8) as two:
+    @by_the_clock
+    def test_lease_is_kept_while_waiting(self, longer):
+        lease = 0.8 * longer
+        with Server(lease=lease) as server, Client(server.path, lease=lease) as one, Client(server.path, lease=lease) as two:
             token = one.acquire("a")
             got = []
             thread = threading.Thread(target=lambda: got.append(two.acquire("a")))
             thread.start()
-            time.sleep(2)
+            time.sleep(2.5 * lease)
             one.release("a", token)
-            thread.join(10)
+            thread.join(PATIENCE)
             self.assertEqual(got, [2])
 
-    def test_a_stopped_server_is_noticed_by_the_clock(self):
-        with Server(lease="0.8") as server, Client(server.path, lease=0.8) as client:
+    @by_the_clock
+    def test_a_stopped_server_is_noticed_by_the_clock(self, longer):
+        lease = 0.8 * longer
+        with Server(lease=lease) as server, Client(server.path, lease=lease) as client:
             client.acquire("a")
+            client.check()
+            begun = time.monotonic()
             server.process.send_signal(19)
-            try:
-                with self.assertRaises(LockLost):
-                    end = time.monotonic() + 5
-                    while time.monotonic() < end:
-                        client.check()
-                        time.sleep(0.01)
-            finally:
-                server.process.send_signal(18)
+            with self.assertRaises(LockLost):
+                while True:
+                    client.check()
+                    self.assertLess(time.monotonic() - begun, lease)
+                    time.sleep(0.01)
 
-    def test_a_stopped_server_is_noticed_while_waiting(self):
-        with Server(lease="0.8") as server, Client(server.path) as one, Client(server.path, lease=0.8) as two:
+    @by_the_clock
+    def test_a_stopped_server_is_noticed_while_waiting(self, longer):
+        lease = 0.8 * longer
+        with Server(lease=lease) as server, Client(server.path) as one, Client(server.path, lease=lease) as two:
             one.acquire("a")
-            errors = []
+            errors, is_stopped = [], threading.Event()
 
             def work():
                 try:
                     two.acquire("a")
                 except LockLost as lost:
-                    errors.append(lost)
+                    errors.append((lost, is_stopped.is_set()))
             thread = threading.Thread(target=work)
             thread.start()
             server.wait_for_waiters("a", 1)
+            is_stopped.set()
             server.process.send_signal(19)
-            try:
-                thread.join(10)
-            finally:
-                server.process.send_signal(18)
-            self.assertEqual(len(errors), 1)
+            thread.join(PATIENCE)
+            self.assertEqual([was_stopped for _, was_stopped in errors], [True])
 
     def test_a_lost_lock(self):
         with Server(lease="0.3") as server:
             with self.assertRaises(LockLost):
                 with Lock(server.path, "a") as token:
                     server.kill_engine()
-            with Lock(server.path, "a", wait=10) as later:
+            with Lock(server.path, "a", wait=PATIENCE) as later:
                 self.assertGreater(later, token)
 
     def test_the_body_s_error_is_the_one_that_is_raised(self):
@@ -150,10 +153,10 @@ class Threads(unittest.TestCase):
                     server.kill_engine()
                     raise ZeroDivisionError
 
+    @needs_loopback
     def test_tcp(self):
         with Server("--tcp", "127.0.0.1:0") as server:
-            port = int(server.text_of_log().split("clients at 127.0.0.1:")[1].split("\n")[0])
-            with Lock(("127.0.0.1", port), "a") as token:
+            with Lock(("127.0.0.1", server.port("clients")), "a") as token:
                 self.assertEqual(token, 1)
                 with Client(server.path) as other:
                     self.assertIsNone(other.try_acquire("a"))
@@ -215,7 +218,7 @@ class Tasks(unittest.IsolatedAsyncioTestCase):
                 except asyncio.CancelledError:
                     pass
                 await release
-                token = await one.acquire("a", wait=10)  # so nothing is held that nobody knows of
+                token = await one.acquire("a", wait=PATIENCE)  # so nothing is held that nobody knows of
             self.assertEqual(server.waiters("a"), 0)
             await one.close()
             await two.close()
@@ -238,9 +241,8 @@ class Tasks(unittest.IsolatedAsyncioTestCase):
                     return False
                 except LockLost:
                     return True
-            for _ in range(500):
-                if is_lost():
-                    break
+            end = time.monotonic() + PATIENCE
+            while not is_lost() and time.monotonic() < end:
                 await asyncio.sleep(0.01)
             self.assertTrue(is_lost())
             await client.close()

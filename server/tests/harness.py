@@ -1,8 +1,13 @@
 """A server with the engine's double, in a folder of its own: what the tests in Python share.
 
-WOZGIRT_BIN names the folder of the programs (server/out/release if it does not); WOZGIRT_ENGINE another engine."""
+WOZGIRT_BIN names the folder of the programs (server/out/release if it does not); WOZGIRT_ENGINE another engine.
 
+A test waits for what has to come about, for as long as PATIENCE, and takes no time of its own for granted. Where the clock is what
+is tried, as with leases, `by_the_clock` tries again with longer times: a machine that is busy is late, and that is no fault."""
+
+import functools
 import os
+import resource
 import shutil
 import signal
 import socket
@@ -19,8 +24,81 @@ COMMAND = os.path.join(BIN, "wozgirt")
 SERVER = os.path.join(BIN, "wozgirt-server")
 sys.path.insert(0, os.path.join(TOP, "python"))
 
+# seconds until what does not come about is taken for a fault
+PATIENCE = 50
+# as many open files as may be: the server wants 1064
+_MOST = resource.getrlimit(resource.RLIMIT_NOFILE)[1]
+FILES = 1 << 16 if _MOST == resource.RLIM_INFINITY else min(_MOST, 1 << 16)
+resource.setrlimit(resource.RLIMIT_NOFILE, (FILES, _MOST))
+# the name of a socket has at most 107 bytes
+FOLDER = tempfile.gettempdir() if len(tempfile.gettempdir()) < 60 else "/tmp"
+
 IS_BUILT = all(os.access(path, os.X_OK) for path in (SERVER, COMMAND, ENGINE))
-needs_programs = unittest.skipUnless(IS_BUILT, f"no programs in {BIN}")
+
+
+def why_not():
+    """What keeps a server from being tried here, or nothing."""
+    if not IS_BUILT:
+        return f"no programs in {BIN}"
+    if FILES < 1100:
+        return f"only {FILES} files may be open"
+    if not os.path.exists("/proc/self/stat"):
+        return "there is no /proc"
+    try:
+        with tempfile.TemporaryDirectory(dir=FOLDER) as folder, socket.socket(socket.AF_UNIX) as door:
+            door.bind(os.path.join(folder, "door"))
+    except OSError as fault:
+        return f"no socket in {FOLDER}: {fault}"
+    return None
+
+
+needs_programs = unittest.skipIf(why_not() is not None, why_not())
+
+
+def has_loopback():
+    try:
+        with socket.socket() as door:
+            door.bind(("127.0.0.1", 0))
+            door.listen()
+            socket.create_connection(door.getsockname(), 5).close()
+        return True
+    except OSError:
+        return False
+
+
+needs_loopback = unittest.skipUnless(has_loopback(), "127.0.0.1 cannot be reached")
+
+
+class TooEarly(Exception):
+    """Something came before its time, which no busy machine explains."""
+
+
+def by_the_clock(test):
+    """The test is passed a number by which its times are longer: 1, and a greater one if it fails."""
+    @functools.wraps(test)
+    def run(self):
+        for longer in (1, 5):
+            try:
+                return test(self, longer)
+            except (AssertionError, OSError, RuntimeError, IndexError):
+                pass  # the machine may have been late
+        return test(self, 15)
+    return run
+
+
+#: servers, and groups of processes, that nobody has ended
+RUNNING, GROUPS = [], []
+
+
+def stop_all():
+    """Ends what tests started that were given up."""
+    for group in GROUPS:
+        os.killpg(group, signal.SIGKILL)
+    for server in RUNNING:
+        server.process.kill()
+        server.process.wait()
+        if server.is_own:
+            shutil.rmtree(server.folder, ignore_errors=True)
 
 
 class Server:
@@ -28,30 +106,34 @@ class Server:
 
     def __init__(self, *words, locks="a,b,c", lease="30", folder=None, faults=True):
         self.is_own = folder is None
-        self.folder = folder or tempfile.mkdtemp(prefix="wozgirt-")
+        self.folder = folder or tempfile.mkdtemp(prefix="wozgirt-", dir=FOLDER)
         self.path, self.operators = os.path.join(self.folder, "lock.sock"), os.path.join(self.folder, "operators.sock")
         self.journal, self.log = os.path.join(self.folder, "journal"), os.path.join(self.folder, "log")
         os.makedirs(self.journal, exist_ok=True)
         more = ["--faults"] if faults else []
         self.words = [SERVER, "--engine", ENGINE, "--journal", self.journal, "--locks", locks, "--no-sync", "--socket", self.path,
-                      "--operators", self.operators, "--longest-lease", lease, *more, *words]
+                      "--operators", self.operators, "--longest-lease", str(lease), *more, *words]
         with open(self.log, "ab") as log:
             self.process = subprocess.Popen(self.words, stderr=log)
-        self._wait_until_it_answers()
+        RUNNING.append(self)
+        self.wait_until_it_answers(self.process)
 
-    def _wait_until_it_answers(self):
-        for _ in range(1000):
-            if self.process.poll() is not None:
-                break
-            try:
-                with self.raw(operator=True) as sock:
-                    sock.sendall(b"ping\n")
-                    if sock.recv(10) == b"pong\n":
-                        return
-            except OSError:
-                pass
+    def wait_until_it_answers(self, process):
+        """RuntimeError if it does not."""
+        end = time.monotonic() + PATIENCE
+        while not self._answers():
+            if process.poll() is not None or time.monotonic() > end:
+                process.kill()
+                process.wait()
+                raise RuntimeError("the server does not come up: " + self.text_of_log())
             time.sleep(0.01)
-        raise RuntimeError("the server does not come up: " + self.text_of_log())
+
+    def _answers(self):
+        try:
+            with self.raw(operator=True) as sock:
+                return say(sock, "ping\n") == ["pong"]
+        except OSError:
+            return False
 
     def text_of_log(self):
         with open(self.log, encoding="utf-8", errors="replace") as file:
@@ -64,7 +146,7 @@ class Server:
         except OSError:
             sock.close()
             raise
-        sock.settimeout(10)
+        sock.settimeout(PATIENCE)
         return sock
 
     def operate(self, line, count=1):
@@ -77,17 +159,24 @@ class Server:
         return int(self.operate(f"stats {name}").split()[3])
 
     def wait_for_waiters(self, name, count):
-        for _ in range(1000):
-            if self.waiters(name) == count:
-                return
-            time.sleep(0.005)
-        raise AssertionError(f"{self.waiters(name)} wait for {name}, not {count}")
+        wait_until(lambda: self.waiters(name) == count)
+
+    def port(self, of):
+        """The port that its log names, of `clients` or of the `page`."""
+        wait_until(lambda: f"{of} at 127.0.0.1:" in self.text_of_log())
+        return int(self.text_of_log().split(f"{of} at 127.0.0.1:")[1].split("\n")[0])
 
     def engine_number(self):
         """The number of the engine's process, or None."""
-        number = self.process.pid
-        with open(f"/proc/{number}/task/{number}/children", encoding="ascii") as file:
-            return next((int(word) for word in file.read().split()), None)
+        for number in filter(str.isdigit, os.listdir("/proc")):
+            try:
+                with open(f"/proc/{number}/stat", encoding="utf-8", errors="replace") as file:
+                    state, parent = file.read().rpartition(")")[2].split()[:2]
+            except OSError:
+                continue  # it ended meanwhile
+            if int(parent) == self.process.pid and state != "Z":
+                return int(number)
+        return None
 
     def kill_engine(self):
         os.kill(self.engine_number(), signal.SIGKILL)
@@ -105,8 +194,9 @@ class Server:
     def stop(self):
         if self.process.poll() is None:
             self.process.terminate()
+            self.process.send_signal(signal.SIGCONT)  # a test may have stopped it
             try:
-                self.process.wait(15)
+                self.process.wait(PATIENCE)
             except subprocess.TimeoutExpired:
                 self.process.kill()
                 self.process.wait()
@@ -116,6 +206,7 @@ class Server:
 
     def __exit__(self, *_):
         self.stop()
+        RUNNING.remove(self)
         if self.is_own:
             shutil.rmtree(self.folder, ignore_errors=True)
 
@@ -136,7 +227,13 @@ def say(sock, text, count=1):
     return read_lines(sock, count)
 
 
-def wait_until(condition, seconds=10):
+def at_least(seconds, begun):
+    """TooEarly if less time has passed since."""
+    if time.monotonic() - begun < seconds:
+        raise TooEarly(f"after {time.monotonic() - begun:.3f} s, not {seconds}")
+
+
+def wait_until(condition, seconds=PATIENCE):
     """Waits for the condition; an AssertionError if it does not come."""
     end = time.monotonic() + seconds
     while not condition():

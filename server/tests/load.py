@@ -1,8 +1,8 @@
 #!/usr/bin/env python3
 """load.py [CONNECTIONS [SECONDS]]: so many connections wait for one lock, each is granted it in the order in which they came, and
 all that is left is free again; then 64 clients of `wozgirt bench` hand one lock over for so long, and none is granted it more than
-1.1 times as often as another. A client's thread that a busy machine does not run for a while asks less often, which is not the
-server's doing: so the second is tried three times, and has to hold once."""
+1.05 times as often as another, from when each was granted it once. A client's thread that a busy machine does not run for a while
+asks less often, which is not the server's doing: so the second is tried three times, and has to hold once."""
 
 import re
 import resource
@@ -13,7 +13,7 @@ import time
 
 from harness import COMMAND, Server, read_lines, say
 
-MOST_UNFAIR, TRIES = 1.1, 3
+MOST_UNFAIR, TRIES = 1.05, 3
 
 
 def wait_in_line(count):

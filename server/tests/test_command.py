@@ -6,17 +6,17 @@ import subprocess
 import time
 import unittest
 
-from harness import COMMAND, Server, needs_programs, say, wait_until
+from harness import PATIENCE, COMMAND, Server, by_the_clock, needs_loopback, needs_programs, read_lines, say, wait_until
 
 
 def run(server, *words, **more):
-    return subprocess.run([COMMAND, *words], capture_output=True, text=True, timeout=60,
+    return subprocess.run([COMMAND, *words], capture_output=True, text=True, timeout=PATIENCE,
                           env=dict(os.environ, WOZGIRT_SOCKET=server.path), **more)
 
 
-def start(server, *words):
+def start(server, *words, **more):
     return subprocess.Popen([COMMAND, *words], stdout=subprocess.PIPE, stderr=subprocess.PIPE, text=True,
-                            env=dict(os.environ, WOZGIRT_SOCKET=server.path))
+                            env=dict(os.environ, WOZGIRT_SOCKET=server.path), **more)
 
 
 def close(process):
@@ -53,7 +53,7 @@ class LockCommand(unittest.TestCase):
             it = start(server, "lock", "--label", "4711", "a", "--", "echo", "in")
             server.wait_for_waiters("a", 1)
             say(sock, "release a 1\n")
-            self.assertEqual(it.wait(10), 0)
+            self.assertEqual(it.wait(PATIENCE), 0)
             self.assertEqual(it.stdout.read(), "in\n")
             close(it)
             server.stop()
@@ -62,12 +62,14 @@ class LockCommand(unittest.TestCase):
 
     def test_killed_while_the_command_runs(self):
         with Server() as server, server.raw() as sock:
-            it = start(server, "lock", "a", "--", "sh", "-c", "echo $$; exec sleep 1.5")
+            it = start(server, "lock", "a", "--", "sh", "-c", "echo up; read line", stdin=subprocess.PIPE)
             it.stdout.readline()
             it.kill()
             it.wait()
             self.assertEqual(say(sock, "try a 1\n"), ["busy a"])  # the command lives, and so does its hold
-            self.assertEqual(say(sock, "acquire a 1\n", 2), ["waiting a 0", "granted a 2"])
+            self.assertEqual(say(sock, "acquire a 1\n"), ["waiting a 0"])
+            it.stdin.close()  # the command ends
+            self.assertEqual(read_lines(sock, 1), ["granted a 2"])
             close(it)
 
     def test_killed_with_close(self):
@@ -86,7 +88,7 @@ class LockCommand(unittest.TestCase):
             it = start(server, "lock", "a", "--", "true")
             server.wait_for_waiters("a", 1)
             it.terminate()
-            self.assertEqual(it.wait(10), -signal.SIGTERM)
+            self.assertEqual(it.wait(PATIENCE), -signal.SIGTERM)
             server.wait_for_waiters("a", 0)
             close(it)
 
@@ -95,7 +97,7 @@ class LockCommand(unittest.TestCase):
             it = start(server, "lock", "a", "--", "sh", "-c", "trap 'echo heard; exit 3' TERM; echo up; while :; do sleep 0.05; done")
             self.assertEqual(it.stdout.readline(), "up\n")
             it.terminate()
-            self.assertEqual(it.wait(10), 3)
+            self.assertEqual(it.wait(PATIENCE), 3)
             self.assertEqual(it.stdout.read(), "heard\n")
             close(it)
 
@@ -103,41 +105,43 @@ class LockCommand(unittest.TestCase):
         self.assertEqual(it.stdout.readline(), "up\n")
         begun = time.monotonic()
         server.kill_engine()
-        self.assertEqual(it.wait(10), 75)
+        self.assertEqual(it.wait(PATIENCE), 75)
         self.assertIn("the lock is lost", it.stderr.read())
         close(it)
         return time.monotonic() - begun
 
     def test_a_lost_lock_ends_the_command(self):
         with Server() as server:
-            took = self.lose(server, start(server, "lock", "a", "--", "sh", "-c", "echo up; exec sleep 30"))
-            self.assertLess(took, 3)
+            took = self.lose(server, start(server, "lock", "a", "--", "sh", "-c", "echo up; exec sleep 1000"))
+            self.assertLess(took, PATIENCE)
 
     def test_a_command_that_does_not_end_is_killed(self):
         with Server() as server:
             words = ("sh", "-c", "trap '' TERM; echo up; while :; do sleep 0.05; done")
             took = self.lose(server, start(server, "lock", "--kill-after", "0.5", "a", "--", *words))
-            self.assertTrue(0.5 <= took < 5, took)
+            self.assertTrue(0.5 <= took < PATIENCE, took)
 
     def test_a_group_ends_as_one(self):
         with Server() as server:
             it = start(server, "lock", "--group", "a", "--", "sh", "-c", "sleep 30 & echo up $!; wait")
             sleeper = int(it.stdout.readline().split()[1])
             server.kill_engine()
-            self.assertEqual(it.wait(10), 75)
+            self.assertEqual(it.wait(PATIENCE), 75)
             wait_until(lambda: not os.path.exists(f"/proc/{sleeper}"))
             close(it)
 
-    def test_a_lease_is_kept_and_lost_before_it_ends(self):
-        with Server() as server:
-            it = start(server, "lock", "--lease", "0.8", "a", "--", "sh", "-c", "echo up; exec sleep 30")
+    @by_the_clock
+    def test_a_lease_is_kept_and_lost_before_it_ends(self, longer):
+        with Server(lease=30 * longer) as server:
+            lease = 0.8 * longer
+            it = start(server, "lock", "--lease", str(lease), "a", "--", "sh", "-c", "echo up; exec sleep 1000")
             self.assertEqual(it.stdout.readline(), "up\n")
-            time.sleep(2)
+            time.sleep(2.5 * lease)
             self.assertIsNone(it.poll())
-            server.process.send_signal(signal.SIGSTOP)  # as if no line got through
             begun = time.monotonic()
-            self.assertEqual(it.wait(10), 75)
-            self.assertLess(time.monotonic() - begun, 0.8)
+            server.process.send_signal(signal.SIGSTOP)  # as if no line got through
+            self.assertEqual(it.wait(PATIENCE), 75)
+            self.assertLess(time.monotonic() - begun, lease)
             server.process.send_signal(signal.SIGCONT)
             close(it)
 
@@ -147,14 +151,15 @@ class LockCommand(unittest.TestCase):
             it = start(server, "lock", "--lease", "0.8", "a", "--", "true")
             server.wait_for_waiters("a", 1)
             server.process.send_signal(signal.SIGSTOP)
-            self.assertEqual(it.wait(10), 69)
+            self.assertEqual(it.wait(PATIENCE), 69)
             server.process.send_signal(signal.SIGCONT)
             close(it)
 
+    @needs_loopback
     def test_over_tcp(self):
         with Server("--tcp", "127.0.0.1:0") as server:
-            address = server.text_of_log().split("clients at 127.0.0.1:")[1].split("\n")[0]
-            done = run(server, "lock", "--socket", f"tcp:127.0.0.1:{address}", "a", "--", "sh", "-c", "echo $WOZGIRT_TOKEN")
+            place = f"tcp:127.0.0.1:{server.port('clients')}"
+            done = run(server, "lock", "--socket", place, "a", "--", "sh", "-c", "echo $WOZGIRT_TOKEN")
             self.assertEqual((done.returncode, done.stdout), (0, "1\n"))
 
 
@@ -175,7 +180,7 @@ class Looks(unittest.TestCase):
             heads = [line for line in (it.stdout.readline() for _ in range(12)) if line.startswith("LOCK")]
             self.assertEqual(len(heads), 3)
             it.terminate()
-            it.wait(10)
+            it.wait(PATIENCE)
             close(it)
 
     def test_bench(self):

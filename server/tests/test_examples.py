@@ -26,6 +26,7 @@ class Examples(unittest.TestCase):
         self.assertEqual((it.returncode, it.stderr), (0, ""))
         self.assertEqual(it.stdout, shown(example))
 
+    @unittest.skipUnless(os.access("/dev/shm", os.W_OK), "no /dev/shm, which multiprocessing needs")
     def test_gpu(self):
         with Server(locks="gpu/0") as server:
             self.python(server, "gpu", "workers.py")

@@ -6,7 +6,7 @@ import re
 import socket
 import unittest
 
-from harness import Server, needs_programs, say, wait_until
+from harness import PATIENCE, Server, needs_loopback, needs_programs, say, wait_until
 
 METRIC = re.compile(r'^([a-z_]+)(?:\{([a-z]+)="([^"\\\n]*)"\})? (-?[0-9.]+(?:e[+-]?[0-9]+)?)$')
 
@@ -14,7 +14,7 @@ METRIC = re.compile(r'^([a-z_]+)(?:\{([a-z]+)="([^"\\\n]*)"\})? (-?[0-9.]+(?:e[+
 def with_page(test):
     def run(self):
         with Server("--page", "127.0.0.1:0", locks="deploy,gpu/0") as server:
-            self.port = int(server.text_of_log().split("page at 127.0.0.1:")[1].split("\n")[0])
+            self.port = server.port("page")
             test(self, server)
     return run
 
@@ -46,9 +46,10 @@ class Table(html.parser.HTMLParser):
 
 
 @needs_programs
+@needs_loopback
 class Pages(unittest.TestCase):
     def ask(self, method, target, **headers):
-        connection = http.client.HTTPConnection("127.0.0.1", self.port, timeout=10)
+        connection = http.client.HTTPConnection("127.0.0.1", self.port, timeout=PATIENCE)
         connection.request(method, target, headers=headers)
         answer = connection.getresponse()
         body = answer.read().decode()
@@ -117,13 +118,13 @@ class Pages(unittest.TestCase):
         for method, target, headers, status in (("GET", "/x", {}, 404), ("POST", "/", {}, 405), ("GET", "/", {"Host": "a.example"}, 421)):
             self.assertEqual(self.ask(method, target, **headers)[0].status, status)
         self.assertEqual(self.ask("HEAD", "/metrics")[1], "")
-        with socket.create_connection(("127.0.0.1", self.port), 10) as sock:
+        with socket.create_connection(("127.0.0.1", self.port), PATIENCE) as sock:
             sock.sendall(b"x" * 9000)
             self.assertTrue(sock.recv(100).startswith(b"HTTP/1.1 400 "))
 
     @with_page
     def test_visitors_that_say_nothing_keep_nobody_out(self, server):
-        idle = [socket.create_connection(("127.0.0.1", self.port), 10) for _ in range(20)]
+        idle = [socket.create_connection(("127.0.0.1", self.port), PATIENCE) for _ in range(20)]
         with server.raw() as sock:
             self.assertEqual(say(sock, "acquire deploy 1\n"), ["granted deploy 1"])
         [sock.close() for sock in idle]

@@ -1,15 +1,18 @@
 //! lock_bench PEER CLIENTS LOCKS SECONDS ADDRESS: each client, a thread with a connection of its own, takes and releases one lock,
-//! again and again, without a pause. Prints hand-overs a second, how long an acquire takes, and how fair the peer is. A peer that
-//! fails ends the measure: this program is for `bench/peers.sh` alone.
+//! again and again, without a pause. Prints hand-overs a second, how long an acquire takes, and how fair the peer is. It measures
+//! from when each client was granted its lock once, or from a second on if a peer leaves some out. A peer that fails ends the
+//! measure: this program is for `bench/peers.sh` alone.
 
 mod peers;
 
-use std::sync::atomic::{AtomicBool, AtomicU64, Ordering};
+use std::sync::atomic::{AtomicBool, AtomicU64, AtomicUsize, Ordering};
 use std::sync::Barrier;
 use std::thread;
 use std::time::{Duration, Instant};
 
 const STACK: usize = 256 << 10;
+/// How long is waited for clients that are not granted their lock.
+const LATEST_BEGIN: Duration = Duration::from_secs(1);
 
 /// A client of some lock service.
 pub trait Peer: Send {
@@ -23,6 +26,15 @@ pub trait Peer: Send {
 struct Inside {
     count: AtomicU64,
     token: AtomicU64,
+}
+
+/// How far the measure is.
+#[derive(Default)]
+struct Run {
+    /// How many clients were never granted their lock.
+    away: AtomicUsize,
+    is_measured: AtomicBool,
+    is_over: AtomicBool,
 }
 
 fn main() {
@@ -40,32 +52,42 @@ fn main() {
     let time = Duration::from_secs_f64(seconds.parse().unwrap());
     peers::prepare(peer, address, locks);
     let inside: Vec<Inside> = (0..locks).map(|_| Inside::default()).collect();
-    let (is_over, barrier) = (AtomicBool::new(false), Barrier::new(clients + 1));
+    let (run, barrier) = (Run { away: AtomicUsize::new(clients), ..Run::default() }, Barrier::new(clients + 1));
     let (each, took) = thread::scope(|scope| {
         let work = |c: usize| {
             let mut client = peers::connect(peer, address, c % locks, c).expect("no such peer");
             barrier.wait();
-            hand_over(&mut *client, &inside[c % locks], &is_over)
+            hand_over(&mut *client, &inside[c % locks], &run)
         };
         let start = |c: usize| thread::Builder::new().stack_size(STACK).spawn_scoped(scope, move || work(c)).unwrap();
         let threads: Vec<_> = (0..clients).map(start).collect();
         barrier.wait();
+        let latest = Instant::now() + LATEST_BEGIN;
+        while run.away.load(Ordering::Relaxed) > 0 && Instant::now() < latest {
+            thread::sleep(Duration::from_millis(1));
+        }
         let begun = Instant::now();
+        run.is_measured.store(true, Ordering::Relaxed);
         thread::sleep(time);
-        is_over.store(true, Ordering::Relaxed);
+        run.is_over.store(true, Ordering::Relaxed);
         let each: Vec<Vec<u32>> = threads.into_iter().map(|thread| thread.join().unwrap()).collect();
         (each, begun.elapsed())
     });
     println!("{peer:11} clients {clients:3} locks {locks:3} {}", summary(&each, took));
 }
 
-/// How long each acquire took, in tenths of microseconds.
-fn hand_over(client: &mut dyn Peer, inside: &Inside, is_over: &AtomicBool) -> Vec<u32> {
-    let mut times = Vec::with_capacity(1 << 16);
-    while !is_over.load(Ordering::Relaxed) {
+/// How long each acquire that was measured took, in tenths of microseconds.
+fn hand_over(client: &mut dyn Peer, inside: &Inside, run: &Run) -> Vec<u32> {
+    let (mut times, mut is_new) = (Vec::with_capacity(1 << 16), true);
+    while !run.is_over.load(Ordering::Relaxed) {
         let begun = Instant::now();
         let token = client.acquire();
-        times.push(u32::try_from(begun.elapsed().as_nanos() / 100).unwrap_or(u32::MAX));
+        if run.is_measured.load(Ordering::Relaxed) {
+            times.push(u32::try_from(begun.elapsed().as_nanos() / 100).unwrap_or(u32::MAX));
+        }
+        if std::mem::take(&mut is_new) {
+            run.away.fetch_sub(1, Ordering::Relaxed);
+        }
         assert_eq!(inside.count.fetch_add(1, Ordering::SeqCst), 0, "two hold one lock");
         if token > 0 {
             assert!(inside.token.swap(token, Ordering::SeqCst) < token, "a token does not rise");

@@ -1,19 +1,29 @@
-//! `wozgirt bench`: clients that take and release locks without a pause.
+//! `wozgirt bench`: clients that take and release locks without a pause. What is measured begins when each has been granted its
+//! lock once: until then some are alone, which a busy machine makes long.
 
 use crate::client::{token, unexpected, Client, Fault};
 use crate::words::{Load, Place};
-use std::sync::atomic::{AtomicBool, AtomicU64, Ordering};
+use std::sync::atomic::{AtomicBool, AtomicU64, AtomicUsize, Ordering};
 use std::sync::Barrier;
 use std::thread;
 use std::time::{Duration, Instant};
 
 const STACK: usize = 256 << 10;
+/// How often is looked whether all have begun.
+const LOOK: Duration = Duration::from_millis(1);
 
 /// One lock: who is inside, and its last token.
 #[derive(Default)]
 struct Inside {
     count: AtomicU64,
     token: AtomicU64,
+}
+
+/// How far the measure is.
+struct Run {
+    /// How many clients were never granted their lock.
+    away: AtomicUsize,
+    is_over: AtomicBool,
 }
 
 /// What went wrong, if something did.
@@ -54,23 +64,27 @@ pub fn run(place: &Place, load: &Load) -> Result<(), Wrong> {
     }
     let clients = (0..load.clients).map(|_| Client::open(place)).collect::<Result<Vec<_>, _>>()?;
     let inside: Vec<Inside> = (0..load.locks).map(|_| Inside::default()).collect();
-    let (is_over, barrier) = (AtomicBool::new(false), Barrier::new(load.clients + 1));
+    let (run, barrier) =
+        (Run { away: AtomicUsize::new(load.clients), is_over: AtomicBool::new(false) }, Barrier::new(load.clients + 1));
     let (each, took) = thread::scope(|scope| {
         let mut threads = Vec::new();
         for (c, client) in clients.into_iter().enumerate() {
-            let (l, is_over, barrier) = (c % load.locks, &is_over, &barrier);
+            let (l, run, barrier) = (c % load.locks, &run, &barrier);
             let (name, inside) = (names[l], &inside[l]);
             let work = move || {
                 barrier.wait();
-                hand_over(client, name, c, inside, is_over)
+                hand_over(client, name, c, inside, run)
             };
             let thread = thread::Builder::new().stack_size(STACK).spawn_scoped(scope, work);
             threads.push(thread.map_err(|fault| Wrong::Server(Fault::System(fault)))?);
         }
         barrier.wait();
+        while run.away.load(Ordering::Relaxed) > 0 && !threads.iter().any(|it| it.is_finished()) {
+            thread::sleep(LOOK);
+        }
         let begun = Instant::now();
         thread::sleep(load.time);
-        is_over.store(true, Ordering::Relaxed);
+        run.is_over.store(true, Ordering::Relaxed);
         let each: Result<Vec<_>, Wrong> =
             threads.into_iter().map(|it| it.join().unwrap_or(Err(Wrong::Locks(0)))).collect();
         Ok::<_, Wrong>((each?, begun.elapsed()))
@@ -79,24 +93,23 @@ pub fn run(place: &Place, load: &Load) -> Result<(), Wrong> {
     Ok(())
 }
 
-/// The times of one client's acquires, in tenths of microseconds.
-fn hand_over(
-    mut client: Client,
-    name: &str,
-    number: usize,
-    inside: &Inside,
-    is_over: &AtomicBool,
-) -> Result<Vec<u32>, Wrong> {
+/// The times of one client's acquires while all take part, in tenths of microseconds.
+fn hand_over(mut client: Client, name: &str, number: usize, inside: &Inside, run: &Run) -> Result<Vec<u32>, Wrong> {
     let mut times = Vec::with_capacity(1 << 12);
     let acquire = format!("acquire {name} {number}"); // so the journal tells the clients apart
-    while !is_over.load(Ordering::Relaxed) {
+    let mut is_new = true;
+    while !run.is_over.load(Ordering::Relaxed) {
         let begun = Instant::now();
         client.send(&acquire)?;
         let mut line = client.line(None)?;
         if line.starts_with("waiting ") {
             line = client.line(None)?;
         }
-        times.push(u32::try_from(begun.elapsed().as_nanos() / 100).unwrap_or(u32::MAX));
+        if std::mem::take(&mut is_new) {
+            run.away.fetch_sub(1, Ordering::Relaxed);
+        } else if run.away.load(Ordering::Relaxed) == 0 {
+            times.push(u32::try_from(begun.elapsed().as_nanos() / 100).unwrap_or(u32::MAX));
+        }
         let token = token(&line, name).ok_or_else(|| unexpected(line))?;
         let is_first = inside.count.fetch_add(1, Ordering::SeqCst) == 0;
         if !is_first || inside.token.swap(token, Ordering::SeqCst) >= token {

@@ -12,7 +12,8 @@ const HEAD: &str = "<!doctype html>
 body { font: 15px/1.5 system-ui, sans-serif; margin: 2em auto; max-width: 70em; padding: 0 1em; color: #222; }
 table { border-collapse: collapse; width: 100%; font-variant-numeric: tabular-nums; }
 th, td { text-align: left; padding: .3em .8em .3em 0; border-bottom: 1px solid #ddd; vertical-align: top; }
-td.n, th.n { text-align: right; } .free { color: #777; } .held { color: #063; font-weight: 600; }
+td:not(:last-child), th { white-space: nowrap; } td.n, th.n { text-align: right; }
+.free { color: #777; } .held { color: #063; font-weight: 600; }
 .before { color: #a40; font-weight: 600; } .down { color: #b00; font-weight: 600; }
 @media (prefers-color-scheme: dark) { body { background: #181818; color: #ddd; } th, td { border-color: #444; }
 .held { color: #6d9; } .before { color: #fb6; } .free { color: #999; } .down { color: #f77; } }
@@ -44,8 +45,8 @@ fn summary(text: &mut String, view: &View<'_>) {
     let waiting: usize = view.board.locks().iter().map(|sight| sight.line.len()).sum();
     let _ = writeln!(
         text,
-        "<h1>Locks</h1>\n<p>The engine {engine} (start {}). {} clients, {held} of {} locks held, {waiting} waiting. \
-         Up for {}. Journal: {} bytes in {} segments, the last is {}.</p>",
+        "<h1>Locks</h1>\n<p>The engine {engine} (start {}). Clients: {}, locks held: {held} of {}, waiting: {waiting}. \
+         Up for {}. Journal: {} bytes, segments: {}, the last is {}.</p>",
         view.engine_starts,
         view.connected,
         view.board.locks().len(),
@@ -153,7 +154,7 @@ mod tests {
             "<td>1<br>client 8 label 78 for 2.0 s</td><td class=\"n\">1</td>",
             "machine 2, 1 over 0; repaired",
             "<td>gpu</td><td class=\"free\">free</td>",
-            "99 bytes in 1 segments, the last is 0000000001.ring",
+            "99 bytes, segments: 1, the last is 0000000001.ring",
         ] {
             assert!(page.contains(part), "{part} in {page}");
         }

@@ -1,0 +1,27 @@
+# fish completion for ring_tool
+
+set -l none "not __fish_seen_subcommand_from step run check picture upgrade new serve recover join help"
+set -l words step "Let chosen machines of one ring ask to pass" run "Run the rings of a settings file" \
+    check "Check a saved history" picture "Draw a ring of a saved history" upgrade "Save a history in the latest version" \
+    new "Print a saved history of settled rings" serve "Serve rings by lines" recover "Save the history that a journal records" \
+    join "Save the whole history of a folder of segments" help "Print the help of a command"
+
+complete -c ring_tool -n $none -f
+for i in (seq 1 2 (count $words))
+    complete -c ring_tool -n $none -a $words[$i] -d $words[(math $i + 1)]
+end
+complete -c ring_tool -s h -l help -d "Print the help"
+complete -c ring_tool -n $none -s V -l version -d "Print the version"
+complete -c ring_tool -n "__fish_seen_subcommand_from help" -f -a "step run check picture upgrade new serve recover join"
+complete -c ring_tool -n "__fish_seen_subcommand_from run" -l history -rF -d "Save the history as"
+complete -c ring_tool -n "__fish_seen_subcommand_from run" -l quiet -d "Only the last line of the report"
+complete -c ring_tool -n "__fish_seen_subcommand_from picture" -l ring -x -d "The ring"
+complete -c ring_tool -n "__fish_seen_subcommand_from picture" -l from -x -d "How many events before"
+complete -c ring_tool -n "__fish_seen_subcommand_from picture" -l events -x -d "How many events"
+complete -c ring_tool -n "__fish_seen_subcommand_from serve" -l journal -rF -d "Keep a journal in this file or folder"
+complete -c ring_tool -n "__fish_seen_subcommand_from serve" -l segment -x -d "Lines of a segment"
+complete -c ring_tool -n "__fish_seen_subcommand_from serve" -l sync -d "The journal is on the disk before an answer"
+complete -c ring_tool -n "__fish_seen_subcommand_from serve" -l no-sync -d "An answer may come first"
+complete -c ring_tool -n "__fish_seen_subcommand_from serve" -l faults -d "Lines may write values into machines"
+complete -c ring_tool -n "__fish_seen_subcommand_from serve" -l saves -x -a "(__fish_complete_directories)" -d "Lines may save in this folder"
+complete -c ring_tool -n "__fish_seen_subcommand_from recover" -l salvage -d "Leave out a bad line and all behind it"

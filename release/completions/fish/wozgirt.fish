@@ -1,0 +1,25 @@
+# fish completion for wozgirt
+
+set -l none "not __fish_seen_subcommand_from lock try status watch bench"
+set -l some "__fish_seen_subcommand_from lock try status watch bench"
+set -l lock "__fish_seen_subcommand_from lock try"
+
+complete -c wozgirt -f
+complete -c wozgirt -n $none -a lock -d "Run a command while a lock is held"
+complete -c wozgirt -n $none -a try -d "The same, if it is free"
+complete -c wozgirt -n $none -a status -d "Print each lock"
+complete -c wozgirt -n $none -a watch -d "Print that again and again"
+complete -c wozgirt -n $none -a bench -d "Measure hand-overs"
+complete -c wozgirt -n $none -l help -d "Print the help"
+complete -c wozgirt -n $none -l version -d "Print the version"
+complete -c wozgirt -n $some -l socket -rF -d "A path, or tcp:HOST:PORT"
+complete -c wozgirt -n $lock -a "(timeout 1 wozgirt status 2>/dev/null | awk 'NR > 1 { print \$1 }')"
+complete -c wozgirt -n $lock -s w -l wait -x -d "Give up after so many seconds"
+complete -c wozgirt -n $lock -s n -l no-wait -d "Give up at once"
+complete -c wozgirt -n $lock -s E -l conflict-status -x -d "The status of giving up"
+complete -c wozgirt -n $lock -l label -x -d "What the journal keeps of this hold"
+complete -c wozgirt -n $lock -l lease -x -d "A silence so long lets others have the lock"
+complete -c wozgirt -n $lock -l kill-after -x -d "The seconds between TERM and KILL"
+complete -c wozgirt -n $lock -s o -l close -d "COMMAND does not inherit the connection"
+complete -c wozgirt -n $lock -l group -d "COMMAND gets a process group of its own"
+complete -c wozgirt -n "__fish_seen_subcommand_from watch" -l every -x -d "How often, in seconds"

@@ -1,0 +1,148 @@
+"""The completions and the man pages have just the commands and options that `--help` lists."""
+
+import os
+import re
+import shutil
+import subprocess
+import unittest
+
+from harness import COMMAND, SERVER, TOP, needs_programs
+
+COMPLETIONS = os.path.join(TOP, "release", "completions")
+PAGES = os.path.join(TOP, "docs", "man")
+OPTION = re.compile(r"(?<![\w-])--?[A-Za-z][\w-]*")
+
+
+def read(*names):
+    with open(os.path.join(*names), encoding="utf-8") as file:
+        return file.read()
+
+
+def help_of(program):
+    return subprocess.run([program, "--help"], capture_output=True, text=True, check=True).stdout
+
+
+def options_of(text):
+    """Those at the left of the lines of options."""
+    lefts = (re.split(r"  +", line.strip())[0] for line in text.splitlines() if re.match(r" +--?\w", line))
+    return {option for left in lefts for option in OPTION.findall(left)}
+
+
+def ring_tool():
+    """By command, and for no command: the help that the gate compares with the program's."""
+    text = read(TOP, "crates", "command_script", "stdout")
+    helps = {name: body for name, body in re.findall(r"^\$(\w+)\|--help\n(.*?)^status 0$", text, re.MULTILINE | re.DOTALL)}
+    helps[""] = re.search(r"^%--help\n(.*?)^status 0$", text, re.MULTILINE | re.DOTALL)[1]
+    return helps
+
+
+def commands_of(text):
+    return set(re.findall(r"^  (\w+) +\w", text.split("Commands:\n")[1].split("\n\n")[0], re.MULTILINE))
+
+
+def bash(program, *words):
+    """What bash offers for the last word."""
+    script = (f'source "{COMPLETIONS}/bash/{program}"; COMP_WORDS=("$@"); COMP_CWORD=$(($# - 1)); '
+              f'_{program.replace("-", "_")}; printf "%s\\n" "${{COMPREPLY[@]}}"')
+    return offered(["bash", "--norc", "-c", script, "bash", program, *words])
+
+
+def fish(program, *words):
+    line = " ".join([program, *words])
+    script = f"set fish_complete_path; source {COMPLETIONS}/fish/{program}.fish; complete -C '{line}'"
+    return offered(["fish", "--no-config", "-c", script])
+
+
+def zsh(program, *words):
+    """What the file tells zsh, word by word: the calls by which it does are replaced by prints."""
+    script = ("_arguments() { print -rl -- $@ }; _values() { shift; print -rl -- $@ }; _describe() { print -rl -- ${(P)2} }; "
+              f'words=("$@"); CURRENT=$#; source {COMPLETIONS}/zsh/_{program}')
+    lines = offered(["zsh", "-f", "-c", script, "zsh", program, *words])
+    found = set()
+    for line in lines:
+        found |= set(re.findall(r"^(?:\([^)]*\))?(--?[A-Za-z][\w-]*)(?=\[)", line)) | set(re.findall(r"^(\w+)[\[:]", line))
+    return found
+
+
+def offered(words):
+    it = subprocess.run(words, capture_output=True, text=True, timeout=60, check=True)
+    return {line.split("\t")[0] for line in it.stdout.splitlines() if line} - {"--"}
+
+
+def each_shell(test):
+    def run(self):
+        for shell in (bash, fish, zsh):
+            if shutil.which(shell.__name__):
+                with self.subTest(shell=shell.__name__):
+                    test(self, lambda program, *words, shell=shell: offers(shell, program, *words))
+    return run
+
+
+def offers(shell, program, *words):
+    """Of options also what is offered behind `-` and `--`: fish shows them only there."""
+    if words[-1]:
+        return shell(program, *words)
+    return shell(program, *words[:-1], "") | shell(program, *words[:-1], "-") | shell(program, *words[:-1], "--")
+
+
+@needs_programs
+class Completions(unittest.TestCase):
+    @each_shell
+    def test_server(self, offers):
+        self.assertEqual(offers("wozgirt-server", ""), options_of(help_of(SERVER)) | {"--journal", "--locks"})
+
+    @each_shell
+    def test_command(self, offers):
+        text = help_of(COMMAND)
+        commands = set(re.findall(r"^wozgirt (\w+)", text, re.MULTILINE))
+        self.assertEqual(offers("wozgirt", ""), commands | {"--help", "--version"})
+        own = {command: options_only(offers("wozgirt", command, "")) for command in commands}
+        self.assertEqual(set().union(*own.values()) | {"--help", "--version"}, options_of(text) | {"--every"})
+        self.assertEqual((own["try"], own["status"], own["bench"], own["watch"]),
+                         (own["lock"], {"--socket"}, {"--socket"}, {"--socket", "--every"}))
+
+    @each_shell
+    def test_ring_tool(self, offers):
+        helps = ring_tool()
+        commands = commands_of(helps[""])
+        self.assertEqual(offers("ring_tool", ""), commands | options_of(helps[""]))
+        self.assertEqual(set(helps) - {""}, commands - {"help"})
+        for command in commands - {"help"}:
+            self.assertEqual(options_only(offers("ring_tool", command, "")), options_of(helps[command]), command)
+
+
+def options_only(words):
+    return {word for word in words if word.startswith("-")}
+
+
+@needs_programs
+class ManPages(unittest.TestCase):
+    def options(self, page):
+        return {option.replace("Fl Fl ", "--").replace("Fl ", "-")
+                for line in read(PAGES, page).splitlines() if line.startswith(".It Fl")
+                for option in re.findall(r"Fl Fl [\w-]+|Fl [A-Za-z]\b", line)}
+
+    def test_options(self):
+        self.assertEqual(self.options("wozgirt.1"), options_of(help_of(COMMAND)) | {"--every"})
+        self.assertEqual(self.options("wozgirt-server.8"), options_of(help_of(SERVER)) | {"--journal", "--locks"})
+        helps = ring_tool()
+        self.assertEqual(self.options("ring_tool.1"), set().union(*map(options_of, helps.values())))
+        commands = commands_of(helps[""]) - {"help"}
+        self.assertEqual(set(re.findall(r"^\.Ss (\w+)$", read(PAGES, "ring_tool.1"), re.MULTILINE)), commands)
+
+    def test_functions(self):
+        header = set(re.findall(r"\b(wozgirt_\w+)\(", read(TOP, "include", "wozgirt.h")))
+        page = set(re.findall(r"^\.Fn (\w+) (?:\"|void)", read(PAGES, "libwozgirt.3"), re.MULTILINE))
+        self.assertEqual(page, header)
+
+    def test_they_are_laid_out_without_a_warning(self):
+        for page in os.listdir(PAGES):
+            for words in (["mandoc", "-T", "lint", "-W", "warning"], ["man", "--warnings", "-P", "cat", "-l"]):
+                if shutil.which(words[0]):
+                    words = [*words, os.path.join(PAGES, page)]
+                    it = subprocess.run(words, capture_output=True, text=True, timeout=60, check=False)
+                    self.assertEqual((it.stderr, it.stdout if words[0] == "mandoc" else ""), ("", ""), page)
+
+
+if __name__ == "__main__":
+    unittest.main()
