@@ -9,7 +9,7 @@ use std::alloc::Global;
 /// How many lines a segment has at most, and how many if none are given.
 const MOST_LINES: i64 = 4_000_000;
 
-const LINES: u32 = 1_000_000;
+pub(crate) const LINES: u32 = 1_000_000;
 
 const RECOVER_ABOUT: &str = "Saves the history that a journal tells, which may be cut off anywhere";
 
@@ -171,7 +171,7 @@ fn journal_word<'a>(alloc: Global) -> Arg<'a> {
 }
 
 /// How many lines a segment has, which may be left out.
-fn segment_word<'a>(alloc: Global) -> Arg<'a> {
+pub(crate) fn segment_word<'a>(alloc: Global) -> Arg<'a> {
     Arg::new(alloc, "SEGMENT")
         .long("segment")
         .value_name("LINES")
@@ -197,7 +197,7 @@ fn no_sync_word<'a>(alloc: Global) -> Result<Arg<'a>, Error> {
 }
 
 /// Whether a line may be a fault.
-fn faults_word<'a>(alloc: Global) -> Arg<'a> {
+pub(crate) fn faults_word<'a>(alloc: Global) -> Arg<'a> {
     Arg::new(alloc, "FAULTS")
         .long("faults")
         .action(ArgAction::SetTrue)
@@ -218,8 +218,8 @@ fn with_permits<'a>(alloc: Global, command: Command<'a>) -> Result<Command<'a>, 
     Ok(command.arg(faults_word(alloc))?.arg(saves_word(alloc))?)
 }
 
-/// `serve` with what its journal survives.
-fn with_sync<'a>(alloc: Global, command: Command<'a>) -> Result<Command<'a>, Error> {
+/// A command with what its journal survives.
+pub(crate) fn with_sync<'a>(alloc: Global, command: Command<'a>) -> Result<Command<'a>, Error> {
     let command = command.arg(sync_word(alloc))?;
     Ok(command.arg(no_sync_word(alloc)?)?)
 }

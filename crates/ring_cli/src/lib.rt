@@ -2,8 +2,11 @@
 #![tactic(auto)]
 
 mod fresh;
+mod holds;
 mod journals;
+mod locks;
 mod picture;
+mod report;
 mod version;
 mod words;
 

@@ -1,10 +1,13 @@
 //! The program's command line, as `clap` reads it.
 
 use crate::fresh::{new_command, new_words};
+use crate::holds::{holds_command, holds_words};
 use crate::journals::{
     join_command, join_words, recover_command, recover_words, serve_command, serve_words,
 };
+use crate::locks::{locks_command, locks_words};
 use crate::picture::{picture_command, picture_words};
+use crate::report::{report_command, report_words};
 use crate::version::VERSION;
 use clap::error::ErrorKind;
 use clap::{Arg, ArgAction, ArgMatches, Command, Error, value_parser};
@@ -18,7 +21,7 @@ const STATUSES: &str = "\
 Exit status:
   0  it was done
   1  it was refused, input or output failed, or there was too little memory or no thread
-  2  the words, or a list of `step`, cannot be read
+  2  the words, or a list of `step` or `locks`, cannot be read
 Where it is not 0, standard error says why.";
 
 const STEP_ABOUT: &str = "Lets chosen machines of one ring ask to pass, one after the other";
@@ -248,6 +251,7 @@ fn with_runs<'a>(alloc: Global, program: Command<'a>) -> Result<Command<'a>, Err
 /// The program with the commands that read a saved history.
 fn with_readers<'a>(alloc: Global, program: Command<'a>) -> Result<Command<'a>, Error> {
     let program = with_command(program, check_command(alloc))?;
+    let program = with_command(program, report_command(alloc))?;
     let program = with_command(program, picture_command(alloc))?;
     with_command(program, upgrade_command(alloc))
 }
@@ -256,6 +260,8 @@ fn with_readers<'a>(alloc: Global, program: Command<'a>) -> Result<Command<'a>, 
 fn with_services<'a>(alloc: Global, program: Command<'a>) -> Result<Command<'a>, Error> {
     let program = with_command(program, new_command(alloc))?;
     let program = with_command(program, serve_command(alloc))?;
+    let program = with_command(program, locks_command(alloc))?;
+    let program = with_command(program, holds_command(alloc))?;
     let program = with_command(program, recover_command(alloc))?;
     with_command(program, join_command(alloc))
 }
@@ -306,11 +312,14 @@ fn request_named<'a>(name: &str, words: &ArgMatches<'a>) -> Option<Request<'a>> 
         "step" => step_words(words),
         "run" => run_words(words),
         "check" => check_words(words),
+        "report" => report_words(words),
         "picture" => picture_words(words),
         "upgrade" => upgrade_words(words),
         "recover" => recover_words(words),
         "join" => join_words(words),
         "serve" => serve_words(words),
+        "locks" => locks_words(words),
+        "holds" => holds_words(words),
         _ => None,
     }
 }

@@ -5,6 +5,6 @@
 mod requests;
 
 pub use requests::{
-    CheckWords, JoinWords, LocksWords, NewWords, PictureWords, RecoverWords, Request, RingSize,
-    RunWords, ServeWords, StepWords, UpgradeWords,
+    CheckWords, HoldsWords, JoinWords, LocksWords, NewWords, PictureWords, RecoverWords,
+    ReportWords, Request, RingSize, RunWords, ServeWords, StepWords, UpgradeWords,
 };

@@ -27,6 +27,13 @@ pub struct CheckWords<'a> {
     pub file: &'a str,
 }
 
+/// The words of `report`.
+#[derive(Clone, Copy)]
+pub struct ReportWords<'a> {
+    /// The name of the file with the saved text; `-` is standard input.
+    pub file: &'a str,
+}
+
 /// The words of `picture`.
 #[derive(Clone, Copy)]
 pub struct PictureWords<'a> {
@@ -118,16 +125,32 @@ pub struct LocksWords<'a> {
     pub faults: bool,
 }
 
+/// The words of `holds`.
+#[derive(Clone, Copy)]
+pub struct HoldsWords<'a> {
+    /// The name of the file, or of a folder of segments; `-` is standard input.
+    pub file: &'a str,
+    /// The number of the lock whose holds are wanted, if it is one lock.
+    pub lock: Option<u64>,
+    /// The label whose holds are wanted, if it is one label.
+    pub label: Option<u64>,
+    /// Whether the holds of each label are counted, instead of listed.
+    pub by_label: bool,
+}
+
 /// A command, with its words.
 #[derive(Drop)]
 pub enum Request<'a> {
     Step(StepWords<'a>),
     Run(RunWords<'a>),
     Check(CheckWords<'a>),
+    Report(ReportWords<'a>),
     Picture(PictureWords<'a>),
     Upgrade(UpgradeWords<'a>),
     Recover(RecoverWords<'a>),
     Join(JoinWords<'a>),
     New(NewWords),
     Serve(ServeWords<'a>),
+    Locks(LocksWords<'a>),
+    Holds(HoldsWords<'a>),
 }

@@ -1,0 +1,83 @@
+//! The words of the command on locks.
+
+use crate::journals::{LINES, faults_word, segment_word, with_sync};
+use clap::{Arg, ArgMatches, Command, Error};
+use ring_requests::{LocksWords, Request};
+use std::alloc::Global;
+
+const LOCKS_ABOUT: &str =
+    "Lends locks to the clients of any program, by lines: each is a call of one client";
+
+const LOCKS_HELP: &str = "\
+Each line of standard input is a call of a client, of at most 8192 bytes with its end. A client is a connection: in front
+of each call stands its number, and in front of each answer the number of the client that it is for:
+  CONNECTION acquire LOCK ORDER     granted LOCK TOKEN, or waiting LOCK BEFORE and, when it is its turn, granted LOCK TOKEN
+  CONNECTION try LOCK ORDER         the same, but busy LOCK if it would wait
+  CONNECTION release LOCK TOKEN     released LOCK
+  CONNECTION cancel LOCK            cancelled LOCK: it waits no longer
+  CONNECTION leave                  it gives up all that it holds and waits for, and is not answered
+  CONNECTION corrupt LOCK MACHINE VALUE   corrupted LOCK OLD: a fault in the lock's ring; needs `--faults`
+  CONNECTION stats LOCK             stats LOCK MACHINES WAITERS PASSES HOLDER TOKEN, where HOLDER and TOKEN are 0 if it is free
+LOCK is the number of a lock, from 0, and ORDER a label that the client chooses and the journal keeps. The tokens of a
+lock rise. Any other line, and a call that cannot be done, changes nothing: it is answered `refused` and why, as
+`syntax`, `number`, `off`, `lock`, or `holds LOCK`, `waits LOCK`, `circle LOCK`, `holder LOCK`, `waiter LOCK`, `machine LOCK`,
+`value LOCK`, `full LOCK`, `memory LOCK`. A line in front of which stands no number is not answered.
+
+The answers leave before more is read. At the end of standard input the totals of all locks go to standard error.
+
+FOLDER, which has to be there, keeps the journal: a chain of segments, FOLDER/0000000001.ring and so on, which `check
+FOLDER` checks, and the file FOLDER/locks with the names and the sizes of the locks. Each grant, and each end of one, is in
+the journal before its answer leaves. What was held when the process ended is held by the client 0 at the next start, until
+`0 leave` or `0 release LOCK TOKEN`; who waited has to ask again. One process at a time keeps FOLDER.
+
+The first start needs `--locks`: names of 1 to 64 ASCII letters, digits, `.`, `_`, `-` and `/`, each with how many machines its
+ring has (2 to 1024) and how many values they can hold (N to 65536), if it is not 8. A later start may leave it out, or name
+locks more behind those that there are; each other difference is refused.
+
+Example:
+  $ printf '1 acquire 0 77\\n2 acquire 0 78\\n1 release 0 1\\n' | ring_tool locks --journal folder --locks deploy
+  1 granted 0 1
+  2 waiting 0 0
+  1 released 0
+  2 granted 0 2
+
+Exit status: 0 at the end of standard input, 1 where FOLDER is refused or reading or writing fails, 2 where the words or
+the list of locks cannot be read.";
+
+/// The folder of the journal.
+fn folder_word<'a>(alloc: Global) -> Arg<'a> {
+    Arg::new(alloc, "JOURNAL")
+        .long("journal")
+        .value_name("FOLDER")
+        .required(true)
+        .help("Keeps the journal in FOLDER, and goes on from it")
+}
+
+/// The list of locks, which may be left out.
+fn list_word<'a>(alloc: Global) -> Arg<'a> {
+    Arg::new(alloc, "LOCKS")
+        .long("locks")
+        .value_name("NAME[:N[:K]],..")
+        .help("The locks: their names, with the size of each one's ring [default: 8, and K as N]")
+}
+
+/// The words of `locks`.
+pub(crate) fn locks_command<'a>(alloc: Global) -> Result<Command<'a>, Error> {
+    let command = Command::new(alloc, "locks")
+        .about(LOCKS_ABOUT)
+        .after_help(LOCKS_HELP);
+    let command = command.arg(folder_word(alloc))?.arg(list_word(alloc))?;
+    let command = with_sync(alloc, command.arg(segment_word(alloc))?)?;
+    Ok(command.arg(faults_word(alloc))?)
+}
+
+/// `locks`, where the folder is there.
+pub(crate) fn locks_words<'a>(words: &ArgMatches<'a>) -> Option<Request<'a>> {
+    Some(Request::Locks(LocksWords {
+        journal: words.get_str("JOURNAL")?,
+        locks: words.get_str("LOCKS"),
+        segment: words.get_one::<u32>("SEGMENT").unwrap_or(LINES),
+        synced: !words.get_flag("NO_SYNC"),
+        faults: words.get_flag("FAULTS"),
+    }))
+}

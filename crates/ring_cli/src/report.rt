@@ -1,0 +1,44 @@
+//! The words of `report`.
+
+use crate::words::needed_text;
+use clap::{ArgMatches, Command, Error};
+use ring_requests::{ReportWords, Request};
+use std::alloc::Global;
+
+const ABOUT: &str = "Prints the report of a saved history, with what each seat did";
+
+const HELP: &str = "\
+It reads and checks FILE as `check` does. Only where that is legal it prints what `run` prints of such rings: four lines for
+each ring, and one for all. Behind the four lines of a ring stands a fifth: for each seat, from seat 0 to seat 9, how many
+events are its own, how many of those are granted passes, and how many surveys it has. A history whose ring has more than
+4000000 events is refused. No file changes. A folder of segments is joined first: `ring_tool join FOLDER NEW`.
+
+Example:
+  $ ring_tool report saved.txt
+  ring 0 n 3 k 3 events 3 granted 2 refused 1 corrupted 0 surveys 1
+  states 1,2,2
+  privileged 1 first 1 calm 2 rest 0 bound 9
+  grants 1,0,1 settled 0,0,0
+  seats calls 3,0,0,0,0,0,0,0,0,0 granted 2,0,0,0,0,0,0,0,0,0 surveys 1,0,0,0,0,0,0,0,0,0
+  total rings 1 events 3 granted 2 surveys 1
+
+Exit status: 0 where it was printed, 1 where FILE is not legal, has too many events or cannot be read, or printing fails, 2
+where the words cannot be read. A file whose name is `-` is `./-`; one whose name begins with a dash stands behind `--`.";
+
+/// The words of `report`.
+pub(crate) fn report_command<'a>(alloc: Global) -> Result<Command<'a>, Error> {
+    let command = Command::new(alloc, "report").about(ABOUT).after_help(HELP);
+    let file = needed_text(
+        alloc,
+        "FILE",
+        "The saved history, as `run --history` writes it, of at most 1,073,741,824 bytes; `-` is standard input",
+    );
+    Ok(command.arg(file)?)
+}
+
+/// `report`, where its word is there.
+pub(crate) fn report_words<'a>(words: &ArgMatches<'a>) -> Option<Request<'a>> {
+    Some(Request::Report(ReportWords {
+        file: words.get_str("FILE")?,
+    }))
+}
