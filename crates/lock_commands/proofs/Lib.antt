@@ -1,2 +1,4 @@
+mod HeldLeads
+mod HoldTexts
 mod Summing
 pub mod UnreadLists

@@ -1,6 +1,8 @@
 //! The commands on locks, once their words are read.
 #![tactic(auto)]
 
+mod held_folder;
+pub mod holds;
 pub mod locks;
 mod refusals;
 #[cfg(test)]

@@ -11,4 +11,5 @@ mod tests;
 
 pub use faults::StartFault;
 pub use folder::start_locks;
+pub use lists::has_list;
 pub use places::Start;

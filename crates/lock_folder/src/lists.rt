@@ -15,7 +15,7 @@ use std::alloc::{AllocError, Global};
 use std::io::{Read, Write};
 
 /// Whether the file of locks is among these entries of a folder.
-pub(crate) fn has_list(entries: &[FolderEntry]) -> bool
+pub fn has_list(entries: &[FolderEntry]) -> bool
     ensures { result ≡ is_among (names_of entries.now) (codes "locks") }
 {
     for entry in entries {

@@ -52,7 +52,7 @@ module _ (ks : List Known) (bs bs1 bs2 : List Base) (rs rs1 rs2 : List SavedRing
 
 -- ---- files that were read one after the other
 
-told_on : (ks : List Known) (fs : List File) (ms ns : List Known) (f : File) → LeadTo ks fs ms → with_file ms f ≡ Ok ns → LeadTo ks (fs ++ f ∷ []) ns
+pub told_on : (ks : List Known) (fs : List File) (ms ns : List Known) (f : File) → LeadTo ks fs ms → with_file ms f ≡ Ok ns → LeadTo ks (fs ++ f ∷ []) ns
 told_on ks [] ms ns f t e = (ns, ap (λ (u : List Known). with_file u f) t ∙ e, refl)
 told_on ks (g ∷ fs) ms ns f t e = (t.0, t.1, told_on t.0 fs ms ns f t.2 e)
 

@@ -3,6 +3,8 @@
 ghost use Rattle.std.specs.Prelude.{◌≡◌, ◌++◌, List, [], map, OnOk, IfOk};
 ghost use Rattle.ring_holds.specs.declared.holds.Hold.{Hold};
 ghost use Rattle.std.specs.List.{flat_map};
+ghost use Rattle.std.specs.Ordering.{nat_cmp};
+ghost use Rattle.std.specs.BTreeMap.{IsOrdered};
 ghost use Rattle.text_lines.specs.Writing.{Writes};
 ghost use Rattle.ring_holds.specs.Lines.{is_chosen};
 ghost use Rattle.ring_holds.specs.Labels.{chosen_one, chosen_of, all_chosen, is_released, is_left, is_open, no_counts, AreCounted, one_more, with_end, label_line};
@@ -181,8 +183,9 @@ pub fn put_labels<W: Write>(
     out: &mut W,
     counts: &BTreeMap<u64, LabelCounts>,
 ) -> Result<(), WriteFault>
-    ensures { Writes (W.contents out.old) (W.contents out.new) result
+    ensures written { Writes (W.contents out.old) (W.contents out.new) result
         (flat_map label_line counts.now.entries) }
+    ensures rising { IsOrdered nat_cmp counts.now }
 {
     for (label, count) in counts {
         match put_label(out, *label, *count) {

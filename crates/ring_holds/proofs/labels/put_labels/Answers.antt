@@ -21,15 +21,15 @@ loop-label-preserved g c =
     wrote_piece _ _ _ (flat_map label_line c.args.counts.now.entries) (label_line (c.in-Some.label.now, c.in-Some.count.now)) (flat_map label_line c.next.new.self)
     (so_far _ _ _ l.label-iterator ((c.in-Some.label.now, c.in-Some.count.now) ∷ c.next.new.self) cut l.invariant) c.in-Ok.ensures
 
-pub returns-in-Err : goal.returns-in-Err
-returns-in-Err g c =
+pub returns-in-Err-clause-written : goal.returns-in-Err-clause-written
+returns-in-Err-clause-written g c =
     let l = c.loop-label in
     let cut = rest_more deref_pair l.label-iterator c.next.new.self c.next.result (c.in-Some.label, c.in-Some.count) c.in-Some.is c.next.ensures.steps in
     wrote_fault _ _ _ c.in-Err.fault (flat_map label_line c.args.counts.now.entries) (label_line (c.in-Some.label.now, c.in-Some.count.now)) (flat_map label_line c.next.new.self)
     (so_far _ _ _ l.label-iterator ((c.in-Some.label.now, c.in-Some.count.now) ∷ c.next.new.self) cut l.invariant) c.in-Err.ensures
 
-pub returns : goal.returns
-returns g c =
+pub returns-clause-written : goal.returns-clause-written
+returns-clause-written g c =
     let l = c.loop-label in
     let none = rest_all deref_pair l.label-iterator c.next.new.self c.next.result c.in-None.is c.next.ensures.steps in
     wrote_all _ _ (flat_map label_line c.args.counts.now.entries) (so_far _ _ _ l.label-iterator [] none l.invariant)

@@ -1,0 +1,21 @@
+use Rattle.std.proofs.Common.{List, ℕ, refl, sym, subst}
+use Rattle.segment_folder.specs.Names.{segment_file}
+use Rattle.ring_commands.specs.Named.{IsHeld}
+use Rattle.lock_commands.proofs.held_folder.read_segment.Goals as goal
+
+pub returns-in-Err-Segment-clause-err : goal.returns-in-Err-Segment-clause-err
+returns-in-Err-Segment-clause-err g c = (
+  c.as_slice.result.now,
+  refl,
+  refl,
+  subst (λ (t : List ℕ). IsHeld (g.D.Disk.holds c.args.disk.now) (segment_file c.args.folder.now c.args.number) t) (sym c.as_slice.ensures.value) c.in-Ok.ensures.ok,
+  rw c.in-Err-Segment.field-0-is at c.in-Err-Segment.ensures.err,
+)
+
+pub returns-in-Err-NoHold-clause-err : goal.returns-in-Err-NoHold-clause-err
+returns-in-Err-NoHold-clause-err g c = (
+  c.as_slice.result.now,
+  refl,
+  subst (λ (t : List ℕ). IsHeld (g.D.Disk.holds c.args.disk.now) (segment_file c.args.folder.now c.args.number) t) (sym c.as_slice.ensures.value) c.in-Ok.ensures.ok,
+  rw c.in-Err-NoHold.field-0-is at c.in-Err-NoHold.ensures.err,
+)

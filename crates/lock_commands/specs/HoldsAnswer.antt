@@ -1,0 +1,190 @@
+-- The answer of `holds` (this project's own).
+use Rattle.std.specs.Prelude.{◌≡◌, ℕ, ◌+◌, ◌==◌, List, [], length, map, Bool, true, false, Option, Some, None, Ok, Err, ◌⊎◌}
+use Rattle.std.specs.List.{flat_map}
+use Rattle.std.specs.Ordering.{nat_cmp}
+use Rattle.std.specs.BTreeMap.{BTreeMap, IsOrdered}
+use Rattle.std.specs.Io.KnownBytes.{Appends}
+use Rattle.disks.specs.Held.{Held}
+use Rattle.disks.specs.declared.disk.FolderEntry.{FolderEntry}
+use Rattle.segment_folder.specs.Names.{segment_file}
+use Rattle.segment_folder.specs.Numbers.{IsRightNumbers}
+use Rattle.segment_folder.specs.declared.numbers.SegmentNumbers.{SegmentNumbers}
+use Rattle.ring_saved.specs.Content.{Block}
+use Rattle.ring_check.specs.declared.answers.Summary.{Summary}
+use Rattle.ring_segments.specs.Files.{File}
+use Rattle.ring_segments.specs.Chain as segments
+use Rattle.ring_holds.specs.declared.errors.ChainHoldError.TheVariants as unheld
+use Rattle.ring_holds.specs.declared.holds.Hold.{Hold}
+use Rattle.ring_holds.specs.declared.labels.LabelCounts.{LabelCounts}
+use Rattle.ring_holds.specs.declared.lines.Choice.{Choice}
+use Rattle.ring_holds.specs.Known.{Known, all_holds}
+use Rattle.ring_holds.specs.Chains.{HoldsSoFar, LeadTo, IsHoldRefusal, of_blocks}
+use Rattle.ring_holds.specs.ChainSteps.{AreBlocksHeld}
+use Rattle.ring_holds.specs.Lines.{all_lines}
+use Rattle.ring_holds.specs.Labels.{all_chosen, AreCounted, label_line}
+use Rattle.ring_requests.specs.declared.requests.HoldsWords.{HoldsWords}
+use Rattle.ring_commands.specs.Chained.{AreHeldFrom, IsChainIn, IsFolder, IsAddRefusal, IsNamedWrong, AreNamesRefused}
+use Rattle.ring_commands.specs.Checked.{IsLegalSavedText, IsSavedTextRefusal}
+use Rattle.ring_commands.specs.Named.{IsHeld, IsNamed, IsNamedRefusal}
+use Rattle.ring_commands.specs.Reading.{names_stream}
+use Rattle.ring_commands.specs.Worlds.{World}
+use Rattle.ring_commands.specs.Written.{AppendsFront}
+use Rattle.ring_commands.specs.declared.faults.ToolError.{ToolError}
+use Rattle.ring_commands.specs.declared.faults.ToolError.TheVariants as tool
+
+-- ---- what is printed
+
+-- which holds are wanted, by the words
+abbrev pub choice_of : HoldsWords → Choice
+choice_of words = record { lock = words.lock; label = words.label }
+
+-- the lines of how many of these holds each label has, by label, rising
+pub record AreLabelLines (wanted : List Hold) (text : List ℕ) : Type 0 where
+  pub counts : BTreeMap ℕ LabelCounts
+  pub counted : AreCounted counts wanted
+  pub rising : IsOrdered nat_cmp counts
+  pub lines : text ≡ flat_map label_line counts.entries
+
+-- by label, or a line for each hold
+abbrev pub IsTextBy : Bool → Choice → List (List Hold) → List ℕ → Type 0
+IsTextBy true c holds text = AreLabelLines (all_chosen c 0 holds) text
+IsTextBy false c holds text = text ≡ all_lines c 0 holds
+
+-- the text that the words ask for, of locks with these holds
+abbrev pub IsHoldsText : HoldsWords → List (List Hold) → List ℕ → Type 0
+IsHoldsText words holds text = IsTextBy words.by_label (choice_of words) holds text
+
+-- it is written; or the writer failed, which got a prefix of it
+abbrev pub AreHoldsTold : HoldsWords → List (List Hold) → Option (List ℕ) → Option (List ℕ)
+    → Type 0
+AreHoldsTold words holds old new =
+    (text : List ℕ) × IsHoldsText words holds text × Appends old new text
+
+abbrev pub AreHoldsCut : HoldsWords → List (List Hold) → Option (List ℕ) → Option (List ℕ)
+    → Type 0
+AreHoldsCut words holds old new =
+    (text : List ℕ) × IsHoldsText words holds text × AppendsFront old new text
+
+-- ---- whose holds
+
+-- What the word names gave the bytes of a legal saved text, each ring of which has the history of a
+-- lock, with these holds.
+pub record AreTextHolds (word : List ℕ) (files : Option Held) (was is : Option (List ℕ))
+    (holds : List (List Hold)) : Type 0 where
+  pub bytes : List ℕ
+  pub sums : Summary
+  pub named : IsNamed word files was is bytes
+  pub legal : IsLegalSavedText bytes sums
+  pub held : AreBlocksHeld legal.content.rings holds
+
+-- the segments of a folder held a chain, whose locks had these holds
+pub record AreFilesHolds (files : Option Held) (name : List ℕ) (r : SegmentNumbers)
+    (holds : List (List Hold)) : Type 0 where
+  pub fs : List File
+  pub locks : List Known
+  pub chain : IsChainIn files name r fs
+  pub told : LeadTo [] fs locks
+  pub all : holds ≡ map all_holds locks
+
+-- the word names a folder in which there is something, with such segments
+pub record AreFolderHolds (name : List ℕ) (files : Option Held) (holds : List (List Hold)) :
+    Type 0 where
+  pub entries : List FolderEntry
+  pub r : SegmentNumbers
+  pub listed : IsFolder files name entries
+  pub numbers : IsRightNumbers entries (Ok (Some r))
+  pub held : AreFilesHolds files name r holds
+
+-- a text, or, if it is no standard stream, a folder
+abbrev pub AreNamedHolds : List ℕ → World → World → List (List Hold) → Type 0
+AreNamedHolds word was is holds =
+    AreTextHolds word was.files was.input is.input holds
+    ⊎ ((names_stream word ≡ false) × AreFolderHolds word was.files holds)
+
+-- The lines of the holds of what the word names are written.
+abbrev pub IsHoldsAnswer : HoldsWords → World → World → Type 0
+IsHoldsAnswer words was is =
+    (holds : List (List Hold))
+    × AreNamedHolds words.file.now was is holds
+    × AreHoldsTold words holds was.out is.out
+
+-- ---- refusals
+
+-- the first ring of a text that has not the history of a lock; memory aside
+abbrev pub IsBlockRefusal : List ℕ → List Block → ToolError → Type 0
+IsBlockRefusal name ks (tool.NoHold named lock at) =
+    (named.now ≡ name) × (of_blocks ks ≡ Err (lock, at))
+IsBlockRefusal name ks tool.OutOfMemory = Unit {0}
+IsBlockRefusal name ks _ = ⊥
+
+-- the bytes are no legal saved text; or they are one, of which a ring is refused
+abbrev pub IsUnheldText : List ℕ → List ℕ → ToolError → Type 0
+IsUnheldText name bytes e =
+    IsSavedTextRefusal bytes e
+    ⊎ ((sums : Summary)
+    × (legal : IsLegalSavedText bytes sums)
+    × IsBlockRefusal name legal.content.rings e)
+
+-- what the word names cannot be read, or the bytes that it gave are refused
+abbrev pub IsTextUnheld : List ℕ → Option Held → Option (List ℕ) → Option (List ℕ) → ToolError
+    → Type 0
+IsTextUnheld word files was is e =
+    IsNamedRefusal word files was is e
+    ⊎ ((bytes : List ℕ) × IsNamed word files was is bytes × IsUnheldText word bytes e)
+
+-- after what was read of the files before, that of this segment cannot be read, or does not follow
+-- in the chain; or a segment in it is not that of a lock
+abbrev pub IsUnheld : Option Held → List ℕ → ℕ → HoldsSoFar → Bool → ToolError → Type 0
+IsUnheld files name n before last (tool.NoHold named lock at) =
+    (bytes : List ℕ)
+    × (named.now ≡ name)
+    × IsHeld files (segment_file name n) bytes
+    × IsHoldRefusal before bytes last (unheld.NoHold lock at)
+IsUnheld files name n before last e = IsAddRefusal files name n before.state last e
+
+-- after files that follow one another, and tell of holds, the next one is refused
+abbrev pub IsFileUnheld : Option Held → List ℕ → SegmentNumbers → ToolError → Type 0
+IsFileUnheld files name r e =
+    (fs : List File)
+    × (before : HoldsSoFar)
+    × segments.LeadTo None fs before.state
+    × LeadTo [] fs before.locks
+    × AreHeldFrom files name r.first fs
+    × IsUnheld files name (r.first + length fs) before (r.first + length fs == r.last) e
+
+-- One of the files of a folder is refused, or the first says another number than its name has; or
+-- there is no memory.
+abbrev pub AreFilesUnheld : Option Held → List ℕ → SegmentNumbers → ToolError → Type 0
+AreFilesUnheld files name r e =
+    IsFileUnheld files name r e ⊎ (IsNamedWrong files name r e ⊎ (e ≡ tool.OutOfMemory))
+
+-- the names in a folder are refused, or its files
+abbrev pub IsFolderUnheld : List ℕ → Option Held → ToolError → Type 0
+IsFolderUnheld name files e =
+    (entries : List FolderEntry)
+    × IsFolder files name entries
+    × (AreNamesRefused name entries e
+    ⊎ ((r : SegmentNumbers)
+    × IsRightNumbers entries (Ok (Some r))
+    × AreFilesUnheld files name r e))
+
+-- a text is refused, or, if the word is no standard stream, a folder
+abbrev pub IsNamedUnheld : List ℕ → World → World → ToolError → Type 0
+IsNamedUnheld word was is e =
+    IsTextUnheld word was.files was.input is.input e
+    ⊎ ((names_stream word ≡ false) × IsFolderUnheld word was.files e)
+
+-- there are the holds, but not all of their lines are written; or there is no memory to count them
+abbrev pub AreHoldsUntold : HoldsWords → List (List Hold) → Option (List ℕ)
+    → Option (List ℕ) → ToolError → Type 0
+AreHoldsUntold words holds old new tool.Write = AreHoldsCut words holds old new
+AreHoldsUntold words holds old new tool.OutOfMemory = words.by_label ≡ true
+AreHoldsUntold words holds old new _ = ⊥
+
+-- Which refusals `holds` may meet: those of what the word names, and those of the lines.
+abbrev pub IsHoldsRefusal : HoldsWords → World → World → ToolError → Type 0
+IsHoldsRefusal words was is e =
+    IsNamedUnheld words.file.now was is e
+    ⊎ ((holds : List (List Hold))
+    × AreNamedHolds words.file.now was is holds
+    × AreHoldsUntold words holds was.out is.out e)

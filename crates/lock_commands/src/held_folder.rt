@@ -1,0 +1,149 @@
+//! The holds of the locks whose segments a folder has: its files are read one after the other.
+
+ghost use Rattle.std.specs.Prelude.{◌≡◌, ◌≤◌, List, ℕ, map, IfOk, IfErr};
+ghost use Rattle.segment_folder.specs.Names.{segment_file};
+ghost use Rattle.ring_holds.specs.Chains.{IsHeldWith};
+ghost use Rattle.ring_commands.specs.Chained.{IsFolder};
+ghost use Rattle.ring_commands.specs.Named.{IsHeld};
+ghost use Rattle.lock_commands.specs.HoldsAnswer.{AreFilesHolds, AreFolderHolds, IsUnheld, IsFileUnheld, AreFilesUnheld, IsFolderUnheld};
+ghost use Rattle.lock_commands.specs.HoldSteps.{HoldLeads, HoldEnds};
+
+use disks::{Disk, FolderEntry};
+use ring_commands::chain::{folder_numbers, segment_bytes};
+use ring_commands::faults::ToolError;
+use ring_holds::{ChainHoldError, Hold, HoldChain};
+use ring_segments::SegmentError;
+use segment_folder::SegmentNumbers;
+use std::alloc::Global;
+
+/// Reads the holds of the file of a segment, which may be the last one, after those before it.
+///
+/// # Errors
+///
+/// Those of [`segment_bytes`]; `Segment` with the reason why it does not follow; `NoHold` with the first lock that has a segment in
+/// it that is not that of a lock, and the first place there.
+fn read_segment<'a, D: Disk>(
+    alloc: Global,
+    disk: &D,
+    folder: &'a str,
+    number: u64,
+    last: bool,
+    before: HoldChain,
+) -> Result<HoldChain, ToolError<'a>>
+    ensures ok { IfOk result (λ new. (bytes : List ℕ)
+        × IsHeld (D.holds disk.now) (segment_file folder.now number) bytes
+        × IsHeldWith before bytes last new) }
+    ensures err { IfErr result
+        (λ e. IsUnheld (D.holds disk.now) folder.now number before last e) }
+{
+    let bytes = match segment_bytes(alloc, disk, folder, number) {
+        Ok(bytes) => bytes,
+        Err(fault) => return Err(fault),
+    };
+    match before.with_file(alloc, bytes.as_slice(), last) {
+        Ok(new) => Ok(new),
+        Err(ChainHoldError::Segment(error)) => Err(ToolError::Segment(folder, number, error)),
+        Err(ChainHoldError::NoHold { lock, at }) => Err(ToolError::NoHold(folder, lock, at)),
+        Err(ChainHoldError::OutOfMemory) => Err(ToolError::OutOfMemory),
+    }
+}
+
+/// Reads the holds of the files of a folder but the last.
+fn read_before_last<'a, D: Disk>(
+    alloc: Global,
+    disk: &D,
+    folder: &'a str,
+    numbers: SegmentNumbers,
+) -> Result<HoldChain, ToolError<'a>>
+    requires up { numbers.first ≤ numbers.last }
+    ensures ok { IfOk result
+        (λ l. HoldLeads (D.holds disk.now) folder.now numbers.first numbers.last l) }
+    ensures err { IfErr result (λ e. IsFileUnheld (D.holds disk.now) folder.now numbers e) }
+{
+    let mut found = HoldChain::new(alloc);
+    for number in numbers.first..numbers.last {
+        found = match read_segment(alloc, disk, folder, number, false, found) {
+            Ok(new) => new,
+            Err(fault) => return Err(fault),
+        };
+    }
+    Ok(found)
+}
+
+/// Reads the holds of all files of a folder.
+fn read_all<'a, D: Disk>(
+    alloc: Global,
+    disk: &D,
+    folder: &'a str,
+    numbers: SegmentNumbers,
+) -> Result<HoldChain, ToolError<'a>>
+    requires up { numbers.first ≤ numbers.last }
+    ensures ok { IfOk result
+        (λ l. HoldEnds (D.holds disk.now) folder.now numbers.first numbers.last l) }
+    ensures err { IfErr result (λ e. IsFileUnheld (D.holds disk.now) folder.now numbers e) }
+{
+    let before = match read_before_last(alloc, disk, folder, numbers) {
+        Ok(before) => before,
+        Err(fault) => return Err(fault),
+    };
+    match read_segment(alloc, disk, folder, numbers.last, true, before) {
+        Ok(found) => Ok(found),
+        Err(fault) => Err(fault),
+    }
+}
+
+/// The holds of the locks of a folder's files. The first file has to say the number of its name.
+///
+/// # Errors
+///
+/// Those of [`read_segment`] at the first file that is refused; `Segment` with the number of the first file if that says another
+/// one; `OutOfMemory`.
+fn files_holds<'a, D: Disk>(
+    alloc: Global,
+    disk: &D,
+    folder: &'a str,
+    numbers: SegmentNumbers,
+) -> Result<Vec<Vec<Hold>>, ToolError<'a>>
+    requires up { numbers.first ≤ numbers.last }
+    ensures ok { IfOk result (λ found.
+        AreFilesHolds (D.holds disk.now) folder.now numbers (map (λ v. v.items) found.items)) }
+    ensures err { IfErr result (λ e. AreFilesUnheld (D.holds disk.now) folder.now numbers e) }
+{
+    let found = match read_all(alloc, disk, folder, numbers) {
+        Ok(found) => found,
+        Err(fault) => return Err(fault),
+    };
+    if found.sums().first != numbers.first {
+        return Err(ToolError::Segment(folder, numbers.first, SegmentError::Number));
+    }
+    match found.holds(alloc) {
+        Ok(holds) => Ok(holds),
+        Err(_) => Err(ToolError::OutOfMemory),
+    }
+}
+
+/// The holds of the locks whose segments a folder with these entries has.
+///
+/// # Errors
+///
+/// Those of [`folder_numbers`] and [`files_holds`].
+pub(crate) fn folder_holds<'a, D: Disk>(
+    alloc: Global,
+    disk: &D,
+    folder: &'a str,
+    entries: &[FolderEntry],
+) -> Result<Vec<Vec<Hold>>, ToolError<'a>>
+    requires { IsFolder (D.holds disk.now) folder.now entries.now }
+    ensures ok { IfOk result (λ found.
+        AreFolderHolds folder.now (D.holds disk.now) (map (λ v. v.items) found.items)) }
+    ensures err { IfErr result (λ e. IsFolderUnheld folder.now (D.holds disk.now) e) }
+{
+    let numbers = match folder_numbers(alloc, folder, entries) {
+        Ok(numbers) => numbers,
+        Err(fault) => return Err(fault),
+    };
+    match files_holds(alloc, disk, folder, numbers) {
+        Ok(holds) => Ok(holds),
+        Err(fault) => Err(fault),
+    }
+}

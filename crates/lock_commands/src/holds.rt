@@ -1,0 +1,168 @@
+//! `holds`: who held the locks whose histories are a saved text, or the segments of a folder.
+
+ghost use Rattle.std.specs.Prelude.{true, false, ◌≡◌, ◌≢◌, None, map, OnOk, IfOk, IfErr};
+ghost use Rattle.ring_commands.specs.Reading.{names_stream};
+ghost use Rattle.ring_commands.specs.Worlds.{world};
+ghost use Rattle.lock_commands.specs.HoldsAnswer.{choice_of, AreHoldsTold, AreHoldsUntold, AreTextHolds, IsTextUnheld, AreNamedHolds, IsNamedUnheld, IsHoldsAnswer, IsHoldsRefusal};
+
+use crate::held_folder::folder_holds;
+use disks::Disk;
+use ring_commands::check::{entries_of, legal_saved};
+use ring_commands::faults::ToolError;
+use ring_commands::reading::read_named;
+use ring_holds::{
+    ChainHoldError, Choice, Hold, count_labels, holds_of_saved, put_holds, put_labels,
+};
+use ring_requests::HoldsWords;
+use std::alloc::Global;
+use std::io::{Read, Write};
+
+/// Which holds are wanted.
+fn choice_of(words: &HoldsWords<'_>) -> Choice
+    ensures { result ≡ choice_of words.now }
+{
+    Choice {
+        lock: words.lock,
+        label: words.label,
+    }
+}
+
+/// The holds of the locks of the saved text that a word names.
+///
+/// # Errors
+///
+/// Those of reading what the word names; those of a text that is not legal; `NoHold` with the first ring that has not the history
+/// of a lock, and the first place there; `OutOfMemory`.
+fn text_holds<'a, D: Disk, I: Read>(
+    alloc: Global,
+    disk: &D,
+    file: &'a str,
+    input: &mut I,
+) -> Result<Vec<Vec<Hold>>, ToolError<'a>>
+    ensures ok { IfOk result (λ found. AreTextHolds file.now (D.holds disk.now)
+        (I.remaining input.old) (I.remaining input.new) (map (λ v. v.items) found.items)) }
+    ensures err { IfErr result (λ e. IsTextUnheld file.now (D.holds disk.now)
+        (I.remaining input.old) (I.remaining input.new) e) }
+    ensures unread { names_stream file.now ≡ false → input.new ≡ input.old }
+{
+    let bytes = match read_named(alloc, disk, file, input) {
+        Ok(bytes) => bytes,
+        Err(fault) => return Err(fault),
+    };
+    let (saved, _sums) = match legal_saved(alloc, bytes.as_slice()) {
+        Ok(found) => found,
+        Err(fault) => return Err(fault),
+    };
+    match holds_of_saved(alloc, &saved) {
+        Ok(found) => Ok(found),
+        Err(ChainHoldError::NoHold { lock, at }) => Err(ToolError::NoHold(file, lock, at)),
+        Err(_) => Err(ToolError::OutOfMemory),
+    }
+}
+
+/// The holds of the locks of what a word names: of a folder's segments, if it leads to a folder in which there is something, else
+/// of a saved text.
+///
+/// # Errors
+///
+/// Those of [`folder_holds`] and [`text_holds`].
+fn named_holds<'a, D: Disk, I: Read>(
+    alloc: Global,
+    disk: &D,
+    file: &'a str,
+    input: &mut I,
+) -> Result<Vec<Vec<Hold>>, ToolError<'a>>
+    ensures ok { IfOk result (λ found. AreNamedHolds file.now
+        (world (D.holds disk.now) (I.remaining input.old) None None)
+        (world (D.holds disk.now) (I.remaining input.new) None None)
+        (map (λ v. v.items) found.items)) }
+    ensures err { IfErr result (λ e. IsNamedUnheld file.now
+        (world (D.holds disk.now) (I.remaining input.old) None None)
+        (world (D.holds disk.now) (I.remaining input.new) None None) e) }
+    ensures unread { names_stream file.now ≡ false → input.new ≡ input.old }
+{
+    match entries_of(disk, file) {
+        None => text_holds(alloc, disk, file, input),
+        Some(entries) => folder_holds(alloc, disk, file, &entries),
+    }
+}
+
+/// Writes the lines of how many of the wanted holds each label has.
+fn tell_labels<W: Write>(
+    alloc: Global,
+    words: &HoldsWords<'_>,
+    locks: &[Vec<Hold>],
+    out: &mut W,
+) -> Result<(), ToolError<'static>>
+    requires by_label { words.now.by_label ≡ true }
+    ensures ok { OnOk result (AreHoldsTold words.now (map (λ v. v.items) locks.now)
+        (W.contents out.old) (W.contents out.new)) }
+    ensures err { IfErr result (λ e. AreHoldsUntold words.now (map (λ v. v.items) locks.now)
+        (W.contents out.old) (W.contents out.new) e) }
+    ensures nothing { IfErr result (λ e. e ≢ ToolError.Write → out.new ≡ out.old) }
+{
+    let counts = match count_labels(alloc, choice_of(words), locks) {
+        Ok(counts) => counts,
+        Err(_) => return Err(ToolError::OutOfMemory),
+    };
+    match put_labels(out, &counts) {
+        Ok(()) => Ok(()),
+        Err(_) => Err(ToolError::Write),
+    }
+}
+
+/// Writes the lines that the words ask for, of locks with these holds.
+fn tell_holds<W: Write>(
+    alloc: Global,
+    words: &HoldsWords<'_>,
+    locks: &[Vec<Hold>],
+    out: &mut W,
+) -> Result<(), ToolError<'static>>
+    ensures ok { OnOk result (AreHoldsTold words.now (map (λ v. v.items) locks.now)
+        (W.contents out.old) (W.contents out.new)) }
+    ensures err { IfErr result (λ e. AreHoldsUntold words.now (map (λ v. v.items) locks.now)
+        (W.contents out.old) (W.contents out.new) e) }
+    ensures nothing { IfErr result (λ e. e ≢ ToolError.Write → out.new ≡ out.old) }
+{
+    if words.by_label {
+        return tell_labels(alloc, words, locks, out);
+    }
+    match put_holds(out, choice_of(words), locks) {
+        Ok(()) => Ok(()),
+        Err(_) => Err(ToolError::Write),
+    }
+}
+
+/// `holds`, from its words: the lines of the holds of the locks whose histories are what the word FILE names, or of how many holds
+/// each label has, go to `out`. No file changes.
+///
+/// # Errors
+///
+/// Those of `check` for a file or a folder, and `NoHold` with the first lock whose history is not that of a lock, and the first
+/// place there. Nothing is written then. `Write` where the writer fails: the bytes written until then are a prefix of the lines.
+/// Where a file is named, standard input stays as it was.
+pub fn run<'a, D: Disk, I: Read, W: Write>(
+    alloc: Global,
+    disk: &D,
+    words: &HoldsWords<'a>,
+    input: &mut I,
+    out: &mut W,
+) -> Result<(), ToolError<'a>>
+    ensures ok { OnOk result (IsHoldsAnswer words.now
+        (world (D.holds disk.now) (I.remaining input.old) (W.contents out.old) None)
+        (world (D.holds disk.now) (I.remaining input.new) (W.contents out.new) None)) }
+    ensures err { IfErr result (λ e. IsHoldsRefusal words.now
+        (world (D.holds disk.now) (I.remaining input.old) (W.contents out.old) None)
+        (world (D.holds disk.now) (I.remaining input.new) (W.contents out.new) None) e) }
+    ensures nothing { IfErr result (λ e. e ≢ ToolError.Write → out.new ≡ out.old) }
+    ensures unread { names_stream words.now.file.now ≡ false → input.new ≡ input.old }
+{
+    let locks = match named_holds(alloc, disk, words.file, input) {
+        Ok(locks) => locks,
+        Err(fault) => return Err(fault),
+    };
+    match tell_holds(alloc, words, locks.as_slice(), out) {
+        Ok(()) => Ok(()),
+        Err(fault) => Err(fault),
+    }
+}
