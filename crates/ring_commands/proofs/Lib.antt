@@ -17,4 +17,5 @@ pub mod Recoveries
 pub mod ServeRefusals
 pub mod Settling
 pub mod StepLemmas
+pub mod StillThere
 pub mod Upgrades

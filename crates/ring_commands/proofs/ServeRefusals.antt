@@ -9,9 +9,10 @@ use Rattle.ring_saved.specs.declared.saved.SavedRing.{SavedRing}
 use Rattle.ring_requests.specs.declared.requests.ServeWords.{ServeWords}
 use Rattle.ring_commands.specs.Chained.{IsFolderFault}
 use Rattle.ring_commands.specs.Named.{IsFileRefusal}
-use Rattle.ring_commands.specs.Served.{journal_of, permits_of, history_of, IsHistoryRefusal, IsGivenRefusal, IsJournalRefusal, IsMadeJournalRefusal, IsUnfinished, IsRefusedFrom}
-use Rattle.ring_commands.specs.ServedFolder.{IsFirstRefusal, IsLastRefusal, IsUnknownAmong, IsUnknown, IsRefusedIn}
+use Rattle.ring_commands.specs.Served.{journal_of, permits_of, history_of, IsHistoryRefusal, IsGivenRefusal, IsStartRefusal, IsFirstRefusal, IsJournalRefusal, IsUnbegun, IsMadeJournalRefusal, IsBrokenOff, IsRefusedFrom}
+use Rattle.ring_commands.specs.ServedFolder.{Place, IsLastRefusal, IsUnknownAmong, IsUnknown, IsUnlocked, IsRunRefused, IsRefusedIn}
 use Rattle.ring_commands.specs.ServeAnswer.{IsServedTo, IsRefusedTo, IsUntold, IsServeRefusal}
+use Rattle.chain_serve.specs.declared.segments.SegmentRules.{SegmentRules}
 use Rattle.ring_serve.specs.declared.permits.Permits.{Permits}
 use Rattle.ring_serve.specs.Standings.{Standing}
 use Rattle.ring_commands.specs.Worlds.{World}
@@ -29,6 +30,13 @@ of_given : (files : Option Held) (name : Option (List ℕ)) → IsGivenRefusal f
 of_given files None h = h
 of_given files (Some name) h = of_history files name h
 
+of_rings : (rings : List SavedRing) → IsStartRefusal rings tool.BadList → ⊥
+of_rings rings h = h
+
+of_first : (saved : Option Saved) → IsFirstRefusal saved tool.BadList → ⊥
+of_first saved (inl h) = h
+of_first saved (inr h) = of_rings h.0.rings.items h.2
+
 of_journal : (files : Option Held) (name : List ℕ) (saved : Option Saved) → IsJournalRefusal files name saved tool.BadList → ⊥
 of_journal files name saved (inl (inl h)) = h
 of_journal files name saved (inl (inr h)) = h
@@ -36,20 +44,24 @@ of_journal files name saved (inr (inl h)) = of_file files name h
 of_journal files name saved (inr (inr (inl h))) = h.1
 of_journal files name saved (inr (inr (inr h))) = h.2
 
+of_begin : (files : Option Held) (name : List ℕ) (saved : Option Saved) → IsUnbegun files name saved tool.BadList → ⊥
+of_begin files name saved (inl h) = of_journal files name saved h
+of_begin files name saved (inr h) = of_rings h.0.rings.items h.2
+
 of_made : (files : Option Held) (name : List ℕ) (saved : Option Saved) → IsMadeJournalRefusal files name saved tool.BadList → ⊥
 of_made files name saved (inl (inl h)) = h
 of_made files name saved (inl (inr h)) = h
-of_made files name saved (inr h) = of_journal h.0 name saved h.3
+of_made files name saved (inr h) = of_begin h.0 name saved h.3
 
-of_rings : (permits : Permits) (journal : Option (List ℕ)) (rings : List SavedRing) (was is old new : Option (List ℕ)) → IsUnfinished permits journal rings was is old new tool.BadList → ⊥
-of_rings permits journal rings was is old new (inl h) = h.1
-of_rings permits journal rings was is old new (inr h) = h.0
+of_broken : (permits : Permits) (name : List ℕ) (start : List Standing) (before after : Option Held) (was is old new : Option (List ℕ)) → IsBrokenOff permits name start before after was is old new tool.BadList → ⊥
+of_broken permits name start before after was is old new (inl h) = h.1
+of_broken permits name start before after was is old new (inr h) = h.0
 
-of_value : (permits : Permits) (files : Option Held) (journal : Option (List ℕ)) (saved : Option Saved) (was is old new : Option (List ℕ)) → IsRefusedFrom permits files journal saved was is old new tool.BadList → ⊥
-of_value permits files None saved was is old new (inl h) = h.1
-of_value permits files None saved was is old new (inr h) = of_rings permits None h.0.rings.items was is old new h.2
-of_value permits files (Some name) saved was is old new (inl h) = of_made files name saved h.1
-of_value permits files (Some name) saved was is old new (inr h) = of_rings permits (Some name) h.0.rings.items was is old new h.2
+of_value : (permits : Permits) (before after : Option Held) (journal : Option (List ℕ)) (saved : Option Saved) (was is old new : Option (List ℕ)) → IsRefusedFrom permits before after journal saved was is old new tool.BadList → ⊥
+of_value permits before after None saved was is old new (inl h) = of_first saved h.2
+of_value permits before after None saved was is old new (inr h) = h.4.0
+of_value permits before after (Some name) saved was is old new (inl h) = of_made before name saved h.2
+of_value permits before after (Some name) saved was is old new (inr h) = of_broken permits name h.2 before after was is old new h.4
 
 -- ---- a folder
 
@@ -59,10 +71,6 @@ of_names folder (names.Foreign entry) h = h
 of_names folder (names.Irregular n) h = h
 of_names folder (names.Missing n) h = h
 of_names folder names.OutOfMemory h = h
-
-of_first : (saved : Option Saved) → IsFirstRefusal saved tool.BadList → ⊥
-of_first saved (inl h) = h
-of_first saved (inr h) = h.2
 
 of_last : (files : Option Held) (folder : List ℕ) (last : ℕ) → IsLastRefusal files folder last tool.BadList → ⊥
 of_last files folder last (inl h) = h
@@ -75,26 +83,34 @@ of_among files folder entries saved (inr (inr h)) = of_last files folder h.0.las
 
 of_unknown : (files : Option Held) (folder : List ℕ) (saved : Option Saved) → IsUnknown files folder saved tool.BadList → ⊥
 of_unknown files folder saved (inl h) = h
-of_unknown files folder saved (inr h) = of_among files folder h.0 saved h.2
+of_unknown files folder saved (inr (entries, listed, inl h)) = h.1
+of_unknown files folder saved (inr (entries, listed, inr h)) = of_among files folder entries saved h
 
-of_folder : (words : ServeWords) (folder : List ℕ) (saved : Option Saved) (files : Option Held) (was is old new : Option (List ℕ)) → IsRefusedIn words folder saved files was is old new tool.BadList → ⊥
-of_folder words folder saved files was is old new (inl (u, inl h)) = h
-of_folder words folder saved files was is old new (inl (u, inr h)) = h
-of_folder words folder saved files was is old new (inr (there, l, inl h)) = of_unknown there folder saved h.1
-of_folder words folder saved files was is old new (inr (there, l, inr h)) = h.0
+of_lock : (words : ServeWords) (folder : List ℕ) (before after : Option Held) → IsUnlocked words folder before after tool.BadList → ⊥
+of_lock words folder before after (inl h) = h.1
+of_lock words folder before after (inr h) = h.1
+
+of_run : (s : SegmentRules) (start : Place) (before after : Option Held) (was is old new : Option (List ℕ)) → IsRunRefused s start before after was is old new tool.BadList → ⊥
+of_run s start before after was is old new (inl h) = h.1
+of_run s start before after was is old new (inr h) = h.0
+
+of_folder : (words : ServeWords) (folder : List ℕ) (saved : Option Saved) (before after : Option Held) (was is old new : Option (List ℕ)) → IsRefusedIn words folder saved before after was is old new tool.BadList → ⊥
+of_folder words folder saved before after was is old new (inl h) = of_lock words folder before after h.1
+of_folder words folder saved before after was is old new (inr (there, l, inl h)) = of_unknown there folder saved h.2
+of_folder words folder saved before after was is old new (inr (there, l, inr h)) = of_run h.0 h.1 there after was is old new h.4
 
 -- ---- all of it
 
-of_serving : (words : ServeWords) (files : Option Held) (saved : Option Saved) (was is old new : Option (List ℕ)) → IsRefusedTo words files saved was is old new tool.BadList → ⊥
-of_serving words files saved was is old new (inl h) = of_value (permits_of words) files (journal_of words) saved was is old new h
-of_serving words files saved was is old new (inr h) = of_folder words h.0 saved files was is old new h.3
+of_serving : (words : ServeWords) (before after : Option Held) (saved : Option Saved) (was is old new : Option (List ℕ)) → IsRefusedTo words before after saved was is old new tool.BadList → ⊥
+of_serving words before after saved was is old new (inl h) = of_value (permits_of words) before after (journal_of words) saved was is old new h
+of_serving words before after saved was is old new (inr h) = of_folder words h.0 saved before after was is old new h.3
 
 of_end : (words : ServeWords) (saved : Option Saved) (before after : Option Held) (was is old new early late : Option (List ℕ)) →
-    IsRefusedTo words before saved was is old new tool.BadList
+    IsRefusedTo words before after saved was is old new tool.BadList
     ⊎ ((end : List Standing) × IsServedTo words saved end before after was is old new × IsUntold end early late tool.BadList) → ⊥
-of_end words saved before after was is old new early late (inl h) = of_serving words before saved was is old new h
+of_end words saved before after was is old new early late (inl h) = of_serving words before after saved was is old new h
 of_end words saved before after was is old new early late (inr h) = h.2
 
 pub no_list : (words : ServeWords) (was is : World) → IsServeRefusal words was is tool.BadList → ⊥
-no_list words was is (inl h) = of_given was.files (history_of words) h.1
+no_list words was is (inl h) = of_given was.files (history_of words) h.2
 no_list words was is (inr h) = of_end words h.0 was.files is.files was.input is.input was.out is.out was.err is.err h.2

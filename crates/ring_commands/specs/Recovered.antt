@@ -1,5 +1,6 @@
 -- The answer of `recover`.
 use Rattle.std.specs.Prelude.{◌≡◌, ℕ, ◌-◌, false, Bool, List, ◌++◌, length, Option, Some, ◌⊎◌}
+use Rattle.disks.specs.Held.{Held}
 use Rattle.ring_saved.specs.Content.{Content}
 use Rattle.ring_saved.specs.Spelling.{text}
 use Rattle.ring_check.specs.Legal.{summary_of}
@@ -11,7 +12,7 @@ use Rattle.ring_commands.specs.Kept.{IsKept, IsUnkept, left_line}
 use Rattle.ring_commands.specs.Named.{IsNamed, IsNamedRefusal, IsApart, IsApartRefusal}
 use Rattle.ring_commands.specs.Ran.{file_of}
 use Rattle.ring_commands.specs.Reading.{names_stream}
-use Rattle.ring_commands.specs.SegmentRecovered.{IsFolderRecovered, IsFolderUnrecovered}
+use Rattle.ring_commands.specs.SegmentRecovered.{IsFolderRecovered, IsFolderKept, IsFolderUnrecovered}
 use Rattle.ring_commands.specs.Worlds.{World}
 use Rattle.ring_requests.specs.declared.requests.RecoverWords.{RecoverWords}
 use Rattle.ring_commands.specs.declared.faults.ToolError.{ToolError}
@@ -40,6 +41,20 @@ abbrev pub IsRecoverAnswer : RecoverWords → World → World → Type 0
 IsRecoverAnswer words was is =
     IsJournalRecovered words was is
     ⊎ ((names_stream words.file.now ≡ false) × IsFolderRecovered words was is)
+
+-- The source that the word FILE names gave the bytes of a journal, and something is kept of it.
+abbrev pub IsJournalKept : RecoverWords → Option Held → Option (List ℕ) → Option (List ℕ) → Type 0
+IsJournalKept words files was is =
+    (bytes : List ℕ)
+    × (c : Content)
+    × (many : ℕ)
+    × (bad : Option RecoverError)
+    × IsNamed words.file.now files was is bytes
+    × IsKept words.salvage bytes c many bad
+
+-- something is kept of a journal, or of the last segment of a folder
+abbrev pub IsRecoverable : RecoverWords → Option Held → Option (List ℕ) → Option (List ℕ) → Type 0
+IsRecoverable words files was is = IsJournalKept words files was is ⊎ IsFolderKept words files
 
 -- nothing is kept of these bytes, for the right reason; or there is no memory
 abbrev pub IsRecoveryRefusal : Bool → List ℕ → ToolError → Type 0

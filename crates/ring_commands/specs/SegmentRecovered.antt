@@ -1,6 +1,7 @@
 -- The answer of `recover` to a folder: the history of its last segment.
 use Rattle.std.specs.Prelude.{◌≡◌, ℕ, List, ◌++◌, Bool, true, false, Option, None, Some, Ok, ◌⊎◌}
 use Rattle.std.specs.Io.KnownBytes.{Appends}
+use Rattle.disks.specs.Held.{Held}
 use Rattle.disks.specs.declared.disk.FolderEntry.{FolderEntry}
 use Rattle.segment_folder.specs.Names.{segment_file}
 use Rattle.segment_folder.specs.Numbers.{IsRightNumbers}
@@ -92,6 +93,17 @@ IsFolderRecovered words was is =
     × IsHeld was.files (segment_file words.file.now r.last) f.bytes
     × IsOutside was.files words.file.now entries (file_of (Some words.new.now))
     × IsSegmentHanded words.new.now f (file_left k) was is
+
+-- The word FILE names a folder of segments, and something is kept of the last one.
+abbrev pub IsFolderKept : RecoverWords → Option Held → Type 0
+IsFolderKept words files =
+    (entries : List FolderEntry)
+    × (r : SegmentNumbers)
+    × (f : File)
+    × IsFolder files words.file.now entries
+    × IsRightNumbers entries (Ok (Some r))
+    × IsHeld files (segment_file words.file.now r.last) f.bytes
+    × IsFileKept words.salvage f
 
 -- nothing is kept of the bytes of a file, for the right reason
 abbrev pub IsFileFault : Bool → List ℕ → SegmentError → Type 0

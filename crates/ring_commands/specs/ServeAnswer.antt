@@ -38,14 +38,14 @@ pub record IsServeAnswer (words : ServeWords) (was is : World) : Type 0 where
 
 -- the lines were not served, or not to their end: in segments only if the journal's name was a
 -- folder's
-abbrev pub IsRefusedTo : ServeWords → Option Held → Option Saved → Option (List ℕ)
+abbrev pub IsRefusedTo : ServeWords → Option Held → Option Held → Option Saved → Option (List ℕ)
     → Option (List ℕ) → Option (List ℕ) → Option (List ℕ) → ToolError → Type 0
-IsRefusedTo words files saved was is old new e =
-    IsRefusedFrom (permits_of words) files (journal_of words) saved was is old new e
+IsRefusedTo words before after saved was is old new e =
+    IsRefusedFrom (permits_of words) before after (journal_of words) saved was is old new e
     ⊎ ((folder : List ℕ)
     × (journal_of words ≡ Some folder)
-    × LeadsToFolder files folder
-    × IsRefusedIn words folder saved files was is old new e)
+    × LeadsToFolder before folder
+    × IsRefusedIn words folder saved before after was is old new e)
 
 -- All lines were served, and what adds up over the rings is not told: there are 2^32 rings or more,
 -- or one of the sums has more than 64 bits, and nothing is told; or standard error failed, and got
@@ -57,15 +57,16 @@ IsUntold end early late tool.Write =
     AppendsFront early late (total_line (length end) (totals_of end))
 IsUntold end early late _ = ⊥
 
--- Which refusals `serve` may meet: those of the history, before a line is read, those that come
--- with it, and those that come when all lines have been served.
+-- Which refusals `serve` may meet: those of the history, before a line is read and with every file
+-- as it was, those that come with it, and those that come when all lines have been served.
 abbrev pub IsServeRefusal : ServeWords → World → World → ToolError → Type 0
 IsServeRefusal words was is e =
     (IsUnserved was.input is.input was.out is.out
+    × (is.files ≡ was.files)
     × IsGivenRefusal was.files (history_of words) e)
     ⊎ ((saved : Option Saved)
     × IsGivenHistory was.files (history_of words) saved
-    × (IsRefusedTo words was.files saved was.input is.input was.out is.out e
+    × (IsRefusedTo words was.files is.files saved was.input is.input was.out is.out e
     ⊎ ((end : List Standing)
     × IsServedTo words saved end was.files is.files was.input is.input was.out is.out
     × IsUntold end was.err is.err e)))

@@ -1,7 +1,7 @@
 -- The answer of `serve`.
 use Rattle.std.specs.Prelude.{◌≡◌, ℕ, ◌≤◌, ◌<◌, ◌^◌, ◌⊎◌, List, [], length, codes, Bool, true, false, Option, None, Some, IfSome, Err, ⊤}
 use Rattle.std.specs.Option.{option_map, is_some}
-use Rattle.disks.specs.Held.{Held, bytes_of, LeadsToNoFolder, Creates, Grows, Replaces}
+use Rattle.disks.specs.Held.{Held, HaveFolders, bytes_of, LeadsToNoFolder, Creates, Grows, Replaces}
 use Rattle.ring_saved.specs.declared.saved.Saved.{Saved}
 use Rattle.ring_saved.specs.declared.saved.SavedRing.{SavedRing}
 use Rattle.ring_saved.specs.Content.{content}
@@ -14,7 +14,8 @@ use Rattle.ring_serve.specs.declared.starting.StartError.TheVariants as start
 use Rattle.ring_serve.specs.Starting.{AreResumed, IsStartFault}
 use Rattle.ring_serve.specs.declared.permits.Permits.{Permits}
 use Rattle.ring_serve.specs.Permits.{Terms, terms_of}
-use Rattle.ring_serve.specs.Serving.{ServesAll, ServesSome}
+use Rattle.ring_serve.specs.Serving.{ServesAll}
+use Rattle.ring_serve.specs.Recovered.{AnsweredCallsAreRecovered}
 use Rattle.ring_commands.specs.Checked.{IsLegalSavedText, IsSavedTextRefusal}
 use Rattle.ring_commands.specs.Named.{IsHeld, IsFileRefusal}
 use Rattle.ring_commands.specs.Ran.{IsSaveRefusal}
@@ -138,6 +139,22 @@ abbrev pub IsUnserved : Option (List ℕ) → Option (List ℕ) → Option (List
     → Type 0
 IsUnserved was is old new = (is ≡ was) × (new ≡ old)
 
+-- each name leads where it did, and has the content that it had
+pub record IsSame (was is : Held) : Type 0 where
+  pub places : (other : List ℕ) → is.place other ≡ was.place other
+  pub folders : HaveFolders was is
+  pub files : (other : List ℕ) → bytes_of is other ≡ bytes_of was other
+
+-- no file has changed, where that is known
+abbrev pub AreAsBefore : Option Held → Option Held → Type 0
+AreAsBefore None is = is ≡ None
+AreAsBefore (Some was) None = ⊥
+AreAsBefore (Some was) (Some is) = IsSame was is
+
+-- no file has changed; or there was none of this name, and an empty one that was made is left
+abbrev pub IsUntouched : Option Held → Option Held → List ℕ → Type 0
+IsUntouched before after name = AreAsBefore before after ⊎ Creates before after name true
+
 -- no history is given, and no journal tells where the rings stand
 abbrev pub IsUngiven : Option Saved → ToolError → Type 0
 IsUngiven saved tool.NoHistory = saved ≡ None
@@ -153,6 +170,18 @@ IsHistoryRefusal files name e =
 abbrev pub IsGivenRefusal : Option Held → Option (List ℕ) → ToolError → Type 0
 IsGivenRefusal files None e = ⊥
 IsGivenRefusal files (Some name) e = IsHistoryRefusal files name e
+
+-- these rings do not resume: one has more events than a ring can resume, or there is no memory
+abbrev pub IsStartRefusal : List SavedRing → ToolError → Type 0
+IsStartRefusal rings (tool.Full ring) = IsStartFault rings (start.Full ring)
+IsStartRefusal rings tool.OutOfMemory = IsStartFault rings start.OutOfMemory
+IsStartRefusal rings _ = ⊥
+
+-- the rings of the history do not resume, or none is given
+abbrev pub IsFirstRefusal : Option Saved → ToolError → Type 0
+IsFirstRefusal saved e =
+    IsUngiven saved e
+    ⊎ ((from : Saved) × (saved ≡ Some from) × IsStartRefusal from.rings.items e)
 
 -- the journal's file cannot be opened: another process has it, or it cannot be had
 abbrev pub IsUnopenedJournal : List ℕ → ToolError → Type 0
@@ -180,20 +209,21 @@ IsJournalRefusal files name saved e =
     ⊎ ((IsHeld files name [] × IsUngiven saved e)
     ⊎ ((bytes : List ℕ) × IsHeld files name bytes × IsUnrecovered name bytes e)))
 
--- the journal is refused: its file cannot be kept, or it is there, or was made, empty, and is refused
+-- it is not begun anew: it is refused, or the rings where it ends do not resume
+abbrev pub IsUnbegun : Option Held → List ℕ → Option Saved → ToolError → Type 0
+IsUnbegun files name saved e =
+    IsJournalRefusal files name saved e
+    ⊎ ((from : Saved) × IsNoted files name saved from × IsStartRefusal from.rings.items e)
+
+-- the journal is not begun: its file cannot be kept; or it is there, or was made, empty, and the
+-- journal is not begun anew
 abbrev pub IsMadeJournalRefusal : Option Held → List ℕ → Option Saved → ToolError → Type 0
 IsMadeJournalRefusal files name saved e =
     IsUnkept name e
     ⊎ ((there : Option Held)
     × (made : Bool)
     × Creates files there name made
-    × IsJournalRefusal there name saved e)
-
--- these rings do not resume: one has more events than a ring can resume, or there is no memory
-abbrev pub IsStartRefusal : List SavedRing → ToolError → Type 0
-IsStartRefusal rings (tool.Full ring) = IsStartFault rings (start.Full ring)
-IsStartRefusal rings tool.OutOfMemory = IsStartFault rings start.OutOfMemory
-IsStartRefusal rings _ = ⊥
+    × IsUnbegun there name saved e)
 
 -- the causes that end it while lines are served, or when all have been: standard input, the journal
 -- kept, standard output or memory fails
@@ -205,41 +235,63 @@ IsServingFault journal tool.Write = Unit {0}
 IsServingFault journal tool.OutOfMemory = Unit {0}
 IsServingFault journal _ = ⊥
 
--- Some of the lines were answered, or all of them, from where the rings began; and the journal, if
--- one is kept, holds the notes of each that was delivered.
-pub record IsServedPart (terms : Terms) (start : List Standing) (was is old new : Option (List ℕ)) :
-    Type 0 where
+-- Some of the lines were told, or all of them, from where the rings began and the journal's writer
+-- had so much. If a journal is kept, its writer has the notes of each told line behind that, and
+-- the rings that are recovered of it have its call.
+pub record IsServedPart (terms : Terms) (start : List Standing) (before after : Option Held)
+    (first was is old new : Option (List ℕ)) : Type 0 where
   pub end : List Standing
-  pub files : Option Held
-  pub now : Option Held
-  pub first : Option (List ℕ)
   pub last : Option (List ℕ)
-  pub served : ServesSome terms start end files now was is (record { journal = first; out = old })
-      (record { journal = last; out = new })
-      ⊎ ServesAll terms start end files now was is (record { journal = first; out = old })
-      (record { journal = last; out = new })
+  pub served : AnsweredCallsAreRecovered terms start end before after was is
+      (record { journal = first; out = old }) (record { journal = last; out = new })
 
--- these rings do not resume, and no line is read; or they did, and were broken off
-abbrev pub IsUnfinished : Permits → Option (List ℕ) → List SavedRing → Option (List ℕ)
+-- with a journal in the file of this name: it was put there with the saved text of the rings as
+-- they began, and that it holds still
+pub record IsNotedPart (permits : Permits) (name : List ℕ) (start : List Standing)
+    (before after : Option Held) (was is old new : Option (List ℕ)) : Type 0 where
+  pub begun : Option Held
+  pub first : Option (List ℕ)
+  pub put : Replaces before begun name (Some (head_text (content_of start)))
+  pub opened : Grows begun name first
+  pub part : IsServedPart (terms_of (Some name) permits) start begun after first was is old new
+  pub kept : IfSome before (λ _. IsHeld after name (head_text (content_of start)))
+
+-- Rings that began without a journal were not served to the end.
+abbrev pub IsPlainPart : Permits → List Standing → Option Held → Option Held → Option (List ℕ)
     → Option (List ℕ) → Option (List ℕ) → Option (List ℕ) → ToolError → Type 0
-IsUnfinished permits journal rings was is old new e =
-    (IsUnserved was is old new × IsStartRefusal rings e)
-    ⊎ (IsServingFault journal e
-    × ((start : List Standing)
-    × AreResumed start rings
-    × IsServedPart (terms_of journal permits) start was is old new))
+IsPlainPart permits start before after was is old new e =
+    IsServingFault None e
+    × ((first : Option (List ℕ))
+    × IsServedPart (terms_of None permits) start before after first was is old new)
 
--- with this history: the journal, if one is kept, is refused, and no line is read; or the rings
--- that begin where they have to are not served to the end
-abbrev pub IsRefusedFrom : Permits → Option Held → Option (List ℕ) → Option Saved
+-- Rings that began with a journal in the file of this name were not served to the end: it was put
+-- there with the rings as they began, and cannot be opened; or serving was broken off.
+abbrev pub IsBrokenOff : Permits → List ℕ → List Standing → Option Held → Option Held
     → Option (List ℕ) → Option (List ℕ) → Option (List ℕ) → Option (List ℕ) → ToolError → Type 0
-IsRefusedFrom permits files None saved was is old new e =
-    (IsUnserved was is old new × IsUngiven saved e)
+IsBrokenOff permits name start before after was is old new e =
+    (IsUnserved was is old new
+    × IsUnopenedJournal name e
+    × Replaces before after name (Some (head_text (content_of start))))
+    ⊎ (IsServingFault (Some name) e × IsNotedPart permits name start before after was is old new)
+
+-- With this history no line is read, and no file has changed, but that an empty journal may be
+-- left: the history or the journal is refused, or the rings do not resume. Or the rings that begin
+-- where they have to are not served to the end.
+abbrev pub IsRefusedFrom : Permits → Option Held → Option Held → Option (List ℕ) → Option Saved
+    → Option (List ℕ) → Option (List ℕ) → Option (List ℕ) → Option (List ℕ) → ToolError → Type 0
+IsRefusedFrom permits before after None saved was is old new e =
+    (IsUnserved was is old new × (after ≡ before) × IsFirstRefusal saved e)
     ⊎ ((from : Saved)
     × (saved ≡ Some from)
-    × IsUnfinished permits None from.rings.items was is old new e)
-IsRefusedFrom permits files (Some name) saved was is old new e =
-    (IsUnserved was is old new × IsMadeJournalRefusal files name saved e)
+    × (start : List Standing)
+    × AreResumed start from.rings.items
+    × IsPlainPart permits start before after was is old new e)
+IsRefusedFrom permits before after (Some name) saved was is old new e =
+    (IsUnserved was is old new
+    × IsUntouched before after name
+    × IsMadeJournalRefusal before name saved e)
     ⊎ ((from : Saved)
-    × IsNoted files name saved from
-    × IsUnfinished permits (Some name) from.rings.items was is old new e)
+    × IsNoted before name saved from
+    × (start : List Standing)
+    × AreResumed start from.rings.items
+    × IsBrokenOff permits name start before after was is old new e)

@@ -1,11 +1,11 @@
 -- `serve` with a journal that is a folder of segments.
-use Rattle.std.specs.Prelude.{◌≡◌, ◌≢◌, ℕ, ◌⊎◌, max, List, ◌++◌, Bool, Option, None, Some, IfSome, Ok, Err, codes}
+use Rattle.std.specs.Prelude.{◌≡◌, ◌≢◌, ℕ, ◌⊎◌, max, List, ◌++◌, Bool, true, false, Option, None, Some, IfSome, Ok, Err, codes}
 use Rattle.std.specs.Option.{option_map}
 use Rattle.disks.specs.Held.{Held, IsOneFile, Creates}
-use Rattle.disks.specs.Folders.{Lists, names_of, path_in}
+use Rattle.disks.specs.Folders.{Lists, is_among, names_of, path_in}
 use Rattle.disks.specs.declared.disk.FolderEntry.{FolderEntry}
 use Rattle.segment_folder.specs.Names.{segment_file}
-use Rattle.segment_folder.specs.Numbers.{IsRightNumbers}
+use Rattle.segment_folder.specs.Numbers.{IsRightNumbers, shown}
 use Rattle.segment_folder.specs.declared.errors.FolderError.{FolderError}
 use Rattle.segment_folder.specs.declared.errors.FolderError.TheVariants as names
 use Rattle.segment_folder.specs.declared.numbers.SegmentNumbers.{SegmentNumbers}
@@ -21,13 +21,14 @@ use Rattle.chain_serve.specs.declared.segments.SegmentRules.{SegmentRules}
 use Rattle.chain_serve.specs.Segments.{Moment}
 use Rattle.chain_serve.specs.Beginning.{HasBegun, IsSettled}
 use Rattle.chain_serve.specs.Service.{ServesSegments, ServesSomeSegments}
+use Rattle.chain_serve.specs.Recovered.{AnsweredCallsAreRecovered}
 use Rattle.ring_requests.specs.declared.requests.ServeWords.{ServeWords}
 use Rattle.ring_commands.specs.declared.serve_folder.Start.{Start}
 use Rattle.ring_commands.specs.declared.faults.ToolError.{ToolError}
 use Rattle.ring_commands.specs.declared.faults.ToolError.TheVariants as tool
 use Rattle.ring_commands.specs.Named.{IsHeld}
 use Rattle.ring_commands.specs.Chained.{IsUnreadSegment, IsFolderFault}
-use Rattle.ring_commands.specs.Served.{IsUngiven, IsStartRefusal, IsUnserved, IsServingFault, permits_of}
+use Rattle.ring_commands.specs.Served.{IsFirstRefusal, IsUnserved, IsServingFault, permits_of}
 
 -- ---- where the rings stand
 
@@ -70,11 +71,16 @@ StandsAmong files folder entries saved p =
     × IsRightNumbers entries (Ok (Some r))
     × IsLast files folder r.last p)
 
--- the same, of the folder
+-- the name of the file that a folder of locks has
+abbrev pub list_name : List ℕ
+list_name = codes "locks"
+
+-- the same, of the folder, which is none of locks
 pub record StandsIn (files : Option Held) (folder : List ℕ) (saved : Option Saved) (p : Place) :
     Type 0 where
   pub entries : List FolderEntry
   pub listed : Lists files folder (names_of entries)
+  pub plain : is_among (names_of entries) list_name ≡ false
   pub stands : StandsAmong files folder entries saved p
 
 -- ---- the answer
@@ -144,12 +150,6 @@ IsLastRefusal files folder last e =
     × IsHeld files (segment_file folder last) bytes
     × IsLastFault folder last bytes e)
 
--- the rings of the history do not resume, or none is given
-abbrev pub IsFirstRefusal : Option Saved → ToolError → Type 0
-IsFirstRefusal saved e =
-    IsUngiven saved e
-    ⊎ ((from : Saved) × (saved ≡ Some from) × IsStartRefusal from.rings.items e)
-
 -- it is not known where the rings stand: a name among these in the folder is refused, the last
 -- segment is, or, where there is none, the history
 abbrev pub IsUnknownAmong : Option Held → List ℕ → List FolderEntry → Option Saved → ToolError
@@ -161,13 +161,19 @@ IsUnknownAmong files folder entries saved e =
     × IsRightNumbers entries (Ok (Some r))
     × IsLastRefusal files folder r.last e))
 
--- the same, or the folder cannot be listed
+-- a name is refused: that of the file that a folder of locks has
+abbrev pub IsListFault : List ℕ → ToolError → Type 0
+IsListFault folder (tool.Foreign named name) = (named.now ≡ folder) × (shown name ≡ list_name)
+IsListFault folder _ = ⊥
+
+-- the same, or the folder cannot be listed, or is one of locks
 abbrev pub IsUnknown : Option Held → List ℕ → Option Saved → ToolError → Type 0
 IsUnknown files folder saved e =
     IsFolderFault folder names.Unlisted e
     ⊎ ((entries : List FolderEntry)
     × Lists files folder (names_of entries)
-    × IsUnknownAmong files folder entries saved e)
+    × (((is_among (names_of entries) list_name ≡ true) × IsListFault folder e)
+    ⊎ IsUnknownAmong files folder entries saved e))
 
 -- the folder is kept by another process, or its lock or a segment cannot be had
 abbrev pub IsUnkeptFolder : List ℕ → ToolError → Type 0
@@ -176,34 +182,54 @@ IsUnkeptFolder folder (tool.Save named) = named.now ≡ folder
 IsUnkeptFolder folder tool.OutOfMemory = Unit {0}
 IsUnkeptFolder folder _ = ⊥
 
--- From a place on some lines were answered, or all of them.
-abbrev pub IsRunPart : SegmentRules → Place → Option Held → Option (List ℕ) → Option (List ℕ)
-    → Option (List ℕ) → Option (List ℕ) → Type 0
-IsRunPart s start files was is old new =
-    (first : Moment)
-    × HasBegun s start.rings start.number start.behind files first
-    × (((end : List Standing)
-    × (ended : Option Held)
-    × ServesSomeSegments s first end ended was is old new)
-    ⊎ ((last : Moment) × ServesSegments s first last was is old new))
+-- the lock is not had, and its file is as it was, or was made, empty
+abbrev pub IsLockLeft : Option Held → Option Held → List ℕ → Type 0
+IsLockLeft before after folder = (after ≡ before) ⊎ IsLocked before after folder
 
 -- the folder that lines may save in is that of the journal
 abbrev pub IsSavesRefusal : ServeWords → ToolError → Type 0
 IsSavesRefusal words (tool.SavesInJournal named) = words.saves ≡ Some named
 IsSavesRefusal words _ = ⊥
 
--- The folder is refused, and no line is read; or the rings began where they stand, and that was
--- broken off.
-abbrev pub IsRefusedIn : ServeWords → List ℕ → Option Saved → Option Held → Option (List ℕ)
+-- The folder is not locked: lines may save in it, and no file has changed; or its lock is not had.
+abbrev pub IsUnlocked : ServeWords → List ℕ → Option Held → Option Held → ToolError → Type 0
+IsUnlocked words folder before after e =
+    ((after ≡ before) × IsSavesRefusal words e)
+    ⊎ (IsLockLeft before after folder × IsUnkeptFolder folder e)
+
+-- From a place on some lines were told, or all of them. The file of the segment that was being
+-- written has the notes of each told line in it, and the rings that are recovered of it have its
+-- call.
+pub record IsRunPart (s : SegmentRules) (start : Place) (before after : Option Held)
+    (was is old new : Option (List ℕ)) : Type 0 where
+  pub first : Moment
+  pub begun : HasBegun s start.rings start.number start.behind before first
+  pub end : List Standing
+  pub journal : Option (List ℕ)
+  pub recovered : AnsweredCallsAreRecovered s first end was is old new journal
+  pub served : ServesSomeSegments s first end after was is old new
+      ⊎ ((last : Moment) × ServesSegments s first last was is old new × (after ≡ last.files))
+
+-- The segment with which they began cannot be begun, and no line is read; or serving was broken
+-- off.
+abbrev pub IsRunRefused : SegmentRules → Place → Option Held → Option Held → Option (List ℕ)
     → Option (List ℕ) → Option (List ℕ) → Option (List ℕ) → ToolError → Type 0
-IsRefusedIn words folder saved files was is old new e =
-    (IsUnserved was is old new × (IsUnkeptFolder folder e ⊎ IsSavesRefusal words e))
+IsRunRefused s start before after was is old new e =
+    (IsUnserved was is old new × IsUnkeptFolder s.folder.now e)
+    ⊎ (IsServingFault (Some s.folder.now) e × IsRunPart s start before after was is old new)
+
+-- The folder is not locked, and no line is read. Or it is, no line is read, and no other file has
+-- changed, since it is not known where the rings stand. Or the rings began where they stand, and
+-- that was broken off.
+abbrev pub IsRefusedIn : ServeWords → List ℕ → Option Saved → Option Held → Option Held
+    → Option (List ℕ) → Option (List ℕ) → Option (List ℕ) → Option (List ℕ) → ToolError → Type 0
+IsRefusedIn words folder saved before after was is old new e =
+    (IsUnserved was is old new × IsUnlocked words folder before after e)
     ⊎ ((there : Option Held)
-    × IsLocked files there folder
-    × ((IsUnserved was is old new × IsUnknown there folder saved e)
-    ⊎ (IsServingFault (Some folder) e
-    × ((rules : SegmentRules)
+    × IsLocked before there folder
+    × ((IsUnserved was is old new × (after ≡ there) × IsUnknown there folder saved e)
+    ⊎ ((rules : SegmentRules)
     × (start : Place)
     × AreRules rules words folder
     × StandsIn there folder saved start
-    × IsRunPart rules start there was is old new))))
+    × IsRunRefused rules start there after was is old new e)))

@@ -128,7 +128,7 @@ fn check_text<'a, D: Disk, I: Read, W: Write>(
 }
 
 /// The entries of the folder that a word names, if it names one in which there is something.
-pub(crate) fn entries_of<D: Disk>(disk: &D, word: &str) -> Option<Vec<FolderEntry>>
+pub fn entries_of<D: Disk>(disk: &D, word: &str) -> Option<Vec<FolderEntry>>
     ensures { IfSome result (λ entries. (names_stream word.now ≡ false)
         × IsFolder (D.holds disk.now) word.now entries.items) }
 {

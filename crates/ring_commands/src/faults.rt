@@ -116,6 +116,8 @@ pub enum ToolError<'a> {
     OtherLock(&'a str, usize),
     /// The ring at this place in a folder is not of the size of its lock, or there is no such lock.
     OtherRing(&'a str, usize),
+    /// The history of the lock of this number, in a file or a folder of segments, is not that of a lock after this many events.
+    NoHold(&'a str, u64, u64),
 }
 
 impl ToolError<'_> {
@@ -205,6 +207,9 @@ impl ToolError<'_> {
                     f,
                     "ring {place} in {folder} is not of the size in {folder}/locks"
                 )
+            }
+            ToolError::NoHold(name, lock, at) => {
+                write!(f, "{name}: lock {lock}: not the history of a lock at {at}")
             }
             // the lines of the others are written before
             _ => Ok(()),

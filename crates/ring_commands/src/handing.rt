@@ -1,6 +1,6 @@
 //! Where a saved text goes, and the line of its sums: to a file and standard output, or to the two outputs.
 
-ghost use Rattle.std.specs.Prelude.{◌≡◌, ◌≢◌, ◌++◌, false, None, Some, OnOk, OnErr, IfErr};
+ghost use Rattle.std.specs.Prelude.{◌≡◌, ◌≢◌, ◌++◌, true, false, None, Some, OnOk, OnErr, IfErr};
 ghost use Rattle.std.specs.Io.KnownBytes.{Appends};
 ghost use Rattle.disks.specs.Held.{Replaces};
 ghost use Rattle.ring_saved.specs.Content.{content};
@@ -169,6 +169,7 @@ pub(crate) fn hand_over_kept<'a, D: Disk, W: Write, E: Write>(
     ensures kept { IfErr result (λ e. e ≢ ToolError.Write → D.holds disk.new ≡ D.holds disk.old) }
     ensures nothing { IfErr result (λ e. e ≢ ToolError.Write → out.new ≡ out.old) }
     ensures silent { names_stream word.now ≡ false → err.new ≡ err.old }
+    ensures printed { names_stream word.now ≡ true → disk.new ≡ disk.old }
 {
     if names_stream(word) {
         print_and_tell(value, left, out, err)
@@ -202,6 +203,7 @@ pub(crate) fn hand_over<'a, D: Disk, W: Write, E: Write>(
     ensures kept { IfErr result (λ e. e ≢ ToolError.Write → D.holds disk.new ≡ D.holds disk.old) }
     ensures nothing { IfErr result (λ e. e ≢ ToolError.Write → out.new ≡ out.old) }
     ensures silent { names_stream word.now ≡ false → err.new ≡ err.old }
+    ensures printed { names_stream word.now ≡ true → disk.new ≡ disk.old }
 {
     match hand_over_kept(alloc, disk, value, &LeftOut::none(), word, out, err) {
         Ok(()) => Ok(()),

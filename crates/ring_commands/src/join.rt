@@ -1,6 +1,6 @@
 //! `join`: the whole history of a folder of segments.
 
-ghost use Rattle.std.specs.Prelude.{◌≡◌, ◌≢◌, ◌⊎◌, ◌≤◌, ℕ, List, Option, false, None, Some, Ok, OnOk, IfOk, IfErr};
+ghost use Rattle.std.specs.Prelude.{◌≡◌, ◌≢◌, ◌⊎◌, ◌≤◌, ℕ, List, Option, true, false, None, Some, Ok, OnOk, IfOk, IfErr};
 ghost use Rattle.segment_folder.specs.Names.{segment_file};
 ghost use Rattle.segment_folder.specs.Numbers.{IsRightNumbers};
 ghost use Rattle.segment_folder.specs.declared.numbers.SegmentNumbers.{SegmentNumbers};
@@ -186,6 +186,7 @@ fn join_folder<'a, D: Disk, W: Write, E: Write>(
     ensures kept { IfErr result (λ e. e ≢ ToolError.Write → D.holds disk.new ≡ D.holds disk.old) }
     ensures nothing { IfErr result (λ e. e ≢ ToolError.Write → out.new ≡ out.old) }
     ensures silent { names_stream words.now.new.now ≡ false → err.new ≡ err.old }
+    ensures printed { names_stream words.now.new.now ≡ true → disk.new ≡ disk.old }
 {
     let numbers = match numbers_from_first(alloc, words.folder, entries) {
         Ok(numbers) => numbers,
@@ -232,6 +233,7 @@ pub fn run<'a, D: Disk, W: Write, E: Write>(
     ensures kept { IfErr result (λ e. e ≢ ToolError.Write → D.holds disk.new ≡ D.holds disk.old) }
     ensures nothing { IfErr result (λ e. e ≢ ToolError.Write → out.new ≡ out.old) }
     ensures silent { names_stream words.now.new.now ≡ false → err.new ≡ err.old }
+    ensures printed { names_stream words.now.new.now ≡ true → disk.new ≡ disk.old }
 {
     match entries_of(disk, words.folder) {
         None => Err(ToolError::NoSegment(words.folder)),

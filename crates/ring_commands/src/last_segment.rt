@@ -1,6 +1,6 @@
 //! `recover` of a folder: the history of its last segment, and what came before it.
 
-ghost use Rattle.std.specs.Prelude.{◌≡◌, ◌≢◌, ◌+◌, ◌<◌, ◌^◌, ℕ, List, Option, false, None, OnOk, IfOk, IfErr};
+ghost use Rattle.std.specs.Prelude.{◌≡◌, ◌≢◌, ◌+◌, ◌<◌, ◌^◌, ◌⊎◌, ℕ, List, Option, true, false, None, OnOk, IfOk, IfErr};
 ghost use Rattle.ring_check.specs.Legal.{summary_of};
 ghost use Rattle.ring_saved.specs.Content.{content};
 ghost use Rattle.ring_journal.specs.Beginnings.{CanBeSaved};
@@ -9,7 +9,7 @@ ghost use Rattle.ring_segments.specs.Chain.{refused_head, refused_journal, line_
 ghost use Rattle.ring_commands.specs.Chained.{IsFolder};
 ghost use Rattle.ring_commands.specs.Kept.{IsFileKept, file_left, left_line};
 ghost use Rattle.ring_commands.specs.Reading.{names_stream};
-ghost use Rattle.ring_commands.specs.SegmentRecovered.{file_as, file_of_parts, IsFileFault, IsHeadTold, IsHeadCut, IsSegmentHanded, IsSegmentUnhanded, IsFolderRecovered, IsFolderUnrecovered, IsSegmentFault};
+ghost use Rattle.ring_commands.specs.SegmentRecovered.{file_as, file_of_parts, IsFileFault, IsHeadTold, IsHeadCut, IsSegmentHanded, IsSegmentUnhanded, IsFolderRecovered, IsFolderKept, IsFolderUnrecovered, IsSegmentFault};
 ghost use Rattle.ring_commands.specs.Worlds.{world};
 
 use crate::chain::{folder_numbers, segment_bytes};
@@ -190,6 +190,7 @@ fn hand_out_segment<'a, D: Disk, W: Write, E: Write>(
     ensures kept { IfErr result (λ e. e ≢ ToolError.Write → D.holds disk.new ≡ D.holds disk.old) }
     ensures nothing { IfErr result (λ e. e ≢ ToolError.Write → out.new ≡ out.old) }
     ensures silent { names_stream word.now ≡ false → err.new ≡ err.old }
+    ensures printed { names_stream word.now ≡ true → disk.new ≡ disk.old }
 {
     match hand_over_kept(
         alloc,
@@ -234,6 +235,8 @@ pub(crate) fn recover_folder<'a, D: Disk, W: Write, E: Write>(
     ensures kept { IfErr result (λ e. e ≢ ToolError.Write → D.holds disk.new ≡ D.holds disk.old) }
     ensures nothing { IfErr result (λ e. e ≢ ToolError.Write → out.new ≡ out.old) }
     ensures silent { names_stream words.now.new.now ≡ false → err.new ≡ err.old }
+    ensures printed { names_stream words.now.new.now ≡ true → disk.new ≡ disk.old }
+    ensures unmade { (disk.new ≡ disk.old) ⊎ IsFolderKept words.now (D.holds disk.old) }
 {
     let numbers = match folder_numbers(alloc, words.file, entries) {
         Ok(numbers) => numbers,

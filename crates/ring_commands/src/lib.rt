@@ -4,9 +4,11 @@
 //! is the matter of `ring_cli`: nothing here knows of it, so that these parts are proved, and tried on wrong bodies, without it.
 #![tactic(auto)]
 
+mod beginning;
 pub mod chain;
 pub mod check;
 pub mod endings;
+pub mod failing;
 pub mod faults;
 pub mod fresh;
 mod handing;
@@ -19,6 +21,7 @@ mod outside;
 pub mod picture;
 pub mod reading;
 pub mod recover;
+pub mod report;
 mod resuming;
 pub mod run;
 pub mod serve;

@@ -1,13 +1,13 @@
 //! `picture`: whether a saved text is that of legal histories, and one of its rings as an SVG.
 
-ghost use Rattle.std.specs.Prelude.{◌≡◌, ◌≢◌, ◌⊎◌, ℕ, ◌<◌, ◌≤◌, List, length, slice_get, false, None, Some, OnOk, OnErr, IfOk, IfErr, IsErrOf};
+ghost use Rattle.std.specs.Prelude.{◌≡◌, ◌≢◌, ◌⊎◌, ℕ, ◌<◌, ◌≤◌, List, length, slice_get, true, false, None, Some, OnOk, OnErr, IfOk, IfErr, IsErrOf};
 ghost use Rattle.std.specs.Io.KnownBytes.{Appends};
 ghost use Rattle.ring_saved.specs.Content.{content, block_of};
 ghost use Rattle.ring_commands.specs.CheckText.{legal_line};
 ghost use Rattle.ring_commands.specs.Pictured.{most_drawn, drawn_count, picture_of, IsDrawing, IsDrawingRefusal, IsPictureApart, IsPutRefusal, IsPictureAnswer, IsPictureRefusal};
 ghost use Rattle.disks.specs.Held.{Replaces};
 ghost use Rattle.ring_commands.specs.Handed.{IsHandOutRefusal, IsPrintRefusal, IsHanded};
-ghost use Rattle.ring_commands.specs.Named.{IsApart, IsApartRefusal};
+ghost use Rattle.ring_commands.specs.Named.{IsNamed, IsApart, IsApartRefusal};
 ghost use Rattle.ring_commands.specs.Ran.{IsSaveRefusal};
 ghost use Rattle.ring_commands.specs.Reading.{names_stream};
 ghost use Rattle.ring_commands.specs.Written.{AppendsFront};
@@ -262,6 +262,7 @@ pub fn hand_over<'a, D: Disk, W: Write, E: Write>(
     ensures kept { IfErr result (λ e. e ≢ ToolError.Write → D.holds disk.new ≡ D.holds disk.old) }
     ensures nothing { IfErr result (λ e. e ≢ ToolError.Write → out.new ≡ out.old) }
     ensures silent { names_stream words.now.picture.now ≡ false → err.new ≡ err.old }
+    ensures printed { names_stream words.now.picture.now ≡ true → disk.new ≡ disk.old }
 {
     if names_stream(words.picture) {
         print_and_tell(alloc, drawing, words, out, err)
@@ -298,7 +299,14 @@ pub fn run<'a, D: Disk, I: Read, W: Write, E: Write>(
     ensures kept { IfErr result (λ e. e ≢ ToolError.Write → D.holds disk.new ≡ D.holds disk.old) }
     ensures nothing { IfErr result (λ e. e ≢ ToolError.Write → out.new ≡ out.old) }
     ensures silent { names_stream words.now.picture.now ≡ false → err.new ≡ err.old }
+    ensures printed { names_stream words.now.picture.now ≡ true → disk.new ≡ disk.old }
     ensures unread { names_stream words.now.file.now ≡ false → input.new ≡ input.old }
+    ensures unmade { (disk.new ≡ disk.old)
+        ⊎ ((bytes : List ℕ)
+        × (drawing : Drawing)
+        × IsNamed words.now.file.now (D.holds disk.old) (I.remaining input.old)
+        (I.remaining input.new) bytes
+        × IsDrawing words.now bytes drawing) }
 {
     if words.events > MOST_DRAWN {
         return Err(ToolError::ManyDrawn);

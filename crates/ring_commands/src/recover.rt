@@ -1,6 +1,6 @@
 //! `recover`: the history of a journal that was cut off anywhere.
 
-ghost use Rattle.std.specs.Prelude.{◌≡◌, ◌≢◌, ◌-◌, ℕ, length, false, Some, OnOk, IfOk, IfErr};
+ghost use Rattle.std.specs.Prelude.{◌≡◌, ◌≢◌, ◌⊎◌, ◌-◌, ℕ, length, true, false, Some, OnOk, IfOk, IfErr};
 ghost use Rattle.ring_check.specs.Legal.{summary_of};
 ghost use Rattle.ring_saved.specs.Content.{content};
 ghost use Rattle.ring_journal.specs.Beginnings.{CanBeSaved};
@@ -8,7 +8,7 @@ ghost use Rattle.ring_commands.specs.Kept.{IsKept, IsUnkept};
 ghost use Rattle.ring_commands.specs.Named.{IsApart, IsApartRefusal};
 ghost use Rattle.ring_commands.specs.Ran.{file_of};
 ghost use Rattle.ring_commands.specs.Reading.{names_stream};
-ghost use Rattle.ring_commands.specs.Recovered.{IsRecoveryRefusal, IsJournalRecovered, IsJournalUnrecovered, IsRecoverAnswer, IsRecoverRefusal};
+ghost use Rattle.ring_commands.specs.Recovered.{IsRecoveryRefusal, IsJournalRecovered, IsJournalKept, IsJournalUnrecovered, IsRecoverAnswer, IsRecoverable, IsRecoverRefusal};
 ghost use Rattle.ring_commands.specs.Worlds.{world};
 
 use crate::check::entries_of;
@@ -144,7 +144,11 @@ fn recover_text<'a, D: Disk, I: Read, W: Write, E: Write>(
     ensures kept { IfErr result (λ e. e ≢ ToolError.Write → D.holds disk.new ≡ D.holds disk.old) }
     ensures nothing { IfErr result (λ e. e ≢ ToolError.Write → out.new ≡ out.old) }
     ensures silent { names_stream words.now.new.now ≡ false → err.new ≡ err.old }
+    ensures printed { names_stream words.now.new.now ≡ true → disk.new ≡ disk.old }
     ensures unread { names_stream words.now.file.now ≡ false → input.new ≡ input.old }
+    ensures unmade { (disk.new ≡ disk.old)
+        ⊎ IsJournalKept words.now (D.holds disk.old) (I.remaining input.old)
+        (I.remaining input.new) }
 {
     let bytes = read_named(alloc, disk, words.file, input)?;
     keep_word_apart(disk, words.file, words.new)?;
@@ -183,7 +187,11 @@ pub fn run<'a, D: Disk, I: Read, W: Write, E: Write>(
     ensures kept { IfErr result (λ e. e ≢ ToolError.Write → D.holds disk.new ≡ D.holds disk.old) }
     ensures nothing { IfErr result (λ e. e ≢ ToolError.Write → out.new ≡ out.old) }
     ensures silent { names_stream words.now.new.now ≡ false → err.new ≡ err.old }
+    ensures printed { names_stream words.now.new.now ≡ true → disk.new ≡ disk.old }
     ensures unread { names_stream words.now.file.now ≡ false → input.new ≡ input.old }
+    ensures unmade { (disk.new ≡ disk.old)
+        ⊎ IsRecoverable words.now (D.holds disk.old) (I.remaining input.old)
+        (I.remaining input.new) }
 {
     match entries_of(disk, words.file) {
         None => recover_text(alloc, disk, words, input, out, err),

@@ -1,6 +1,6 @@
-//! Where served rings resume: at the end of a history, or of a journal; and a journal that is taken back.
+//! Where served rings resume: at the end of a history, or of a journal.
 
-ghost use Rattle.std.specs.Prelude.{◌≡◌, Some, IsFalse, IfOk, IfErr, length};
+ghost use Rattle.std.specs.Prelude.{◌≡◌, Some, IfOk, IfErr, length};
 ghost use Rattle.std.specs.Option.{option_map};
 ghost use Rattle.ring_serve.specs.Starting.{AreResumed};
 ghost use Rattle.ring_commands.specs.Served.{CanBegin, CanBeginWith, IsHistory, IsGivenHistory, IsNoted, IsHistoryRefusal, IsGivenRefusal, IsUngiven, IsJournalRefusal, IsStartRefusal};
@@ -115,14 +115,5 @@ pub(crate) fn value_to_resume<'a, D: Disk>(
     match recover_journal(alloc, bytes.as_slice()) {
         Ok(now) => Ok(now),
         Err(error) => Err(ToolError::Journal(name, error)),
-    }
-}
-
-/// Removes a journal that was made and then refused, before anything was in it.
-pub(crate) fn take_back<D: Disk>(disk: &mut D, name: &str, made: bool, refused: bool)
-    ensures { IsFalse refused → D.holds disk.new ≡ D.holds disk.old }
-{
-    if made && refused {
-        let _ = disk.discard(name);
     }
 }

@@ -1,6 +1,6 @@
 //! `run`: the rings of a settings file, driven by clients on threads.
 
-ghost use Rattle.std.specs.Prelude.{false, ◌≡◌, ◌≢◌, ◌<◌, ◌≤◌, ◌^◌, length, None, Some, IsSome, OnOk, OnErr, IfOk, IfErr};
+ghost use Rattle.std.specs.Prelude.{false, ◌≡◌, ◌≢◌, ◌⊎◌, ◌<◌, ◌≤◌, ◌^◌, length, None, Some, IsSome, OnOk, OnErr, IfOk, IfErr};
 ghost use Rattle.std.specs.Io.KnownBytes.{Appends};
 ghost use Rattle.ring_settings.specs.Limits.{ring_limit};
 ghost use Rattle.ring_farm.specs.declared.outcomes.Outcome.{Outcome};
@@ -237,6 +237,7 @@ fn hand_out<'a, D: Disk, W: Write>(
     ensures err { IfErr result (λ e. IsOutcomeRefusal words.now outcome.now (D.holds disk.old)
         (D.holds disk.new) (W.contents out.old) (W.contents out.new) e) }
     ensures kept { IfErr result (λ e. e ≢ ToolError.Write → D.holds disk.new ≡ D.holds disk.old) }
+    ensures printed { history_file words.now ≡ None → disk.new ≡ disk.old }
     ensures nothing { IfErr result (λ e. e ≢ ToolError.Write → out.new ≡ out.old) }
 {
     let Some(file) = words.history else {
@@ -277,8 +278,13 @@ pub fn run<'a, R: AllocGlobal + Threads + Wait + Sync, D: Disk, I: Read, W: Writ
         (world (D.holds disk.old) (I.remaining input.old) (W.contents out.old) None)
         (world (D.holds disk.new) (I.remaining input.new) (W.contents out.new) None) e) }
     ensures kept { IfErr result (λ e. e ≢ ToolError.Write → D.holds disk.new ≡ D.holds disk.old) }
+    ensures printed { history_file words.now ≡ None → disk.new ≡ disk.old }
     ensures nothing { IfErr result (λ e. e ≢ ToolError.Write → out.new ≡ out.old) }
     ensures unread { names_stream words.now.settings.now ≡ false → input.new ≡ input.old }
+    ensures unmade { (disk.new ≡ disk.old)
+        ⊎ ((outcome : Outcome)
+        × IsFarmNamed words.now (D.holds disk.old) (I.remaining input.old) (I.remaining input.new)
+        outcome) }
 {
     let outcome = farm_of_words(rt, rt.alloc(), disk, words, input)?;
     match hand_out(rt.alloc(), disk, &outcome, words, out) {

@@ -1,30 +1,33 @@
 //! `serve` with a journal that is a folder of segments.
 
-ghost use Rattle.std.specs.Prelude.{◌≡◌, ◌⊎◌, ◌≤◌, ◌<◌, ℕ, List, length, codes, string_bytes, Option, Some, Ok, Err, IfOk, IfErr, OnOk};
+ghost use Rattle.std.specs.Prelude.{◌≡◌, ◌⊎◌, ◌≤◌, ◌<◌, ℕ, List, length, codes, string_bytes, Option, Some, Ok, Err, IfOk, IfErr, OnOk, OnErr};
 ghost use Rattle.std.specs.List.{All};
 ghost use Rattle.disks.specs.Folders.{path_in};
 ghost use Rattle.segment_folder.specs.declared.errors.FolderError.{FolderError};
-ghost use Rattle.segment_folder.specs.Numbers.{IsRightNumbers};
+ghost use Rattle.segment_folder.specs.Numbers.{IsRightNumbers, shown};
 ghost use Rattle.ring_segments.specs.Spelling.{DigestFits};
 ghost use Rattle.ring_segments.specs.Last.{IsRightLast};
 ghost use Rattle.ring_chains.specs.Bases.{IsBase};
 ghost use Rattle.ring_serve.specs.Starting.{AreResumedAfter};
 ghost use Rattle.chain_serve.specs.Segments.{Moment};
 ghost use Rattle.ring_commands.specs.Chained.{IsFolderFault};
-ghost use Rattle.ring_commands.specs.Served.{IsUnserved, IsServingFault};
-ghost use Rattle.ring_commands.specs.ServedFolder.{place_of, IsFirst, IsLast, StandsAmong, StandsIn, IsServedIn, IsLastFault, IsLastRefusal, IsFirstRefusal, IsRun, IsRunPart, IsUnknownAmong, IsUnknown, SavesApart, IsSavesRefusal, IsUnkeptFolder, IsLocked, IsRefusedIn};
+ghost use Rattle.ring_commands.specs.Served.{IsFirstRefusal};
+ghost use Rattle.ring_commands.specs.ServedFolder.{list_name, place_of, IsFirst, IsLast, StandsAmong, StandsIn, IsServedIn, IsLastFault, IsLastRefusal, IsRun, IsRunRefused, IsUnknownAmong, IsUnknown, SavesApart, IsSavesRefusal, IsUnkeptFolder, IsLocked, IsLockLeft, IsRefusedIn};
 
+use crate::beginning::open_journal;
 use crate::chain::{folder_numbers, segment_bytes};
 use crate::faults::ToolError;
 use crate::resuming::{needed, resume_rings};
-use crate::serve::{open_journal, permits_of, serving_refusal};
-use chain_serve::{SegmentRules, begin_segment, close_segment, serve_segments};
+use crate::serve::{permits_of, serving_refusal};
+use chain_serve::{SegmentRules, begin_segment, serve_segments};
 use disks::{Disk, FolderEntry};
+use lock_folder::has_list;
 use ring_requests::ServeWords;
 use ring_saved::Saved;
 use ring_segments::{DIGEST_DIGITS, LastSegment, SegmentError, read_last};
 use ring_serve::{Refusal, Served};
-use segment_folder::SegmentNumbers;
+use segment_folder::{EntryName, SegmentNumbers};
+use segment_loop::{OpenSegment, settle};
 use std::alloc::{AllocError, Global};
 use std::io::{Read, Write};
 
@@ -197,11 +200,25 @@ fn place_among<'a, D: Disk>(
     }
 }
 
+/// The name of the file that a folder of locks has.
+fn list_name() -> EntryName
+    ensures { shown result ≡ list_name }
+{
+    let mut bytes = [0; 255];
+    bytes[0] = b'l';
+    bytes[1] = b'o';
+    bytes[2] = b'c';
+    bytes[3] = b'k';
+    bytes[4] = b's';
+    EntryName { bytes, length: 5 }
+}
+
 /// Where the rings stand: at the end of the last segment in the folder, or, if there is none, as the history has them.
 ///
 /// # Errors
 ///
-/// `Read` if the folder cannot be listed, and those of its names, of its last segment, or of the history.
+/// `Read` if the folder cannot be listed, `Foreign` if it is one of locks, and those of its names, of its last segment, or of the
+/// history.
 fn place_in<'a, D: Disk>(
     alloc: Global,
     disk: &D,
@@ -217,6 +234,10 @@ fn place_in<'a, D: Disk>(
     let Ok(entries) = disk.list(folder) else {
         return Err(ToolError::Read(folder));
     };
+    if has_list(entries.as_slice()) {
+        // the calls of `serve` are no holds
+        return Err(ToolError::Foreign(folder, list_name()));
+    }
     match place_among(alloc, disk, folder, entries.as_slice(), saved) {
         Ok(place) => Ok(place),
         Err(fault) => Err(fault),
@@ -256,6 +277,7 @@ pub fn lock_folder<'a, D: Disk>(
     folder: &'a str,
 ) -> Result<D::Grown, ToolError<'a>>
     ensures locked { OnOk result (IsLocked (D.holds disk.old) (D.holds disk.new) folder.now) }
+    ensures left { OnErr result (IsLockLeft (D.holds disk.old) (D.holds disk.new) folder.now) }
     ensures err { IfErr result (λ e. IsUnkeptFolder folder.now e) }
 {
     let Ok(name) = lock_file(alloc, folder) else {
@@ -306,12 +328,9 @@ fn serve_from<'a, D: Disk, I: Read, W: Write>(
         × (last : Moment)
         × IsRun rules.entry (place_of place) first last end (D.holds disk.old) (D.holds disk.new)
         (I.remaining input.old) (I.remaining input.new) (W.contents out.old) (W.contents out.new)) }
-    ensures err { IfErr result (λ e.
-        (IsUnserved (I.remaining input.old) (I.remaining input.new) (W.contents out.old)
-        (W.contents out.new) × IsUnkeptFolder rules.entry.folder.now e)
-        ⊎ (IsServingFault (Some rules.entry.folder.now) e
-        × IsRunPart rules.entry (place_of place) (D.holds disk.old) (I.remaining input.old)
-        (I.remaining input.new) (W.contents out.old) (W.contents out.new))) }
+    ensures err { IfErr result (λ e. IsRunRefused rules.entry (place_of place) (D.holds disk.old)
+        (D.holds disk.new) (I.remaining input.old) (I.remaining input.new) (W.contents out.old)
+        (W.contents out.new) e) }
 {
     let Start {
         mut served,
@@ -326,8 +345,9 @@ fn serve_from<'a, D: Disk, I: Read, W: Write>(
         Ok(last) => last,
         Err(fault) => return Err(serving_refusal(fault, Some(rules.folder))),
     };
-    match close_segment(disk, last) {
-        Ok(()) => Ok(served),
+    let OpenSegment { name, writer, .. } = last;
+    match settle(disk, writer, name.as_str()) {
+        Ok(_) => Ok(served),
         Err(_) => Err(ToolError::Save(rules.folder)),
     }
 }
@@ -347,8 +367,9 @@ pub(crate) fn run_in_folder<'a, D: Disk, I: Read, W: Write>(
         IsServedIn words.now folder.now saved end (D.holds disk.old) (D.holds disk.new)
         (I.remaining input.old) (I.remaining input.new) (W.contents out.old) (W.contents out.new)) }
     ensures err { IfErr result (λ e.
-        IsRefusedIn words.now folder.now saved (D.holds disk.old) (I.remaining input.old)
-        (I.remaining input.new) (W.contents out.old) (W.contents out.new) e) }
+        IsRefusedIn words.now folder.now saved (D.holds disk.old) (D.holds disk.new)
+        (I.remaining input.old) (I.remaining input.new) (W.contents out.old) (W.contents out.new)
+        e) }
 {
     match keep_saves_apart(disk, folder, words) {
         Ok(()) => {}

@@ -1,6 +1,6 @@
 //! `upgrade`: a legal saved text, carried over into the latest version.
 
-ghost use Rattle.std.specs.Prelude.{◌≡◌, ◌≢◌, ◌⊎◌, ℕ, List, false, OnOk, IfOk, IfErr};
+ghost use Rattle.std.specs.Prelude.{◌≡◌, ◌≢◌, ◌⊎◌, ℕ, List, true, false, OnOk, IfOk, IfErr};
 ghost use Rattle.ring_check.specs.declared.answers.Summary.{Summary};
 ghost use Rattle.ring_saved.specs.Content.{Content, content};
 ghost use Rattle.ring_journal.specs.Beginnings.{CanBeSaved};
@@ -65,6 +65,7 @@ pub fn run<'a, D: Disk, I: Read, W: Write, E: Write>(
     ensures kept { IfErr result (λ e. e ≢ ToolError.Write → D.holds disk.new ≡ D.holds disk.old) }
     ensures nothing { IfErr result (λ e. e ≢ ToolError.Write → out.new ≡ out.old) }
     ensures silent { names_stream words.now.new.now ≡ false → err.new ≡ err.old }
+    ensures printed { names_stream words.now.new.now ≡ true → disk.new ≡ disk.old }
     ensures unread { names_stream words.now.file.now ≡ false → input.new ≡ input.old }
     ensures unmade { (disk.new ≡ disk.old)
         ⊎ ((bytes : List ℕ)

@@ -21,3 +21,15 @@ returns-clause-err g c =
     let named = subst (λ t. IsNamed c.args.words.now.file.now (g.D.Disk.holds c.args.disk.now) (g.I.Read.remaining c.args.input.now) (g.I.Read.remaining c.read_named.new.input) t)
     (sym c.as_slice.ensures.value) c.in_ok-bytes.ensures.ok in
     inr (inr (_, named, inr (c.in_ok-drawing.drawing, c.in_ok-drawing.ensures.ok, record { to_file = c.in-Err.ensures.err.to_file; to_output = c.in-Err.ensures.err.to_output })))
+
+pub returns-in-Ok-clause-unmade : goal.returns-in-Ok-clause-unmade
+returns-in-Ok-clause-unmade g c =
+    let named = subst (λ t. IsNamed c.args.words.now.file.now (g.D.Disk.holds c.args.disk.now) (g.I.Read.remaining c.args.input.now) (g.I.Read.remaining c.read_named.new.input) t)
+    (sym c.as_slice.ensures.value) c.in_ok-bytes.ensures.ok in
+    inr (_, c.in_ok-drawing.drawing, named, c.in_ok-drawing.ensures.ok)
+
+pub returns-clause-unmade : goal.returns-clause-unmade
+returns-clause-unmade g c =
+    let named = subst (λ t. IsNamed c.args.words.now.file.now (g.D.Disk.holds c.args.disk.now) (g.I.Read.remaining c.args.input.now) (g.I.Read.remaining c.read_named.new.input) t)
+    (sym c.as_slice.ensures.value) c.in_ok-bytes.ensures.ok in
+    inr (_, c.in_ok-drawing.drawing, named, c.in_ok-drawing.ensures.ok)

@@ -20,3 +20,9 @@ returns-in-Ok-clause-ok g c =
 
 pub returns-clause-err : goal.returns-clause-err
 returns-clause-err g c = inr (c.in_ok-outcome.outcome, c.in_ok-outcome.ensures.ok, c.in-Err.ensures.err)
+
+pub returns-in-Ok-clause-unmade : goal.returns-in-Ok-clause-unmade
+returns-in-Ok-clause-unmade g c = inr (c.in_ok-outcome.outcome, c.in_ok-outcome.ensures.ok)
+
+pub returns-clause-unmade : goal.returns-clause-unmade
+returns-clause-unmade g c = inr (c.in_ok-outcome.outcome, c.in_ok-outcome.ensures.ok)

@@ -29,7 +29,7 @@ pub returns-in-Err-clause-err : goal.returns-in-Err-clause-err
 returns-in-Err-clause-err g c =
     inr (c.args.name.now, c.requires.named, listed_ok c.list.result (λ entries. names_of entries.items) (g.D.Disk.holds c.args.disk.now) c.args.name.now (sym c.is_ok.ensures.value ∙ c.if-is_ok.true) c.list.ensures, c.in-Err.ensures.err)
 
-pub returns-in-Ok-run_with_made_journal-clause-ok : goal.returns-in-Ok-run_with_made_journal-clause-ok
-returns-in-Ok-run_with_made_journal-clause-ok g c =
-    inl (noted c.args.words.now c.args.saved c.args.name.now c.in-Ok-run_with_made_journal.end (g.D.Disk.holds c.args.disk.now) (g.D.Disk.holds c.run_with_made_journal.new.disk) (g.I.Read.remaining c.args.input.now) (g.I.Read.remaining c.run_with_made_journal.new.input) (g.W.Write.contents c.args.out.now) (g.W.Write.contents c.run_with_made_journal.new.out)
-    c.requires.named c.in-Ok-run_with_made_journal.ensures.ok)
+pub returns-in-Ok-run_with_journal-clause-ok : goal.returns-in-Ok-run_with_journal-clause-ok
+returns-in-Ok-run_with_journal-clause-ok g c =
+    inl (noted c.args.words.now c.args.saved c.args.name.now c.in-Ok-run_with_journal.end (g.D.Disk.holds c.args.disk.now) (g.D.Disk.holds c.run_with_journal.new.disk) (g.I.Read.remaining c.args.input.now) (g.I.Read.remaining c.run_with_journal.new.input) (g.W.Write.contents c.args.out.now) (g.W.Write.contents c.run_with_journal.new.out)
+    c.requires.named c.in-Ok-run_with_journal.ensures.ok)

@@ -24,11 +24,11 @@ returns-in-Ok-clause-ok g c =
     inl (plain c.args.words.now c.args.saved c.in-Ok.end (g.D.Disk.holds c.args.disk.now) (g.D.Disk.holds c.run_without.new.disk) (g.I.Read.remaining c.args.input.now) (g.I.Read.remaining c.run_without.new.input) (g.W.Write.contents c.args.out.now) (g.W.Write.contents c.run_without.new.out)
     (ap (λ (j : Option _). option_map (λ name. name.now) j) c.in-None.is) (rw c.permits_of.ensures at c.in-Ok.ensures.ok))
 
-refused : (words : ServeWords) (journal : Option (List ℕ)) (saved : Option Saved) (files : Option Held) (was is old new : Option (List ℕ)) (e : ToolError) → journal_of words ≡ journal →
-    IsRefusedFrom (permits_of words) files journal saved was is old new e → IsRefusedFrom (permits_of words) files (journal_of words) saved was is old new e
-refused words journal saved files was is old new e same h = subst (λ (j : Option (List ℕ)). IsRefusedFrom (permits_of words) files j saved was is old new e) (sym same) h
+refused : (words : ServeWords) (journal : Option (List ℕ)) (saved : Option Saved) (before after : Option Held) (was is old new : Option (List ℕ)) (e : ToolError) → journal_of words ≡ journal →
+    IsRefusedFrom (permits_of words) before after journal saved was is old new e → IsRefusedFrom (permits_of words) before after (journal_of words) saved was is old new e
+refused words journal saved before after was is old new e same h = subst (λ (j : Option (List ℕ)). IsRefusedFrom (permits_of words) before after j saved was is old new e) (sym same) h
 
 pub returns-in-Err-clause-err : goal.returns-in-Err-clause-err
 returns-in-Err-clause-err g c =
-    inl (refused c.args.words.now None c.args.saved (g.D.Disk.holds c.args.disk.now) (g.I.Read.remaining c.args.input.now) (g.I.Read.remaining c.run_without.new.input) (g.W.Write.contents c.args.out.now) (g.W.Write.contents c.run_without.new.out)
+    inl (refused c.args.words.now None c.args.saved (g.D.Disk.holds c.args.disk.now) (g.D.Disk.holds c.run_without.new.disk) (g.I.Read.remaining c.args.input.now) (g.I.Read.remaining c.run_without.new.input) (g.W.Write.contents c.args.out.now) (g.W.Write.contents c.run_without.new.out)
     c.in-Err.fault (ap (λ (j : Option _). option_map (λ name. name.now) j) c.in-None.is) (rw c.permits_of.ensures at c.in-Err.ensures.err))

@@ -2,7 +2,7 @@ use Rattle.text_lines.proofs.Writing.{writes_then, writes_err}
 use Rattle.ring_saved.specs.Spelling.{text}
 use Rattle.ring_journal.specs.Spelling.{first_line}
 use Rattle.ring_serve.specs.Saved.{content_of}
-use Rattle.ring_commands.proofs.serve.put_head.Goals as goal
+use Rattle.ring_commands.proofs.beginning.put_head.Goals as goal
 
 pub returns-in-Ok : goal.returns-in-Ok
 returns-in-Ok g c =
