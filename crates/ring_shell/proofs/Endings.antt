@@ -5,11 +5,11 @@ use Rattle.std.proofs.lemmas.Bool.{false≢true}
 use Rattle.disks.specs.Held.{Held}
 use Rattle.ring_requests.specs.declared.requests.Request.{Request}
 use Rattle.ring_requests.specs.declared.requests.Request.TheVariants as asked
-use Rattle.ring_shell.specs.Answered.{IsAnswer, IsRefusal, IsOfLines, IsOfFile, IsSilent}
+use Rattle.ring_shell.specs.Answered.{IsAnswer, IsRefusal, IsOfLines, IsOfFile, MakesNoFile, IsSilent}
 use Rattle.ring_shell.specs.Ended.{IsRefused, HasEnded}
 use Rattle.ring_shell.specs.Left.{HasFront, HasLine, HasEndedAnswered}
-use Rattle.ring_commands.specs.ServeAnswer.{IsServeRefusal}
 use Rattle.ring_commands.proofs.ServeRefusals.{no_list}
+use Rattle.lock_commands.proofs.UnreadLists.{unread_list_keeps}
 use Rattle.ring_commands.specs.Faults.{is_bad_list, status_of}
 use Rattle.ring_commands.specs.Worlds.{World, world}
 use Rattle.ring_commands.specs.declared.faults.ToolError.{ToolError}
@@ -89,19 +89,22 @@ bad_list (tool.UnreadLocks a) h = absurd (false≢true h)
 bad_list (tool.BadLocks a) h = absurd (false≢true h)
 bad_list (tool.OtherLock a b) h = absurd (false≢true h)
 bad_list (tool.OtherRing a b) h = absurd (false≢true h)
+bad_list (tool.NoHold a b d) h = absurd (false≢true h)
 
--- a request that serves lines is not refused for a list
-no_lines : (request : Request) (was is : World) (e : ToolError) → is_bad_list e ≡ true → IsRefusal request was is e → IsOfLines request → ⊥
-no_lines (asked.Step words) was is e bad refused lines = lines
-no_lines (asked.Run words) was is e bad refused lines = lines
-no_lines (asked.Check words) was is e bad refused lines = lines
-no_lines (asked.Picture words) was is e bad refused lines = lines
-no_lines (asked.Upgrade words) was is e bad refused lines = lines
-no_lines (asked.Recover words) was is e bad refused lines = lines
-no_lines (asked.Join words) was is e bad refused lines = lines
-no_lines (asked.New words) was is e bad refused lines = lines
-no_lines (asked.Serve words) was is e bad refused lines =
-    no_list words was is (subst (λ (x : ToolError). IsServeRefusal words was is x) (bad_list e bad) refused)
+-- a request that is refused for a list has changed no file, also if it serves lines
+files_kept : (request : Request) (was is : World) → IsRefusal request was is tool.BadList → ((IsOfLines request → ⊥) → is.files ≡ was.files) → is.files ≡ was.files
+files_kept (asked.Step words) was is refused kept = kept (λ lines. lines)
+files_kept (asked.Run words) was is refused kept = kept (λ lines. lines)
+files_kept (asked.Check words) was is refused kept = kept (λ lines. lines)
+files_kept (asked.Report words) was is refused kept = kept (λ lines. lines)
+files_kept (asked.Picture words) was is refused kept = kept (λ lines. lines)
+files_kept (asked.Upgrade words) was is refused kept = kept (λ lines. lines)
+files_kept (asked.Recover words) was is refused kept = kept (λ lines. lines)
+files_kept (asked.Join words) was is refused kept = kept (λ lines. lines)
+files_kept (asked.New words) was is refused kept = kept (λ lines. lines)
+files_kept (asked.Holds words) was is refused kept = kept (λ lines. lines)
+files_kept (asked.Serve words) was is refused kept = absurd (no_list words was is refused)
+files_kept (asked.Locks words) was is refused kept = unread_list_keeps words was is refused
 
 -- what holds of an answer, or of a refusal
 pub of_ok : {E : Type 0} (P : Type 0) (r : Result (Unit {0}) E) (u : Unit {0}) → r ≡ Ok u → OnOk r P → P
@@ -112,9 +115,9 @@ of_err {E} P r e is h = subst (λ (x : Result (Unit {0}) E). IfErr x P) is h
 
 -- the end of a request that was answered
 pub ended_answered : (request : Request) (was : World) (status : ℕ) (told : Bool) (files : Option Held) (input printed out said err : Option (List ℕ)) →
-    IsAnswer request was (world files input printed said) → (IsSilent request → said ≡ was.err) → (IsOfFile request → input ≡ was.input) → status ≤ 1 →
+    IsAnswer request was (world files input printed said) → (IsSilent request → said ≡ was.err) → (IsOfFile request → input ≡ was.input) → (MakesNoFile request → files ≡ was.files) → status ≤ 1 →
     HasEndedAnswered status told printed out said err → HasEnded request status told was (world files input out err)
-ended_answered request was status told files input printed out said err answered silent unread bound ends = record {
+ended_answered request was status told files input printed out said err answered silent unread made bound ends = record {
   most = omega (arith, bound);
   done = λ s.
       let whole = ends.whole s in
@@ -124,13 +127,14 @@ ended_answered request was status told files input printed out said err answered
       inl (printed, said, answered, silent, cut.0, cut.1);
   unread = λ s. absurd (omega (arith, s, bound));
   kept = unread;
+  made = made;
 }
 
 -- the end of a request that was refused
 pub ended_refused : (request : Request) (was : World) (e : ToolError) (status : ℕ) (told : Bool) (files : Option Held) (input printed out said err : Option (List ℕ)) →
-    status ≡ status_of e → IsRefusal request was (world files input printed said) e → (IsSilent request → said ≡ was.err) → (IsOfFile request → input ≡ was.input) →
+    status ≡ status_of e → IsRefusal request was (world files input printed said) e → (IsSilent request → said ≡ was.err) → (IsOfFile request → input ≡ was.input) → (MakesNoFile request → files ≡ was.files) →
     ((IsOfLines request → ⊥) → e ≢ tool.Write → files ≡ was.files) → HasFront printed out → HasLine e told said err → HasEnded request status told was (world files input out err)
-ended_refused request was e status told files input printed out said err same refused silent unread kept front line =
+ended_refused request was e status told files input printed out said err same refused silent unread made kept front line =
     let is = world files input out err in
     let all : IsRefused request e told was is = (printed, said, refused, silent, front, line, kept) in
     record {
@@ -140,7 +144,9 @@ ended_refused request was e status told files input printed out said err same re
       unread = λ s.
           let bad = two (is_bad_list e) (sym same ∙ s) in (
             subst (λ (x : ToolError). IsRefused request x told was is) (bad_list e bad) all,
-            kept (no_lines request was (world files input printed said) e bad refused) (not_write e bad),
+            files_kept request was (world files input printed said) (subst (λ (x : ToolError). IsRefusal request was (world files input printed said) x) (bad_list e bad) refused)
+                (λ other. kept other (not_write e bad)),
           );
       kept = unread;
+      made = made;
     }

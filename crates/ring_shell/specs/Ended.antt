@@ -6,7 +6,7 @@ use Rattle.ring_commands.specs.Worlds.{World, world}
 use Rattle.ring_commands.specs.declared.faults.ToolError.{ToolError}
 use Rattle.ring_commands.specs.declared.faults.ToolError.TheVariants as tool
 use Rattle.ring_requests.specs.declared.requests.Request.{Request}
-use Rattle.ring_shell.specs.Answered.{IsAnswer, IsRefusal, IsOfLines, IsOfFile, IsSilent}
+use Rattle.ring_shell.specs.Answered.{IsAnswer, IsRefusal, IsOfLines, IsOfFile, MakesNoFile, IsSilent}
 use Rattle.ring_shell.specs.Left.{HasFront, IsCut, HasLine}
 
 -- the world before the output left its buffer: this was printed, and this said on standard error
@@ -47,6 +47,7 @@ IsRefused request e told was is =
 
 -- Status 0: it was answered, with every byte. Status 1: with a byte missing, or it was refused for
 -- a cause that is no unread list. Status 2: a list cannot be read, and every file is as it was.
+-- If the request names no file that is made, every file is as it was anyhow.
 pub record HasEnded (request : Request) (status : ℕ) (told : Bool) (was is : World) : Type 0 where
   pub most : status ≤ 2
   pub done : status ≡ 0 → IsDone request was is
@@ -56,3 +57,4 @@ pub record HasEnded (request : Request) (status : ℕ) (told : Bool) (was is : W
   pub unread : status ≡ 2
       → IsRefused request tool.BadList told was is × (is.files ≡ was.files)
   pub kept : IsOfFile request → is.input ≡ was.input
+  pub made : MakesNoFile request → is.files ≡ was.files

@@ -2,14 +2,15 @@
 
 ghost use Rattle.std.specs.Prelude.{◌≡◌, ◌≢◌, ◌≤◌, OnOk, IfErr};
 ghost use Rattle.std.specs.Io.Buffered.{writer_contents};
-ghost use Rattle.ring_shell.specs.Answered.{IsAnswer, IsRefusal, IsOfLines, IsOfFile, IsSilent};
+ghost use Rattle.ring_shell.specs.Answered.{IsAnswer, IsRefusal, IsOfLines, IsOfFile, MakesNoFile, IsSilent};
 ghost use Rattle.ring_shell.specs.Ended.{HasEnded};
 ghost use Rattle.ring_commands.specs.Worlds.{world};
 
 use crate::ends::{Ending, done, fail};
 use disks::Disk;
+use lock_commands::{holds, locks};
 use ring_commands::faults::ToolError;
-use ring_commands::{check, fresh, join, picture, recover, run, serve, step, upgrade};
+use ring_commands::{check, fresh, join, picture, recover, report, run, serve, step, upgrade};
 use ring_requests::Request;
 use std::io::{BufWriter, Read, Write};
 use std::sync::Wait;
@@ -20,7 +21,8 @@ use std::thread::Threads;
 ///
 /// # Errors
 ///
-/// The refusals of the command. But for the fault of `out`, every file is as it was then, unless lines were served.
+/// The refusals of the command. But for the fault of `out`, every file is as it was then, unless lines were served. If no file is
+/// named that is made, every file is as it was anyhow.
 pub fn answer<'a, R: AllocGlobal + Threads + Wait + Sync, D: Disk, I: Read, O: Write, E: Write>(
     rt: &R,
     disk: &mut D,
@@ -39,6 +41,7 @@ pub fn answer<'a, R: AllocGlobal + Threads + Wait + Sync, D: Disk, I: Read, O: W
         (E.contents err.new)) e) }
     ensures kept { (IsOfLines request.now → ⊥)
         → IfErr result (λ e. e ≢ ToolError.Write → D.holds disk.new ≡ D.holds disk.old) }
+    ensures made { MakesNoFile request.now → D.holds disk.new ≡ D.holds disk.old }
     ensures silent { IsSilent request.now → err.new ≡ err.old }
     ensures unread { IsOfFile request.now → input.new ≡ input.old }
 {
@@ -46,12 +49,15 @@ pub fn answer<'a, R: AllocGlobal + Threads + Wait + Sync, D: Disk, I: Read, O: W
         Request::Step(words) => step::run(rt.alloc(), words, out),
         Request::Run(words) => run::run(rt, disk, words, input, out),
         Request::Check(words) => check::run(rt.alloc(), disk, words, input, out),
+        Request::Report(words) => report::run(rt.alloc(), disk, words, input, out),
         Request::Picture(words) => picture::run(rt.alloc(), disk, words, input, out, err),
         Request::Upgrade(words) => upgrade::run(rt.alloc(), disk, words, input, out, err),
         Request::Recover(words) => recover::run(rt.alloc(), disk, words, input, out, err),
         Request::Join(words) => join::run(rt.alloc(), disk, words, out, err),
         Request::New(words) => fresh::run(rt.alloc(), words, out),
         Request::Serve(words) => serve::run(rt.alloc(), disk, words, input, out, err),
+        Request::Locks(words) => locks::run(rt.alloc(), disk, words, input, out, err),
+        Request::Holds(words) => holds::run(rt.alloc(), disk, words, input, out),
     }
 }
 

@@ -1,4 +1,4 @@
-use Rattle.std.proofs.Common.{ℕ, List, Option}
+use Rattle.std.proofs.Common.{ℕ, List, Option, ap}
 use Rattle.ring_commands.specs.declared.faults.ToolError.{ToolError}
 use Rattle.ring_commands.specs.JoinedFolder.{IsJoinAnswer, IsJoinRefusal}
 use Rattle.ring_commands.specs.Worlds.{world}
@@ -40,6 +40,12 @@ returns-in-Upgrade-clause-unread g c = rw c.in-Upgrade.is c.run-in-Upgrade.ensur
 
 pub returns-in-Check-clause-unread : goal.returns-in-Check-clause-unread
 returns-in-Check-clause-unread g c = rw c.in-Check.is c.run-in-Check.ensures.unread
+
+pub returns-in-Report-clause-unread : goal.returns-in-Report-clause-unread
+returns-in-Report-clause-unread g c = rw c.in-Report.is c.run-in-Report.ensures.unread
+
+pub returns-in-Holds-clause-unread : goal.returns-in-Holds-clause-unread
+returns-in-Holds-clause-unread g c = rw c.in-Holds.is c.run-in-Holds.ensures.unread
 
 pub returns-in-Run-clause-unread : goal.returns-in-Run-clause-unread
 returns-in-Run-clause-unread g c = rw c.in-Run.is c.run-in-Run.ensures.unread
@@ -93,3 +99,39 @@ returns-in-Join-clause-kept g c = λ _. c.run-in-Join.ensures.kept
 
 pub returns-in-Join-clause-silent : goal.returns-in-Join-clause-silent
 returns-in-Join-clause-silent g c = rw c.in-Join.is c.run-in-Join.ensures.silent
+
+pub returns-in-Locks-clause-ok : goal.returns-in-Locks-clause-ok
+returns-in-Locks-clause-ok g c = rw c.in-Locks.is c.run-in-Locks.ensures.ok
+
+pub returns-in-Locks-clause-err : goal.returns-in-Locks-clause-err
+returns-in-Locks-clause-err g c = rw c.in-Locks.is c.run-in-Locks.ensures.err
+
+pub returns-in-Locks-clause-kept : goal.returns-in-Locks-clause-kept
+returns-in-Locks-clause-kept g c = λ other. absurd (other (rw c.in-Locks.is tt))
+
+pub returns-in-Locks-clause-unread : goal.returns-in-Locks-clause-unread
+returns-in-Locks-clause-unread g c = rw c.in-Locks.is (λ none. absurd none)
+
+pub returns-in-Locks-clause-silent : goal.returns-in-Locks-clause-silent
+returns-in-Locks-clause-silent g c = rw c.in-Locks.is (λ none. absurd none)
+
+pub returns-in-Run-clause-made : goal.returns-in-Run-clause-made
+returns-in-Run-clause-made g c = rw c.in-Run.is (λ none. ap g.D.Disk.holds (c.run-in-Run.ensures.printed none))
+
+pub returns-in-Picture-clause-made : goal.returns-in-Picture-clause-made
+returns-in-Picture-clause-made g c = rw c.in-Picture.is (λ none. ap g.D.Disk.holds (c.run-in-Picture.ensures.printed none))
+
+pub returns-in-Upgrade-clause-made : goal.returns-in-Upgrade-clause-made
+returns-in-Upgrade-clause-made g c = rw c.in-Upgrade.is (λ none. ap g.D.Disk.holds (c.run-in-Upgrade.ensures.printed none))
+
+pub returns-in-Recover-clause-made : goal.returns-in-Recover-clause-made
+returns-in-Recover-clause-made g c = rw c.in-Recover.is (λ none. ap g.D.Disk.holds (c.run-in-Recover.ensures.printed none))
+
+pub returns-in-Join-clause-made : goal.returns-in-Join-clause-made
+returns-in-Join-clause-made g c = rw c.in-Join.is (λ none. ap g.D.Disk.holds (c.run-in-Join.ensures.printed none))
+
+pub returns-in-Serve-clause-made : goal.returns-in-Serve-clause-made
+returns-in-Serve-clause-made g c = rw c.in-Serve.is (λ none. absurd none)
+
+pub returns-in-Locks-clause-made : goal.returns-in-Locks-clause-made
+returns-in-Locks-clause-made g c = rw c.in-Locks.is (λ none. absurd none)

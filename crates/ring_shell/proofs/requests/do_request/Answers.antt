@@ -16,6 +16,7 @@ returns-in-Ok-clause-ended g c =
     c.answer.result c.in-Ok.field-0 c.in-Ok.is c.answer.ensures.ok)
     (λ q. ap g.E.Write.contents (c.answer.ensures.silent q))
     (λ q. ap g.I.Read.remaining (c.answer.ensures.unread q))
+    c.answer.ensures.made
     c.done.ensures.status c.done.ensures.ended
 
 pub returns-in-Err-clause-ended : goal.returns-in-Err-clause-ended
@@ -28,5 +29,6 @@ returns-in-Err-clause-ended g c =
     c.answer.result c.in-Err.fault c.in-Err.is c.answer.ensures.err)
     (λ q. ap g.E.Write.contents (c.answer.ensures.silent q))
     (λ q. ap g.I.Read.remaining (c.answer.ensures.unread q))
+    c.answer.ensures.made
     (λ other. of_err (λ (e : ToolError). e ≢ tool.Write → g.D.Disk.holds c.answer.new.disk ≡ g.D.Disk.holds c.args.disk.now) c.answer.result c.in-Err.fault c.in-Err.is (c.answer.ensures.kept other))
     c.fail.ensures.front c.fail.ensures.told
