@@ -1,4 +1,4 @@
-//! A writer into memory that can fail, and readers that give little at a time or fail.
+//! A writer into memory and a reader of it, which can give or take little at a time, or fail.
 
 use std::alloc::Global;
 use std::io::{self, ErrorKind, Read, Write};
@@ -48,30 +48,32 @@ impl Write for Paper {
     }
 }
 
-/// A reader that gives a byte a call.
+/// A reader of a text in memory. It gives at most `at_most` bytes a call and, where it is `cut`, fails behind the last one. The
+/// program is compiled once for each kind of reader, so there is just this one.
 #[derive(Drop)]
-pub struct Slow<'a> {
+pub struct Reel<'a> {
     pub rest: &'a [u8],
+    pub at_most: usize,
+    pub cut: bool,
 }
 
-impl Read for Slow<'_> {
-    fn read(&mut self, buf: &mut [u8]) -> io::Result<usize> {
-        let count = buf.len().min(1);
-        self.rest.read(&mut buf[..count])
+impl<'a> Reel<'a> {
+    /// A reader that gives all of the text.
+    pub fn new(text: &'a [u8]) -> Reel<'a> {
+        Reel {
+            rest: text,
+            at_most: usize::MAX,
+            cut: false,
+        }
     }
 }
 
-/// A reader that gives what it has, and then fails.
-#[derive(Drop)]
-pub struct Broken<'a> {
-    pub rest: &'a [u8],
-}
-
-impl Read for Broken<'_> {
+impl Read for Reel<'_> {
     fn read(&mut self, buf: &mut [u8]) -> io::Result<usize> {
-        if self.rest.is_empty() {
+        if self.cut && self.rest.is_empty() {
             return Err(io::Error::from(ErrorKind::BrokenPipe));
         }
-        self.rest.read(buf)
+        let count = buf.len().min(self.at_most);
+        self.rest.read(&mut buf[..count])
     }
 }

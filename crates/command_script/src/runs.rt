@@ -1,11 +1,11 @@
 //! One run of the program.
 
-use crate::paper::{Broken, Paper};
+use crate::paper::{Paper, Reel};
 use disks::SystemDisk;
 use ring_program::run_tool_on;
 use std::alloc::{AllocError, Global};
 use std::fs::File;
-use std::io::{self, BufWriter, Read, Write};
+use std::io::{self, BufWriter, Write};
 use std::rt::Files;
 use std::sync::Wait;
 use std::thread::Threads;
@@ -31,10 +31,10 @@ pub struct Ended {
 }
 
 /// Runs the program on these words, from this reader, over these two writers.
-pub fn run_over<R: AllocGlobal + Files<File = File> + Threads + Wait + Sync, I: Read>(
+pub fn run_over<R: AllocGlobal + Files<File = File> + Threads + Wait + Sync>(
     rt: &R,
     words: &[String],
-    input: &mut I,
+    input: &mut Reel<'_>,
     printed: Paper,
     mut told: Paper,
 ) -> io::Result<Ended> {
@@ -52,10 +52,10 @@ pub fn run_over<R: AllocGlobal + Files<File = File> + Threads + Wait + Sync, I: 
 pub fn run_plainly<R: AllocGlobal + Files<File = File> + Threads + Wait + Sync>(
     rt: &R,
     words: &[String],
-    mut text: &[u8],
+    text: &[u8],
 ) -> io::Result<Ended> {
     let (printed, told) = (Paper::new(rt.alloc()), Paper::new(rt.alloc()));
-    run_over(rt, words, &mut text, printed, told)
+    run_over(rt, words, &mut Reel::new(text), printed, told)
 }
 
 /// Writes what a run printed, its status, and its error text.
@@ -74,15 +74,15 @@ pub fn run<R: AllocGlobal + Files<File = File> + Threads + Wait + Sync, W: Write
     out: &mut W,
 ) -> io::Result<()> {
     let words = words_of(rt.alloc(), line)?;
-    let mut input = text;
+    let mut input = Reel::new(text);
     let (printed, told) = (Paper::new(rt.alloc()), Paper::new(rt.alloc()));
     let ended = run_over(rt, &words, &mut input, printed, told)?;
     writeln!(out, "${line}")?;
     write_ended(&ended, out)?;
-    if input.is_empty() {
+    if input.rest.is_empty() {
         return Ok(());
     }
-    writeln!(out, "unread {}", input.len())
+    writeln!(out, "unread {}", input.rest.len())
 }
 
 /// Runs the program on a line of words, with a standard input that gives the text and then fails, and writes what it did.
@@ -93,7 +93,10 @@ pub fn run_broken<R: AllocGlobal + Files<File = File> + Threads + Wait + Sync, W
     out: &mut W,
 ) -> io::Result<()> {
     let words = words_of(rt.alloc(), line)?;
-    let mut input = Broken { rest: text };
+    let mut input = Reel {
+        cut: true,
+        ..Reel::new(text)
+    };
     let (printed, told) = (Paper::new(rt.alloc()), Paper::new(rt.alloc()));
     let ended = run_over(rt, &words, &mut input, printed, told)?;
     writeln!(out, "?{line}")?;

@@ -1,6 +1,6 @@
 //! Many runs of the program for one line of a script.
 
-use crate::paper::{Paper, Slow};
+use crate::paper::{Paper, Reel};
 use crate::runs::{Ended, run_over, run_plainly, words_of, write_ended};
 use std::alloc::{AllocError, Global};
 use std::fs::File;
@@ -15,6 +15,14 @@ fn paper_of(alloc: Global, room: usize, mute: bool) -> Paper {
         room,
         mute,
         ..Paper::new(alloc)
+    }
+}
+
+/// A reader that gives a byte a call.
+fn slow(text: &[u8]) -> Reel<'_> {
+    Reel {
+        at_most: 1,
+        ..Reel::new(text)
     }
 }
 
@@ -45,7 +53,7 @@ fn is_cut_at<R: AllocGlobal + Files<File = File> + Threads + Wait + Sync>(
 ) -> io::Result<bool> {
     let cut = paper_of(rt.alloc(), room, mute);
     let all = Paper::new(rt.alloc());
-    let mut input = Slow { rest: text };
+    let mut input = slow(text);
     if whole.status == 0 {
         let ended = run_over(rt, words, &mut input, cut, all)?;
         Ok(is_cut(&ended, &whole.printed.text, room))
@@ -72,7 +80,7 @@ fn is_same_slowly<R: AllocGlobal + Files<File = File> + Threads + Wait + Sync>(
         at_most: 1,
         ..Paper::new(rt.alloc())
     };
-    let ended = run_over(rt, words, &mut Slow { rest: text }, printed, told)?;
+    let ended = run_over(rt, words, &mut slow(text), printed, told)?;
     let is_told = if ended.printed.refused {
         ended.status == 1 && ended.told.text.as_slice() == b"cannot write\n".as_slice()
     } else {

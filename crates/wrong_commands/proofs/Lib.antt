@@ -10,6 +10,8 @@ pub mod Traced
 pub mod Unchained
 pub mod Gapped
 pub mod Emptied
+pub mod EmptyJournals
 pub mod Cuts
 pub mod Places
 pub mod Elsewhere
+pub mod OneReport

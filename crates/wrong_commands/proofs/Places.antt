@@ -31,7 +31,7 @@ use Rattle.wrong_commands.proofs.Cuts.{known_after, if_some}
 abbrev pub Known : Option Held → Type 0
 Known files = (h : Held) × (files ≡ Some h)
 
-replaced_known : (was is : Option Held) (name bytes : List ℕ) → Known was → Replaces was is name (Some bytes) → Known is
+pub replaced_known : (was is : Option Held) (name bytes : List ℕ) → Known was → Replaces was is name (Some bytes) → Known is
 replaced_known was is name bytes k r = known_after was is name (Some bytes) k.0 bytes k.1 refl r
 
 same_known : (was is : Option Held) → Known was → is ≡ was → Known is
@@ -55,7 +55,7 @@ given_known journal saves was is name rings (answer.Survey survey) given k h = s
 given_known journal saves was is name rings (answer.Block first count) given k h = same_known was is k h.1
 given_known journal saves was is name rings (answer.Refused why) given k h = same_known was is k h.1
 
-answers_known : (terms : Terms) (old new : List Standing) (was is : Option Held) (lines : List (List ℕ)) (said noted : List ℕ) → Known was → Answers terms old was lines said noted new is → Known is
+pub answers_known : (terms : Terms) (old new : List Standing) (was is : Option Held) (lines : List (List ℕ)) (said noted : List ℕ) → Known was → Answers terms old was lines said noted new is → Known is
 answers_known terms old new was is [] said noted k h = same_known was is k h.3
 answers_known terms old new was is (line ∷ lines) said noted k h =
     let one = given_known terms.journal terms.saves was h.1 (name_in line) h.0 h.6.turn.answer h.6.given k h.6.gives in
@@ -165,7 +165,7 @@ nothing_there Nothing h = (refl, refl)
 nothing_there Folder h = absurd (true≢false h)
 nothing_there (File bytes) h = absurd (true≢false h)
 
-one_name : (a b : List ℕ) → Some a ≡ Some b → a ≡ b
+pub one_name : (a b : List ℕ) → Some a ≡ Some b → a ≡ b
 one_name a b p = cc
 
 none_some : {A : Type 0} (o : Option A) (a : A) → o ≡ None → o ≡ Some a → ⊥

@@ -1,20 +1,25 @@
-//! Journals that are kept wrongly: in segments where no folder is, and in a file where one is.
+//! Journals that are kept wrongly: in segments where no folder is, and in a file where one is; or emptied.
 
-ghost use Rattle.std.specs.Prelude.{◌≡◌, ℕ, List, Option, true, false, Some, None, IsSome, IfSome, OnOk};
+ghost use Rattle.std.specs.Prelude.{◌≡◌, ℕ, List, ◌∷◌, Option, true, false, Some, None, IsSome, IfSome, OnOk, IfOk};
 ghost use Rattle.disks.specs.Held.{bytes_of, is_folder, is_there, IsOneFile};
+ghost use Rattle.disks.specs.Entries.{held_of};
 ghost use Rattle.segment_folder.specs.Names.{segment_file};
 ghost use Rattle.ring_saved.specs.declared.saved.Saved.{Saved};
 ghost use Rattle.ring_segments.specs.Spelling.{DigestFits};
 ghost use Rattle.ring_serve.specs.Standings.{Standing};
 ghost use Rattle.ring_commands.specs.Served.{journal_of};
-ghost use Rattle.ring_commands.specs.ServeAnswer.{IsServedTo};
+ghost use Rattle.ring_commands.specs.ServeAnswer.{IsServedTo, IsServeRefusal};
+ghost use Rattle.ring_commands.specs.Worlds.{world};
 
 use chain_serve::{SegmentRules, begin_segment, close_segment};
-use disks::{Contents, Disk, ReplaceFault, replace};
+use disks::{Contents, ContentsFault, Disk, MemoryDisk, ReplaceFault, replace};
+use ring_commands::faults::ToolError;
+use ring_commands::serve::run;
 use ring_requests::ServeWords;
 use ring_segments::DIGEST_DIGITS;
 use ring_serve::{Refusal, Served};
 use std::alloc::Global;
+use std::io::{Read, Write};
 
 /// A journal is kept in segments only if its name is a folder's: here it is, where there was nothing.
 pub fn serves_a_new_name_as_a_folder<D: Disk>(
@@ -69,5 +74,72 @@ pub fn serves_an_empty_folder_as_a_file<D: Disk, C: Contents>(
     match replace(alloc, disk, file, journal) {
         Ok(()) => Ok(()),
         Err(fault) => Err(fault),
+    }
+}
+
+/// No bytes, which a file is to hold.
+#[derive(Drop)]
+struct Nothing {}
+
+impl Contents for Nothing {
+    ghost use Rattle.std.specs.Prelude.{[]};
+
+    ghost bytes = { λ _. [] };
+
+    fn write_to<W: Write>(&self, _out: &mut W) -> Result<(), ContentsFault> {
+        Ok(())
+    }
+}
+
+/// A journal is as it was after a refusal before it is begun anew, and is begun anew after others: here it is emptied, and this is
+/// reported as a refusal.
+pub fn empties_the_journal_when_it_refuses<'a, D: Disk>(
+    alloc: Global,
+    disk: &mut D,
+    _words: &ServeWords<'a>,
+    name: &'a str,
+) -> Result<ToolError<'a>, ReplaceFault>
+    requires named { journal_of _words.now ≡ Some name.now }
+    requires known { IsSome (D.holds disk.old) }
+    requires some { IfSome (D.holds disk.old) (λ held. (b : ℕ)
+        × (bs : List ℕ)
+        × (bytes_of held name.now ≡ Some (b ∷ bs))) }
+    ensures wrong { IfOk result (λ e. (input rest out after early late : Option (List ℕ))
+        → IsServeRefusal _words.now (world (D.holds disk.old) input out early)
+        (world (D.holds disk.new) rest after late) e → ⊥) }
+{
+    match replace(alloc, disk, name, &Nothing {}) {
+        Ok(()) => Ok(ToolError::Save(name)),
+        Err(fault) => Err(fault),
+    }
+}
+
+/// A journal keeps what was told when serving ends in a fault: here it is emptied then.
+pub fn empties_the_journal_after_a_fault<'a, I: Read, W: Write, E: Write>(
+    alloc: Global,
+    disk: &mut MemoryDisk,
+    words: &ServeWords<'a>,
+    name: &'a str,
+    input: &mut I,
+    out: &mut W,
+    err: &mut E,
+) -> Option<ToolError<'a>>
+    requires named { journal_of words.now ≡ Some name.now }
+    requires some { (b : ℕ)
+        × (bs : List ℕ)
+        × (bytes_of (held_of disk.old.entries.items) name.now ≡ Some (b ∷ bs)) }
+    ensures wrong { IfSome result (λ e. IsServeRefusal words.now
+        (world (Some (held_of disk.old.entries.items)) (I.remaining input.old) (W.contents out.old)
+        (E.contents err.old))
+        (world (Some (held_of disk.new.entries.items)) (I.remaining input.new) (W.contents out.new)
+        (E.contents err.new)) e → ⊥) }
+{
+    let fault = match run(alloc, disk, words, input, out, err) {
+        Ok(()) => return None,
+        Err(fault) => fault,
+    };
+    match replace(alloc, disk, name, &Nothing {}) {
+        Ok(()) => Some(fault),
+        Err(_) => None,
     }
 }

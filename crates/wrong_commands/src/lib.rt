@@ -15,6 +15,7 @@ pub mod kept;
 pub mod lines;
 pub mod listings;
 pub mod replacing;
+pub mod reported;
 pub mod segments;
 pub mod serving;
 pub mod texts;

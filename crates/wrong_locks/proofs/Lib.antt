@@ -1,0 +1,2 @@
+mod Stayed
+mod Dropped

@@ -1,0 +1,31 @@
+//! A wrong start of a lock.
+
+ghost use Rattle.std.specs.Prelude.{◌≡◌, ℕ, ◌+◌, ◌≤◌, Some, length, IfSome, vec_len, vec_capacity};
+ghost use Rattle.ring_locks.specs.Kept.{IsKeptRing};
+ghost use Rattle.ring_locks.specs.Opened.{open_in, IsAdded};
+
+use ring_endless::EndlessRing;
+use ring_locks::laws::leavers_are_gone;
+use ring_locks::{Left, Locks};
+use std::alloc::Global;
+
+/// A hold that is open in the history of a lock goes on as client 0's: here it is dropped. It gives up if there is no memory.
+pub fn drops_a_hold_at_a_start(
+    alloc: Global,
+    locks: &mut Locks,
+    ring: EndlessRing,
+    left: &mut Vec<Left>,
+) -> Option<u32>
+    requires kept { IsKeptRing ring }
+    requires held { (token : ℕ) × (open_in ring ≡ Some token) }
+    requires room { vec_len left.old + (length locks.old + 1) ≤ vec_capacity left.old }
+    ensures wrong { IfSome result (λ _. IsAdded locks.old locks.new ring → ⊥) }
+{
+    match locks.add(alloc, ring) {
+        Ok(()) => {}
+        Err(_) => return None,
+    }
+    locks.leave(0, left);
+    leavers_are_gone();
+    Some(locks.count())
+}
