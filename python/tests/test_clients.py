@@ -1,4 +1,4 @@
-"""The clients with a server and the engine's double."""
+"""The clients with a server and its engine."""
 
 import asyncio
 import logging

@@ -5,7 +5,9 @@ fault is written. Then the journal is judged:
 - nobody is inside while another is, across restarts too;
 - tokens rise, across restarts, and each that was told is a grant of the journal, with the client's label;
 - in the journal each grant of a hold is followed by its end before the next one;
-- `bench/small_recover.py`, which knows nothing of this program, finds the history legal (for a journal in one segment).
+- `bench/small_recover.py`, which knows nothing of this program, finds the history of each segment legal;
+- `ring_tool check` finds the chain of segments legal, and counts the grants that the journal has (the engine's double has one segment,
+  and checks nothing).
 """
 
 import os
@@ -17,11 +19,18 @@ import tempfile
 import threading
 import time
 
-from harness import TOP, Server
+import journals
+from harness import ENGINE, IS_DOUBLE, TOP, Server
 
 from wozgirt import Client, LockError
 
-NAMES, MACHINES, CLIENTS, LEASE = "ab", 5, 8, "0.3"
+NAMES, MACHINES, CLIENTS, LEASE, LINES = "ab", 5, 8, "0.3", "20000"
+
+
+def start(folder):
+    """A server in this folder."""
+    locks = ",".join(f"{name}:{MACHINES}" for name in NAMES)
+    return Server("--segment", LINES, folder=folder, locks=locks, lease=LEASE)
 
 
 class Trial:
@@ -69,7 +78,7 @@ def disturb(server, draw):
     if what == "server":
         server.process.send_signal(signal.SIGKILL)
         server.process.wait()
-        server = Server(folder=server.folder, locks=",".join(f"{name}:{MACHINES}" for name in NAMES), lease=LEASE)
+        server = start(server.folder)
     elif what == "engine":
         try:
             server.kill_engine()
@@ -108,21 +117,32 @@ def judge_holds(calls, told):
     return wrong
 
 
-def judge_history(server):
-    """What the second checker says of the journal's history, or nothing if it cannot be asked."""
-    segments = sorted(name for name in os.listdir(server.journal) if name.endswith(".ring"))
-    if segments != ["0000000001.ring"]:
-        return None
-    with open(os.path.join(server.journal, segments[0]), encoding="ascii") as file:
-        text = file.read()
+def said_of(text):
+    """What the second checker says of the journal of a segment: the verdict, behind the history that it recovers."""
     with tempfile.TemporaryDirectory() as folder:
         journal = os.path.join(folder, "journal.txt")
         with open(journal, "w", encoding="ascii") as file:
             file.write(text[text.index("ringjournal"):])
         judged = subprocess.run([sys.executable, os.path.join(TOP, "bench", "small_recover.py"), journal],
                                 capture_output=True, text=True, check=False)
-    # the recovered history, with the line of the verdict
     return next((line for line in judged.stdout.splitlines() if line.startswith("legal ")), judged.stdout[-200:] + judged.stderr)
+
+
+def judge_segments(folder):
+    """What is wrong with the history of a segment."""
+    verdicts = [said_of(text) for text in journals.texts(folder)]
+    return [f"segment {i}: {it}" for i, it in enumerate(verdicts, 1) if not it.startswith("legal ")]
+
+
+def judge_chain(folder, calls):
+    """What the engine's own checker says of all segments, and what is wrong with that."""
+    if IS_DOUBLE:
+        return "not asked", []
+    judged = subprocess.run([ENGINE, "check", folder], capture_output=True, text=True, check=False)
+    verdict = (judged.stdout + judged.stderr).strip()
+    count = sum(call.split(" ")[1:6:4] == ["p", "g"] for call in calls)
+    is_right = verdict.startswith("legal segments ") and f" granted {count} " in verdict
+    return verdict.partition(" head ")[0], [] if is_right else [f"the chain, with {count} passes that were granted: {verdict}"]
 
 
 def main():
@@ -130,7 +150,7 @@ def main():
     seed = int(sys.argv[2]) if len(sys.argv) > 2 else random.randrange(1 << 32)
     draw, done = random.Random(seed), {}
     with tempfile.TemporaryDirectory(prefix="wozgirt-crash-") as folder:
-        server = Server(folder=folder, locks=",".join(f"{name}:{MACHINES}" for name in NAMES), lease=LEASE)
+        server = start(folder)
         trial = Trial(server.path)
         threads = [threading.Thread(target=trial.work, args=(number,), daemon=True) for number in range(1, CLIENTS + 1)]
         for thread in threads:
@@ -144,10 +164,9 @@ def main():
         for thread in threads:
             thread.join(30)
         server.stop()
-        wrong = trial.faults + judge_holds(server.calls(), trial.told)
-        verdict = judge_history(server)
-        if verdict is not None and not verdict.startswith("legal"):
-            wrong.append("the history: " + verdict)
+        calls = server.calls()
+        verdict, of_chain = judge_chain(server.journal, calls)
+        wrong = trial.faults + judge_holds(calls, trial.told) + judge_segments(server.journal) + of_chain
     kills = ", ".join(f"{what} {count}" for what, count in sorted(done.items()))
     print(f"seed {seed} seconds {seconds:.0f} disturbed: {kills}; connections lost {trial.losses}, grants told {len(trial.told)}; "
           f"verdict {verdict}")

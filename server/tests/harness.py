@@ -1,6 +1,7 @@
-"""A server with the engine's double, in a folder of its own: what the tests in Python share.
+"""A server in a folder of its own, with an engine: what the tests in Python share.
 
-WOZGIRT_BIN names the folder of the programs (server/out/release if it does not); WOZGIRT_ENGINE another engine.
+WOZGIRT_BIN names the folder of the programs (server/out/release if it does not). WOZGIRT_ENGINE names the engine; if it does not, that
+is crates/ring_tool/out/ring_tool, and where that is not built, the double.
 
 A test waits for what has to come about, for as long as PATIENCE, and takes no time of its own for granted. Where the clock is what
 is tried, as with leases, `by_the_clock` tries again with longer times: a machine that is busy is late, and that is no fault."""
@@ -17,9 +18,13 @@ import tempfile
 import time
 import unittest
 
+import journals
+
 TOP = os.path.dirname(os.path.dirname(os.path.dirname(os.path.abspath(__file__))))
 BIN = os.environ.get("WOZGIRT_BIN", os.path.join(TOP, "server", "out", "release"))
-ENGINE = os.environ.get("WOZGIRT_ENGINE", os.path.join(BIN, "engine-double"))
+PROVED = os.path.join(TOP, "crates", "ring_tool", "out", "ring_tool")
+ENGINE = os.environ.get("WOZGIRT_ENGINE") or (PROVED if os.access(PROVED, os.X_OK) else os.path.join(BIN, "engine-double"))
+IS_DOUBLE = os.path.basename(ENGINE) == "engine-double"
 COMMAND = os.path.join(BIN, "wozgirt")
 SERVER = os.path.join(BIN, "wozgirt-server")
 sys.path.insert(0, os.path.join(TOP, "python"))
@@ -181,15 +186,9 @@ class Server:
     def kill_engine(self):
         os.kill(self.engine_number(), signal.SIGKILL)
 
-    def calls(self):
-        """The lines of the journal after its head."""
-        lines = []
-        for name in sorted(os.listdir(self.journal)):
-            if name.endswith(".ring"):
-                with open(os.path.join(self.journal, name), encoding="ascii") as file:
-                    text = file.read()
-                lines += text.split("\ndone ", 1)[1].split("\n")[1:-1]
-        return lines
+    def calls(self, lock=None):
+        """The calls of the journal, or those of one lock, by its number."""
+        return [call for call in journals.calls(self.journal) if lock is None or call.split()[0] == str(lock)]
 
     def stop(self):
         if self.process.poll() is None:

@@ -1,4 +1,4 @@
-"""The dialogues of the server's page and of the first page of a package, run as they stand there."""
+"""The dialogues of the first page, of the server's page and of the first page of a package, run as they stand there."""
 
 import os
 import re
@@ -75,11 +75,15 @@ class Documents(unittest.TestCase):
                 shell.end()
 
     @by_the_clock
+    def test_the_first_page_of_all(self, longer):
+        self.play("README.md", "## Locks that programs share", "## What it promises", longer)
+
+    @by_the_clock
     def test_the_page(self, longer):
         self.play("server/README.md", "## Two programs, one lock", "## `wozgirt`", longer)
 
     @by_the_clock
-    def test_the_first_page(self, longer):
+    def test_the_first_page_of_a_package(self, longer):
         self.play("release/FIRST.md", "## Without", "In Python:", longer)
 
 

@@ -13,7 +13,7 @@ import threading
 import time
 import unittest
 
-from harness import (ENGINE, FOLDER, PATIENCE, SERVER, Server, at_least, by_the_clock, needs_loopback, needs_programs,
+from harness import (ENGINE, FILES, FOLDER, PATIENCE, SERVER, Server, at_least, by_the_clock, needs_loopback, needs_programs,
                      read_lines, say, wait_until)
 
 
@@ -205,6 +205,12 @@ class Others(unittest.TestCase):
             self.assertEqual(it.returncode, 1)
             self.assertIn("100 files may be open, and 1064 are needed", it.stderr)
 
+    def test_the_limit_of_open_files_is_raised(self):
+        with a_folder() as folder:
+            fewer = lambda: resource.setrlimit(resource.RLIMIT_NOFILE, (100, FILES))
+            it = run("--engine", "false", "--journal", folder, "--locks", "a", "--socket", folder + "/s", preexec_fn=fewer)
+            self.assertIn("the engine keeps ending", it.stderr)
+
 
 @needs_programs
 class Leases(unittest.TestCase):
@@ -293,7 +299,7 @@ class Ends(unittest.TestCase):
                 self.assertIn("lock a before 0 - 1 ", server.operate("status", 4))
                 self.assertEqual(read_lines(other, 1), ["granted a 2"])
             at_least(0.6 * longer, begun)
-            self.assertEqual(server.calls()[4:6], ["0 s 2 1 1 1 1 0", "0 p 0 1 1 g 2 2"])
+            self.assertEqual(server.calls(0)[:3], ["0 p 0 0 1 g 1 1", "0 s 2 1 1 1 1 0", "0 p 0 1 1 g 2 2"])
 
     @by_the_clock
     def test_the_server_is_killed(self, longer):
@@ -338,12 +344,12 @@ class Ends(unittest.TestCase):
             self.assertIn("cannot run the engine", it.stderr)
 
     def test_an_engine_with_fewer_locks(self):
-        with a_folder() as folder:
-            engine = folder + "/engine"
+        with a_folder() as folder, a_folder() as programs:
+            engine = programs + "/engine"
             with open(engine, "w", encoding="ascii") as file:
                 file.write(f"#!/bin/sh\nexec {ENGINE} locks --journal {folder} --locks a\n")
             os.chmod(engine, 0o755)
-            it = run("--engine", engine, "--journal", folder, "--locks", "a,b", "--socket", folder + "/s")
+            it = run("--engine", engine, "--journal", folder, "--locks", "a,b", "--socket", programs + "/s")
             self.assertEqual(it.returncode, 1)
             self.assertIn("answered what nobody asked: 0 refused lock", it.stderr)
             self.assertIn("the engine keeps ending before it is ready", it.stderr)

@@ -6,7 +6,7 @@ import shutil
 import subprocess
 import unittest
 
-from harness import COMMAND, SERVER, TOP, needs_programs
+from harness import COMMAND, ENGINE, IS_DOUBLE, SERVER, TOP, needs_programs
 
 COMPLETIONS = os.path.join(TOP, "release", "completions")
 PAGES = os.path.join(TOP, "docs", "man")
@@ -18,8 +18,8 @@ def read(*names):
         return file.read()
 
 
-def help_of(program):
-    return subprocess.run([program, "--help"], capture_output=True, text=True, check=True).stdout
+def help_of(*words):
+    return subprocess.run([*words, "--help"], capture_output=True, text=True, check=True).stdout
 
 
 def options_of(text):
@@ -29,7 +29,11 @@ def options_of(text):
 
 
 def ring_tool():
-    """By command, and for no command: the help that the gate compares with the program's."""
+    """By command, and for no command: the program's help, or, where only the engine's double is there, that which the gate compares
+    with the program's."""
+    if not IS_DOUBLE:
+        whole = help_of(ENGINE)
+        return {"": whole, **{name: help_of(ENGINE, name) for name in commands_of(whole) - {"help"}}}
     text = read(TOP, "crates", "command_script", "stdout")
     helps = {name: body for name, body in re.findall(r"^\$(\w+)\|--help\n(.*?)^status 0$", text, re.MULTILINE | re.DOTALL)}
     helps[""] = re.search(r"^%--help\n(.*?)^status 0$", text, re.MULTILINE | re.DOTALL)[1]

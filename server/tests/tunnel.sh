@@ -4,8 +4,10 @@
 # Needs root, ip, ssh and sshd; the last line is `N passed, M failed`, and what is not there is skipped.
 # shellcheck disable=SC2016 # the inner shell expands
 set -u
-bin=${WOZGIRT_BIN:-$(cd "$(dirname "$0")/../.." && pwd)/server/out/release}
-engine=${WOZGIRT_ENGINE:-$bin/engine-double}
+top=$(cd "$(dirname "$0")/../.." && pwd)
+bin=${WOZGIRT_BIN:-$top/server/out/release}
+engine=${WOZGIRT_ENGINE:-$top/crates/ring_tool/out/ring_tool}
+[ -x "$engine" ] || engine=$bin/engine-double
 passed=0 failed=0 jobs=()
 
 # skip WHY

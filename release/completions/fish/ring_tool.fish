@@ -1,10 +1,11 @@
 # fish completion for ring_tool
 
-set -l none "not __fish_seen_subcommand_from step run check picture upgrade new serve recover join help"
+set -l none "not __fish_seen_subcommand_from step run check picture upgrade new serve locks recover join holds report help"
 set -l words step "Let chosen machines of one ring ask to pass" run "Run the rings of a settings file" \
     check "Check a saved history" picture "Draw a ring of a saved history" upgrade "Save a history in the latest version" \
-    new "Print a saved history of settled rings" serve "Serve rings by lines" recover "Save the history that a journal records" \
-    join "Save the whole history of a folder of segments" help "Print the help of a command"
+    new "Print a saved history of settled rings" serve "Serve rings by lines" locks "Lend locks by lines" \
+    recover "Save the history that a journal records" join "Save the whole history of a folder of segments" \
+    holds "List who held which lock" report "Print the report of a saved history" help "Print the help of a command"
 
 complete -c ring_tool -n $none -f
 for i in (seq 1 2 (count $words))
@@ -12,7 +13,7 @@ for i in (seq 1 2 (count $words))
 end
 complete -c ring_tool -s h -l help -d "Print the help"
 complete -c ring_tool -n $none -s V -l version -d "Print the version"
-complete -c ring_tool -n "__fish_seen_subcommand_from help" -f -a "step run check picture upgrade new serve recover join"
+complete -c ring_tool -n "__fish_seen_subcommand_from help" -f -a "step run check picture upgrade new serve locks recover join holds report"
 complete -c ring_tool -n "__fish_seen_subcommand_from run" -l history -rF -d "Save the history as"
 complete -c ring_tool -n "__fish_seen_subcommand_from run" -l quiet -d "Only the last line of the report"
 complete -c ring_tool -n "__fish_seen_subcommand_from picture" -l ring -x -d "The ring"
@@ -24,4 +25,13 @@ complete -c ring_tool -n "__fish_seen_subcommand_from serve" -l sync -d "The jou
 complete -c ring_tool -n "__fish_seen_subcommand_from serve" -l no-sync -d "An answer may come first"
 complete -c ring_tool -n "__fish_seen_subcommand_from serve" -l faults -d "Lines may write values into machines"
 complete -c ring_tool -n "__fish_seen_subcommand_from serve" -l saves -x -a "(__fish_complete_directories)" -d "Lines may save in this folder"
+complete -c ring_tool -n "__fish_seen_subcommand_from locks" -l journal -x -a "(__fish_complete_directories)" -d "Keep the journal in this folder"
+complete -c ring_tool -n "__fish_seen_subcommand_from locks" -l locks -x -d "The locks, with commas between"
+complete -c ring_tool -n "__fish_seen_subcommand_from locks" -l segment -x -d "Lines of a segment"
+complete -c ring_tool -n "__fish_seen_subcommand_from locks" -l sync -d "The journal is on the disk before an answer"
+complete -c ring_tool -n "__fish_seen_subcommand_from locks" -l no-sync -d "An answer may come first"
+complete -c ring_tool -n "__fish_seen_subcommand_from locks" -l faults -d "Lines may write values into machines"
 complete -c ring_tool -n "__fish_seen_subcommand_from recover" -l salvage -d "Leave out a bad line and all behind it"
+complete -c ring_tool -n "__fish_seen_subcommand_from holds" -l lock -x -d "Only this lock"
+complete -c ring_tool -n "__fish_seen_subcommand_from holds" -l label -x -d "Only this label"
+complete -c ring_tool -n "__fish_seen_subcommand_from holds" -l by -x -a label -d "Count the holds of each label"

@@ -8,15 +8,18 @@
 //! | `epoll_create1`, `epoll_ctl`, `epoll_wait` | one thread that serves all connections ([`Poller`]) |
 //! | `sigemptyset`, `sigaddset`, `pthread_sigmask`, `signalfd` | signals as a file that is read ([`Signals`]) |
 //! | `kill` | the end of a command, asked for ([`send_signal`]) |
+//! | `getrlimit`, `setrlimit` | how many files may be open ([`permit_files`]) |
 //! | `fcntl` | a file that a command inherits ([`inherit`]), a pipe that is not waited for ([`never_wait`]) |
 //!
 //! Every file is an `OwnedFd` or a `BorrowedFd`, so none is used after it was closed. Linux only.
 
+mod limits;
 mod peers;
 mod polling;
 mod processes;
 mod signals;
 
+pub use limits::permit_files;
 pub use peers::{peer_of, Peer};
 pub use polling::{Event, Interest, Poller};
 pub use processes::{inherit, never_wait, send_signal};

@@ -9,6 +9,13 @@ use std::net::{SocketAddr, TcpListener};
 use std::os::unix::fs::{chown, FileTypeExt, PermissionsExt};
 use std::os::unix::net::{UnixListener, UnixStream};
 use std::path::{Path, PathBuf};
+use std::thread;
+use std::time::Duration;
+
+/// How often a place is tried where somebody listens, and the pause between: a server that was killed while it started its engine
+/// listens a moment longer, by that child.
+const TRIES: u32 = 6;
+const PAUSE: Duration = Duration::from_millis(200);
 
 /// Why a socket cannot be listened to.
 #[derive(Debug)]
@@ -23,6 +30,27 @@ enum Why {
     NoSocket,
     Group(String),
     System(io::Error),
+}
+
+impl Why {
+    fn is_in_use(&self) -> bool {
+        match self {
+            Why::InUse => true,
+            Why::System(fault) => fault.kind() == io::ErrorKind::AddrInUse,
+            Why::NoSocket | Why::Group(_) => false,
+        }
+    }
+}
+
+/// Tries again while somebody listens there.
+fn patiently<T>(mut listen: impl FnMut() -> Result<T, Why>) -> Result<T, Why> {
+    for _ in 1..TRIES {
+        match listen() {
+            Err(why) if why.is_in_use() => thread::sleep(PAUSE),
+            other => return other,
+        }
+    }
+    listen()
 }
 
 impl fmt::Display for CannotListen {
@@ -50,7 +78,7 @@ impl UnixDoor {
     /// Listens there. The socket has its name only when it has its mode and group. One that nobody listens to is replaced.
     pub fn open(named: &Named, accounts: &Accounts) -> Result<UnixDoor, CannotListen> {
         let cannot = |why| CannotListen { place: named.path.display().to_string(), why };
-        is_free(&named.path).map_err(cannot)?;
+        patiently(|| is_free(&named.path)).map_err(cannot)?;
         let group = match &named.group {
             None => None,
             Some(group) => Some(accounts.group(group).ok_or_else(|| cannot(Why::Group(group.clone())))?),
@@ -96,9 +124,9 @@ fn bind(path: &Path, mode: u32, group: Option<u32>) -> io::Result<UnixListener> 
 
 /// Listens at an address.
 pub fn open_tcp(address: SocketAddr) -> Result<TcpListener, CannotListen> {
-    TcpListener::bind(address)
-        .and_then(|listener| listener.set_nonblocking(true).map(|()| listener))
-        .map_err(|fault| CannotListen { place: address.to_string(), why: Why::System(fault) })
+    patiently(|| TcpListener::bind(address).map_err(Why::System))
+        .and_then(|listener| listener.set_nonblocking(true).map(|()| listener).map_err(Why::System))
+        .map_err(|why| CannotListen { place: address.to_string(), why })
 }
 
 #[cfg(test)]
@@ -123,6 +151,20 @@ mod tests {
         assert!(again.ends_with("somebody listens there"), "{again}");
         drop(door);
         assert!(!named.path.exists());
+        fs::remove_dir_all(folder).unwrap();
+    }
+
+    #[test]
+    fn who_listens_a_moment_longer_is_waited_for() {
+        let folder = folder("longer");
+        let named = Named { path: folder.join("s"), mode: 0o600, group: None };
+        let old = UnixListener::bind(&named.path).unwrap();
+        let goes = thread::spawn(move || {
+            thread::sleep(PAUSE / 2);
+            drop(old);
+        });
+        assert!(UnixDoor::open(&named, &Accounts::default()).is_ok());
+        goes.join().unwrap();
         fs::remove_dir_all(folder).unwrap();
     }
 

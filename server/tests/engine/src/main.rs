@@ -1,7 +1,7 @@
 //! A test double of the lock engine, never shipped: it speaks the lines of `ring_tool locks`, takes the same words, and
-//! writes a true journal, so that the server can be tried without the proved engine. Nothing of it is proved.
+//! writes a true journal in one segment, so that the server can be tried without the proved engine. Nothing of it is proved.
 //!
-//!     engine-double locks --journal FOLDER --locks NAME[:N[:K]],.. [--faults] [--sync | --no-sync]
+//!     engine-double locks --journal FOLDER --locks NAME[:N[:K]],.. [--segment LINES] [--faults] [--sync | --no-sync]
 
 #![allow(missing_docs)]
 
@@ -30,6 +30,7 @@ fn settings(mut words: impl Iterator<Item = String>) -> Option<Settings> {
         match word.as_str() {
             "--journal" => folder = words.next(),
             "--locks" => list = words.next(),
+            "--segment" => drop(words.next()?), // its one segment has no end
             "--faults" => permits_faults = true,
             "--sync" => is_synced = true,
             "--no-sync" => is_synced = false,
@@ -84,7 +85,7 @@ fn run(settings: &Settings) -> io::Result<()> {
 
 fn main() {
     let Some(settings) = settings(std::env::args().skip(1)) else {
-        eprintln!("engine-double locks --journal FOLDER --locks NAME[:N[:K]],.. [--faults] [--sync | --no-sync]");
+        eprintln!("engine-double locks --journal FOLDER --locks NAME[:N[:K]],.. [--segment LINES] [--faults] [--sync | --no-sync]");
         std::process::exit(2);
     };
     if let Err(fault) = run(&settings) {

@@ -12,6 +12,7 @@ use std::fs;
 use std::io;
 use std::path::PathBuf;
 use std::process::ExitStatus;
+use wozgirt_system::permit_files;
 
 /// Why the server does not serve.
 #[derive(Debug)]
@@ -93,13 +94,12 @@ pub(super) fn read_rules(settings: &Settings, names: &Names, accounts: &Accounts
     Rules::parse(&text, names, accounts).map_err(|fault| CannotServe::Rule(path.clone(), fault))
 }
 
-/// The system's limit of open files, as it tells this process.
+/// The system's limit of open files, which is raised as far as it may be.
 pub(super) fn check_files(settings: &Settings) -> Result<(), CannotServe> {
     let needed = (settings.connections + PLACES_OF_OPERATORS + MOST_VISITORS + OTHER_FILES) as u64;
-    let text = fs::read_to_string("/proc/self/limits").unwrap_or_default();
-    let limit = text.lines().find_map(|line| line.strip_prefix("Max open files"));
-    match limit.and_then(|limit| limit.split_whitespace().next()).and_then(|word| word.parse().ok()) {
-        Some(limit) if limit < needed => Err(CannotServe::Files { limit, needed }),
-        _ => Ok(()),
+    let limit = permit_files(needed)?;
+    if limit < needed {
+        return Err(CannotServe::Files { limit, needed });
     }
+    Ok(())
 }
