@@ -8,7 +8,8 @@ Of each page (README, CHANGELOG, docs/, each crate's README):
   clause is one of the functions that its row names;
 - a block of commands (rt, ring_tool, bench/..) is run as far as it is the program's, in a copy of the tree's data, and the
   next block of the section is what it printed; words in capitals or brackets are no run: then only the options are looked up;
-- behind `$ ` in a block stands a command, and behind it what it prints;
+- behind `$ ` in a block stands a command, and behind it what it prints; a block with `wozgirt-server` is a shell's, with jobs, and
+  `server/tests/test_documents.py` plays it;
 - `<!-- run: COMMAND -->` before a block says what prints it, `<!-- file: PATH -->` where its lines stand, in order;
 - a block that begins with `ringfarm 1` or `ringfarm 2` is a legal history, one that begins with `legal rings` what `check`
   says of the last one; one of settings is run;
@@ -315,6 +316,8 @@ class Trial:
             elif block.is_commands():
                 said = self.play_commands(page, block)
                 printed = (block.section, said) if said else None
+            elif "$ wozgirt-server " in block.text():
+                printed = None
             elif "$ " in (it[:2] for it in block.lines):
                 self.play_sessions(page, block, printed[1] if printed else "")
                 printed = None

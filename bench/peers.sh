@@ -1,8 +1,8 @@
 #!/bin/sh
 # bench/peers.sh [SECONDS]: hand-overs of one client on one lock, of 64 on one, and of 64 on sixteen, of the lock server and, one
-# after the other, of each peer that is installed: Redis, PostgreSQL, etcd, ZooKeeper (from Debian's packages), and flock(2). Each
-# gets a folder of its own and runs only while it is measured. The server's engine is crates/ring_tool/out/ring_tool if it is built
-# and has locks, and else its double. Needs cargo with rustc 1.89.
+# after the other, of each peer that is installed: Redis, PostgreSQL, etcd, ZooKeeper (from Debian's packages), and flock(2); and how
+# long `true` takes alone, behind flock(1) and behind `wozgirt lock`. Each gets a folder of its own and runs only while it is measured. The server's engine is crates/ring_tool/out/ring_tool, and where
+# that is not built, its double. Needs cargo with rustc 1.89.
 set -eu
 cd "$(dirname "$0")/.."
 top=$PWD
@@ -62,7 +62,7 @@ down() {
 
 run_wozgirt() {
     engine=$top/crates/ring_tool/out/ring_tool
-    { [ -x "$engine" ] && "$engine" locks --help >/dev/null 2>&1; } || engine=$top/server/out/release/engine-double
+    [ -x "$engine" ] || engine=$top/server/out/release/engine-double
     echo "wozgirt, engine $(basename "$engine"), $1"
     mkdir "$folder/journal$1"
     server/out/release/wozgirt-server --engine "$engine" --journal "$folder/journal$1" --locks "$(seq -s, -f l%g 0 15)" \
@@ -71,6 +71,8 @@ run_wozgirt() {
     up server/out/release/wozgirt status --socket "$folder/lock.sock"
     # shellcheck disable=SC2046 # the number of its one child, and a space
     measure wozgirt "$folder/lock.sock" "$peer" $(cat "/proc/$peer/task/$peer/children")
+    "$bench" commands 500 /bin/true "flock $folder/file /bin/true" \
+        "server/out/release/wozgirt lock --socket $folder/lock.sock l0 -- /bin/true"
     down
 }
 

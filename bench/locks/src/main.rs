@@ -2,7 +2,10 @@
 //! again and again, without a pause. Prints hand-overs a second, how long an acquire takes, and how fair the peer is. It measures
 //! from when each client was granted its lock once, or from a second on if a peer leaves some out. A peer that fails ends the
 //! measure: this program is for `bench/peers.sh` alone.
+//!
+//! lock_bench commands RUNS COMMAND ..: how long each command takes.
 
+mod commands;
 mod peers;
 
 use std::sync::atomic::{AtomicBool, AtomicU64, AtomicUsize, Ordering};
@@ -44,6 +47,11 @@ fn main() {
         std::process::exit(1);
     }));
     let words: Vec<String> = std::env::args().skip(1).collect();
+    if let [word, runs, commands @ ..] = &words[..] {
+        if word == "commands" {
+            return commands::compare(runs.parse().unwrap(), commands);
+        }
+    }
     let [peer, clients, locks, seconds, address] = &words[..] else {
         eprintln!("lock_bench PEER CLIENTS LOCKS SECONDS ADDRESS");
         std::process::exit(2);
