@@ -1,3 +1,4 @@
-pub mod Changing
-pub mod Parts
+pub mod Fresh
+pub mod Known
 pub mod Recovering
+pub mod Parts

@@ -1,246 +1,307 @@
--- Parts that follow one another.
-use Rattle.std.proofs.Common.{◌≡◌, ℕ, ◌≤◌, Bool, true, false, length-append, ◌||◌, List, [], ◌∷◌, ◌++◌, length, Option, None, Some, refl, sym, ap, subst, ◌∙◌, inl, inr, append_assoc, nat_le, arith, suc, ◌+◌, ◌-◌, ◌<◌, get_or, nat_lt}
-use Rattle.std.specs.Io.KnownBytes.{Appends, Consumes, IsAtEnd}
+-- What the loop says of rings in segments, said of the rings.
+use Rattle.std.proofs.Common.{◌≡◌, ℕ, ◌+◌, Bool, true, false, List, [], ◌∷◌, ◌++◌, map, Option, None, Some, refl, sym, ap, subst, ◌∙◌, inl, inr}
+use Rattle.std.specs.Prelude.{is_some}
+use Rattle.std.specs.Io.KnownBytes.{Appends}
 use Rattle.std.specs.List.{AllByRecursion}
-use Rattle.std.proofs.lemmas.List.{append-nil}
-use Rattle.std.proofs.lemmas.List.Sums.{sum_by-cons}
-use Rattle.std.proofs.lemmas.Bool.{lt-leb, false≢true}
-use Rattle.disks.specs.Held.{Held}
-use Rattle.text_lines.proofs.Writing.{appends_then, appends_nil}
-use Rattle.ring_logs.specs.LogView.{LogView}
-use Rattle.ring_blocks.specs.Counts.{survey_count}
+use Rattle.std.proofs.lemmas.Bool.{false≢true}
+use Rattle.disks.specs.Held.{Held, Replaces}
+use Rattle.text_lines.proofs.Writing.{appends_nil}
+use Rattle.line_loop.proofs.Telling.{consumes_nil}
+use Rattle.line_loop.specs.Answering as told
+use Rattle.line_loop.specs.Answering.{joined_lines}
+use Rattle.line_loop.specs.Stands.{Stand, stand, by_stand}
+use Rattle.segment_loop.specs.declared.segmented.EndFault.{EndFault}
+use Rattle.segment_loop.specs.declared.segmented.EndFault.TheVariants as end
+use Rattle.segment_loop.specs.Segments as at
+use Rattle.segment_loop.specs.Service as loop
+use Rattle.segment_loop.specs.Notes as notes
 use Rattle.ring_serve.specs.declared.answers.Refusal.{Refusal}
 use Rattle.ring_serve.specs.Standings.{Standing}
 use Rattle.ring_serve.specs.Saved.{IsRight}
-use Rattle.ring_serve.specs.Segments.{IsNext, AreNext}
-use Rattle.ring_serve.specs.Totals.{surveys_among}
-use Rattle.ring_serve.specs.Due.{lines_in, lines_of, is_short, has_short, is_due}
-use Rattle.ring_serve.specs.Permits.{Terms, IsOpen}
-use Rattle.ring_serve.specs.Serving.{IsLine, Answers, HasBegun, HasRead, ServesPart, ServesSomeOf, joined_lines, IsFaultOf as IsPartFault}
-use Rattle.ring_serve.specs.declared.serving.ServeFault.{ServeFault}
-use Rattle.ring_serve.specs.declared.serving.ServeFault.TheVariants as fault
-use Rattle.ring_serve.specs.declared.serving.Ending.{Ending}
-use Rattle.ring_serve.specs.declared.serving.Ending.TheVariants as ending
+use Rattle.ring_serve.specs.Due.{is_due}
+use Rattle.ring_serve.specs.Permits.{Terms}
+use Rattle.ring_serve.specs.Serving.{IsAnswered, Answers, Stops}
+use Rattle.ring_serve.proofs.Looped.{answers_of, stops_of}
 use Rattle.chain_serve.specs.declared.segments.SegmentRules.{SegmentRules}
-use Rattle.chain_serve.specs.Segments.{Moment, moment_of, IsReady}
-use Rattle.chain_serve.specs.Service.{part_terms, Part, IsPart, AreParts, all_lines, all_said, ServesSegments, ServesSomeSegments, IsFaultOf}
-use Rattle.ring_model.specs.Limits.{machine_limit, event_limit}
-use Rattle.ring_model.specs.declared.events.Event.{Event}
-use Rattle.ring_serve.proofs.Telling.{consumes_nil, consumes_then}
-use Rattle.ring_serve.proofs.Parting.{first_begun}
+use Rattle.chain_serve.specs.Texts.{segment_text}
+use Rattle.chain_serve.specs.Segments.{Moment, moment_of, file_of, HasEnded, IsCause, IsReady}
+use Rattle.chain_serve.specs.Service.{part_terms, Part, AreParts, all_lines, all_said, IsStopped, ServesSegments, ServesSomeSegments}
+use Rattle.chain_serve.specs.Recovered.{AnsweredCallsAreRecovered}
+use Rattle.chain_serve.specs.Services.{ServiceView, service_of, terms_of, IsServed, IsNext, refusal_of, segmenting}
+use Rattle.chain_serve.proofs.Recovering.{AreRight, keeps_last}
 
--- ---- the next segments are not due
+-- ---- moments and parts
 
-no_surveys : (cs : List LogView) → ((i : ℕ) (c : LogView) → i < length cs → (get_or cs i c).log ≡ []) → surveys_among cs ≡ 0
-no_surveys [] f = refl
-no_surveys (c ∷ cs) f =
-    let none : survey_count c.log ≡ 0 = ap survey_count (f 0 c (omega arith)) in
-    let rest : surveys_among cs ≡ 0 = no_surveys cs (λ i d l. f (suc i) d (omega (arith, l))) in
-    let step : surveys_among (c ∷ cs) ≡ survey_count c.log + surveys_among cs = sum_by-cons (λ (x : LogView). survey_count x.log) c cs in
-    omega (arith, none, rest, step)
+abbrev pub moment_in : at.Moment ServiceView → Moment
+moment_in m = moment_of m.service.rings m.files m.number m.journal
 
-fresh_lines : (r s : Standing) → IsNext r s → (lines_in s ≡ 0) × (is_short s ≡ false)
-fresh_lines r s n =
-    let none : length s.history ≡ 0 = ap length n.history in
-    let size : length s.clients ≡ length r.clients = n.clients.0 in
-    let surveys : surveys_among s.clients ≡ 0 = no_surveys s.clients (λ i c l. ap (λ (x : LogView). x.log) (n.clients.1 i c (omega (arith, l, size)))) in
-    (omega (arith, none, surveys), ap (λ (h : List Event). nat_lt (event_limit - machine_limit) (length h)) n.history)
-
-fresh_all : (old new : List Standing) → AreNext old new → (lines_of new ≡ 0) × (has_short new ≡ false)
-fresh_all [] new e = (ap lines_of e, ap has_short e)
-fresh_all (r ∷ rs) [] a = absurd a
-fresh_all (r ∷ rs) (s ∷ ss) a =
-    let one = fresh_lines r s a.0 in
-    let rest = fresh_all rs ss a.1 in
-    let first = one.0 in
-    let others = rest.0 in
-    let step : lines_of (s ∷ ss) ≡ lines_in s + lines_of ss = sum_by-cons lines_in s ss in
-    (omega (arith, first, others, step), ap (λ (b : Bool). b || has_short ss) one.1 ∙ rest.1)
-
-next_goes : (limit : ℕ) (old new : List Standing) → 1 ≤ limit → AreNext old new → is_due (Some limit) new ≡ false
-next_goes limit old new l a =
-    let fresh = fresh_all old new a in
-    ap (λ (n : ℕ). nat_le limit n || has_short new) fresh.0 ∙ (ap (λ (b : Bool). b || has_short new) (lt-leb limit 0 (omega (arith, l))) ∙ fresh.1)
-
--- lines can be served
-pub ready_open : (s : SegmentRules) (refusing : Option Refusal) (a b : Moment) → 1 ≤ s.limit → IsReady s refusing a b → IsOpen (part_terms s b.number refusing) b.rings
-ready_open s None a b l (inl h) = ap (λ (m : Moment). is_due (Some s.limit) m.rings) h.1 ∙ h.0
-ready_open s None a b l (inr h) = next_goes s.limit a.rings b.rings l h.1.rings
-ready_open s (Some why) a b l h = ap (λ (rs : List Standing). is_due (Some s.limit) rs) h.2.rings ∙ h.0
-
--- ---- a part more
-
-pub parts_more : (s : SegmentRules) (a b : Moment) (ps : List Part) (p : Part) → AreParts s a ps b → IsReady s p.refusing b p.from → IsPart s p → AreParts s a (ps ++ p ∷ []) p.to
-parts_more s a b [] p served ready is = (subst (λ (m : Moment). IsReady s p.refusing m p.from) served ready, is, refl)
-parts_more s a b (q ∷ ps) p served ready is = (served.0, served.1, parts_more s q.to b ps p served.2 ready is)
-
-pub lines_more : (ps : List Part) (p : Part) → all_lines (ps ++ p ∷ []) ≡ all_lines ps ++ joined_lines p.lines
-lines_more [] p = append-nil (joined_lines p.lines)
-lines_more (q ∷ ps) p = ap (λ (x : List ℕ). joined_lines q.lines ++ x) (lines_more ps p) ∙ sym (append_assoc (joined_lines q.lines) (all_lines ps) (joined_lines p.lines))
-
-pub said_more : (ps : List Part) (p : Part) → all_said (ps ++ p ∷ []) ≡ all_said ps ++ p.said
-said_more [] p = append-nil p.said
-said_more (q ∷ ps) p = ap (λ (x : List ℕ). q.said ++ x) (said_more ps p) ∙ sym (append_assoc q.said (all_said ps) p.said)
-
--- the rings with which each part begins are right
-abbrev pub AreRight : List Part → Type 0
-AreRight parts = AllByRecursion (λ (p : Part). AllByRecursion IsRight p.from.rings) parts
-
-pub right_more : (ps : List Part) (p : Part) → AreRight ps → AllByRecursion IsRight p.from.rings → AreRight (ps ++ p ∷ [])
-right_more [] p h r = (r, tt)
-right_more (q ∷ ps) p h r = (h.0, right_more ps p h.1 r)
-
--- parts that were served so far: what was read of the input, the line that has begun, and the rest
--- of a block
-pub record Served (s : SegmentRules) (a b : Moment) (unread line : List ℕ) (input rest out after : Option (List ℕ)) : Type 0 where
-  pub parts : List Part
-  pub read : List ℕ
-  pub begun : List ℕ
-  pub served : AreParts s a parts b
-  pub consumed : Consumes input rest read
-  pub split : read ≡ all_lines parts ++ (begun ++ unread)
-  pub keeps : HasBegun begun line
-  pub wrote : Appends out after (all_said parts)
-  pub rights : AreRight parts
-
--- so many parts were served: for a byte that was read, and for one that was taken, one at most
-abbrev pub IsCounted : {s : SegmentRules} {a b : Moment} {unread line : List ℕ} {input rest out after : Option (List ℕ)} → ℕ → Served s a b unread line input rest out after → Type 0
-IsCounted n d = n ≤ length d.read + length (all_lines d.parts)
-
--- lines that make a segment due are some
-line_some : (line : List ℕ) → IsLine line → 1 ≤ length line
-line_some [] h = absurd h
-line_some (b ∷ bs) h = omega arith
-
-some_lines : (terms : Terms) (old new : List Standing) (was is : Option Held) (lines : List (List ℕ)) (said noted : List ℕ) → is_due terms.limit old ≡ false → is_due terms.limit new ≡ true → AllByRecursion IsLine lines → Answers terms old was lines said noted new is → 1 ≤ length (joined_lines lines)
-some_lines terms old new was is [] said noted low high each h = absurd (false≢true (sym low ∙ (ap (λ (x : List Standing). is_due terms.limit x) (sym h.2) ∙ high)))
-some_lines terms old new was is (line ∷ lines) said noted low high each h =
-    let one = line_some line each.0 in
-    omega (arith, one, length-append line (joined_lines lines))
-
--- a part that ended since its segment is due took a line, or read a block
-has_moved : (s : SegmentRules) (refusing : Option Refusal) (b from : Moment) (new : List Standing) (is : Option Held) → IsReady s refusing b from → 1 ≤ s.limit → (read : List ℕ) (lines : List (List ℕ)) (said noted : List ℕ) → HasRead ending.Due (part_terms s from.number refusing) read →
-    AllByRecursion IsLine lines → Answers (part_terms s from.number refusing) from.rings from.files lines said noted new is → is_due (Some s.limit) new ≡ true → 1 ≤ length read + length (joined_lines lines)
-has_moved s None b from new is ready limit read lines said noted reads each h due =
-    let some = some_lines (part_terms s from.number None) from.rings new from.files is lines said noted (ready_open s None b from limit ready) due each h in
-    omega (arith, some)
-has_moved s (Some why) b from new is ready limit read lines said noted reads each h due = omega (arith, reads)
-
-pub none_served : (s : SegmentRules) (a : Moment) (unread line : List ℕ) (input out : Option (List ℕ)) → unread ≡ [] → line ≡ [] → Served s a a unread line input input out out
-none_served s a unread line input out none empty = record {
-  parts = [];
-  read = [];
-  begun = [];
-  served = refl;
-  consumed = consumes_nil input;
-  split = sym none;
-  keeps = first_begun line empty;
-  wrote = appends_nil out;
-  rights = tt;
+abbrev pub part_in : loop.Part ServiceView → Part
+part_in p = record {
+  refusing = p.from.service.refusing;
+  from = moment_in p.from;
+  to = moment_in p.to;
+  lines = p.lines;
+  said = p.said;
+  noted = p.noted;
 }
 
-module _ (s : SegmentRules) (a b from : Moment) (refusing : Option Refusal) (unread line : List ℕ) (input middle out before : Option (List ℕ)) (d : Served s a b unread line input middle out before) (ready : IsReady s refusing b from) where
-  pub one_served : (end : Ending) (new : List Standing) (is : Option Held) (journal : Option (List ℕ)) (number : ℕ) (left line' : List ℕ) (rest after : Option (List ℕ)) → number ≡ from.number → AllByRecursion IsRight from.rings →
-      ServesPart end (part_terms s from.number refusing) from.rings new from.files is d.begun unread left line' middle rest (record { journal = from.journal; out = before }) (record { journal = journal; out = after }) →
-      Served s a (moment_of new is number journal) left line' input rest out after
-  one_served end new is journal number left line' rest after same right p =
-      let t = p.rests.told in
-      let part : Part = record { refusing = refusing; from = from; to = moment_of new is number journal; lines = t.answered.lines; said = t.said; noted = t.noted } in
-      let joined = joined_lines t.answered.lines in
-      let taken : d.begun ++ (unread ++ p.read) ≡ joined ++ (p.rests.begun ++ left) =
-      ap (λ (x : List ℕ). d.begun ++ x) p.split ∙ (sym (append_assoc d.begun p.taken left) ∙ (ap (λ (x : List ℕ). x ++ left) t.answered.split ∙ append_assoc joined p.rests.begun left)) in
+-- a service in the segment of this number, by these rules
+pub record IsSound (s : SegmentRules) (number : ℕ) (v : ServiceView) : Type 0 where
+  pub rules : v.rules ≡ s
+  pub number_is : v.number ≡ number
+  pub due : is_some v.refusing ≡ true → is_due (Some s.limit) v.rings ≡ true
+  pub right : AllByRecursion IsRight v.rings
+
+pub none_off : {X : Type 0} (x : Option X) → x ≡ None → is_some x ≡ true → ⊥
+none_off x e off = false≢true (sym (ap (λ (y : Option _). is_some y) e) ∙ off)
+
+-- the service with which lines are served first
+pub first_sound : (s : SegmentRules) (rings : List Standing) (number : ℕ) (v : ServiceView) → v ≡ service_of s rings number None → AllByRecursion IsRight rings → IsSound s number v
+first_sound s rings number v e right =
+    let is : IsSound s number (service_of s rings number None) = record { rules = refl; number_is = refl; due = λ off. absurd (false≢true off); right = right } in
+    subst (λ (x : ServiceView). IsSound s number x) (sym e) is
+
+-- ---- lines
+
+same_terms : (old new : ServiceView) → new.rules ≡ old.rules → new.number ≡ old.number → new.refusing ≡ old.refusing → terms_of new ≡ terms_of old
+same_terms old new a b c =
+    ap (λ (r : SegmentRules). part_terms r new.number new.refusing) a
+    ∙ (ap (λ (n : ℕ). part_terms old.rules n new.refusing) b ∙ ap (λ (x : Option Refusal). part_terms old.rules old.number x) c)
+
+by_segment : (old : ServiceView) (was : Option Held) (line said noted : List ℕ) (new : ServiceView) (is : Option Held) → IsServed old was line said noted new is → IsAnswered (terms_of old) old.rings was line said noted new.rings is × (terms_of new ≡ terms_of old)
+by_segment old was line said noted new is a = (a.answered, same_terms old new a.rules a.number a.refusing)
+
+terms_at : (s : SegmentRules) (number : ℕ) (v : ServiceView) → IsSound s number v → terms_of v ≡ part_terms s number v.refusing
+terms_at s number v is = ap (λ (r : SegmentRules). part_terms r v.number v.refusing) is.rules ∙ ap (λ (n : ℕ). part_terms s n v.refusing) is.number_is
+
+part_answers : (s : SegmentRules) (number : ℕ) (old new : Stand ServiceView) (lines : List (List ℕ)) (said noted : List ℕ) → told.Answers (by_stand IsServed) old lines said noted new → IsSound s number old.service →
+    Answers (part_terms s number old.service.refusing) old.service.rings old.files lines said noted new.service.rings new.files
+part_answers s number old new lines said noted h is =
+    subst (λ (t : Terms). Answers t old.service.rings old.files lines said noted new.service.rings new.files) (terms_at s number old.service is)
+    (answers_of IsServed (λ (v : ServiceView). v.rings) terms_of by_segment old new lines said noted h).0
+
+keeps_sound : (s : SegmentRules) (number : ℕ) (old new : Stand ServiceView) (lines : List (List ℕ)) (said noted : List ℕ) → told.Answers (by_stand IsServed) old lines said noted new → IsSound s number old.service → IsSound s number new.service
+keeps_sound s number old new [] said noted h is = subst (λ (x : Stand ServiceView). IsSound s number x.service) (sym h.2) is
+keeps_sound s number old new (line ∷ lines) said noted h is =
+    let mid : Stand ServiceView = h.0 in
+    let one : IsServed old.service old.files line h.1 h.3 mid.service mid.files = h.5 in
+    let rules : mid.service.rules ≡ s = one.rules ∙ is.rules in
+    keeps_sound s number mid new lines h.2 h.4 h.8 (record {
+      rules = rules;
+      number_is = one.number ∙ is.number_is;
+      due = λ off. subst (λ (r : SegmentRules). is_due (Some r.limit) mid.service.rings ≡ true) rules (one.due off);
+      right = one.right;
+    })
+
+-- ---- before a part
+
+no_refusal : (x : Option Refusal) (due : Bool) → due ≡ false → (is_some x ≡ true → due ≡ true) → x ≡ None
+no_refusal None due low f = refl
+no_refusal (Some why) due low f = absurd (false≢true (sym low ∙ f refl))
+
+has_cause : (why : EndFault) → IsCause (refusal_of why)
+has_cause end.File = tt
+has_cause end.OutOfMemory = tt
+has_cause end.Full = tt
+
+ready_in : (s : SegmentRules) (kept : Option EndFault) (a b : at.Moment ServiceView) → IsSound s a.number a.service → at.IsReady segmenting s.folder.now kept a b → IsReady s b.service.refusing (moment_in a) (moment_in b) × IsSound s b.number b.service
+ready_in s None a b is (inl h) =
+    let low : is_due (Some s.limit) a.service.rings ≡ false = subst (λ (r : SegmentRules). is_due (Some r.limit) a.service.rings ≡ false) is.rules h.0 in
+    let none : b.service.refusing ≡ None = ap (λ (m : at.Moment ServiceView). m.service.refusing) h.1 ∙ no_refusal a.service.refusing (is_due (Some s.limit) a.service.rings) low is.due in (
+      subst (λ (x : Option Refusal). IsReady s x (moment_in a) (moment_in b)) (sym none) (inl (low, ap moment_in h.1)),
+      subst (λ (m : at.Moment ServiceView). IsSound s m.number m.service) (sym h.1) is,
+    )
+ready_in s None a b is (inr h) =
+    let high : is_due (Some s.limit) a.service.rings ≡ true = subst (λ (r : SegmentRules). is_due (Some r.limit) a.service.rings ≡ true) is.rules h.0 in
+    let file = h.1.file in
+    let next : IsNext a.service b.service = file.follows in
+    let ended : HasEnded s (moment_in a) (moment_in b) = record {
+      behind = file.behind;
+      between = file.between;
+      rings = next.rings;
+      number = h.1.number;
+      digest = file.digest;
+      settled = file.settled;
+      begun = subst (λ (n : ℕ). Replaces file.between b.files (file_of s n) (Some (segment_text n file.behind b.service.rings))) (sym h.1.number) file.put;
+      journal = h.1.journal;
+    } in (
+      subst (λ (x : Option Refusal). IsReady s x (moment_in a) (moment_in b)) (sym next.refusing) (inr (high, ended)),
       record {
-        parts = d.parts ++ part ∷ [];
-        read = d.read ++ p.read;
-        begun = p.rests.begun;
-        served = parts_more s a b d.parts part d.served ready (record { number = same; each = t.answered.each; answers = t.answered.answers; wrote = t.wrote_notes });
-        consumed = consumes_then input middle rest d.read p.read d.consumed p.consumed;
-        split = ap (λ (x : List ℕ). x ++ p.read) d.split
-            ∙ (append_assoc (all_lines d.parts) (d.begun ++ unread) p.read
-            ∙ (ap (λ (x : List ℕ). all_lines d.parts ++ x) (append_assoc d.begun unread p.read ∙ taken)
-            ∙ (sym (append_assoc (all_lines d.parts) joined (p.rests.begun ++ left)) ∙ ap (λ (x : List ℕ). x ++ (p.rests.begun ++ left)) (sym (lines_more d.parts part)))));
-        keeps = record { partial = p.rests.partial; kept = p.rests.kept };
-        wrote = subst (λ (x : List ℕ). Appends out after x) (sym (said_more d.parts part)) (appends_then out before after (all_said d.parts) t.said d.wrote t.wrote);
-        rights = right_more d.parts part d.rights right;
-      }
+        rules = next.rules ∙ is.rules;
+        number_is = next.number ∙ (ap (λ (n : ℕ). n + 1) is.number_is ∙ sym h.1.number);
+        due = λ off. absurd (none_off b.service.refusing next.refusing off);
+        right = next.right;
+      },
+    )
+ready_in s (Some why) a b is h =
+    let high : is_due (Some s.limit) a.service.rings ≡ true = subst (λ (r : SegmentRules). is_due (Some r.limit) a.service.rings ≡ true) is.rules h.0 in
+    let kept : b.service ≡ record a.service { refusing = Some (refusal_of why) } = h.1.kept in
+    let rings : b.service.rings ≡ a.service.rings = ap (λ (v : ServiceView). v.rings) kept in
+    let off : b.service.refusing ≡ Some (refusal_of why) = ap (λ (v : ServiceView). v.refusing) kept in (
+      subst (λ (x : Option Refusal). IsReady s x (moment_in a) (moment_in b)) (sym off) (high, has_cause why, record { rings = rings; number = h.1.number; file = h.1.file }),
+      record {
+        rules = ap (λ (v : ServiceView). v.rules) kept ∙ is.rules;
+        number_is = ap (λ (v : ServiceView). v.number) kept ∙ (is.number_is ∙ sym h.1.number);
+        due = λ _. ap (λ (x : List Standing). is_due (Some s.limit) x) rings ∙ high;
+        right = subst (λ (x : List Standing). AllByRecursion IsRight x) (sym rings) is.right;
+      },
+    )
 
-  -- what such a part took and read is a byte at least, if it ended since its segment is due
-  pub one_counted : (end : Ending) → end ≡ ending.Due → (n : ℕ) → 1 ≤ s.limit → n ≤ length d.read + length (all_lines d.parts) → (new : List Standing) (is : Option Held) (journal : Option (List ℕ)) (number : ℕ) (left line' : List ℕ) (rest after : Option (List ℕ)) → (same : number ≡ from.number) → (right : AllByRecursion IsRight from.rings) →
-      is_due (Some s.limit) new ≡ true → (p : ServesPart end (part_terms s from.number refusing) from.rings new from.files is d.begun unread left line' middle rest (record { journal = from.journal; out = before }) (record { journal = journal; out = after })) →
-      IsCounted (n + 1) (one_served end new is journal number left line' rest after same right p)
-  unfolding one_served
-  one_counted end is_end n limit many new is journal number left line' rest after same right due p =
-      let t = p.rests.told in
-      let part : Part = record { refusing = refusing; from = from; to = moment_of new is number journal; lines = t.answered.lines; said = t.said; noted = t.noted } in
-      let some = has_moved s refusing b from new is ready limit p.read t.answered.lines t.said t.noted (subst (λ (e : Ending). HasRead e (part_terms s from.number refusing) p.read) is_end p.reads) t.answered.each t.answered.answers due in
-      let joined = joined_lines t.answered.lines in
-      let lines : length (all_lines (d.parts ++ part ∷ [])) ≡ length (all_lines d.parts ++ joined) = ap (λ (x : List ℕ). length x) (lines_more d.parts part) in
-      let more : n + 1 ≤ length (d.read ++ p.read) + length (all_lines (d.parts ++ part ∷ [])) = omega (arith, many, some, lines, length-append (all_lines d.parts) joined, length-append d.read p.read) in
-      more
+-- ---- parts that follow one another
 
-  pub one_stops : (new : List Standing) (is : Option Held) (journal rest after : Option (List ℕ)) →
-      ServesSomeOf (part_terms s from.number refusing) from.rings new from.files is d.begun unread middle rest (record { journal = from.journal; out = before }) (record { journal = journal; out = after }) →
-      ServesSomeSegments s a new is input rest out after
-  one_stops new is journal rest after p = record {
-    parts = d.parts;
-    mid = b;
-    bytes = d.read ++ p.0;
-    behind = d.begun ++ (unread ++ p.0);
-    before = before;
-    served = d.served;
-    read = consumes_then input middle rest d.read p.0 d.consumed p.1;
-    split = ap (λ (x : List ℕ). x ++ p.0) d.split
-        ∙ (append_assoc (all_lines d.parts) (d.begun ++ unread) p.0 ∙ ap (λ (x : List ℕ). all_lines d.parts ++ x) (append_assoc d.begun unread p.0));
-    wrote = d.wrote;
-    stopped = inr (refusing, from, journal, ready, p.2);
-  }
+pub record ArePartsIn (s : SegmentRules) (a b : at.Moment ServiceView) (ps : List (loop.Part ServiceView)) : Type 0 where
+  pub served : AreParts s (moment_in a) (map part_in ps) (moment_in b)
+  pub sound : IsSound s b.number b.service
+  pub rights : AreRight (map part_in ps)
 
--- ---- an input that is too long
+parts_in : (s : SegmentRules) (a b : at.Moment ServiceView) (ps : List (loop.Part ServiceView)) → IsSound s a.number a.service → loop.AreParts IsServed segmenting s.folder.now a ps b → ArePartsIn s a b ps
+parts_in s a b [] is h = record { served = ap moment_in h; sound = subst (λ (m : at.Moment ServiceView). IsSound s m.number m.service) (sym h) is; rights = tt }
+parts_in s a b (p ∷ ps) is h =
+    let ready = ready_in s p.kept a p.from is h.0 in
+    let to : IsSound s p.from.number p.to.service = keeps_sound s p.from.number (at.stand_of p.from) (at.stand_of p.to) p.lines p.said p.noted h.1.answers ready.1 in
+    let rest = parts_in s p.to b ps (subst (λ (n : ℕ). IsSound s n p.to.service) (sym h.1.number) to) h.2 in
+    record {
+      served = (
+        ready.0,
+        record {
+          number = h.1.number;
+          each = h.1.each;
+          answers = part_answers s p.from.number (at.stand_of p.from) (at.stand_of p.to) p.lines p.said p.noted h.1.answers ready.1;
+          wrote = h.1.wrote;
+        },
+        rest.served,
+      );
+      sound = rest.sound;
+      rights = (ready.1.right, rest.rights);
+    }
 
-pub long_part : (e : ServeFault) (input middle rest : Option (List ℕ)) (read : List ℕ) → Consumes input middle read → IsPartFault e middle rest → IsFaultOf e input rest
-long_part fault.Read input middle rest read c h = tt
-long_part fault.Journal input middle rest read c h = tt
-long_part fault.Write input middle rest read c h = tt
-long_part fault.OutOfMemory input middle rest read c h = tt
-long_part fault.TooLong input middle rest read c h =
-    let many = h.2 in
-    (read ++ h.0, consumes_then input middle rest read h.0 c h.1, omega (arith, many, length-append read h.0))
+lines_in : (ps : List (loop.Part ServiceView)) → all_lines (map part_in ps) ≡ loop.all_lines ps
+lines_in [] = refl
+lines_in (p ∷ ps) = ap (λ (x : List ℕ). joined_lines p.lines ++ x) (lines_in ps)
 
-pub no_long : (e : ServeFault) (input rest : Option (List ℕ)) → e ≡ fault.Journal → IsFaultOf e input rest
-no_long fault.Read input rest is = tt
-no_long fault.Journal input rest is = tt
-no_long fault.Write input rest is = tt
-no_long fault.OutOfMemory input rest is = tt
-no_long fault.TooLong input rest is = absurd (other is)
-  where
-    other : fault.TooLong ≡ fault.Journal → ⊥
-    other p = cc
+said_in : (ps : List (loop.Part ServiceView)) → all_said (map part_in ps) ≡ loop.all_said ps
+said_in [] = refl
+said_in (p ∷ ps) = ap (λ (x : List ℕ). p.said ++ x) (said_in ps)
 
--- nothing more was done
-pub parts_stop : (s : SegmentRules) (a b : Moment) (unread line : List ℕ) (input rest out after : Option (List ℕ)) (new : List Standing) (is : Option Held) → Served s a b unread line input rest out after → new ≡ b.rings → ServesSomeSegments s a new is input rest out after
-parts_stop s a b unread line input rest out after new is d same = record {
-  parts = d.parts;
-  mid = b;
-  bytes = d.read;
-  behind = d.begun ++ unread;
-  before = after;
-  served = d.served;
-  read = d.consumed;
-  split = d.split;
-  wrote = d.wrote;
-  stopped = inl (same, refl);
+-- ---- the whole input, or a part of it
+
+pub serves_in : (s : SegmentRules) (a b : at.Moment ServiceView) (input rest out after : Option (List ℕ)) → IsSound s a.number a.service → loop.ServesSegments IsServed segmenting s.folder.now a b input rest out after → ServesSegments s (moment_in a) (moment_in b) input rest out after
+serves_in s a b input rest out after is h = record {
+  parts = map part_in h.parts;
+  bytes = h.bytes;
+  begun = h.begun;
+  served = (parts_in s a b h.parts is h.served).served;
+  read = h.read;
+  split = h.split ∙ ap (λ (x : List ℕ). x ++ h.begun) (sym (lines_in h.parts));
+  partial = h.partial;
+  ended = h.ended;
+  wrote = subst (λ (x : List ℕ). Appends out after x) (sym (said_in h.parts)) h.wrote;
 }
 
--- the input has ended
-pub parts_end : (s : SegmentRules) (a b : Moment) (unread line : List ℕ) (input rest out after : Option (List ℕ)) → Served s a b unread line input rest out after → unread ≡ [] → IsAtEnd rest → ServesSegments s a b input rest out after
-parts_end s a b unread line input rest out after d none ended = record {
-  parts = d.parts;
-  bytes = d.read;
-  begun = d.begun;
-  served = d.served;
-  read = d.consumed;
-  split = d.split ∙ ap (λ (x : List ℕ). all_lines d.parts ++ x) (ap (λ (x : List ℕ). d.begun ++ x) none ∙ append-nil d.begun);
-  partial = d.keeps.partial;
-  ended = ended;
-  wrote = d.wrote;
-}
+stopped_in : (s : SegmentRules) (mid : at.Moment ServiceView) (new : ServiceView) (is : Option Held) (before after : Option (List ℕ)) (behind : List ℕ) → IsSound s mid.number mid.service → loop.IsStopped IsServed segmenting s.folder.now mid new is before after behind →
+    IsStopped s (moment_in mid) new.rings is before after behind
+stopped_in s mid new is before after behind sound (inl h) = inl (ap (λ (v : ServiceView). v.rings) h.0, h.1)
+stopped_in s mid new is before after behind sound (inr h) =
+    let from : at.Moment ServiceView = h.1 in
+    let ready = ready_in s h.0 mid from sound h.3 in
+    inr (
+      from.service.refusing,
+      moment_in from,
+      h.2,
+      ready.0,
+      subst (λ (t : Terms). Stops t from.service.rings from.files (record { journal = from.journal; out = before }) (record { journal = h.2; out = after }) behind new.rings is) (terms_at s from.number from.service ready.1)
+          (stops_of IsServed (λ (v : ServiceView). v.rings) terms_of by_segment h.4),
+    )
+
+pub some_in : (s : SegmentRules) (a : at.Moment ServiceView) (new : ServiceView) (is : Option Held) (input rest out after : Option (List ℕ)) → IsSound s a.number a.service → loop.ServesSomeSegments IsServed segmenting s.folder.now a new is input rest out after →
+    ServesSomeSegments s (moment_in a) new.rings is input rest out after
+some_in s a new is input rest out after sound h =
+    let all = parts_in s a h.mid h.parts sound h.served in
+    record {
+      parts = map part_in h.parts;
+      mid = moment_in h.mid;
+      bytes = h.bytes;
+      behind = h.behind;
+      before = h.before;
+      served = all.served;
+      read = h.read;
+      split = h.split ∙ ap (λ (x : List ℕ). x ++ h.behind) (sym (lines_in h.parts));
+      wrote = subst (λ (x : List ℕ). Appends out h.before x) (sym (said_in h.parts)) h.wrote;
+      stopped = stopped_in s h.mid new is h.before after h.behind all.sound h.stopped;
+    }
+
+-- ---- what is recovered of the last segment
+
+pub recovered_in : (s : SegmentRules) (a : at.Moment ServiceView) (new : ServiceView) (input rest out after journal : Option (List ℕ)) → IsSound s a.number a.service → notes.ToldLinesAreNoted IsServed segmenting s.folder.now a new input rest out after journal →
+    AnsweredCallsAreRecovered s (moment_in a) new.rings input rest out after journal
+recovered_in s a new input rest out after journal sound t =
+    let all = parts_in s a t.mid t.parts sound t.told in
+    let untold = part_answers s t.mid.number (at.stand_of t.mid) (stand new t.is) t.untold.lines t.unsaid (t.more ++ t.back) t.untold.answers all.sound in
+    record {
+      parts = map part_in t.parts;
+      mid = moment_in t.mid;
+      bytes = t.bytes;
+      behind = t.behind;
+      left = t.left;
+      more = t.more;
+      told = all.served;
+      read = t.read;
+      split = t.split ∙ ap (λ (x : List ℕ). x ++ t.behind) (sym (lines_in t.parts));
+      wrote = (t.wrote.0, said_in t.parts ∙ t.wrote.1, t.wrote.2);
+      wrote_notes = t.wrote_notes;
+      recovered = keeps_last s (moment_in a) (moment_in t.mid) (map part_in t.parts) t.mid.number t.mid.service.refusing t.untold.lines t.unsaid t.more t.back new.rings t.is all.rights all.served untold;
+    }
+
+-- ---- from the service with which lines are served first
+
+module _ (s : SegmentRules) (v new : ServiceView) (rings others : List Standing) (files : Option Held) (number : ℕ) (journal input rest out after : Option (List ℕ)) (e : v ≡ service_of s rings number None) (right : AllByRecursion IsRight rings) (same : new.rings ≡ others) where
+  pub serves_from : (ends : Option Held) (last : ℕ) (holds : Option (List ℕ)) → loop.ServesSegments IsServed segmenting s.folder.now (at.moment_of v files number journal) (at.moment_of new ends last holds) input rest out after →
+      ServesSegments s (moment_of rings files number journal) (moment_of others ends last holds) input rest out after
+  serves_from ends last holds h =
+      let all = serves_in s (at.moment_of v files number journal) (at.moment_of new ends last holds) input rest out after (first_sound s rings number v e right) h in
+      subst (λ (x : List Standing). ServesSegments s (moment_of rings files number journal) (moment_of x ends last holds) input rest out after) same
+      (subst (λ (x : List Standing). ServesSegments s (moment_of x files number journal) (moment_of new.rings ends last holds) input rest out after) (ap (λ (y : ServiceView). y.rings) e) all)
+
+  pub some_from : (ends : Option Held) → loop.ServesSomeSegments IsServed segmenting s.folder.now (at.moment_of v files number journal) new ends input rest out after → ServesSomeSegments s (moment_of rings files number journal) others ends input rest out after
+  some_from ends h =
+      let all = some_in s (at.moment_of v files number journal) new ends input rest out after (first_sound s rings number v e right) h in
+      subst (λ (x : List Standing). ServesSomeSegments s (moment_of rings files number journal) x ends input rest out after) same
+      (subst (λ (x : List Standing). ServesSomeSegments s (moment_of x files number journal) new.rings ends input rest out after) (ap (λ (y : ServiceView). y.rings) e) all)
+
+  pub recovered_from : (holds : Option (List ℕ)) → notes.ToldLinesAreNoted IsServed segmenting s.folder.now (at.moment_of v files number journal) new input rest out after holds →
+      AnsweredCallsAreRecovered s (moment_of rings files number journal) others input rest out after holds
+  recovered_from holds t =
+      let all = recovered_in s (at.moment_of v files number journal) new input rest out after holds (first_sound s rings number v e right) t in
+      subst (λ (x : List Standing). AnsweredCallsAreRecovered s (moment_of rings files number journal) x input rest out after holds) same
+      (subst (λ (x : List Standing). AnsweredCallsAreRecovered s (moment_of x files number journal) new.rings input rest out after holds) (ap (λ (y : ServiceView). y.rings) e) all)
+
+-- no line was answered
+pub none_in : (s : SegmentRules) (rings : List Standing) (files : Option Held) (number : ℕ) (journal : Option (List ℕ)) (input out : Option (List ℕ)) → ServesSomeSegments s (moment_of rings files number journal) rings files input input out out × AnsweredCallsAreRecovered s (moment_of rings files number journal) rings input input out out journal
+none_in s rings files number journal input out = (
+  record {
+    parts = [];
+    mid = moment_of rings files number journal;
+    bytes = [];
+    behind = [];
+    before = out;
+    served = refl;
+    read = consumes_nil input;
+    split = refl;
+    wrote = appends_nil out;
+    stopped = inl (refl, refl);
+  },
+  record {
+    parts = [];
+    mid = moment_of rings files number journal;
+    bytes = [];
+    behind = [];
+    left = [];
+    more = [];
+    told = refl;
+    read = consumes_nil input;
+    split = refl;
+    wrote = ([], refl, appends_nil out);
+    wrote_notes = appends_nil journal;
+    recovered = keeps_last s (moment_of rings files number journal) (moment_of rings files number journal) [] number None [] [] [] [] rings files tt refl (refl, refl, refl, refl);
+  },
+)

@@ -1,26 +1,25 @@
 -- The calls of told lines are recovered of the last segment.
 use Rattle.std.proofs.Common.{◌≡◌, ℕ, ◌^◌, ◌<◌, List, [], ◌∷◌, ◌++◌, length, Option, None, Some, refl, sym, ap, subst, ◌∙◌, inl, inr, arith, append_assoc}
 use Rattle.std.specs.List.{AllByRecursion}
-use Rattle.std.specs.Io.KnownBytes.{Appends, Consumes}
-use Rattle.std.proofs.lemmas.List.{append-nil}
 use Rattle.disks.specs.Held.{Held}
-use Rattle.text_lines.specs.Writing.{Wrote}
-use Rattle.text_lines.proofs.Writing.{appends_then, appends_nil}
 use Rattle.ring_journal.specs.declared.calls.JournalLine.{JournalLine}
 use Rattle.ring_journal.specs.Spelling.{head_text as journal_text}
 use Rattle.ring_serve.specs.declared.answers.Refusal.{Refusal}
 use Rattle.ring_serve.specs.Standings.{Standing}
 use Rattle.ring_serve.specs.Saved.{IsRight, content_of}
-use Rattle.ring_serve.specs.Serving.{Answers, Stops, joined_lines}
+use Rattle.ring_serve.specs.Serving.{Answers}
 use Rattle.ring_serve.specs.Recovered.{HaveGrown}
 use Rattle.ring_serve.proofs.Journaling.{Stands, begins}
 use Rattle.ring_serve.proofs.Grown.{answers_grown, calls_in, have_then}
 use Rattle.ring_serve.proofs.Recovering.{AllTurned, none_turned, turned_then, all_turned, rebuilt}
 use Rattle.chain_serve.specs.declared.segments.SegmentRules.{SegmentRules}
-use Rattle.chain_serve.specs.Segments.{Moment, moment_of, IsReady}
-use Rattle.chain_serve.specs.Service.{part_terms, Part, IsPart, AreParts, all_lines, all_said}
-use Rattle.chain_serve.specs.Recovered.{all_noted, AreIn, HasCallsIn, KeepsLast, AnsweredCallsAreRecovered}
-use Rattle.chain_serve.proofs.Parts.{Served, AreRight, right_more, parts_more, lines_more, said_more}
+use Rattle.chain_serve.specs.Segments.{Moment, IsReady}
+use Rattle.chain_serve.specs.Service.{part_terms, Part, IsPart, AreParts}
+use Rattle.chain_serve.specs.Recovered.{all_noted, AreIn, HasCallsIn, KeepsLast}
+
+-- the rings with which each part begins are right
+abbrev pub AreRight : List Part → Type 0
+AreRight parts = AllByRecursion (λ (p : Part). AllByRecursion IsRight p.from.rings) parts
 
 -- ---- parts of one segment
 
@@ -75,7 +74,7 @@ right_at (q ∷ qs) first others h = right_at qs first others h.1
 
 -- ---- the last segment keeps the answers
 
-keeps_last : (s : SegmentRules) (a mid : Moment) (parts : List Part) (number : ℕ) (refusing : Option Refusal) (untold : List (List ℕ)) (unsaid more back : List ℕ) (new : List Standing) (is : Option Held) → AreRight parts → AreParts s a parts mid →
+pub keeps_last : (s : SegmentRules) (a mid : Moment) (parts : List Part) (number : ℕ) (refusing : Option Refusal) (untold : List (List ℕ)) (unsaid more back : List ℕ) (new : List Standing) (is : Option Held) → AreRight parts → AreParts s a parts mid →
     Answers (part_terms s number refusing) mid.rings mid.files untold unsaid (more ++ back) new is → KeepsLast s parts more new
 keeps_last s a mid parts number refusing untold unsaid more back new is right served k earlier first others kept lost parted within fits whole_ front =
     let old : List Standing = first.from.rings in
@@ -98,69 +97,3 @@ keeps_last s a mid parts number refusing untold unsaid more back new is right se
       calls = ((part_calls s first r.rings at.is later.grown).0, later.calls);
       grown = r.grown;
     }
-
-all_wrote : (out after : Option (List ℕ)) (said : List ℕ) → Appends out after said → Wrote out after said []
-all_wrote out after said h = (said, sym (append-nil said), h)
-
--- all that was answered was told
-pub all_told : (s : SegmentRules) (a b : Moment) (unread line : List ℕ) (input rest out after : Option (List ℕ)) (new : List Standing) (d : Served s a b unread line input rest out after) → new ≡ b.rings → AnsweredCallsAreRecovered s a new input rest out after b.journal
-all_told s a b unread line input rest out after new d same = record {
-  parts = d.parts;
-  mid = b;
-  bytes = d.read;
-  behind = d.begun ++ unread;
-  left = [];
-  more = [];
-  told = d.served;
-  read = d.consumed;
-  split = d.split;
-  wrote = all_wrote out after (all_said d.parts) d.wrote;
-  wrote_notes = appends_nil b.journal;
-  recovered = keeps_last s a b d.parts b.number None [] [] [] [] new b.files d.rights d.served (refl, refl, same, refl);
-}
-
--- ---- where a part stopped
-
-abbrev after_notes : Option (List ℕ) → List ℕ → Option (List ℕ)
-after_notes None noted = None
-after_notes (Some xs) noted = Some (xs ++ noted)
-
-with_notes : (before : Option (List ℕ)) (noted : List ℕ) → Appends before (after_notes before noted) noted
-with_notes None noted = tt
-with_notes (Some xs) noted = refl
-
-then_more : (before after : Option (List ℕ)) (noted more : List ℕ) → Appends before after (noted ++ more) → Appends (after_notes before noted) after more
-then_more None after noted more h = tt
-then_more (Some xs) None noted more h = absurd h
-then_more (Some xs) (Some ys) noted more h = h ∙ sym (append_assoc xs noted more)
-
-module _ (s : SegmentRules) (a b from : Moment) (refusing : Option Refusal) (unread line : List ℕ) (input middle out before : Option (List ℕ)) (d : Served s a b unread line input middle out before) (ready : IsReady s refusing b from) (right : AllByRecursion IsRight from.rings) where
-  pub some_told : (new : List Standing) (is journal_ : _) (rest after : Option (List ℕ)) → (read : List ℕ) → Consumes input rest (d.read ++ read) →
-      Stops (part_terms s from.number refusing) from.rings from.files (record { journal = from.journal; out = before }) (record { journal = journal_; out = after }) (d.begun ++ (unread ++ read)) new is →
-      AnsweredCallsAreRecovered s a new input rest out after journal_
-  some_told new is journal_ rest after read consumed st =
-      let part : Part = record { refusing = refusing; from = from; to = moment_of st.mid st.between from.number (after_notes from.journal st.noted); lines = st.told.lines; said = st.said; noted = st.noted } in
-      let parts : List Part = d.parts ++ part ∷ [] in
-      let served : AreParts s a parts part.to = parts_more s a b d.parts part d.served ready (record { number = refl; each = st.told.each; answers = st.told.answers; wrote = with_notes from.journal st.noted }) in
-      let joined = joined_lines st.told.lines in
-      record {
-        parts = parts;
-        mid = part.to;
-        bytes = d.read ++ read;
-        behind = st.behind;
-        left = st.left;
-        more = st.front;
-        told = served;
-        read = consumed;
-        split = ap (λ (x : List ℕ). x ++ read) d.split
-            ∙ (append_assoc (all_lines d.parts) (d.begun ++ unread) read
-            ∙ (ap (λ (x : List ℕ). all_lines d.parts ++ x) (append_assoc d.begun unread read ∙ st.told.split)
-            ∙ (sym (append_assoc (all_lines d.parts) joined st.behind) ∙ ap (λ (x : List ℕ). x ++ st.behind) (sym (lines_more d.parts part)))));
-        wrote = (
-          all_said d.parts ++ st.wrote.0,
-          said_more d.parts part ∙ (ap (λ (x : List ℕ). all_said d.parts ++ x) st.wrote.1 ∙ sym (append_assoc (all_said d.parts) st.wrote.0 st.left)),
-          appends_then out before after (all_said d.parts) st.wrote.0 d.wrote st.wrote.2,
-        );
-        wrote_notes = then_more from.journal journal_ st.noted st.front st.wrote_notes;
-        recovered = keeps_last s a part.to parts from.number refusing st.untold.lines st.unsaid st.front st.back new is (right_more d.parts part d.rights right) served st.untold.answers;
-      }

@@ -1,5 +1,5 @@
 -- How a segment ends and the next begins, in files (this project's own).
-use Rattle.std.specs.Prelude.{◌≡◌, ℕ, ◌+◌, true, false, List, Option, None, Some, IfSome, ◌⊎◌, string_bytes}
+use Rattle.std.specs.Prelude.{◌≡◌, ℕ, ◌+◌, true, false, List, Option, None, Some, IfSome, ◌⊎◌}
 use Rattle.disks.specs.Held.{Held, Replaces}
 use Rattle.segment_folder.specs.Names.{segment_file}
 use Rattle.ring_segments.specs.Spelling.{digest_of}
@@ -9,9 +9,7 @@ use Rattle.ring_serve.specs.Standings.{Standing}
 use Rattle.ring_serve.specs.Segments.{AreNext}
 use Rattle.ring_serve.specs.Due.{is_due}
 use Rattle.chain_serve.specs.Texts.{segment_text}
-use Rattle.sha2.specs.Hashers.{Holds256}
 use Rattle.chain_serve.specs.declared.segments.SegmentRules.{SegmentRules}
-use Rattle.chain_serve.specs.declared.ending.NextSegment.{NextSegment}
 
 -- a moment between two lines: the rings, the content of files, and the segment that is being
 -- written, with its number and what its writer holds
@@ -70,17 +68,3 @@ IsReady s None a b =
     ((is_due (Some s.limit) a.rings ≡ false) × (b ≡ a))
     ⊎ ((is_due (Some s.limit) a.rings ≡ true) × HasEnded s a b)
 IsReady s (Some why) a b = (is_due (Some s.limit) a.rings ≡ true) × IsCause why × IsKept s a b
-
--- ---- what is made before the file is closed
-
--- the rings with their next segments, the number and the name of the next segment's file, and the
--- text with which that begins
-pub record IsPrepared (rings : List Standing) (number : ℕ) (journal : Option (List ℕ))
-    (folder : List ℕ) (next : NextSegment) : Type 0 where
-  pub behind : List ℕ
-  pub next_rings : AreNext rings next.served
-  pub next_number : next.number ≡ number + 1
-  pub name : string_bytes next.name ≡ segment_file folder next.number
-  pub digest : IfSome journal (λ bytes. behind ≡ digest_of bytes)
-  pub text : next.text.items ≡ segment_text next.number behind next.served
-  pub hashes : Holds256 next.hasher next.text.items

@@ -1,14 +1,13 @@
 -- Lines that are served with a journal in a chain of segment files (this project's own).
-use Rattle.std.specs.Prelude.{◌≡◌, ℕ, ◌≤◌, ◌^◌, List, [], ◌∷◌, ◌++◌, length, Option, Some, ◌⊎◌}
+use Rattle.std.specs.Prelude.{◌≡◌, ℕ, List, [], ◌∷◌, ◌++◌, Option, Some, ◌⊎◌}
 use Rattle.std.specs.List.{AllByRecursion}
 use Rattle.std.specs.Io.KnownBytes.{Appends, Consumes, IsAtEnd}
 use Rattle.disks.specs.Held.{Held}
+use Rattle.line_loop.specs.Answering.{IsLine, HasNoEnd, joined_lines}
 use Rattle.ring_serve.specs.declared.answers.Refusal.{Refusal}
-use Rattle.ring_serve.specs.declared.serving.ServeFault.{ServeFault}
-use Rattle.ring_serve.specs.declared.serving.ServeFault.TheVariants as fault
 use Rattle.ring_serve.specs.Standings.{Standing}
 use Rattle.ring_serve.specs.Permits.{Terms, terms_in}
-use Rattle.ring_serve.specs.Serving.{IsLine, HasNoEnd, Answers, joined_lines, Stops}
+use Rattle.ring_serve.specs.Serving.{Answers, Stops}
 use Rattle.chain_serve.specs.Segments.{Moment, file_of, IsReady}
 use Rattle.chain_serve.specs.declared.segments.SegmentRules.{SegmentRules}
 
@@ -77,12 +76,6 @@ IsStopped s mid new is before after behind =
     × Stops (part_terms s from.number refusing) from.rings from.files
     (record { journal = from.journal; out = before }) (record { journal = journal; out = after })
     behind new is)
-
--- only of an input of so many bytes it is said that it is too long: for a byte two parts may end
-abbrev pub IsFaultOf : ServeFault → Option (List ℕ) → Option (List ℕ) → Type 0
-IsFaultOf fault.TooLong input rest =
-    (bytes : List ℕ) × Consumes input rest bytes × (2 ^ 63 ≤ length bytes)
-IsFaultOf _ input rest = Unit {0}
 
 -- Of what the reader gave some lines were answered.
 pub record ServesSomeSegments (s : SegmentRules) (a : Moment) (new : List Standing)

@@ -7,16 +7,26 @@ ghost use Rattle.segment_loop.specs.Segments.{IsNamed};
 ghost use Rattle.chain_serve.specs.Segments.{IsCause, moment_of};
 ghost use Rattle.chain_serve.specs.Beginning.{HasBegun};
 
-use crate::ending::{cause_of, open_segment};
+use crate::segmented::refusal_of;
 use crate::segments::SegmentRules;
 use crate::texts::segment_text;
-use disks::{Disk, replace};
+use disks::{Disk, ReplaceFault, replace};
 use ring_segments::DIGEST_DIGITS;
 use ring_serve::{Refusal, Served};
 use segment_folder::segment_file;
-use segment_loop::{Beginning, OpenSegment};
+use segment_loop::{Beginning, OpenSegment, open_segment};
 use sha2::{Digest, Sha256};
 use std::alloc::Global;
+
+/// Why the file was not put there.
+fn cause_of(fault: ReplaceFault) -> Refusal
+    ensures { IsCause result }
+{
+    match fault {
+        ReplaceFault::OutOfMemory => Refusal::OutOfMemory,
+        _ => Refusal::File,
+    }
+}
 
 /// Puts the file of the segment of this number into the folder, with the rings as they stand and after a file of this digest, and
 /// opens it.
@@ -46,7 +56,7 @@ pub fn begin_segment<D: Disk>(
     };
     let text = match segment_text(alloc, number, behind, served) {
         Ok(text) => text,
-        Err(why) => return Err(why),
+        Err(why) => return Err(refusal_of(why)),
     };
     let beginning = Beginning {
         text: text.as_slice(),

@@ -2,12 +2,13 @@
 #![tactic(auto)]
 
 mod beginning;
-mod ending;
+mod segmented;
 mod segments;
 mod service;
+mod serving;
 mod texts;
 
 pub use beginning::begin_segment;
-pub use ending::{close_segment, open_segment};
+pub use segment_loop::{close_segment, open_segment};
 pub use segments::SegmentRules;
-pub use service::serve_segments;
+pub use serving::serve_segments;

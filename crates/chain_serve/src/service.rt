@@ -1,200 +1,112 @@
-//! Lines that are served in segments.
+//! Rings that answer lines in the segments of a folder.
 
-ghost use Rattle.std.specs.Prelude.{◌≡◌, ◌≤◌, ℕ, List, Option, IfOk, IfErr, OnErr, MatchResult, string_bytes};
-ghost use Rattle.std.specs.List.{AllByRecursion};
-ghost use Rattle.ring_serve.specs.Saved.{IsRight};
-ghost use Rattle.ring_serve.specs.Permits.{IsOpen};
-ghost use Rattle.ring_serve.specs.Serving.{HasBegun, ServesPart, IsEnding, ServesSomeOf, IsFaultOf as IsPartFault};
-ghost use Rattle.segment_loop.specs.Digested.{hashed};
-ghost use Rattle.segment_loop.specs.Segments.{IsNamed};
-ghost use Rattle.chain_serve.specs.Segments.{moment_of};
-ghost use Rattle.chain_serve.specs.Recovered.{AnsweredCallsAreRecovered};
-ghost use Rattle.chain_serve.specs.Service.{part_terms, ServesSegments, ServesSomeSegments, IsFaultOf};
+ghost use Rattle.std.specs.Prelude.{◌≡◌, ◌≤◌, None, string_bytes};
+ghost use Rattle.chain_serve.specs.Segments.{file_of};
+ghost use Rattle.chain_serve.specs.Services.{service_of};
 
-use crate::ending::{Ready, make_ready};
 use crate::segments::SegmentRules;
 use disks::Disk;
-use ring_serve::{Ending, Ends, Journal, ServeFault, Served, Unread, serve_part};
-use segment_loop::OpenSegment;
-use std::alloc::Global;
-use std::io::{Read, Write};
+use line_loop::{AnswersLines, Pending};
+use ring_serve::{Ends, Refusal, Served, answer_by, are_right, rules_in};
+use std::alloc::{AllocError, Global};
+use std::marker::Model;
 
-/// A part of the lines that was served: why it ended, and its segment.
+/// Rings that answer lines in the segment of this number. Contracts see the rings, the number, the rules, and what each line is
+/// refused with, if all are.
 #[derive(Drop)]
-pub struct PartEnd<W> {
-    pub(crate) ending: Ending,
-    pub(crate) segment: OpenSegment<W>,
+pub(crate) struct ChainService<'n> {
+    pub(crate) alloc: Global,
+    pub(crate) served: Served,
+    pub(crate) rules: SegmentRules<'n>,
+    pub(crate) number: u64,
+    /// The name of the segment's file.
+    pub(crate) name: String,
+    pub(crate) refusing: Option<Refusal>,
+    /// Whether no line is answered any more.
+    pub(crate) shut: bool,
 }
 
-/// Serves a part of the lines.
-fn serve_in<D: Disk, I: Read, W: Write>(
-    alloc: Global,
-    served: &mut Served,
-    disk: &mut D,
-    ready: Ready<D::Grown>,
-    rules: SegmentRules<'_>,
-    line: &mut Vec<u8>,
-    unread: &mut Unread,
-    input: &mut I,
-    out: &mut W,
-) -> Result<PartEnd<D::Grown>, ServeFault>
-    requires goes { IsOpen (part_terms rules ready.segment.number ready.refusing) served.old }
-    requires named { IsNamed rules.folder.now ready.segment }
-    ensures ok { IfOk result (λ end. (begun : List ℕ) → HasBegun begun line.old.items
-        → ServesPart end.ending (part_terms rules.entry ready.segment.number ready.refusing)
-        served.old served.new (D.holds disk.old) (D.holds disk.new) begun unread.old unread.new
-        line.new.items (I.remaining input.old) (I.remaining input.new)
-        (record {
-          journal = hashed (D.Grown.contents ready.segment.writer.inner)
-              ready.segment.writer.hasher;
-          out = W.contents out.old;
-        })
-        (record {
-          journal = hashed (D.Grown.contents end.segment.writer.inner) end.segment.writer.hasher;
-          out = W.contents out.new;
-        })) }
-    ensures ends { IfOk result (λ end. IsEnding end.ending
-        (part_terms rules.entry ready.segment.number ready.refusing) served.new unread.new
-        (I.remaining input.new)) }
-    ensures same { IfOk result (λ end. (end.segment.number ≡ ready.segment.number)
-        × (string_bytes end.segment.name ≡ string_bytes ready.segment.name)) }
-    ensures err { OnErr result ((begun : List ℕ) → HasBegun begun line.old.items
-        → (journal : Option (List ℕ))
-        × ServesSomeOf (part_terms rules.entry ready.segment.number ready.refusing)
-        served.old served.new (D.holds disk.old) (D.holds disk.new) begun unread.old
-        (I.remaining input.old) (I.remaining input.new)
-        (record {
-          journal = hashed (D.Grown.contents ready.segment.writer.inner)
-              ready.segment.writer.hasher;
-          out = W.contents out.old;
-        })
-        (record { journal = journal; out = W.contents out.new })) }
-    ensures long { IfErr result (λ e.
-        IsPartFault e (I.remaining input.old) (I.remaining input.new)) }
-    ensures right { AllByRecursion IsRight served.old }
-{
-    let Ready { segment, refusing } = ready;
-    let OpenSegment {
-        number,
-        name,
-        writer,
-    } = segment;
-    let ends = Ends {
-        limit: rules.limit,
-        refusing,
-    };
-    let mut journal = Some(Journal {
-        name: name.as_str(),
-        writer,
-    });
-    let ending = match serve_part(
-        alloc,
-        served,
-        disk,
-        &mut journal,
-        rules.permits,
-        Some(ends),
-        line,
-        unread,
-        input,
-        out,
-    ) {
-        Ok(ending) => ending,
-        Err(fault) => return Err(fault),
-    };
-    let Some(Journal { writer, .. }) = journal else {
-        unreachable!()
-    };
-    Ok(PartEnd {
-        ending,
-        segment: OpenSegment {
-            number,
-            name,
-            writer,
-        },
-    })
+impl<'n> Model for ChainService<'n> {
+    ghost use Rattle.std.specs.Prelude.{string_bytes};
+    ghost use Rattle.chain_serve.specs.Services.{ServiceView, service_of, IsKnown};
+
+    ghost Value = { ServiceView };
+
+    ghost view = { λ s. service_of s.rules s.served s.number s.refusing };
+
+    ghost invariant = { λ s. IsKnown s.rules s.served s.number s.refusing (string_bytes s.name)
+        s.shut };
 }
 
-/// Serves the lines of a reader to its end, as [`serve`](ring_serve::serve) does, with a journal in a chain of segment files.
-/// Returns the segment that is open in the end, which the caller settles.
-///
-/// Between two lines, a segment that is due ends ([`Served::is_due`]). All answers have left then. Its file is settled, the file of
-/// the next one is put into the folder and opened, and the rings go on with their next segments. If the segment cannot be ended,
-/// since there is no memory or no file can be written, it goes on; every line is refused then, and this is tried again when the next
-/// block has been read.
-///
-/// Of whatever is kept of the last segment's file, if it has the notes of the told lines, rings are recovered that have the call of
-/// each told line in this segment, with its answer.
-///
-/// # Errors
-///
-/// Those of [`serve`](ring_serve::serve), but `TooLong` only behind 2 to the power 63 bytes; `Journal` too if the file of a segment that is due cannot be settled, or if that file, or
-/// the next one, cannot be opened. The folder then has the segment that was written, with all that was told, or the next one
-/// as the last, which tells the same.
-pub fn serve_segments<D: Disk, I: Read, W: Write>(
-    alloc: Global,
-    served: &mut Served,
-    disk: &mut D,
-    first: OpenSegment<D::Grown>,
-    rules: SegmentRules<'_>,
-    input: &mut I,
-    out: &mut W,
-) -> Result<OpenSegment<D::Grown>, ServeFault>
-    requires limit { 1 ≤ rules.limit }
-    requires named { IsNamed rules.folder.now first }
-    ensures ok { IfOk result (λ end. ServesSegments rules.entry
-        (moment_of served.old (D.holds disk.old) first.number
-        (hashed (D.Grown.contents first.writer.inner) first.writer.hasher))
-        (moment_of served.new (D.holds disk.new) end.number
-        (hashed (D.Grown.contents end.writer.inner) end.writer.hasher))
-        (I.remaining input.old) (I.remaining input.new) (W.contents out.old)
-        (W.contents out.new)) }
-    ensures err { OnErr result (ServesSomeSegments rules.entry
-        (moment_of served.old (D.holds disk.old) first.number
-        (hashed (D.Grown.contents first.writer.inner) first.writer.hasher)) served.new
-        (D.holds disk.new) (I.remaining input.old) (I.remaining input.new) (W.contents out.old)
-        (W.contents out.new)) }
-    ensures long { IfErr result (λ e.
-        IsFaultOf e (I.remaining input.old) (I.remaining input.new)) }
-    ensures named { IfOk result (λ end. IsNamed rules.entry.folder.now end) }
-    ensures recovered { MatchResult result
-        (λ end. AnsweredCallsAreRecovered rules.entry
-        (moment_of served.old (D.holds disk.old) first.number
-        (hashed (D.Grown.contents first.writer.inner) first.writer.hasher)) served.new
-        (I.remaining input.old) (I.remaining input.new) (W.contents out.old) (W.contents out.new)
-        (hashed (D.Grown.contents end.writer.inner) end.writer.hasher))
-        (λ _. (journal : Option (List ℕ)) × AnsweredCallsAreRecovered rules.entry
-        (moment_of served.old (D.holds disk.old) first.number
-        (hashed (D.Grown.contents first.writer.inner) first.writer.hasher)) served.new
-        (I.remaining input.old) (I.remaining input.new) (W.contents out.old) (W.contents out.new)
-        journal) }
-{
-    let mut segment = first;
-    let mut line = Vec::new(alloc);
-    let mut unread = Unread::none();
-    'parts: for part in 0..u64::MAX {
-        let ready = match make_ready(alloc, served, disk, segment, rules) {
-            Ok(ready) => ready,
-            Err(fault) => return Err(fault),
-        };
-        let end = match serve_in(
+impl<'n> ChainService<'n> {
+    /// Rings in the segment of this number, whose file has this name.
+    pub(crate) fn new(
+        alloc: Global,
+        served: Served,
+        rules: SegmentRules<'n>,
+        number: u64,
+        name: String,
+    ) -> ChainService<'n>
+        requires limit { 1 ≤ rules.limit }
+        requires named { string_bytes name ≡ file_of rules number }
+        ensures { result ≡ service_of rules.entry served number None }
+    {
+        let shut = served.is_due(rules.limit);
+        ChainService {
             alloc,
             served,
-            disk,
-            ready,
             rules,
-            &mut line,
-            &mut unread,
-            input,
-            out,
-        ) {
-            Ok(end) => end,
-            Err(fault) => return Err(fault),
-        };
-        match end.ending {
-            Ending::End => return Ok(end.segment),
-            Ending::Due => segment = end.segment,
+            number,
+            name,
+            refusing: None,
+            shut,
         }
     }
-    Err(ServeFault::TooLong)
+
+    /// The rings, as they are.
+    pub(crate) fn into_rings(self) -> Served
+        ensures { result ≡ self.entry.rings }
+    {
+        self.served
+    }
+}
+
+impl AnswersLines for ChainService<'_> {
+    ghost use Rattle.chain_serve.specs.Services.{IsServed, is_over};
+    ghost use Rattle.chain_serve.specs.Starts.{by_start};
+
+    ghost is_answered = { IsServed };
+
+    ghost is_over = { is_over };
+
+    ghost by_start = { by_start };
+
+    /// The line is answered in any case: only to tell of it memory may be wanted.
+    fn answer<D: Disk>(
+        &mut self,
+        disk: &mut D,
+        line: &[u8],
+        pending: &mut Pending,
+    ) -> Result<(), AllocError> {
+        let ends = Ends {
+            limit: self.rules.limit,
+            refusing: self.refusing,
+        };
+        let rules = rules_in(Some(self.name.as_str()), self.rules.permits, Some(ends));
+        let told = answer_by(
+            self.alloc,
+            &mut self.served,
+            disk,
+            rules,
+            line,
+            &mut self.shut,
+            pending,
+        );
+        are_right(&self.served);
+        told
+    }
+
+    fn is_over(&self) -> bool {
+        self.shut
+    }
 }

@@ -1,16 +1,16 @@
 //! The text with which the file of a segment begins.
 
-ghost use Rattle.std.specs.Prelude.{◌≡◌, ◌≤◌, ◌<◌, ◌^◌, ◌++◌, length, IfOk, IfErr};
+ghost use Rattle.std.specs.Prelude.{◌≡◌, ◌≤◌, ◌<◌, ◌^◌, ◌++◌, length, IfOk};
 ghost use Rattle.text_lines.specs.Writing.{Writes};
 ghost use Rattle.ring_journal.specs.Spelling.{head_text as journal_text};
 ghost use Rattle.ring_segments.specs.Spelling.{head_of, head_text, DigestFits};
 ghost use Rattle.ring_serve.specs.Saved.{content_of};
 ghost use Rattle.chain_serve.specs.Texts.{segment_text};
-ghost use Rattle.chain_serve.specs.Segments.{IsCause};
 
 use ring_journal::put_first_line;
 use ring_segments::{DIGEST_DIGITS, SegmentHead, put_head};
-use ring_serve::{Refusal, Served, write_rings};
+use ring_serve::{Served, write_rings};
+use segment_loop::EndFault;
 use std::alloc::Global;
 use std::io::Write;
 use text_lines::WriteFault;
@@ -56,18 +56,17 @@ pub(crate) fn segment_text(
     number: u64,
     behind: [u8; DIGEST_DIGITS],
     served: &Served,
-) -> Result<Vec<u8>, Refusal>
+) -> Result<Vec<u8>, EndFault>
     requires number { 0 < number }
     requires digits { DigestFits behind }
-    ensures ok { IfOk result (λ text. text.items ≡ segment_text number behind served.now) }
-    ensures err { IfErr result (λ why. IsCause why) }
+    ensures { IfOk result (λ text. text.items ≡ segment_text number behind served.now) }
 {
     let count = served.count();
     if count == 0 || count > u32::MAX as usize {
-        return Err(Refusal::File);
+        return Err(EndFault::File);
     }
     let Ok(bases) = served.bases(alloc) else {
-        return Err(Refusal::OutOfMemory);
+        return Err(EndFault::OutOfMemory);
     };
     let head = SegmentHead {
         number,
@@ -77,6 +76,6 @@ pub(crate) fn segment_text(
     let mut text = Vec::new(alloc);
     match put_segment(&mut text, &head, served) {
         Ok(()) => Ok(text),
-        Err(_) => Err(Refusal::OutOfMemory),
+        Err(_) => Err(EndFault::OutOfMemory),
     }
 }

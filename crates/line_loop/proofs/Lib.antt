@@ -1,3 +1,4 @@
 pub mod LongLines
+pub mod Standing
 pub mod Telling
 pub mod Parting

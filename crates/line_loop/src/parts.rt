@@ -4,6 +4,7 @@ ghost use Rattle.std.specs.Prelude.{◌≡◌, ◌≢◌, ℕ, List, [], ◌++�
 ghost use Rattle.line_loop.specs.declared.faults.LoopFault.TheVariants as fault;
 ghost use Rattle.line_loop.specs.Answering.{HasBegun};
 ghost use Rattle.line_loop.specs.Loop.{Written, GoesOn, Rests, Stops, IsTaken, ServesPart, IsEnding, ServesSomeOf, held_by, IsFaultOf};
+ghost use Rattle.line_loop.specs.Stands.{Stand, by_stand, stand};
 
 use crate::answering::AnswersLines;
 use crate::faults::{Ending, LoopFault};
@@ -11,26 +12,30 @@ use crate::pending::Pending;
 use crate::putting::put_pending;
 use crate::taking::take_bytes;
 use crate::unread::Unread;
+use disks::Disk;
 use std::alloc::{AllocError, Global};
 use std::io::{Read, Write};
 
 /// Takes what is left of a block, up to the line after which it is over, if there is one. Says whether it is.
-fn take_block<S: AnswersLines>(
+fn take_block<S: AnswersLines, D: Disk>(
     service: &mut S,
+    disk: &mut D,
     line: &mut Vec<u8>,
     unread: &mut Unread,
     pending: &mut Pending,
 ) -> Result<bool, AllocError>
     requires { S.is_over service.old ≡ false }
     ensures over { IfOk result (λ over. over ≡ S.is_over service.new) }
-    ensures serves { (old : S) (before after : Written) (bytes : List ℕ)
-        → GoesOn S.is_answered old before after bytes service.old line.old.items pending.old
+    ensures serves { (old : Stand S) (before after : Written) (bytes : List ℕ)
+        → GoesOn (by_stand S.is_answered) old before after bytes
+        (stand service.old (D.holds disk.old)) line.old.items pending.old
         → MatchResult result (λ over. IsTaken over unread.old unread.new
-        (λ taken. GoesOn S.is_answered old before after (bytes ++ taken) service.new
-        line.new.items pending.new))
-        (λ _. Stops S.is_answered old before after (bytes ++ unread.old) service.new) }
+        (λ taken. GoesOn (by_stand S.is_answered) old before after (bytes ++ taken)
+        (stand service.new (D.holds disk.new)) line.new.items pending.new))
+        (λ _. Stops (by_stand S.is_answered) old before after (bytes ++ unread.old)
+        (stand service.new (D.holds disk.new))) }
 {
-    match take_bytes(service, line, unread.bytes(), pending) {
+    match take_bytes(service, disk, line, unread.bytes(), pending) {
         Ok(taken) => {
             unread.skip(taken.count);
             Ok(taken.over)
@@ -40,8 +45,9 @@ fn take_block<S: AnswersLines>(
 }
 
 /// The same, and all answers leave.
-fn serve_block<S: AnswersLines, J: Write, W: Write>(
+fn serve_block<S: AnswersLines, D: Disk, J: Write, W: Write>(
     service: &mut S,
+    disk: &mut D,
     line: &mut Vec<u8>,
     unread: &mut Unread,
     pending: &mut Pending,
@@ -54,19 +60,20 @@ fn serve_block<S: AnswersLines, J: Write, W: Write>(
     ensures kept { is_some journal.new ≡ is_some journal.old }
     ensures left { OnOk result ((pending.new.answers.items ≡ []) × (pending.new.notes.items ≡ [])) }
     ensures over { IfOk result (λ over. over ≡ S.is_over service.new) }
-    ensures serves { (old : S) (before : Written) (bytes : List ℕ)
-        → Rests S.is_answered old before
+    ensures serves { (old : Stand S) (before : Written) (bytes : List ℕ)
+        → Rests (by_stand S.is_answered) old before
         (record { journal = held_by J.contents journal.old; out = W.contents out.old })
-        bytes service.old line.old.items
+        bytes (stand service.old (D.holds disk.old)) line.old.items
         → MatchResult result (λ over. IsTaken over unread.old unread.new
-        (λ taken. Rests S.is_answered old before
+        (λ taken. Rests (by_stand S.is_answered) old before
         (record { journal = held_by J.contents journal.new; out = W.contents out.new })
-        (bytes ++ taken) service.new line.new.items))
-        (λ _. Stops S.is_answered old before
+        (bytes ++ taken) (stand service.new (D.holds disk.new)) line.new.items))
+        (λ _. Stops (by_stand S.is_answered) old before
         (record { journal = held_by J.contents journal.new; out = W.contents out.new })
-        (bytes ++ unread.old) service.new) }
+        (bytes ++ unread.old)
+        (stand service.new (D.holds disk.new))) }
 {
-    let over = match take_block(service, line, unread, pending) {
+    let over = match take_block(service, disk, line, unread, pending) {
         Ok(over) => over,
         Err(AllocError) => return Err(LoopFault::OutOfMemory),
     };
@@ -79,18 +86,19 @@ fn serve_block<S: AnswersLines, J: Write, W: Write>(
 /// Serves a part of the lines of a reader: those of what is unread, and of what is read then, up to the input's end, or to the
 /// line after which it is over. With `once` the part ends when the next block has been read.
 ///
-/// Each line is answered by the service, on the writer. If there is a journal, it gets the notes of each line. Before more is read
-/// the journal is flushed, and then the writer: no answer leaves whose notes are not in the journal. What has begun of a line is
-/// kept from one part to the next. The bytes after the last LF are not a line, and are not answered.
+/// Each line is answered by the service, on the writer and with the disk. If there is a journal, it gets the notes of each line.
+/// Before more is read the journal is flushed, and then the writer: no answer leaves whose notes are not in the journal. What has
+/// begun of a line is kept from one part to the next. The bytes after the last LF are not a line, and are not answered.
 ///
 /// # Errors
 ///
 /// The first error of the reader, of the journal or of the writer; `OutOfMemory` where there was none for what a block is
 /// answered; `TooLong` where no more blocks are counted. The lines before were answered; the writer holds a prefix of their
 /// answers, and the journal the notes of each that was told.
-pub fn serve_part<S: AnswersLines, I: Read, J: Write, W: Write>(
+pub fn serve_part<S: AnswersLines, D: Disk, I: Read, J: Write, W: Write>(
     alloc: Global,
     service: &mut S,
+    disk: &mut D,
     journal: &mut Option<J>,
     once: bool,
     line: &mut Vec<u8>,
@@ -100,14 +108,16 @@ pub fn serve_part<S: AnswersLines, I: Read, J: Write, W: Write>(
 ) -> Result<Ending, LoopFault>
     requires { S.is_over service.old ≡ false }
     ensures ok { IfOk result (λ ending. (begun : List ℕ) → HasBegun begun line.old.items
-        → ServesPart ending S.is_answered service.old service.new begun unread.old unread.new
-        line.new.items (I.remaining input.old) (I.remaining input.new)
+        → ServesPart ending (by_stand S.is_answered) (stand service.old (D.holds disk.old))
+        (stand service.new (D.holds disk.new)) begun unread.old unread.new line.new.items
+        (I.remaining input.old) (I.remaining input.new)
         (record { journal = held_by J.contents journal.old; out = W.contents out.old })
         (record { journal = held_by J.contents journal.new; out = W.contents out.new })) }
     ensures ends { IfOk result (λ ending. IsEnding ending (S.is_over service.new) once unread.new
         (I.remaining input.new)) }
     ensures err { OnErr result ((begun : List ℕ) → HasBegun begun line.old.items
-        → ServesSomeOf S.is_answered service.old service.new begun unread.old
+        → ServesSomeOf (by_stand S.is_answered) (stand service.old (D.holds disk.old))
+        (stand service.new (D.holds disk.new)) begun unread.old
         (I.remaining input.old) (I.remaining input.new)
         (record { journal = held_by J.contents journal.old; out = W.contents out.old })
         (record { journal = held_by J.contents journal.new; out = W.contents out.new })) }
@@ -120,7 +130,7 @@ pub fn serve_part<S: AnswersLines, I: Read, J: Write, W: Write>(
         notes: Vec::new(alloc),
     };
     'rounds: for round in 0..u64::MAX {
-        let over = match serve_block(service, line, unread, &mut pending, journal, out) {
+        let over = match serve_block(service, disk, line, unread, &mut pending, journal, out) {
             Ok(over) => over,
             Err(fault) => return Err(fault),
         };

@@ -5,6 +5,7 @@ ghost use Rattle.std.specs.Io.KnownBytes.{Appends};
 ghost use Rattle.text_lines.specs.Writing.{Wrote};
 ghost use Rattle.line_loop.specs.declared.faults.LoopFault.TheVariants as fault;
 ghost use Rattle.line_loop.specs.Loop.{Written, GoesOn, Tells, held_by};
+ghost use Rattle.line_loop.specs.Stands.{Stand, by_stand};
 
 use crate::answering::AnswersLines;
 use crate::faults::LoopFault;
@@ -50,11 +51,11 @@ pub(crate) fn put_pending<S: AnswersLines, J: Write, W: Write>(
     ensures known { IfErr result (λ e. e ≢ fault.TooLong) }
     ensures kept { is_some journal.new ≡ is_some journal.old }
     ensures left { OnOk result ((pending.new.answers.items ≡ []) × (pending.new.notes.items ≡ [])) }
-    ensures told { (old new : S) (before : Written) (bytes line : List ℕ)
-        → GoesOn S.is_answered old before
+    ensures told { (old new : Stand S) (before : Written) (bytes line : List ℕ)
+        → GoesOn (by_stand S.is_answered) old before
         (record { journal = held_by J.contents journal.old; out = W.contents out.old })
         bytes new line pending.old
-        → Tells result S.is_answered old before
+        → Tells result (by_stand S.is_answered) old before
         (record { journal = held_by J.contents journal.new; out = W.contents out.new })
         bytes new line }
 {

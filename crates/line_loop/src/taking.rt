@@ -3,9 +3,11 @@
 ghost use Rattle.std.specs.Prelude.{◌≡◌, ◌≤◌, ℕ, List, Bool, [], ◌∷◌, ◌++◌, length, take, false, OnOk, IfOk, MatchResult};
 ghost use Rattle.line_loop.specs.Answering.{cut};
 ghost use Rattle.line_loop.specs.Loop.{Written, GoesOn, Serves, Stops};
+ghost use Rattle.line_loop.specs.Stands.{Stand, by_stand, stand};
 
 use crate::answering::AnswersLines;
 use crate::pending::Pending;
+use disks::Disk;
 use line_parts::LINE_LIMIT;
 use std::alloc::AllocError;
 
@@ -22,24 +24,26 @@ fn keep(line: &mut Vec<u8>, byte: u8) -> Result<(), AllocError>
 }
 
 /// Takes a byte more: it is kept, or ends a line, which is answered. Says whether it is over.
-fn take_byte<S: AnswersLines>(
+fn take_byte<S: AnswersLines, D: Disk>(
     service: &mut S,
+    disk: &mut D,
     line: &mut Vec<u8>,
     byte: u8,
     pending: &mut Pending,
 ) -> Result<bool, AllocError>
     requires { S.is_over service.old ≡ false }
     ensures over { IfOk result (λ over. over ≡ S.is_over service.new) }
-    ensures serves { (old : S) (before after : Written) (bytes : List ℕ)
-        → GoesOn S.is_answered old before after bytes service.old line.old.items pending.old
-        → Serves result S.is_answered old before after (bytes ++ byte ∷ []) service.new
-        line.new.items pending.new }
+    ensures serves { (old : Stand S) (before after : Written) (bytes : List ℕ)
+        → GoesOn (by_stand S.is_answered) old before after bytes
+        (stand service.old (D.holds disk.old)) line.old.items pending.old
+        → Serves result (by_stand S.is_answered) old before after (bytes ++ byte ∷ [])
+        (stand service.new (D.holds disk.new)) line.new.items pending.new }
 {
     keep(line, byte)?;
     if byte != b'\n' {
         return Ok(false);
     }
-    service.answer(line.as_slice(), pending)?;
+    service.answer(disk, line.as_slice(), pending)?;
     line.clear();
     Ok(service.is_over())
 }
@@ -52,8 +56,9 @@ pub(crate) struct Taken {
 }
 
 /// Takes the bytes of a block, one after the other, up to the line after which it is over, if there is one.
-pub(crate) fn take_bytes<S: AnswersLines>(
+pub(crate) fn take_bytes<S: AnswersLines, D: Disk>(
     service: &mut S,
+    disk: &mut D,
     line: &mut Vec<u8>,
     block: &[u8],
     pending: &mut Pending,
@@ -62,14 +67,17 @@ pub(crate) fn take_bytes<S: AnswersLines>(
     ensures over { IfOk result (λ t. t.over ≡ S.is_over service.new) }
     ensures count { IfOk result
         (λ t. (t.count ≤ length block.now) × (t.over ≡ false → t.count ≡ length block.now)) }
-    ensures serves { (old : S) (before after : Written) (bytes : List ℕ)
-        → GoesOn S.is_answered old before after bytes service.old line.old.items pending.old
-        → MatchResult result (λ t. GoesOn S.is_answered old before after
-        (bytes ++ take t.count block.now) service.new line.new.items pending.new)
-        (λ _. Stops S.is_answered old before after (bytes ++ block.now) service.new) }
+    ensures serves { (old : Stand S) (before after : Written) (bytes : List ℕ)
+        → GoesOn (by_stand S.is_answered) old before after bytes
+        (stand service.old (D.holds disk.old)) line.old.items pending.old
+        → MatchResult result (λ t. GoesOn (by_stand S.is_answered) old before after
+        (bytes ++ take t.count block.now) (stand service.new (D.holds disk.new))
+        line.new.items pending.new)
+        (λ _. Stops (by_stand S.is_answered) old before after (bytes ++ block.now)
+        (stand service.new (D.holds disk.new))) }
 {
     for (i, byte) in block.iter().enumerate() {
-        match take_byte(service, line, *byte, pending) {
+        match take_byte(service, disk, line, *byte, pending) {
             Ok(false) => {}
             Ok(true) => {
                 return Ok(Taken {

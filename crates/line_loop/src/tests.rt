@@ -1,6 +1,7 @@
-//! A service that says the same to each line, until it has answered enough of them.
+//! A service that says the same to each line, and keeps a file while it does, until it has answered enough of them.
 
 use crate::{AnswersLines, Ending, LoopFault, Pending, Unread, serve_part};
+use disks::{Disk, MemoryDisk};
 use std::alloc::{AllocError, Global};
 use std::io::{self, ErrorKind, Write};
 
@@ -13,14 +14,20 @@ struct Same {
 impl AnswersLines for Same {
     ghost use Rattle.std.specs.Prelude.{◌≡◌, ◌∷◌, [], nat_le};
 
-    ghost is_answered = { λ old line said noted new.
+    ghost is_answered = { λ old was line said noted new is.
         (said ≡ 46 ∷ 10 ∷ []) × (noted ≡ 33 ∷ 10 ∷ []) };
 
     ghost is_over = { λ s. nat_le s.most s.answered };
 
     ghost by_start = { λ old new full said noted long a. a };
 
-    fn answer(&mut self, _line: &[u8], pending: &mut Pending) -> Result<(), AllocError> {
+    fn answer<D: Disk>(
+        &mut self,
+        disk: &mut D,
+        _line: &[u8],
+        pending: &mut Pending,
+    ) -> Result<(), AllocError> {
+        let _made = disk.create("seen");
         self.answered = self.answered.saturating_add(1);
         pending.answers.extend_from_slice(b".\n")?;
         pending.notes.extend_from_slice(b"!\n")
@@ -28,6 +35,13 @@ impl AnswersLines for Same {
 
     fn is_over(&self) -> bool {
         self.answered >= self.most
+    }
+}
+
+fn no_files(alloc: Global) -> MemoryDisk {
+    MemoryDisk {
+        alloc,
+        entries: Vec::new(alloc),
     }
 }
 
@@ -45,7 +59,7 @@ impl Write for Shut {
     }
 }
 
-// Two lines are answered; what has begun of the third is kept.
+// Two lines are answered, and the first of them made a file; what has begun of the third is kept.
 #[test]
 fn answers_each_line(rt: HostRuntime) {
     let alloc = rt.alloc();
@@ -55,12 +69,14 @@ fn answers_each_line(rt: HostRuntime) {
     };
     let mut journal = Some(Vec::new(alloc));
     let mut line = Vec::new(alloc);
+    let mut disk = no_files(alloc);
     let mut unread = Unread::none();
     let mut input: &[u8] = b"one\n\nthr";
     let mut out = Vec::new(alloc);
     let ended = serve_part(
         alloc,
         &mut service,
+        &mut disk,
         &mut journal,
         false,
         &mut line,
@@ -72,6 +88,7 @@ fn answers_each_line(rt: HostRuntime) {
     assert!(rt; service.answered == 2);
     assert!(rt; out.as_slice() == b".\n.\n".as_slice());
     assert!(rt; line.as_slice() == b"thr".as_slice());
+    assert!(rt; disk.entries.len() == 1 && disk.entries[0].name.as_str() == "seen");
     let Some(notes) = journal else {
         panic!(rt; "there is a journal");
     };
@@ -86,11 +103,13 @@ fn in_shut_journal(alloc: Global, lines: &[u8], out: &mut Vec<u8>) -> Result<End
     };
     let mut journal = Some(Shut);
     let mut line = Vec::new(alloc);
+    let mut disk = no_files(alloc);
     let mut unread = Unread::none();
     let mut input: &[u8] = lines;
     serve_part(
         alloc,
         &mut service,
+        &mut disk,
         &mut journal,
         false,
         &mut line,
@@ -110,12 +129,14 @@ fn ends_when_it_is_over(rt: HostRuntime) {
     };
     let mut journal: Option<Vec<u8>> = None;
     let mut line = Vec::new(alloc);
+    let mut disk = no_files(alloc);
     let mut unread = Unread::none();
     let mut input: &[u8] = b"1\n2\n3\n4\n";
     let mut out = Vec::new(alloc);
     let ended = serve_part(
         alloc,
         &mut service,
+        &mut disk,
         &mut journal,
         false,
         &mut line,
@@ -131,6 +152,7 @@ fn ends_when_it_is_over(rt: HostRuntime) {
     let ended = serve_part(
         alloc,
         &mut others,
+        &mut disk,
         &mut journal,
         true,
         &mut line,

@@ -16,6 +16,7 @@ use Rattle.lock_lines.specs.Asks.{seen}
 use Rattle.lock_lines.specs.declared.inputs.Input.{Input}
 use Rattle.lock_lines.specs.declared.inputs.Input.TheVariants as input
 use Rattle.line_loop.specs.Answering.{Answers as Answered}
+use Rattle.line_loop.specs.Stands.{Stand, by_stand, stand}
 use Rattle.lock_serve.specs.declared.service.LockService.{LockService}
 use Rattle.lock_serve.specs.declared.service.Terms.{Terms}
 use Rattle.lock_serve.specs.Asking.{one_ask, is_off, IsAnswerTo}
@@ -121,21 +122,25 @@ pub record AreNotedSo (terms : Terms) (rings : List Standing) (old : SegmentView
 -- ---- the service
 
 pub served_lines_are_answered : ServedLinesAreAnswered
-served_lines_are_answered old new lines said noted noting a = record { noting = noting; answers = go old.terms old lines said noted refl a }
+served_lines_are_answered old new was is lines said noted noting a = (record { noting = noting; answers = go old.terms (stand old was) lines said noted refl a }, kept (stand old was) lines said noted a)
   where
-    go : (terms : Terms) (now : LockService) (more : List (List ℕ)) (unsaid notes : List ℕ) → now.terms ≡ terms → Answered IsServed now more unsaid notes new → Answered (IsLineAnswered terms) now.segment more unsaid notes new.segment
-    go terms now [] unsaid notes e b = (b.0, b.1, ap (λ (s : LockService). s.segment) b.2)
+    go : (terms : Terms) (now : Stand LockService) (more : List (List ℕ)) (unsaid notes : List ℕ) → now.service.terms ≡ terms → Answered (by_stand IsServed) now more unsaid notes (stand new is) → Answered (IsLineAnswered terms) now.service.segment more unsaid notes new.segment
+    go terms now [] unsaid notes e b = (b.0, b.1, ap (λ (s : Stand LockService). s.service.segment) b.2)
     go terms now (line ∷ more) unsaid notes e b = (
-      b.0.segment,
+      b.0.service.segment,
       b.1,
       b.2,
       b.3,
       b.4,
-      subst (λ (t : Terms). IsLineAnswered t now.segment line b.1 b.3 b.0.segment) e b.5.answered,
+      subst (λ (t : Terms). IsLineAnswered t now.service.segment line b.1 b.3 b.0.service.segment) e b.5.answered,
       b.6,
       b.7,
       go terms b.0 more b.2 b.4 (b.5.terms ∙ e) b.8,
     )
+
+    kept : (now : Stand LockService) (more : List (List ℕ)) (unsaid notes : List ℕ) → Answered (by_stand IsServed) now more unsaid notes (stand new is) → is ≡ now.files
+    kept now [] unsaid notes b = ap (λ (s : Stand LockService). s.files) b.2
+    kept now (line ∷ more) unsaid notes b = kept b.0 more b.2 b.4 b.8 ∙ b.5.files
 
 pub answered_lines_follow : AnsweredLinesFollow
 answered_lines_follow terms old mid new lines more said noted unsaid notes a b = record { noting = a.noting; answers = go old lines said noted a.answers }

@@ -1,6 +1,7 @@
 -- Locks with which a segment begins, and lines that are answered from there (this project's own).
-use Rattle.std.specs.Prelude.{◌≡◌, ℕ, ◌<◌, ◌^◌, true, List, ◌++◌, slice_get, Some}
+use Rattle.std.specs.Prelude.{◌≡◌, ℕ, ◌<◌, ◌^◌, true, List, ◌++◌, slice_get, Option, Some}
 use Rattle.std.specs.List.{AllByRecursion}
+use Rattle.disks.specs.Held.{Held}
 use Rattle.ring_saved.specs.Spelling.{Fits}
 use Rattle.ring_journal.specs.Spelling.{head_text}
 use Rattle.ring_locks.specs.declared.answers.Waiter.{Waiter}
@@ -8,6 +9,7 @@ use Rattle.ring_locks.specs.Promises.{token_of}
 use Rattle.ring_locks.specs.Kept.{LockView, AreKept}
 use Rattle.ring_locks.specs.Opened.{open_in}
 use Rattle.line_loop.specs.Answering.{Answers}
+use Rattle.line_loop.specs.Stands.{by_stand, stand}
 use Rattle.lock_serve.specs.declared.service.LockService.{LockService}
 use Rattle.lock_serve.specs.Segments.{content_of}
 use Rattle.lock_serve.specs.declared.service.Terms.{Terms}
@@ -41,13 +43,15 @@ pub record AreAnswered (terms : Terms) (old : SegmentView) (lines : List (List �
   pub noting : terms.noting ≡ true
   pub answers : Answers (IsLineAnswered terms) old lines said noted new
 
--- ---- laws: lines that the service answers are answered so, and it may be stopped between lines
+-- ---- laws: lines that the service answers are answered so, and no file changes; and it may be
+-- stopped between lines
 
 abbrev pub ServedLinesAreAnswered : Type 0
 ServedLinesAreAnswered =
-    (old new : LockService) (lines : List (List ℕ)) (said noted : List ℕ)
-    → old.terms.noting ≡ true → Answers IsServed old lines said noted new
-    → AreAnswered old.terms old.segment lines said noted new.segment
+    (old new : LockService) (was is : Option Held) (lines : List (List ℕ)) (said noted : List ℕ)
+    → old.terms.noting ≡ true
+    → Answers (by_stand IsServed) (stand old was) lines said noted (stand new is)
+    → AreAnswered old.terms old.segment lines said noted new.segment × (is ≡ was)
 
 abbrev pub AnsweredLinesFollow : Type 0
 AnsweredLinesFollow =

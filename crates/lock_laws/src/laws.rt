@@ -4,8 +4,8 @@
 ghost use Rattle.lock_laws.specs.Begun.{ServedLinesAreAnswered, AnsweredLinesFollow};
 ghost use Rattle.lock_laws.specs.Recovered.{LocksComeBack, NothingToldIsLost, AddedLocksBegin, NextLocksBegin};
 
-/// Lines that the service answers are answered so, whether its segment is kept on or not; and lines that are answered in parts, one
-/// behind the other, are answered as a whole.
+/// Lines that the service answers are answered so, whether its segment is kept on or not, and no file changes; and lines that are
+/// answered in parts, one behind the other, are answered as a whole.
 pub fn answered_lines_follow()
     ensures served { ServedLinesAreAnswered }
     ensures follow { AnsweredLinesFollow }

@@ -7,3 +7,4 @@ pub mod Serving
 pub mod Starts
 pub mod Segmented
 pub mod Goes
+pub mod Knows

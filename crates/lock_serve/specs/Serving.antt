@@ -14,6 +14,7 @@ use Rattle.lock_lines.specs.Asks as lines
 use Rattle.lock_lines.specs.Asks.{seen}
 use Rattle.lock_lines.specs.Inputs.{IsReadAs}
 use Rattle.lock_lines.specs.Answers.{denial_line}
+use Rattle.disks.specs.Held.{Held}
 use Rattle.line_loop.specs.declared.pending.Pending.{Pending}
 use Rattle.lock_serve.specs.declared.service.LockService.{LockService}
 use Rattle.lock_serve.specs.Asking.{one_ask, is_off, IsAnswerTo}
@@ -94,11 +95,14 @@ stage_after stage.KeptOn past = stage.KeptOn
 stage_after stage.Open past = if past then stage.Due else stage.Open
 stage_after stage.Due past = if past then stage.Due else stage.Open
 
--- from one state of the service to another a line was answered, on the same terms
-pub record IsServed (old : LockService) (line said noted : List ℕ) (new : LockService) : Type 0 where
+-- from one state of the service to another a line was answered, on the same terms, and no file has
+-- changed
+pub record IsServed (old : LockService) (was : Option Held) (line said noted : List ℕ)
+    (new : LockService) (is : Option Held) : Type 0 where
   pub answered : IsLineAnswered old.terms old.segment line said noted new.segment
   pub terms : new.terms ≡ old.terms
   pub stage : new.stage ≡ stage_after old.stage (is_past old.terms new.segment)
+  pub files : is ≡ was
 
 -- what is pending has grown by an answer and its notes
 abbrev pub IsAdded : Pending → Pending → List ℕ → List ℕ → Type 0

@@ -1,13 +1,15 @@
 -- A line that is too long is answered as its start is.
 use Rattle.line_loop.specs.Answering.{cut, IsByStart}
+use Rattle.line_loop.specs.Stands.{by_stand}
 use Rattle.lock_lines.proofs.Whole.{long_reads}
 use Rattle.lock_serve.specs.Serving.{IsServed}
 
-pub by_start : IsByStart IsServed
+pub by_start : IsByStart (by_stand IsServed)
 unfolding cut
 by_start old new full said noted long a =
     let i = a.answered in record {
       answered = (i.0, long_reads full i.0 long i.1, i.2);
       terms = a.terms;
       stage = a.stage;
+      files = a.files;
     }

@@ -4,6 +4,7 @@ ghost use Rattle.std.specs.Prelude.{◌≡◌, ◌++◌, ℕ, List, OnOk, OnErr}
 ghost use Rattle.lock_serve.specs.Serving.{IsServed};
 
 use crate::service::{LockService, Stage, answer};
+use disks::Disk;
 use line_loop::{AnswersLines, Pending};
 use lock_lines::read_input;
 use std::alloc::AllocError;
@@ -19,16 +20,22 @@ impl AnswersLines for LockService {
 
     ghost by_start = { by_start };
 
-    /// The line is answered in any case: only to tell of it memory may be wanted.
-    fn answer(&mut self, line: &[u8], pending: &mut Pending) -> Result<(), AllocError>
+    /// The line is answered in any case: only to tell of it memory may be wanted. The disk is not used.
+    fn answer<D: Disk>(
+        &mut self,
+        disk: &mut D,
+        line: &[u8],
+        pending: &mut Pending,
+    ) -> Result<(), AllocError>
         ensures ok { OnOk result ((said : List ℕ)
             × (noted : List ℕ)
-            × IsServed self.old line.now said noted self.new
+            × IsServed self.old (D.holds disk.old) line.now said noted self.new (D.holds disk.new)
             × (pending.new.answers.items ≡ pending.old.answers.items ++ said)
             × (pending.new.notes.items ≡ pending.old.notes.items ++ noted)) }
         ensures err { OnErr result ((said : List ℕ)
             × (noted : List ℕ)
-            × IsServed self.old line.now said noted self.new) }
+            × IsServed self.old (D.holds disk.old) line.now said noted self.new
+            (D.holds disk.new)) }
     {
         let input = read_input(line);
         answer(self, input, pending)

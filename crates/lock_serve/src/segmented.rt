@@ -11,9 +11,12 @@ use std::alloc::Global;
 impl Segmented for LockService {
     ghost use Rattle.std.specs.Prelude.{◌≡◌, false};
     ghost use Rattle.lock_serve.specs.Segmented.{segmenting};
+    ghost use Rattle.lock_serve.specs.Knows.{knows};
     ghost use Rattle.lock_serve.specs.Goes.{goes};
 
     ghost segmenting = { segmenting };
+
+    ghost knows = { knows };
 
     ghost goes = { goes };
 

@@ -3,6 +3,7 @@
 ghost use Rattle.ring_locks.specs.Kept.{IsKeptRing};
 
 use crate::{LockService, Terms};
+use disks::MemoryDisk;
 use line_loop::{AnswersLines, Ending, Pending, Unread, serve_part};
 use ring_book::Till;
 use ring_chains::Base;
@@ -40,6 +41,13 @@ fn two_locks(rt: &impl Abort, alloc: Global, faults: bool, limit: Option<u64>) -
     }
 }
 
+fn no_files(alloc: Global) -> MemoryDisk {
+    MemoryDisk {
+        alloc,
+        entries: Vec::new(alloc),
+    }
+}
+
 /// Serves these lines up to this end. They are answered so, with these notes.
 fn serves(
     rt: &impl Abort,
@@ -51,6 +59,7 @@ fn serves(
     said: &[u8],
     noted: &[u8],
 ) {
+    let mut disk = no_files(alloc);
     let mut journal = Some(Vec::new(alloc));
     let mut line = Vec::new(alloc);
     let mut input: &[u8] = lines;
@@ -59,6 +68,7 @@ fn serves(
     let ended = serve_part(
         alloc,
         service,
+        &mut disk,
         &mut journal,
         false,
         &mut line,
@@ -307,6 +317,7 @@ const ROWS: [(&str, &str); 48] = [
 fn answers_as_worked_out(rt: HostRuntime) {
     let alloc = rt.alloc();
     let mut service = two_locks(&rt, alloc, true, None);
+    let mut disk = no_files(alloc);
     let mut pending = Pending {
         answers: Vec::new(alloc),
         notes: Vec::new(alloc),
@@ -314,7 +325,11 @@ fn answers_as_worked_out(rt: HostRuntime) {
     for (line, said) in ROWS {
         pending.answers.clear();
         assert!(rt; !service.is_over());
-        assert!(rt; service.answer(line.as_bytes(), &mut pending).is_ok());
+        assert!(rt;
+            service
+                .answer(&mut disk, line.as_bytes(), &mut pending)
+                .is_ok()
+        );
         assert!(rt; pending.answers.as_slice() == said.as_bytes());
     }
 }

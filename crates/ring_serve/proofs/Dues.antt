@@ -1,10 +1,9 @@
 -- The lines of segments, counted; and whether a segment is due after a line.
-use Rattle.std.proofs.Common.{◌≡◌, ℕ, zero, suc, ◌+◌, ◌-◌, ◌^◌, ◌<◌, ◌≤◌, Bool, true, false, cond, ◌||◌, List, [], ◌∷◌, ◌++◌, length, map, min, Option, None, Some, slice_get, slice_set, get_or, set, refl, sym, ap, subst, ◌∙◌, ◌⊎◌, inl, inr, arith, length-append, nat_le}
-use Rattle.std.specs.Prelude.{is_some}
-use Rattle.std.specs.List.{sum_by, AllByRecursion}
+use Rattle.std.proofs.Common.{◌≡◌, ℕ, zero, suc, ◌+◌, ◌<◌, ◌≤◌, Bool, true, false, cond, ◌||◌, List, [], ◌∷◌, ◌++◌, length, map, min, Option, None, Some, slice_get, slice_set, get_or, set, refl, sym, ap, subst, ◌∙◌, ◌⊎◌, inl, inr, arith, length-append, nat_le}
+use Rattle.std.specs.List.{AllByRecursion}
 use Rattle.std.proofs.Math.Nat.{min-eq_left, min-eq_right}
 use Rattle.std.proofs.lemmas.List.Sums.{sum_by-cons, sum_by-append, sum_by-set, sum_by_push}
-use Rattle.std.proofs.lemmas.Bool.{cases_lt, cases_Bool, le-leb, or_parts, or_from}
+use Rattle.std.proofs.lemmas.Bool.{cases_lt, le-leb, or_parts}
 use Rattle.ring_model.specs.declared.events.Event.{Event}
 use Rattle.ring_model.specs.declared.events.Entry.{Entry}
 use Rattle.ring_model.specs.declared.events.Entry.TheVariants as entry
@@ -19,13 +18,10 @@ use Rattle.ring_serve.specs.Standings.{Standing, standing_of, with_events, with_
 use Rattle.ring_serve.specs.Saved.{IsRight}
 use Rattle.ring_serve.specs.Totals.{surveys_among}
 use Rattle.ring_serve.specs.Due.{lines_in, lines_of, is_short, has_short, is_due, is_short_at, is_due_at, lines_recorded}
-use Rattle.ring_serve.specs.Counted.{AreCounted}
-use Rattle.ring_serve.specs.declared.answers.Refusal.{Refusal}
-use Rattle.ring_serve.specs.declared.answers.Refusal.TheVariants as refusal
 use Rattle.ring_serve.specs.declared.turns.CallAnswer.{CallAnswer}
-use Rattle.ring_serve.specs.Turns.{Turn, RingTrace, refused, turn_of, turn_among, turn_at, turn_seen_among, recorded_among, IsTurn}
+use Rattle.ring_serve.specs.Turns.{Turn, turn_of, turn_among, turn_at, turn_seen_among, recorded_among, IsTurn}
 use Rattle.ring_serve.proofs.Legality.{all_right}
-use Rattle.ring_serve.proofs.Effects.{EffectAmong, Changed, Grew, Looked, call_effect}
+use Rattle.ring_serve.proofs.Effects.{EffectAmong, Grew, Looked, call_effect}
 
 -- ---- numbers that are counted up to a most
 

@@ -5,11 +5,12 @@ use Rattle.std.specs.List.{AllByRecursion}
 use Rattle.std.specs.Io.KnownBytes.{Appends}
 use Rattle.disks.specs.Held.{Held}
 use Rattle.ring_journal.specs.Spelling.{head_text}
+use Rattle.line_loop.specs.Loop.{Written}
 use Rattle.ring_serve.specs.declared.serving.Journal.{Journal}
 use Rattle.ring_serve.specs.Permits.{Terms}
 use Rattle.ring_serve.specs.Standings.{Standing}
 use Rattle.ring_serve.specs.Saved.{IsRight, content_of}
-use Rattle.ring_serve.specs.Serving.{Written, held_by, named_by, Stops, ServesSome}
+use Rattle.ring_serve.specs.Serving.{held_by, named_by, Stops, ServesSome}
 use Rattle.ring_serve.specs.Recovered.{KeepsAnswers, AnsweredCallsAreRecovered}
 use Rattle.ring_serve.proofs.Recovering.{answers_are_recovered}
 

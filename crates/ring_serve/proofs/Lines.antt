@@ -1,8 +1,9 @@
 -- The turn of a line.
 use Rattle.std.proofs.Common.{◌≡◌, ℕ, ◌<◌, ◌≤◌, Bool, true, false, List, length, Option, Some, None, Ok, sym, ap, ◌∙◌, inl, inr, arith, ◌⊎◌}
 use Rattle.std.proofs.lemmas.Bool.{cond-true, cond-false}
+use Rattle.line_parts.specs.Limits.{line_limit}
 use Rattle.ring_serve.specs.declared.commands.Command.{Command as Read}
-use Rattle.ring_serve.specs.Commands.{Command, IsLineOf, IsReadAs, seen, ring_of, line_limit}
+use Rattle.ring_serve.specs.Commands.{Command, IsLineOf, IsReadAs, seen, ring_of}
 use Rattle.ring_serve.specs.Standings.{Standing}
 use Rattle.ring_serve.specs.Turns.{Turn, refused, turn_of, is_off, heard_turn, IsHeardTurn, IsRightTurn, IsTurnOfLine, IsTurn, turn_seen_among}
 use Rattle.ring_serve.specs.declared.answers.Answer.TheVariants as answer

@@ -1,30 +1,28 @@
 -- No line is refused since a history is full, while no ring is short.
-use Rattle.std.proofs.Common.{◌≡◌, ◌≢◌, ℕ, zero, suc, ◌+◌, ◌-◌, ◌<◌, ◌≤◌, Bool, true, false, if◌then◌else◌, ◌&&◌, ◌==◌, not, nat_lt, nat_le, List, [], ◌∷◌, length, Option, Some, None, refl, sym, ap, subst, ◌∙◌, inl, inr, arith, slice_get}
+use Rattle.std.proofs.Common.{◌≡◌, ℕ, zero, suc, ◌+◌, ◌-◌, ◌<◌, ◌≤◌, Bool, true, false, if◌then◌else◌, ◌&&◌, ◌==◌, not, nat_lt, nat_le, List, [], ◌∷◌, length, Option, Some, None, refl, sym, ap, subst, inl, inr, arith, slice_get}
 use Rattle.std.specs.List.{AllByRecursion}
 use Rattle.std.proofs.lemmas.Bool.{or_parts, ltb-true, ltb-false, eqb-true, and_parts}
 use Rattle.ring_model.specs.Limits.{machine_limit, event_limit}
 use Rattle.ring_model.specs.Ring.{is_privileged}
 use Rattle.ring_model.specs.History.{State, reply}
 use Rattle.ring_model.specs.Resources.{till}
-use Rattle.ring_model.specs.declared.events.Op.{Op}
 use Rattle.ring_model.specs.declared.events.Op.TheVariants as op
 use Rattle.ring_model.specs.declared.events.Reply.{Reply}
 use Rattle.ring_model.specs.declared.events.Reply.TheVariants as reply_is
-use Rattle.ring_chains.specs.declared.bases.Base.{Base}
 use Rattle.ring_chains.specs.Bases.{shifted_reply}
 use Rattle.ring_desk.specs.Refusals.{Bounds, when, first_of, rise, first_without, unprivileged, seat_refusal, place_refusal, pass_refusal, corrupt_refusal, group_refusal}
 use Rattle.ring_desk.specs.declared.errors.CallError.{CallError}
 use Rattle.ring_desk.specs.declared.errors.CallError.TheVariants as call
 use Rattle.ring_desk.proofs.Groups.{rise_is, rises_few}
 use Rattle.ring_serve.specs.Commands.{Command, pass, try, group, corrupt, survey, glance, save, heard, ring_of}
-use Rattle.ring_serve.specs.Standings.{Standing, standing_of, state_of}
+use Rattle.ring_serve.specs.Standings.{Standing, state_of}
 use Rattle.ring_serve.specs.Saved.{IsRight}
 use Rattle.ring_serve.specs.Due.{is_short, has_short, NeverFull}
 use Rattle.ring_serve.specs.declared.answers.Answer.{Answer}
 use Rattle.ring_serve.specs.declared.answers.Answer.TheVariants as answer
 use Rattle.ring_serve.specs.declared.answers.Refusal.{Refusal}
 use Rattle.ring_serve.specs.declared.answers.Refusal.TheVariants as refusal
-use Rattle.ring_serve.specs.Turns.{Turn, refused, refusal_of, unless, answer_of, called, passed, waits, grouped, turn_at, turn_among, turn_of, is_off, heard_turn, IsTurnOfLine, bounds_now}
+use Rattle.ring_serve.specs.Turns.{Turn, refused, refusal_of, unless, answer_of, passed, waits, turn_at, turn_among, turn_of, is_off, heard_turn, bounds_now}
 use Rattle.ring_serve.proofs.Effects.{right_at}
 
 abbrev full : Answer

@@ -93,7 +93,3 @@ ring_of (corrupt ring seat machine value) = ring
 ring_of (survey ring seat) = ring
 ring_of (glance ring) = ring
 ring_of (save name) = 0
-
--- the most bytes of a line, with its LF: 8 KiB
-abbrev pub line_limit : ℕ
-line_limit = 8192

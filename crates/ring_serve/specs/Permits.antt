@@ -1,5 +1,5 @@
 -- What a line may do beside calling the rings (this project's own).
-use Rattle.std.specs.Prelude.{◌≡◌, ℕ, List, [], ◌∷◌, ◌++◌, Bool, false, ◌&&◌, ◌||◌, ◌==◌, nat_le, if◌then◌else◌, Option, None, Some}
+use Rattle.std.specs.Prelude.{◌≡◌, ℕ, List, [], ◌∷◌, ◌++◌, Bool, true, false, not, ◌&&◌, ◌||◌, ◌==◌, nat_le, if◌then◌else◌, Option, None, Some}
 use Rattle.std.specs.Option.{option_map, is_some}
 use Rattle.std.specs.List.{list_all}
 use Rattle.ring_serve.specs.declared.answers.Refusal.{Refusal}
@@ -54,6 +54,16 @@ terms_by rules = record {
 -- Lines are served on these terms: the segment is due exactly if they are refused.
 abbrev pub IsOpen : Terms → List Standing → Type 0
 IsOpen terms rings = is_due terms.limit rings ≡ is_some terms.refusing
+
+-- no line is answered any more on these terms: the segment is due, and lines are not refused
+abbrev pub is_shut : Terms → List Standing → Bool
+is_shut terms rings = is_due terms.limit rings && not (is_some terms.refusing)
+
+-- whether it is so is known, and lines are refused only while the segment is due
+abbrev pub IsTied : Terms → List Standing → Bool → Type 0
+IsTied terms rings shut =
+    (shut ≡ is_shut terms rings)
+    × (is_some terms.refusing ≡ true → is_due terms.limit rings ≡ true)
 
 -- ---- the files that a line may save in
 

@@ -11,13 +11,14 @@ use Rattle.ring_chains.specs.Bases.{is_quiet, shifted_reply, shifted_survey}
 use Rattle.ring_saved.specs.Spelling.{Fits}
 use Rattle.ring_journal.specs.Spelling.{head_text}
 use Rattle.ring_journal.specs.Recovery.{IsRecovered}
+use Rattle.line_loop.specs.Loop.{Written}
 use Rattle.ring_serve.specs.declared.answers.Answer.{Answer}
 use Rattle.ring_serve.specs.declared.answers.Answer.TheVariants as answer
 use Rattle.ring_serve.specs.Permits.{Terms}
 use Rattle.ring_serve.specs.Standings.{Standing, with_events, with_survey}
 use Rattle.ring_serve.specs.Saved.{IsRight, content_of}
 use Rattle.ring_serve.specs.Turns.{RingTrace, events, surveyed, answer_of}
-use Rattle.ring_serve.specs.Serving.{IsAnswered, Answers, Written, Stops}
+use Rattle.ring_serve.specs.Serving.{IsAnswered, Answers, Stops}
 
 abbrev pub IsPrefix : {A : Type 0} → List A → List A → Type 0
 IsPrefix {A} front whole = (more : List A) × (whole ≡ front ++ more)

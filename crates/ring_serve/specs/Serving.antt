@@ -1,40 +1,26 @@
 -- Lines that are served one after the other (this project's own).
-use Rattle.std.specs.Prelude.{◌≡◌, ◌≢◌, ℕ, ◌+◌, ◌-◌, ◌^◌, ◌≤◌, Bool, true, false, cond, List, [], ◌∷◌, ◌++◌, length, take, drop, Option, None, Some, IfSome, Result, MatchResult, ◌⊎◌}
+use Rattle.std.specs.Prelude.{◌≡◌, ℕ, ◌-◌, Bool, true, false, cond, List, [], ◌∷◌, ◌++◌, length, take, drop, Option, None, Some, IfSome, ◌⊎◌}
 use Rattle.std.specs.List.{AllByRecursion}
 use Rattle.std.specs.Option.{option_map, is_some}
 use Rattle.std.specs.Io.KnownBytes.{Appends, Consumes, IsAtEnd}
 use Rattle.text_lines.specs.Writing.{Wrote}
 use Rattle.disks.specs.Held.{Held, IsOneFile, Replaces}
+use Rattle.line_loop.specs.Answering.{IsLine, HasNoEnd, joined_lines}
+use Rattle.line_loop.specs.Loop.{Written}
 use Rattle.ring_saved.specs.Spelling.{text}
 use Rattle.ring_check.specs.Legal.{IsLegalText}
-use Rattle.ring_serve.specs.Commands.{line_limit}
 use Rattle.ring_serve.specs.Answers.{answer_line}
 use Rattle.ring_serve.specs.declared.answers.Answer.{Answer}
 use Rattle.ring_serve.specs.declared.answers.Answer.TheVariants as answer
 use Rattle.ring_serve.specs.declared.answers.Refusal.{Refusal}
 use Rattle.ring_serve.specs.declared.answers.Refusal.TheVariants as refusal
-use Rattle.ring_serve.specs.declared.serving.Pending.{Pending}
 use Rattle.ring_serve.specs.declared.serving.Journal.{Journal}
-use Rattle.ring_serve.specs.declared.serving.Ending.{Ending}
-use Rattle.ring_serve.specs.declared.serving.Ending.TheVariants as ending
-use Rattle.ring_serve.specs.declared.serving.ServeFault.{ServeFault}
-use Rattle.ring_serve.specs.declared.serving.ServeFault.TheVariants as fault
-use Rattle.ring_serve.specs.Due.{is_due, is_due_at}
+use Rattle.ring_serve.specs.Due.{is_due_at}
 use Rattle.ring_serve.specs.Permits.{Terms, IsOpen, is_plain, file_in}
 use Rattle.ring_serve.specs.Standings.{Standing}
 use Rattle.ring_serve.specs.Saved.{content_of}
 use Rattle.ring_serve.specs.Turns.{Turn, refused, IsTurnOfLine}
 use Rattle.ring_serve.specs.Notes.{notes_of}
-
--- a line has its LF at its end, and nowhere else
-abbrev pub IsLine : List ℕ → Type 0
-IsLine [] = ⊥
-IsLine (b ∷ []) = b ≡ 10
-IsLine (b ∷ c ∷ bs) = (b ≢ 10) × IsLine (c ∷ bs)
-
--- no line ends here
-abbrev pub HasNoEnd : List ℕ → Type 0
-HasNoEnd begun = AllByRecursion (λ b. b ≢ 10) begun
 
 -- the name in a line after the word `save`: the bytes up to its LF
 abbrev pub name_in : List ℕ → List ℕ
@@ -110,10 +96,6 @@ Answers terms old was (line ∷ lines) said noted new is =
     × (noted ≡ note ++ notes)
     × Answers terms mid between lines later notes new is
 
-abbrev pub joined_lines : List (List ℕ) → List ℕ
-joined_lines [] = []
-joined_lines (line ∷ lines) = line ++ joined_lines lines
-
 -- The lines of these bytes, up to where this rest begins, were answered with this text, and these
 -- are the notes.
 pub record AreAnswered (terms : Terms) (old : List Standing) (was : Option Held)
@@ -122,11 +104,6 @@ pub record AreAnswered (terms : Terms) (old : List Standing) (was : Option Held)
   pub split : bytes ≡ joined_lines lines ++ rest
   pub each : AllByRecursion IsLine lines
   pub answers : Answers terms old was lines said noted new is
-
--- the content of a journal and of an output, where it is known
-pub record Written : Type 0 where
-  pub journal : Option (List ℕ)
-  pub out : Option (List ℕ)
 
 -- what a journal holds; nothing is known of it where none is kept
 abbrev pub held_by : {J : Type 0} → (J → Option (List ℕ)) → Option (Journal J) → Option (List ℕ)
@@ -169,99 +146,11 @@ pub record Stops (terms : Terms) (old : List Standing) (was : Option Held) (befo
   pub wrote : Wrote before.out after.out said left
   pub wrote_notes : Appends before.journal after.journal (noted ++ front)
 
--- the kept part of a line that has begun: of one that is too long, one byte more than a line may
--- have
-unfoldable pub cut : List ℕ → List ℕ
-cut begun = take (line_limit + 1) begun
-
--- a line that has begun, and what is kept of it
-pub record HasBegun (begun line : List ℕ) : Type 0 where
-  pub partial : HasNoEnd begun
-  pub kept : line ≡ cut begun
-
--- All whole lines of the bytes were answered: some were delivered, and the answers and notes of the
--- others are pending. This is kept of the line that has begun.
-pub record GoesOn (terms : Terms) (old : List Standing) (was : Option Held) (before after : Written)
-    (bytes : List ℕ) (new : List Standing) (is : Option Held) (line : List ℕ) (pending : Pending) :
-    Type 0 where
-  pub mid : List Standing
-  pub between : Option Held
-  pub behind : List ℕ
-  pub begun : List ℕ
-  pub told : AreTold terms old was before after bytes behind mid between
-  pub untold : AreAnswered terms mid between behind begun pending.answers.items pending.notes.items
-      new is
-  pub partial : HasNoEnd begun
-  pub kept : line ≡ cut begun
-
--- it continues, or after an error it has stopped
-abbrev pub Serves : {A E : Type 0} → Result A E → Terms → List Standing → Option Held
-    → Written → Written → List ℕ → List Standing → Option Held → List ℕ → Pending → Type 0
-Serves result terms old was before after bytes new is line pending =
-    MatchResult result (λ _. GoesOn terms old was before after bytes new is line pending)
-    (λ _. Stops terms old was before after bytes new is)
-
--- All whole lines of the bytes were delivered, and this is kept of the line that has begun.
-pub record Rests (terms : Terms) (old : List Standing) (was : Option Held) (before after : Written)
-    (bytes : List ℕ) (new : List Standing) (is : Option Held) (line : List ℕ) : Type 0 where
-  pub begun : List ℕ
-  pub told : AreTold terms old was before after bytes begun new is
-  pub partial : HasNoEnd begun
-  pub kept : line ≡ cut begun
-
--- all answered lines are delivered, or after an error it has stopped
-abbrev pub Tells : {E : Type 0} → Result (Unit {0}) E → Terms → List Standing → Option Held
-    → Written → Written → List ℕ → List Standing → Option Held → List ℕ → Type 0
-Tells result terms old was before after bytes new is line =
-    MatchResult result (λ _. Rests terms old was before after bytes new is line)
-    (λ _. Stops terms old was before after bytes new is)
-
--- Whether the segment is over after a line: it is if it is due and lines are not refused; if not, it
--- goes on.
-abbrev pub IsOver : Bool → Terms → List Standing → Type 0
-IsOver true terms rings = (is_due terms.limit rings ≡ true) × (terms.refusing ≡ None)
-IsOver false terms rings = IsOpen terms rings
-
--- the same as the code sees it, after a line that called the ring of this number
+-- whether no line is answered any more, as the code sees it after a line that called the ring of
+-- this number
 abbrev pub is_over_at : Option Refusal → Option ℕ → List Standing → ℕ → Bool
 is_over_at None limit rings ring = is_due_at limit rings ring
 is_over_at (Some why) limit rings ring = false
-
--- Some bytes of a block were taken, up to the line after which the segment is over, or all of them;
--- and served as one says.
-abbrev pub IsTaken : Bool → List ℕ → List ℕ → (List ℕ → Type 0) → Type 0
-IsTaken over unread left serves =
-    (taken : List ℕ) × (unread ≡ taken ++ left) × (over ≡ false → left ≡ []) × serves taken
-
--- A part whose lines are all refused has read a block, unless it ended with the input.
-abbrev pub HasRead : Ending → Terms → List ℕ → Type 0
-HasRead ending.End terms read = Unit {0}
-HasRead ending.Due terms read = IfSome terms.refusing (λ _. 1 ≤ length read)
-
--- A part of the input was served, from the line that had begun and the rest of a block on. All
--- answers to its lines have left, and this is the rest.
-pub record ServesPart (end : Ending) (terms : Terms) (old new : List Standing)
-    (was is : Option Held) (begun unread left line : List ℕ) (input rest : Option (List ℕ))
-    (before after : Written) : Type 0 where
-  pub read : List ℕ
-  pub taken : List ℕ
-  pub consumed : Consumes input rest read
-  pub split : unread ++ read ≡ taken ++ left
-  pub rests : Rests terms old was before after (begun ++ taken) new is line
-  pub reads : HasRead end terms read
-
--- Why it ended: the input has, or the segment is due.
-abbrev pub IsEnding : Ending → Terms → List Standing → List ℕ → Option (List ℕ) → Type 0
-IsEnding ending.End terms rings left rest = (left ≡ []) × IsAtEnd rest
-IsEnding ending.Due terms rings left rest = is_due terms.limit rings ≡ true
-
--- Of such a part some lines were answered.
-abbrev pub ServesSomeOf : Terms → List Standing → List Standing → Option Held → Option Held → List ℕ
-    → List ℕ → Option (List ℕ) → Option (List ℕ) → Written → Written → Type 0
-ServesSomeOf terms old new was is begun unread input rest before after =
-    (read : List ℕ)
-    × Consumes input rest read
-    × Stops terms old was before after (begun ++ (unread ++ read)) new is
 
 -- The whole input was served: each whole line of it was delivered, and no line ended after those.
 pub record ServesAll (terms : Terms) (old new : List Standing) (was is : Option Held)
@@ -278,9 +167,3 @@ abbrev pub ServesSome : Terms → List Standing → List Standing → Option Hel
     → Option (List ℕ) → Option (List ℕ) → Written → Written → Type 0
 ServesSome terms old new was is unread rest before after =
     (bytes : List ℕ) × Consumes unread rest bytes × Stops terms old was before after bytes new is
-
--- only of an input of so many bytes it is said that it is too long
-abbrev pub IsFaultOf : ServeFault → Option (List ℕ) → Option (List ℕ) → Type 0
-IsFaultOf fault.TooLong unread rest =
-    (bytes : List ℕ) × Consumes unread rest bytes × (2 ^ 64 - 1 ≤ length bytes)
-IsFaultOf _ unread rest = Unit {0}

@@ -13,7 +13,8 @@ use Rattle.ring_chains.specs.Bases.{shifted_reply}
 use Rattle.ring_desk.specs.Refusals.{Bounds, seat_refusal, place_refusal, pass_refusal, corrupt_refusal, group_refusal}
 use Rattle.ring_desk.specs.declared.errors.CallError.{CallError}
 use Rattle.ring_desk.specs.declared.errors.CallError.TheVariants as call
-use Rattle.ring_serve.specs.Commands.{Command, pass, try, group, corrupt, survey, glance, save, IsLineOf, heard, ring_of, line_limit}
+use Rattle.line_parts.specs.Limits.{line_limit}
+use Rattle.ring_serve.specs.Commands.{Command, pass, try, group, corrupt, survey, glance, save, IsLineOf, heard, ring_of}
 use Rattle.ring_serve.specs.Standings.{Standing, state_of, event_now, block_now, survey_now, shifted_survey_now, with_events, with_survey}
 use Rattle.ring_serve.specs.declared.turns.CallAnswer.{CallAnswer}
 use Rattle.ring_serve.specs.declared.turns.Trace.{Trace}

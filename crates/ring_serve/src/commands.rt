@@ -10,9 +10,6 @@ use line_parts::{decimal, place, places};
 use std::alloc::Global;
 use text_lines::{Fault, Stop, nothing_more, word};
 
-/// The most bytes of a line, with its LF.
-pub const LINE_LIMIT: usize = 8192;
-
 /// A command, by its numbers.
 #[derive(Drop)]
 pub enum Command {

@@ -11,9 +11,10 @@ ghost use Rattle.ring_serve.specs.Counted.{AreCounted};
 ghost use Rattle.ring_serve.specs.Turns.{IsTurn, is_off, IsHeardTurn, IsTurnOfLine, recorded_among, turn_seen_among, history_of};
 
 use crate::answers::Refusal;
-use crate::commands::{Command, LINE_LIMIT, read_command};
+use crate::commands::{Command, read_command};
 use crate::totals::surveys_of;
 use crate::turns::{CallAnswer, Trace, make, refusal_answer};
+use line_parts::LINE_LIMIT;
 use ring_endless::EndlessRing;
 use ring_model::Event;
 use ring_model::limits::{EVENT_LIMIT, MACHINE_LIMIT};

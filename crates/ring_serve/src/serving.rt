@@ -1,49 +1,34 @@
-//! Lines that are served one after the other, over any reader and any writers.
-//!
-//! The answers to the lines of a block, and their part for the journal, are kept until the block has been read. Then the
-//! journal gets its part, and is flushed; only after that do the answers leave.
+//! Lines that are served: how each is answered, with files and with notes for a journal, and all those of a reader.
 
-ghost use Rattle.std.specs.Prelude.{◌≡◌, ◌≢◌, ◌≤◌, ℕ, List, Option, Bool, [], ◌∷◌, ◌++◌, length, take, drop, false, OnOk, OnErr, IfOk, IfErr, MatchResult, None, Some, is_some, cond, IsTrue, IsFalse};
+ghost use Rattle.std.specs.Prelude.{◌≡◌, ℕ, List, Option, [], ◌++◌, false, OnOk, OnErr, IfErr, Some, IsFalse, cond, is_some};
+ghost use Rattle.std.specs.List.{AllByRecursion};
 ghost use Rattle.std.specs.Option.{option_map};
-ghost use Rattle.disks.specs.Held.{Held};
-ghost use Rattle.std.specs.Io.KnownBytes.{Appends, Consumes, IsAtEnd, Keeps};
-ghost use Rattle.text_lines.specs.Writing.{Writes, Wrote};
+ghost use Rattle.text_lines.specs.Writing.{Writes};
+ghost use Rattle.line_loop.specs.Loop.{IsFaultOf, held_by as written_by};
 ghost use Rattle.ring_serve.specs.declared.answers.Answer.TheVariants as answer;
 ghost use Rattle.ring_serve.specs.declared.answers.Refusal.TheVariants as refusal;
-ghost use Rattle.ring_serve.specs.declared.serving.ServeFault.TheVariants as fault;
 ghost use Rattle.ring_serve.specs.Answers.{answer_line};
-ghost use Rattle.ring_serve.specs.Standings.{Standing};
 ghost use Rattle.ring_serve.specs.Due.{is_due, is_due_at};
-ghost use Rattle.ring_serve.specs.Permits.{Terms, terms_of, terms_in, terms_by, IsOpen, file_in};
+ghost use Rattle.ring_serve.specs.Saved.{IsRight};
+ghost use Rattle.ring_serve.specs.Permits.{terms_of, terms_in, terms_by, IsOpen, IsTied, file_in};
 ghost use Rattle.ring_serve.specs.Turns.{recorded_among, turn_seen_among};
 ghost use Rattle.ring_serve.specs.Notes.{notes_of};
-ghost use Rattle.ring_serve.specs.Serving.{cut, name_in, IsSaved, IsSaveGiven, IsGiven, IsTurnOn, IsAnswered, IsNoJournal, Written, GoesOn, Serves, Rests, Stops, Tells, HasBegun, IsOver, is_over_at, IsTaken, ServesPart, IsEnding, ServesSomeOf, held_by, named_by, IsFaultOf, ServesAll, ServesSome};
+ghost use Rattle.ring_serve.specs.Recovered.{AnsweredCallsAreRecovered};
+ghost use Rattle.ring_serve.specs.Serving.{name_in, IsSaved, IsSaveGiven, IsGiven, IsTurnOn, IsAnswered, IsNoJournal, is_over_at, held_by, named_by, ServesAll, ServesSome};
 
 use crate::answers::{Answer, Refusal};
-use crate::commands::LINE_LIMIT;
 use crate::permits::{Permits, file_in, is_plain};
 use crate::saving::save_rings;
 use crate::served::{LineAnswer, Served, answer_line, no_call};
+use crate::service::RingService;
 use crate::turns::Trace;
 use disks::Disk;
+use line_loop::{LoopFault, Pending, Unread, serve_part};
 use ring_blocks::{put_events, put_survey};
 use std::alloc::{AllocError, Global};
-use std::io::Write;
-use text_lines::{WriteFault, put};
-
-/// Why the lines are not served to their end.
-#[derive(Clone, Copy, Debug, PartialEq, Eq)]
-pub enum ServeFault {
-    /// A read failed.
-    Read,
-    /// The journal could not be written.
-    Journal,
-    /// The output could not be written.
-    Write,
-    OutOfMemory,
-    /// The input goes on behind 2 to the power 64 less 1 blocks, more than are counted.
-    TooLong,
-}
+use std::io::{Read, Write};
+use std::mem;
+use text_lines::WriteFault;
 
 /// A journal that is kept: the name of its file, and the writer of its lines.
 #[derive(Drop)]
@@ -61,21 +46,12 @@ pub struct Ends {
     pub refusing: Option<Refusal>,
 }
 
-/// Why a part of the lines ended.
-#[derive(Clone, Copy, Debug, PartialEq, Eq)]
-pub enum Ending {
-    /// The input has ended.
-    End,
-    /// The segment is due.
-    Due,
-}
-
 /// The rules by which lines are served: the name of the journal's file, if one is kept, and what is permitted; after how many
 /// lines a segment is due, if segments end; and the refusal of each line, if all are refused.
 #[derive(Clone, Copy)]
-pub(crate) struct Rules<'n> {
-    pub(crate) journal: Option<&'n str>,
-    pub(crate) permits: Permits<'n>,
+pub struct Rules<'j, 'p> {
+    pub(crate) journal: Option<&'j str>,
+    pub(crate) permits: Permits<'p>,
     pub(crate) limit: Option<u64>,
     pub(crate) refusing: Option<Refusal>,
 }
@@ -88,13 +64,6 @@ pub(crate) fn file_of<'n, J>(journal: &Option<Journal<'n, J>>) -> Option<&'n str
         None => None,
         Some(journal) => Some(journal.name),
     }
-}
-
-/// The answers to lines, and the journal's part of them, until both leave.
-#[derive(Drop)]
-pub struct Pending {
-    pub(crate) answers: Vec<u8>,
-    pub(crate) notes: Vec<u8>,
 }
 
 /// Writes the lines of a turn's record.
@@ -160,7 +129,7 @@ fn save<D: Disk>(
     alloc: Global,
     served: &Served,
     disk: &mut D,
-    rules: Rules<'_>,
+    rules: Rules<'_, '_>,
     name: &[u8],
 ) -> Answer
     ensures { IsSaveGiven (terms_by rules.entry).journal (terms_by rules.entry).saves
@@ -184,7 +153,7 @@ fn give<D: Disk>(
     alloc: Global,
     served: &Served,
     disk: &mut D,
-    rules: Rules<'_>,
+    rules: Rules<'_, '_>,
     line: &[u8],
     asked: Answer,
 ) -> Answer
@@ -223,7 +192,7 @@ fn add_pending(
 }
 
 /// The turn of a line, which every line has by its refusal if all are refused.
-fn turn_on(alloc: Global, served: &mut Served, rules: Rules<'_>, line: &[u8]) -> LineAnswer
+fn turn_on(alloc: Global, served: &mut Served, rules: Rules<'_, '_>, line: &[u8]) -> LineAnswer
     ensures turn { IsTurnOn rules.entry.refusing rules.entry.permits.faults served.old line.now
         (turn_seen_among result.ring served.new result.call) }
     ensures due { (limit : ℕ) → is_due (Some limit) served.old ≡ false
@@ -236,7 +205,7 @@ fn turn_on(alloc: Global, served: &mut Served, rules: Rules<'_>, line: &[u8]) ->
 }
 
 /// Whether the segment is over after a line that called this ring, if it was not before that.
-fn is_over(served: &Served, rules: Rules<'_>, ring: u32) -> bool
+fn is_over(served: &Served, rules: Rules<'_, '_>, ring: u32) -> bool
     ensures { result ≡ is_over_at rules.entry.refusing rules.entry.limit served.now ring }
 {
     match (rules.refusing, rules.limit) {
@@ -245,17 +214,23 @@ fn is_over(served: &Served, rules: Rules<'_>, ring: u32) -> bool
     }
 }
 
-/// Answers a line: its answer and its notes are pending then. Says whether the segment is over.
-fn answer<D: Disk>(
+/// Answers a line, which has its LF, by these rules: its answer and its notes are pending then, and `shut` says whether no line is
+/// answered by them any more.
+///
+/// # Errors
+///
+/// Out of memory, where there was none for the answer or the notes: the line is answered.
+pub fn answer_by<D: Disk>(
     alloc: Global,
     served: &mut Served,
     disk: &mut D,
-    rules: Rules<'_>,
+    rules: Rules<'_, '_>,
     line: &[u8],
+    shut: &mut bool,
     pending: &mut Pending,
-) -> Result<bool, AllocError>
+) -> Result<(), AllocError>
     requires { IsOpen (terms_by rules) served.old }
-    ensures over { IfOk result (λ over. IsOver over (terms_by rules.entry) served.new) }
+    ensures tied { IsTied (terms_by rules.entry) served.new shut.new }
     ensures answered { (said : List ℕ)
         × (noted : List ℕ)
         × IsAnswered (terms_by rules.entry) served.old (D.holds disk.old) line.now said noted
@@ -265,154 +240,130 @@ fn answer<D: Disk>(
 {
     let turn = turn_on(alloc, served, rules, line);
     let given = give(alloc, served, disk, rules, line, turn.call.answer);
-    match add_pending(served, turn, given, rules.journal.is_some(), pending) {
-        Ok(()) => Ok(is_over(served, rules, turn.ring)),
-        Err(fault) => Err(fault),
-    }
+    *shut = is_over(served, rules, turn.ring);
+    add_pending(served, turn, given, rules.journal.is_some(), pending)
 }
 
-/// Keeps a byte of a line, unless the line is too long already.
-fn keep(line: &mut Vec<u8>, byte: u8) -> Result<(), AllocError>
-    ensures { OnOk result ((begun : List ℕ) → line.old.items ≡ cut begun
-        → line.new.items ≡ cut (begun ++ byte ∷ [])) }
+/// The rules by which lines are served with a journal of this name, if one is kept, and in a segment that ends so, if segments do.
+pub fn rules_in<'j, 'p>(
+    journal: Option<&'j str>,
+    permits: Permits<'p>,
+    ends: Option<Ends>,
+) -> Rules<'j, 'p>
+    ensures { terms_by result
+        ≡ terms_in (option_map (λ name. name.now) journal.entry) permits.entry ends }
 {
-    if line.len() > LINE_LIMIT {
-        return Ok(());
+    match ends {
+        None => Rules {
+            journal,
+            permits,
+            limit: None,
+            refusing: None,
+        },
+        Some(ends) => Rules {
+            journal,
+            permits,
+            limit: Some(ends.limit),
+            refusing: ends.refusing,
+        },
     }
-    line.push(byte)?;
-    Ok(())
 }
 
-/// Takes a byte more: it is kept, or ends a line, which is answered. Says whether the segment is over.
-fn take_byte<D: Disk>(
-    alloc: Global,
-    served: &mut Served,
-    disk: &mut D,
-    rules: Rules<'_>,
-    line: &mut Vec<u8>,
-    byte: u8,
-    pending: &mut Pending,
-) -> Result<bool, AllocError>
-    requires { IsOpen (terms_by rules) served.old }
-    ensures over { IfOk result (λ over. IsOver over (terms_by rules.entry) served.new) }
-    ensures serves { (old : List Standing) (was : Option Held) (before after : Written)
-        (bytes : List ℕ)
-        → GoesOn (terms_by rules.entry) old was before after bytes served.old (D.holds disk.old)
-        line.old.items pending.old
-        → Serves result (terms_by rules.entry) old was before after (bytes ++ byte ∷ []) served.new
-        (D.holds disk.new) line.new.items pending.new }
-{
-    keep(line, byte)?;
-    if byte != b'\n' {
-        return Ok(false);
-    }
-    let over = answer(alloc, served, disk, rules, line.as_slice(), pending)?;
-    line.clear();
-    Ok(over)
-}
-
-/// How far a block was taken: how many of its bytes, and whether the segment is over after them.
-#[derive(Clone, Copy)]
-pub(crate) struct Taken {
-    pub(crate) count: usize,
-    pub(crate) over: bool,
-}
-
-/// Takes the bytes of a block, one after the other, up to the line after which the segment is over, if there is one.
-pub(crate) fn take_bytes<D: Disk>(
-    alloc: Global,
-    served: &mut Served,
-    disk: &mut D,
-    rules: Rules<'_>,
-    line: &mut Vec<u8>,
-    block: &[u8],
-    pending: &mut Pending,
-) -> Result<Taken, AllocError>
-    requires { IsOpen (terms_by rules) served.old }
-    ensures over { IfOk result (λ t. IsOver t.over (terms_by rules.entry) served.new) }
-    ensures count { IfOk result
-        (λ t. (t.count ≤ length block.now) × (t.over ≡ false → t.count ≡ length block.now)) }
-    ensures serves { (old : List Standing) (was : Option Held) (before after : Written)
-        (bytes : List ℕ)
-        → GoesOn (terms_by rules.entry) old was before after bytes served.old (D.holds disk.old)
-        line.old.items pending.old
-        → MatchResult result (λ t. GoesOn (terms_by rules.entry) old was before after
-        (bytes ++ take t.count block.now) served.new (D.holds disk.new) line.new.items pending.new)
-        (λ _. Stops (terms_by rules.entry) old was before after (bytes ++ block.now) served.new
-        (D.holds disk.new)) }
-{
-    for (i, byte) in block.iter().enumerate() {
-        match take_byte(alloc, served, disk, rules, line, *byte, pending) {
-            Ok(false) => {}
-            Ok(true) => {
-                return Ok(Taken {
-                    count: i + 1,
-                    over: true,
-                });
-            }
-            Err(fault) => return Err(fault),
-        }
-    }
-    Ok(Taken {
-        count: block.len(),
-        over: false,
-    })
-}
-
-/// Writes all of these bytes and flushes the writer, if there is one at least, and says whether it could.
-fn put_out<W: Write>(out: &mut W, bytes: &[u8]) -> bool
-    ensures all { IsTrue result → Appends (W.contents out.old) (W.contents out.new) bytes.now }
-    ensures part { (left : List ℕ)
-        × Wrote (W.contents out.old) (W.contents out.new) bytes.now left }
-{
-    if bytes.is_empty() {
-        return true;
-    }
-    let Ok(()) = put(out, bytes) else {
-        return false;
-    };
-    out.flush().is_ok()
-}
-
-/// Writes all of these bytes to the journal, if there is one, and says whether it could.
-fn put_notes<J: Write>(journal: &mut Option<Journal<'_, J>>, bytes: &[u8]) -> bool
-    ensures all { IsTrue result
-        → Appends (held_by J.contents journal.old) (held_by J.contents journal.new) bytes.now }
-    ensures part { (left : List ℕ)
-        × Wrote (held_by J.contents journal.old) (held_by J.contents journal.new) bytes.now left }
-    ensures kept { named_by journal.new ≡ named_by journal.old }
+/// The writer of a journal, if one is kept.
+fn writer_of<J: Drop>(journal: Option<Journal<'_, J>>) -> Option<J>
+    ensures held { (contents : J → Option (List ℕ))
+        → written_by contents result ≡ held_by contents journal.entry }
+    ensures some { is_some result ≡ is_some (named_by journal.entry) }
 {
     match journal {
-        None => true,
-        Some(journal) => put_out(&mut journal.writer, bytes),
+        None => None,
+        Some(journal) => Some(journal.writer),
     }
 }
 
-/// Writes the pending bytes: the journal's part first.
-pub(crate) fn put_pending<J: Write, W: Write>(
-    pending: &mut Pending,
-    journal: &mut Option<Journal<'_, J>>,
-    out: &mut W,
-) -> Result<(), ServeFault>
-    ensures known { IfErr result (λ e. e ≢ fault.TooLong) }
-    ensures kept { named_by journal.new ≡ named_by journal.old }
-    ensures left { OnOk result ((pending.new.answers.items ≡ []) × (pending.new.notes.items ≡ [])) }
-    ensures told { (terms : Terms) (old new : List Standing) (was is : Option Held)
-        (before : Written) (bytes line : List ℕ)
-        → GoesOn terms old was before
-        (record { journal = held_by J.contents journal.old; out = W.contents out.old })
-        bytes new is line pending.old
-        → Tells result terms old was before
-        (record { journal = held_by J.contents journal.new; out = W.contents out.new })
-        bytes new is line }
+/// The journal of this name with this writer, if one is kept.
+fn journal_of<'n, J: Drop>(name: Option<&'n str>, writer: Option<J>) -> Option<Journal<'n, J>>
+    requires { is_some writer ≡ is_some (option_map (λ name. name.now) name) }
+    ensures held { (contents : J → Option (List ℕ))
+        → held_by contents result ≡ written_by contents writer }
+    ensures named { named_by result ≡ option_map (λ name. name.now) name.entry }
 {
-    if !put_notes(journal, pending.notes.as_slice()) {
-        return Err(ServeFault::Journal);
+    match (name, writer) {
+        (Some(name), Some(writer)) => Some(Journal { name, writer }),
+        (_, _) => None,
     }
-    if !put_out(out, pending.answers.as_slice()) {
-        return Err(ServeFault::Write);
+}
+
+/// The rings are right, at each moment: this does nothing, and says so.
+pub fn are_right(served: &Served)
+    ensures { AllByRecursion IsRight served.now }
+{
+    served.rings();
+}
+
+/// Serves the lines of a reader to its end: each line is answered by one line on the writer. The bytes after the last LF are
+/// not a line, and are not answered.
+///
+/// If there is a journal, it gets the lines of what each turn recorded, and no `save` replaces its file. Before more is read the
+/// journal is flushed, and then the writer: no answer leaves whose call is not in the journal. So of whatever is kept of a
+/// journal that had just begun, if it has the notes of the told lines, rings are recovered that have the call of each of them, with
+/// its answer.
+///
+/// # Errors
+///
+/// The first error of the reader, of the journal or of the writer; `OutOfMemory` where there was none for what a block is
+/// answered; `TooLong` where no more blocks are counted. The lines before were answered; the writer holds a beginning of their
+/// answers, and the journal the notes of each that was told.
+pub fn serve<D: Disk, I: Read, J: Write + Drop, W: Write>(
+    alloc: Global,
+    served: &mut Served,
+    disk: &mut D,
+    journal: &mut Option<Journal<'_, J>>,
+    permits: Permits<'_>,
+    input: &mut I,
+    out: &mut W,
+) -> Result<(), LoopFault>
+    ensures ok { OnOk result (ServesAll (terms_of (named_by journal.old) permits.entry)
+        served.old served.new (D.holds disk.old) (D.holds disk.new) (I.remaining input.old)
+        (I.remaining input.new)
+        (record { journal = held_by J.contents journal.old; out = W.contents out.old })
+        (record { journal = held_by J.contents journal.new; out = W.contents out.new })) }
+    ensures err { OnErr result (ServesSome (terms_of (named_by journal.old) permits.entry)
+        served.old served.new (D.holds disk.old) (D.holds disk.new) (I.remaining input.old)
+        (I.remaining input.new)
+        (record { journal = held_by J.contents journal.old; out = W.contents out.old })
+        (record { journal = held_by J.contents journal.new; out = W.contents out.new })) }
+    ensures long { IfErr result (λ e.
+        IsFaultOf e (I.remaining input.old) (I.remaining input.new)) }
+    ensures kept { named_by journal.new ≡ named_by journal.old }
+    ensures recovered { AnsweredCallsAreRecovered (terms_of (named_by journal.old) permits.entry)
+        served.old served.new (D.holds disk.old) (D.holds disk.new) (I.remaining input.old)
+        (I.remaining input.new)
+        (record { journal = held_by J.contents journal.old; out = W.contents out.old })
+        (record { journal = held_by J.contents journal.new; out = W.contents out.new }) }
+{
+    are_right(served);
+    let name = file_of(journal);
+    let rules = rules_in(name, permits, None);
+    let mut writer = writer_of(mem::replace(journal, None));
+    let mut service = RingService::new(alloc, mem::replace(served, Served::none(alloc)), rules);
+    let mut line = Vec::new(alloc);
+    let mut unread = Unread::none();
+    let ended = serve_part(
+        alloc,
+        &mut service,
+        disk,
+        &mut writer,
+        false,
+        &mut line,
+        &mut unread,
+        input,
+        out,
+    );
+    *served = service.into_rings();
+    *journal = journal_of(name, writer);
+    match ended {
+        Ok(_) => Ok(()),
+        Err(fault) => Err(fault),
     }
-    pending.notes.clear();
-    pending.answers.clear();
-    Ok(())
 }

@@ -1,17 +1,19 @@
 -- The file of the last segment has the notes of its parts.
 use Rattle.std.proofs.Common.{◌≡◌, ℕ, List, [], ◌∷◌, ◌++◌, Option, None, Some, refl, sym, ap, subst, ◌∙◌, ◌⊎◌, inl, inr, append_assoc, arith}
-use Rattle.std.specs.Prelude.{IfSome}
+use Rattle.std.specs.Prelude.{IfSome, IsSome}
 use Rattle.std.specs.Io.KnownBytes.{Appends, Consumes}
 use Rattle.std.proofs.lemmas.List.{append-nil}
+use Rattle.std.proofs.lemmas.Bool.{false≢true}
 use Rattle.disks.specs.Held.{Held, Replaces}
 use Rattle.text_lines.proofs.Writing.{appends_then, appends_nil}
 use Rattle.segment_folder.specs.Names.{segment_file}
-use Rattle.line_loop.specs.Answering.{Answering, AreAnswered, joined_lines}
+use Rattle.line_loop.specs.Answering.{Answers, AreAnswered, joined_lines}
+use Rattle.line_loop.specs.Stands.{Stand, AnsweringWith, by_stand, stand}
 use Rattle.line_loop.specs.Loop.{Stops}
 use Rattle.line_loop.proofs.Telling.{none_answered}
 use Rattle.segment_loop.specs.declared.segmented.EndFault.{EndFault}
-use Rattle.segment_loop.specs.Segmenting.{Segmenting}
-use Rattle.segment_loop.specs.Segments.{Moment, moment_of, IsReady}
+use Rattle.segment_loop.specs.Segmenting.{Segmenting, KeepsKnown}
+use Rattle.segment_loop.specs.Segments.{Moment, moment_of, stand_of, IsReady}
 use Rattle.segment_loop.specs.Service.{Part, IsPart, AreParts, all_lines, all_said}
 use Rattle.segment_loop.specs.Notes.{all_noted, AreIn, KeepsLast, ToldLinesAreNoted}
 use Rattle.segment_loop.proofs.Parts.{Served, parts_more, lines_more, said_more}
@@ -51,22 +53,32 @@ ready_goes G folder None m b (inl h) same = subst (λ (x : Moment _). Goes m x [
 ready_goes G folder None m b (inr h) same = let up = h.1.number in absurd (omega (arith, up, same))
 ready_goes G folder (Some why) m b h same = kept_goes m b (segment_file folder m.number) h.1.file
 
-part_goes : {S : Type 0} (A : Answering S) (p : Part S) → IsPart A p → Goes p.from p.to p.noted
-part_goes A p is = λ held e. ((held, is.files ∙ e), is.wrote)
+is_held : (files : Option Held) → IsSome files → (h : Held) × (files ≡ Some h)
+is_held None some = absurd (false≢true some)
+is_held (Some h) some = (h, refl)
 
-parts_go : {S : Type 0} (A : Answering S) (G : Segmenting S) (folder : List ℕ) (m b : Moment S) (ps : List (Part S)) (number : ℕ) → m.number ≡ number → AreParts A G folder m ps b → AreIn number ps → Goes m b (all_noted ps)
-parts_go A G folder m b [] number same served within = subst (λ (x : Moment _). Goes m x []) (sym served) (goes_none m)
-parts_go A G folder m b (p ∷ ps) number same served within =
+lines_known : {S : Type 0} (A : AnsweringWith S) → KeepsKnown A → (old new : Stand S) (lines : List (List ℕ)) (said noted : List ℕ) → Answers (by_stand A) old lines said noted new → IsSome old.files → IsSome new.files
+lines_known A law old new [] said noted a some = subst (λ (x : Stand _). IsSome x.files) (sym a.2) some
+lines_known A law old new (line ∷ lines) said noted a some = lines_known A law a.0 new lines a.2 a.4 a.8 (law old.service a.0.service old.files a.0.files line a.1 a.3 a.5 some)
+
+part_goes : {S : Type 0} (A : AnsweringWith S) → KeepsKnown A → (p : Part S) → IsPart A p → Goes p.from p.to p.noted
+part_goes A law p is = λ held e.
+    let some : IsSome p.from.files = subst (λ (f : Option Held). IsSome f) (sym e) refl in
+    (is_held p.to.files (lines_known A law (stand_of p.from) (stand_of p.to) p.lines p.said p.noted is.answers some), is.wrote)
+
+parts_go : {S : Type 0} (A : AnsweringWith S) → KeepsKnown A → (G : Segmenting S) (folder : List ℕ) (m b : Moment S) (ps : List (Part S)) (number : ℕ) → m.number ≡ number → AreParts A G folder m ps b → AreIn number ps → Goes m b (all_noted ps)
+parts_go A law G folder m b [] number same served within = subst (λ (x : Moment _). Goes m x []) (sym served) (goes_none m)
+parts_go A law G folder m b (p ∷ ps) number same served within =
     goes_then m p.from b [] (p.noted ++ all_noted ps) (ready_goes G folder p.kept m p.from served.0 (within.0 ∙ sym same))
-    (goes_then p.from p.to b p.noted (all_noted ps) (part_goes A p served.1) (parts_go A G folder p.to b ps number (served.1.number ∙ within.0) served.2 within.1))
+    (goes_then p.from p.to b p.noted (all_noted ps) (part_goes A law p served.1) (parts_go A law G folder p.to b ps number (served.1.number ∙ within.0) served.2 within.1))
 
 -- ---- one of the parts
 
-record IsAt {S : Type 0} (A : Answering S) (G : Segmenting S) (folder : List ℕ) (first : Part S) (others : List (Part S)) (b : Moment S) : Type 0 where
+record IsAt {S : Type 0} (A : AnsweringWith S) (G : Segmenting S) (folder : List ℕ) (first : Part S) (others : List (Part S)) (b : Moment S) : Type 0 where
   pub is : IsPart A first
   pub then_ : AreParts A G folder first.to others b
 
-parts_at : {S : Type 0} (A : Answering S) (G : Segmenting S) (folder : List ℕ) (a b : Moment S) (earlier : List (Part S)) (first : Part S) (others : List (Part S)) → AreParts A G folder a (earlier ++ first ∷ others) b → IsAt A G folder first others b
+parts_at : {S : Type 0} (A : AnsweringWith S) (G : Segmenting S) (folder : List ℕ) (a b : Moment S) (earlier : List (Part S)) (first : Part S) (others : List (Part S)) → AreParts A G folder a (earlier ++ first ∷ others) b → IsAt A G folder first others b
 parts_at A G folder a b [] first others h = record { is = h.1; then_ = h.2 }
 parts_at A G folder a b (q ∷ qs) first others h = parts_at A G folder q.to b qs first others h.2
 
@@ -74,18 +86,18 @@ if_known : (f : Option Held) (P : Type 0) → ((held : Held) → f ≡ Some held
 if_known None P k = tt
 if_known (Some held) P k = k held refl
 
-pub keeps_last : {S : Type 0} (A : Answering S) (G : Segmenting S) (folder : List ℕ) (a mid : Moment S) (parts : List (Part S)) (more : List ℕ) (journal : Option (List ℕ)) → AreParts A G folder a parts mid → Appends mid.journal journal more → KeepsLast parts more journal
-keeps_last A G folder a mid parts more journal served got earlier first others parted within =
+pub keeps_last : {S : Type 0} (A : AnsweringWith S) → KeepsKnown A → (G : Segmenting S) (folder : List ℕ) (a mid : Moment S) (parts : List (Part S)) (more : List ℕ) (journal : Option (List ℕ)) → AreParts A G folder a parts mid → Appends mid.journal journal more → KeepsLast parts more journal
+keeps_last A law G folder a mid parts more journal served got earlier first others parted within =
     let at = parts_at A G folder a mid earlier first others (subst (λ (x : List (Part _)). AreParts A G folder a x mid) parted served) in
-    let goes : Goes first.from mid (all_noted (first ∷ others)) = goes_then first.from first.to mid first.noted (all_noted others) (part_goes A first at.is) (parts_go A G folder first.to mid others first.from.number at.is.number at.then_ within) in
+    let goes : Goes first.from mid (all_noted (first ∷ others)) = goes_then first.from first.to mid first.noted (all_noted others) (part_goes A law first at.is) (parts_go A law G folder first.to mid others first.from.number at.is.number at.then_ within) in
     if_known first.from.files (Appends first.from.journal journal (all_noted (first ∷ others) ++ more))
     (λ held e. appends_then first.from.journal mid.journal journal (all_noted (first ∷ others)) more (goes held e).1 got)
 
 -- ---- wherever serving ends
 
 -- all that was answered was told
-pub all_told : {S : Type 0} (A : Answering S) (G : Segmenting S) (folder : List ℕ) (a b : Moment S) (unread line : List ℕ) (input rest out after : Option (List ℕ)) (new : S) (d : Served A G folder a b unread line input rest out after) → new ≡ b.service → ToldLinesAreNoted A G folder a new input rest out after b.journal
-all_told A G folder a b unread line input rest out after new d same = record {
+pub all_told : {S : Type 0} (A : AnsweringWith S) → KeepsKnown A → (G : Segmenting S) (folder : List ℕ) (a b : Moment S) (unread line : List ℕ) (input rest out after : Option (List ℕ)) (new : S) (d : Served A G folder a b unread line input rest out after) → new ≡ b.service → ToldLinesAreNoted A G folder a new input rest out after b.journal
+all_told {S} A law G folder a b unread line input rest out after new d same = record {
   parts = d.parts;
   mid = b;
   bytes = d.read;
@@ -96,12 +108,13 @@ all_told A G folder a b unread line input rest out after new d same = record {
   more = [];
   back = [];
   told = d.served;
-  untold = subst (λ (x : _). AreAnswered A b.service (d.begun ++ unread) (d.begun ++ unread) [] [] x) (sym same) (none_answered A b.service (d.begun ++ unread));
+  is = b.files;
+  untold = subst (λ (s : S). AreAnswered (by_stand A) (stand_of b) (d.begun ++ unread) (d.begun ++ unread) [] [] (stand s b.files)) (sym same) (none_answered (by_stand A) (stand_of b) (d.begun ++ unread));
   read = d.consumed;
   split = d.split;
   wrote = (all_said d.parts, sym (append-nil (all_said d.parts)), d.wrote);
   wrote_notes = appends_nil b.journal;
-  keeps = keeps_last A G folder a b d.parts [] b.journal d.served (appends_nil b.journal);
+  keeps = keeps_last A law G folder a b d.parts [] b.journal d.served (appends_nil b.journal);
 }
 
 -- ---- where a part stopped
@@ -119,14 +132,14 @@ then_more None after noted more h = tt
 then_more (Some xs) None noted more h = absurd h
 then_more (Some xs) (Some ys) noted more h = h ∙ sym (append_assoc xs noted more)
 
-module _ {S : Type 0} (A : Answering S) (G : Segmenting S) (folder : List ℕ) (a b from : Moment S) (kept : Option EndFault) (unread line : List ℕ) (input middle out before : Option (List ℕ)) (d : Served A G folder a b unread line input middle out before) (ready : IsReady G folder kept b from) where
-  pub some_told : (new : S) (journal rest after : Option (List ℕ)) → (read : List ℕ) → Consumes input rest (d.read ++ read) →
-      Stops A from.service (record { journal = from.journal; out = before }) (record { journal = journal; out = after }) (d.begun ++ (unread ++ read)) new →
+module _ {S : Type 0} (A : AnsweringWith S) (law : KeepsKnown A) (G : Segmenting S) (folder : List ℕ) (a b from : Moment S) (kept : Option EndFault) (unread line : List ℕ) (input middle out before : Option (List ℕ)) (d : Served A G folder a b unread line input middle out before) (ready : IsReady G folder kept b from) where
+  pub some_told : (new : S) (files : Option Held) (journal rest after : Option (List ℕ)) → (read : List ℕ) → Consumes input rest (d.read ++ read) →
+      Stops (by_stand A) (stand_of from) (record { journal = from.journal; out = before }) (record { journal = journal; out = after }) (d.begun ++ (unread ++ read)) (stand new files) →
       ToldLinesAreNoted A G folder a new input rest out after journal
-  some_told new journal rest after read consumed st =
-      let part : Part S = record { kept = kept; from = from; to = moment_of st.mid from.files from.number (after_notes from.journal st.noted); lines = st.told.lines; said = st.said; noted = st.noted } in
+  some_told new files journal rest after read consumed st =
+      let part : Part S = record { kept = kept; from = from; to = moment_of st.mid.service st.mid.files from.number (after_notes from.journal st.noted); lines = st.told.lines; said = st.said; noted = st.noted } in
       let parts : List (Part S) = d.parts ++ part ∷ [] in
-      let served : AreParts A G folder a parts part.to = parts_more A G folder a b d.parts part d.served ready (record { number = refl; files = refl; each = st.told.each; answers = st.told.answers; wrote = with_notes from.journal st.noted }) in
+      let served : AreParts A G folder a parts part.to = parts_more A G folder a b d.parts part d.served ready (record { number = refl; each = st.told.each; answers = st.told.answers; wrote = with_notes from.journal st.noted }) in
       let joined = joined_lines st.told.lines in
       let got = then_more from.journal journal st.noted st.front st.wrote_notes in
       record {
@@ -139,6 +152,7 @@ module _ {S : Type 0} (A : Answering S) (G : Segmenting S) (folder : List ℕ) (
         unsaid = st.unsaid;
         more = st.front;
         back = st.back;
+        is = files;
         told = served;
         untold = st.untold;
         read = consumed;
@@ -152,5 +166,5 @@ module _ {S : Type 0} (A : Answering S) (G : Segmenting S) (folder : List ℕ) (
           appends_then out before after (all_said d.parts) st.wrote.0 d.wrote st.wrote.2,
         );
         wrote_notes = got;
-        keeps = keeps_last A G folder a part.to parts st.front journal served got;
+        keeps = keeps_last A law G folder a part.to parts st.front journal served got;
       }

@@ -11,17 +11,18 @@ use Rattle.line_loop.specs.declared.faults.LoopFault.TheVariants as fault
 use Rattle.line_loop.specs.declared.faults.Ending.{Ending}
 use Rattle.line_loop.specs.declared.faults.Ending.TheVariants as ending
 use Rattle.line_loop.specs.Answering.{Answering, IsLine, Answers, HasBegun, joined_lines}
+use Rattle.line_loop.specs.Stands.{Stand, AnsweringWith, by_stand, stand}
 use Rattle.line_loop.specs.Loop.{HasRead, IsEnding, ServesPart, ServesSomeOf, IsFaultOf as IsPartFault}
 use Rattle.line_loop.proofs.Telling.{consumes_nil, consumes_then}
 use Rattle.line_loop.proofs.Parting.{first_begun}
 use Rattle.segment_loop.specs.declared.segmented.EndFault.{EndFault}
 use Rattle.segment_loop.specs.Segmenting.{Segmenting}
-use Rattle.segment_loop.specs.Segments.{Moment, moment_of, IsReady, IsLeft}
+use Rattle.segment_loop.specs.Segments.{Moment, moment_of, stand_of, IsReady, IsLeft}
 use Rattle.segment_loop.specs.Service.{Part, IsPart, AreParts, all_lines, all_said, ServesSegments, ServesSomeSegments, IsFaultOf}
 
 -- ---- a part more
 
-pub parts_more : {S : Type 0} (A : Answering S) (G : Segmenting S) (folder : List ℕ) (a b : Moment S) (ps : List (Part S)) (p : Part S) → AreParts A G folder a ps b → IsReady G folder p.kept b p.from → IsPart A p → AreParts A G folder a (ps ++ p ∷ []) p.to
+pub parts_more : {S : Type 0} (A : AnsweringWith S) (G : Segmenting S) (folder : List ℕ) (a b : Moment S) (ps : List (Part S)) (p : Part S) → AreParts A G folder a ps b → IsReady G folder p.kept b p.from → IsPart A p → AreParts A G folder a (ps ++ p ∷ []) p.to
 parts_more A G folder a b [] p served ready is = (subst (λ (m : Moment _). IsReady G folder p.kept m p.from) served ready, is, refl)
 parts_more A G folder a b (q ∷ ps) p served ready is = (served.0, served.1, parts_more A G folder q.to b ps p served.2 ready is)
 
@@ -35,7 +36,7 @@ said_more (q ∷ ps) p = ap (λ (x : List ℕ). q.said ++ x) (said_more ps p) �
 
 -- parts that were served so far: what was read of the input, the line that has begun, and the rest
 -- of a block
-pub record Served {S : Type 0} (A : Answering S) (G : Segmenting S) (folder : List ℕ) (a b : Moment S) (unread line : List ℕ) (input rest out after : Option (List ℕ)) : Type 0 where
+pub record Served {S : Type 0} (A : AnsweringWith S) (G : Segmenting S) (folder : List ℕ) (a b : Moment S) (unread line : List ℕ) (input rest out after : Option (List ℕ)) : Type 0 where
   pub parts : List (Part S)
   pub read : List ℕ
   pub begun : List ℕ
@@ -46,7 +47,7 @@ pub record Served {S : Type 0} (A : Answering S) (G : Segmenting S) (folder : Li
   pub wrote : Appends out after (all_said parts)
 
 -- so many parts were served: for a byte that was read, and for one that was taken, one at most
-abbrev pub IsCounted : {S : Type 0} {A : Answering S} {G : Segmenting S} {folder : List ℕ} {a b : Moment S} {unread line : List ℕ} {input rest out after : Option (List ℕ)} → ℕ → Served A G folder a b unread line input rest out after → Type 0
+abbrev pub IsCounted : {S : Type 0} {A : AnsweringWith S} {G : Segmenting S} {folder : List ℕ} {a b : Moment S} {unread line : List ℕ} {input rest out after : Option (List ℕ)} → ℕ → Served A G folder a b unread line input rest out after → Type 0
 IsCounted n d = n ≤ length d.read + length (all_lines d.parts)
 
 -- lines after which it is over are some
@@ -72,7 +73,7 @@ more_some A over end old new once low (inr is) ends p =
     let some : 1 ≤ length p.read = subst (λ (e : Ending). HasRead e p.read) is p.reads in
     omega (arith, some)
 
-pub none_served : {S : Type 0} (A : Answering S) (G : Segmenting S) (folder : List ℕ) (a : Moment S) (unread line : List ℕ) (input out : Option (List ℕ)) → unread ≡ [] → line ≡ [] → Served A G folder a a unread line input input out out
+pub none_served : {S : Type 0} (A : AnsweringWith S) (G : Segmenting S) (folder : List ℕ) (a : Moment S) (unread line : List ℕ) (input out : Option (List ℕ)) → unread ≡ [] → line ≡ [] → Served A G folder a a unread line input input out out
 none_served A G folder a unread line input out none empty = record {
   parts = [];
   read = [];
@@ -84,13 +85,13 @@ none_served A G folder a unread line input out none empty = record {
   wrote = appends_nil out;
 }
 
-module _ {S : Type 0} (A : Answering S) (G : Segmenting S) (folder : List ℕ) (a b from : Moment S) (kept : Option EndFault) (unread line : List ℕ) (input middle out before : Option (List ℕ)) (d : Served A G folder a b unread line input middle out before) (ready : IsReady G folder kept b from) where
-  pub one_served : (end : Ending) (new : S) (journal : Option (List ℕ)) (number : ℕ) (left line' : List ℕ) (rest after : Option (List ℕ)) → number ≡ from.number →
-      ServesPart end A from.service new d.begun unread left line' middle rest (record { journal = from.journal; out = before }) (record { journal = journal; out = after }) →
-      Served A G folder a (moment_of new from.files number journal) left line' input rest out after
-  one_served end new journal number left line' rest after same p =
+module _ {S : Type 0} (A : AnsweringWith S) (G : Segmenting S) (folder : List ℕ) (a b from : Moment S) (kept : Option EndFault) (unread line : List ℕ) (input middle out before : Option (List ℕ)) (d : Served A G folder a b unread line input middle out before) (ready : IsReady G folder kept b from) where
+  pub one_served : (end : Ending) (new : S) (files : Option Held) (journal : Option (List ℕ)) (number : ℕ) (left line' : List ℕ) (rest after : Option (List ℕ)) → number ≡ from.number →
+      ServesPart end (by_stand A) (stand_of from) (stand new files) d.begun unread left line' middle rest (record { journal = from.journal; out = before }) (record { journal = journal; out = after }) →
+      Served A G folder a (moment_of new files number journal) left line' input rest out after
+  one_served end new files journal number left line' rest after same p =
       let t = p.rests.told in
-      let part : Part S = record { kept = kept; from = from; to = moment_of new from.files number journal; lines = t.answered.lines; said = t.said; noted = t.noted } in
+      let part : Part S = record { kept = kept; from = from; to = moment_of new files number journal; lines = t.answered.lines; said = t.said; noted = t.noted } in
       let joined = joined_lines t.answered.lines in
       let taken : d.begun ++ (unread ++ p.read) ≡ joined ++ (p.rests.begun ++ left) =
       ap (λ (x : List ℕ). d.begun ++ x) p.split ∙ (sym (append_assoc d.begun p.taken left) ∙ (ap (λ (x : List ℕ). x ++ left) t.answered.split ∙ append_assoc joined p.rests.begun left)) in
@@ -98,7 +99,7 @@ module _ {S : Type 0} (A : Answering S) (G : Segmenting S) (folder : List ℕ) (
         parts = d.parts ++ part ∷ [];
         read = d.read ++ p.read;
         begun = p.rests.begun;
-        served = parts_more A G folder a b d.parts part d.served ready (record { number = same; files = refl; each = t.answered.each; answers = t.answered.answers; wrote = t.wrote_notes });
+        served = parts_more A G folder a b d.parts part d.served ready (record { number = same; each = t.answered.each; answers = t.answered.answers; wrote = t.wrote_notes });
         consumed = consumes_then input middle rest d.read p.read d.consumed p.consumed;
         split = ap (λ (x : List ℕ). x ++ p.read) d.split
             ∙ (append_assoc (all_lines d.parts) (d.begun ++ unread) p.read
@@ -109,23 +110,23 @@ module _ {S : Type 0} (A : Answering S) (G : Segmenting S) (folder : List ℕ) (
       }
 
   -- what such a part took and read is a byte at least, if the input has not ended
-  pub one_counted : (end : Ending) (over : S → Bool) (once : Bool) (n : ℕ) → n ≤ length d.read + length (all_lines d.parts) → (new : S) (journal : Option (List ℕ)) (number : ℕ) (left line' : List ℕ) (rest after : Option (List ℕ)) → (same : number ≡ from.number) →
-      (p : ServesPart end A from.service new d.begun unread left line' middle rest (record { journal = from.journal; out = before }) (record { journal = journal; out = after })) →
-      over from.service ≡ false → (end ≡ ending.Over) ⊎ (end ≡ ending.Block) → IsEnding end (over new) once left rest → IsCounted (n + 1) (one_served end new journal number left line' rest after same p)
+  pub one_counted : (end : Ending) (over : S → Bool) (once : Bool) (n : ℕ) → n ≤ length d.read + length (all_lines d.parts) → (new : S) (files : Option Held) (journal : Option (List ℕ)) (number : ℕ) (left line' : List ℕ) (rest after : Option (List ℕ)) → (same : number ≡ from.number) →
+      (p : ServesPart end (by_stand A) (stand_of from) (stand new files) d.begun unread left line' middle rest (record { journal = from.journal; out = before }) (record { journal = journal; out = after })) →
+      over from.service ≡ false → (end ≡ ending.Over) ⊎ (end ≡ ending.Block) → IsEnding end (over new) once left rest → IsCounted (n + 1) (one_served end new files journal number left line' rest after same p)
   unfolding one_served
-  one_counted end over once n many new journal number left line' rest after same p low is ends =
-      let some = more_some A over end from.service new once low is ends p in
+  one_counted end over once n many new files journal number left line' rest after same p low is ends =
+      let some = more_some (by_stand A) (λ (x : Stand S). over x.service) end (stand_of from) (stand new files) once low is ends p in
       let t = p.rests.told in
-      let part : Part S = record { kept = kept; from = from; to = moment_of new from.files number journal; lines = t.answered.lines; said = t.said; noted = t.noted } in
+      let part : Part S = record { kept = kept; from = from; to = moment_of new files number journal; lines = t.answered.lines; said = t.said; noted = t.noted } in
       let joined = joined_lines t.answered.lines in
       let lines : length (all_lines (d.parts ++ part ∷ [])) ≡ length (all_lines d.parts ++ joined) = ap (λ (x : List ℕ). length x) (lines_more d.parts part) in
       let more : n + 1 ≤ length (d.read ++ p.read) + length (all_lines (d.parts ++ part ∷ [])) = omega (arith, many, some, lines, length-append (all_lines d.parts) joined, length-append d.read p.read) in
       more
 
-  pub one_stops : (new : S) (journal rest after : Option (List ℕ)) →
-      ServesSomeOf A from.service new d.begun unread middle rest (record { journal = from.journal; out = before }) (record { journal = journal; out = after }) →
-      ServesSomeSegments A G folder a new from.files input rest out after
-  one_stops new journal rest after p = record {
+  pub one_stops : (new : S) (files : Option Held) (journal rest after : Option (List ℕ)) →
+      ServesSomeOf (by_stand A) (stand_of from) (stand new files) d.begun unread middle rest (record { journal = from.journal; out = before }) (record { journal = journal; out = after }) →
+      ServesSomeSegments A G folder a new files input rest out after
+  one_stops new files journal rest after p = record {
     parts = d.parts;
     mid = b;
     bytes = d.read ++ p.0;
@@ -136,7 +137,7 @@ module _ {S : Type 0} (A : Answering S) (G : Segmenting S) (folder : List ℕ) (
     split = ap (λ (x : List ℕ). x ++ p.0) d.split
         ∙ (append_assoc (all_lines d.parts) (d.begun ++ unread) p.0 ∙ ap (λ (x : List ℕ). all_lines d.parts ++ x) (append_assoc d.begun unread p.0));
     wrote = d.wrote;
-    stopped = inr (kept, from, journal, ready, refl, p.2);
+    stopped = inr (kept, from, journal, ready, p.2);
   }
 
 -- ---- an input that is too long
@@ -150,7 +151,7 @@ long_part fault.TooLong input middle rest read c h =
     let many = h.2 in
     (read ++ h.0, consumes_then input middle rest read h.0 c h.1, omega (arith, many, length-append read h.0))
 
-pub many_long : {S : Type 0} {A : Answering S} {G : Segmenting S} {folder : List ℕ} {a b : Moment S} {unread line : List ℕ} {input rest out after : Option (List ℕ)} (n : ℕ) (d : Served A G folder a b unread line input rest out after) → IsCounted n d → 18446744073709551615 ≤ n → IsFaultOf fault.TooLong input rest
+pub many_long : {S : Type 0} {A : AnsweringWith S} {G : Segmenting S} {folder : List ℕ} {a b : Moment S} {unread line : List ℕ} {input rest out after : Option (List ℕ)} (n : ℕ) (d : Served A G folder a b unread line input rest out after) → IsCounted n d → 18446744073709551615 ≤ n → IsFaultOf fault.TooLong input rest
 many_long {unread = unread} n d many high =
     let lines : length d.read ≡ length (all_lines d.parts ++ (d.begun ++ unread)) = ap (λ (x : List ℕ). length x) d.split in
     let size : 2 ^ 63 ≤ length d.read = omega (arith, many, high, lines, length-append (all_lines d.parts) (d.begun ++ unread)) in
@@ -167,7 +168,7 @@ no_long fault.TooLong input rest is = absurd (other is)
     other p = cc
 
 -- no more was done
-pub parts_stop : {S : Type 0} (A : Answering S) (G : Segmenting S) (folder : List ℕ) (a b : Moment S) (unread line : List ℕ) (input rest out after : Option (List ℕ)) (new : S) (is : Option Held) → Served A G folder a b unread line input rest out after → new ≡ b.service → IsLeft G folder b is → ServesSomeSegments A G folder a new is input rest out after
+pub parts_stop : {S : Type 0} (A : AnsweringWith S) (G : Segmenting S) (folder : List ℕ) (a b : Moment S) (unread line : List ℕ) (input rest out after : Option (List ℕ)) (new : S) (is : Option Held) → Served A G folder a b unread line input rest out after → new ≡ b.service → IsLeft G folder b is → ServesSomeSegments A G folder a new is input rest out after
 parts_stop A G folder a b unread line input rest out after new is d same left = record {
   parts = d.parts;
   mid = b;
@@ -182,7 +183,7 @@ parts_stop A G folder a b unread line input rest out after new is d same left = 
 }
 
 -- the input has ended
-pub parts_end : {S : Type 0} (A : Answering S) (G : Segmenting S) (folder : List ℕ) (a b : Moment S) (unread line : List ℕ) (input rest out after : Option (List ℕ)) → Served A G folder a b unread line input rest out after → unread ≡ [] → IsAtEnd rest → ServesSegments A G folder a b input rest out after
+pub parts_end : {S : Type 0} (A : AnsweringWith S) (G : Segmenting S) (folder : List ℕ) (a b : Moment S) (unread line : List ℕ) (input rest out after : Option (List ℕ)) → Served A G folder a b unread line input rest out after → unread ≡ [] → IsAtEnd rest → ServesSegments A G folder a b input rest out after
 parts_end A G folder a b unread line input rest out after d none ended = record {
   parts = d.parts;
   bytes = d.read;

@@ -3,9 +3,11 @@ use Rattle.std.specs.Prelude.{◌≡◌, ℕ, List, [], ◌∷◌, ◌++◌, Opt
 use Rattle.std.specs.List.{AllByRecursion}
 use Rattle.std.specs.Io.KnownBytes.{Appends, Consumes}
 use Rattle.text_lines.specs.Writing.{Wrote}
-use Rattle.line_loop.specs.Answering.{Answering, AreAnswered}
+use Rattle.disks.specs.Held.{Held}
+use Rattle.line_loop.specs.Answering.{AreAnswered}
+use Rattle.line_loop.specs.Stands.{AnsweringWith, by_stand, stand}
 use Rattle.segment_loop.specs.Segmenting.{Segmenting}
-use Rattle.segment_loop.specs.Segments.{Moment}
+use Rattle.segment_loop.specs.Segments.{Moment, stand_of}
 use Rattle.segment_loop.specs.Service.{Part, AreParts, all_lines, all_said}
 
 -- the notes of all parts
@@ -29,7 +31,7 @@ KeepsLast parts more journal =
 -- Wherever serving ended: these parts were told, the output has a prefix of their answers and
 -- nothing else, and the file of the last segment has their notes. Of the lines behind them some
 -- were answered, and the file has a prefix of their notes.
-pub record ToldLinesAreNoted {S : Type 0} (A : Answering S) (G : Segmenting S) (folder : List ℕ)
+pub record ToldLinesAreNoted {S : Type 0} (A : AnsweringWith S) (G : Segmenting S) (folder : List ℕ)
     (a : Moment S) (new : S) (input rest out after journal : Option (List ℕ)) : Type 0 where
   pub parts : List (Part S)
   pub mid : Moment S
@@ -40,8 +42,10 @@ pub record ToldLinesAreNoted {S : Type 0} (A : Answering S) (G : Segmenting S) (
   pub unsaid : List ℕ
   pub more : List ℕ
   pub back : List ℕ
+  pub is : Option Held
   pub told : AreParts A G folder a parts mid
-  pub untold : AreAnswered A mid.service behind untaken unsaid (more ++ back) new
+  pub untold : AreAnswered (by_stand A) (stand_of mid) behind untaken unsaid (more ++ back)
+      (stand new is)
   pub read : Consumes input rest bytes
   pub split : bytes ≡ all_lines parts ++ behind
   pub wrote : Wrote out after (all_said parts) left

@@ -1,5 +1,7 @@
 -- What answers lines in segments (this project's own).
-use Rattle.std.specs.Prelude.{ℕ, Bool, List}
+use Rattle.std.specs.Prelude.{ℕ, Bool, List, Option, IsSome}
+use Rattle.disks.specs.Held.{Held}
+use Rattle.line_loop.specs.Stands.{AnsweringWith}
 use Rattle.segment_loop.specs.declared.segmented.EndFault.{EndFault}
 
 -- how a service lives in segments: the text with which the file of the segment of this number
@@ -11,3 +13,9 @@ pub record Segmenting (S : Type 0) : Type 1 where
   pub is_due : S → Bool
   pub IsNext : S → S → Type 0
   pub IsKept : S → EndFault → S → Type 0
+
+-- where the content of files is known before a line it is known after it
+abbrev pub KeepsKnown : {S : Type 0} → AnsweringWith S → Type 0
+KeepsKnown A =
+    (old new : _) (was is : Option Held) (line said noted : List ℕ)
+    → A old was line said noted new is → IsSome was → IsSome is

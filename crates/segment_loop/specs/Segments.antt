@@ -4,6 +4,7 @@ use Rattle.disks.specs.Held.{Held, Replaces}
 use Rattle.segment_folder.specs.Names.{segment_file}
 use Rattle.sha2.specs.Hashers.{Holds256}
 use Rattle.ring_segments.specs.Spelling.{digest_of}
+use Rattle.line_loop.specs.Stands.{Stand, stand}
 use Rattle.segment_loop.specs.declared.segmented.EndFault.{EndFault}
 use Rattle.segment_loop.specs.declared.segments.OpenSegment.{OpenSegment}
 use Rattle.segment_loop.specs.declared.ending.NextSegment.{NextSegment}
@@ -25,6 +26,10 @@ moment_of service files number journal = record {
   journal = journal;
 }
 
+-- the service then, with the files
+abbrev pub stand_of : {S : Type 0} → Moment S → Stand S
+stand_of m = stand m.service m.files
+
 -- The file of the segment of this number was put into the folder: it has the text with which the
 -- service begins it after a file of this digest, and is being written from there on.
 pub record HasBegun {S : Type 0} (G : Segmenting S) (folder : List ℕ) (service : S) (number : ℕ)
@@ -34,6 +39,14 @@ pub record HasBegun {S : Type 0} (G : Segmenting S) (folder : List ℕ) (service
   pub put : Replaces was m.files (segment_file folder number)
       (Some (G.text service number behind))
   pub journal : IfSome was (λ _. m.journal ≡ Some (G.text service number behind))
+
+-- What the disk has where it could not be begun: the files as they were; or its file was put there,
+-- with all of that text.
+abbrev pub IsLeftUnbegun : {S : Type 0} → Segmenting S → List ℕ → S → ℕ → List ℕ → Option Held
+    → Option Held → Type 0
+IsLeftUnbegun G folder service number behind was is =
+    (is ≡ was)
+    ⊎ Replaces was is (segment_file folder number) (Some (G.text service number behind))
 
 -- The whole file of the segment was settled; then the file of the next one was put there, with the
 -- digest of the file before and the next service's text.

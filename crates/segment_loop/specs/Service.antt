@@ -5,11 +5,12 @@ use Rattle.std.specs.Io.KnownBytes.{Appends, Consumes, IsAtEnd}
 use Rattle.disks.specs.Held.{Held}
 use Rattle.line_loop.specs.declared.faults.LoopFault.{LoopFault}
 use Rattle.line_loop.specs.declared.faults.LoopFault.TheVariants as fault
-use Rattle.line_loop.specs.Answering.{Answering, IsLine, HasNoEnd, Answers, joined_lines}
+use Rattle.line_loop.specs.Answering.{IsLine, HasNoEnd, Answers, joined_lines}
+use Rattle.line_loop.specs.Stands.{AnsweringWith, by_stand, stand}
 use Rattle.line_loop.specs.Loop.{Stops}
 use Rattle.segment_loop.specs.declared.segmented.EndFault.{EndFault}
 use Rattle.segment_loop.specs.Segmenting.{Segmenting}
-use Rattle.segment_loop.specs.Segments.{Moment, IsReady, IsLeft}
+use Rattle.segment_loop.specs.Segments.{Moment, stand_of, IsReady, IsLeft}
 
 -- lines that are served in one segment: from which moment to which, their text, the answers and
 -- the notes; and why the segment goes on, if it was due
@@ -21,17 +22,16 @@ pub record Part (S : Type 0) : Type 0 where
   pub said : List ℕ
   pub noted : List ℕ
 
--- The lines were answered so, and the segment's file got all notes; no other file has changed.
-pub record IsPart {S : Type 0} (A : Answering S) (p : Part S) : Type 0 where
+-- The lines were answered so, with the files, and the segment's file got all notes.
+pub record IsPart {S : Type 0} (A : AnsweringWith S) (p : Part S) : Type 0 where
   pub number : p.to.number ≡ p.from.number
-  pub files : p.to.files ≡ p.from.files
   pub each : AllByRecursion IsLine p.lines
-  pub answers : Answers A p.from.service p.lines p.said p.noted p.to.service
+  pub answers : Answers (by_stand A) (stand_of p.from) p.lines p.said p.noted (stand_of p.to)
   pub wrote : Appends p.from.journal p.to.journal p.noted
 
 -- The parts follow one another, from a moment to a moment: before each the segment is ended, if it
 -- is due.
-abbrev pub AreParts : {S : Type 0} → Answering S → Segmenting S → List ℕ → Moment S
+abbrev pub AreParts : {S : Type 0} → AnsweringWith S → Segmenting S → List ℕ → Moment S
     → List (Part S) → Moment S → Type 0
 AreParts A G folder a [] b = b ≡ a
 AreParts A G folder a (p ∷ ps) b =
@@ -47,7 +47,7 @@ all_said [] = []
 all_said (p ∷ ps) = p.said ++ all_said ps
 
 -- The whole input was served, part by part; the output has all answers.
-pub record ServesSegments {S : Type 0} (A : Answering S) (G : Segmenting S) (folder : List ℕ)
+pub record ServesSegments {S : Type 0} (A : AnsweringWith S) (G : Segmenting S) (folder : List ℕ)
     (a b : Moment S) (input rest out after : Option (List ℕ)) : Type 0 where
   pub parts : List (Part S)
   pub bytes : List ℕ
@@ -61,7 +61,7 @@ pub record ServesSegments {S : Type 0} (A : Answering S) (G : Segmenting S) (fol
 
 -- After some parts no more was answered, and this is what the disk has; or some of the lines behind
 -- them were answered, as the serving of a part stops.
-abbrev pub IsStopped : {S : Type 0} → Answering S → Segmenting S → List ℕ → Moment S → S
+abbrev pub IsStopped : {S : Type 0} → AnsweringWith S → Segmenting S → List ℕ → Moment S → S
     → Option Held → Option (List ℕ) → Option (List ℕ) → List ℕ → Type 0
 IsStopped A G folder mid new is before after behind =
     ((new ≡ mid.service) × (after ≡ before) × IsLeft G folder mid is)
@@ -69,9 +69,8 @@ IsStopped A G folder mid new is before after behind =
     × (from : Moment _)
     × (journal : Option (List ℕ))
     × IsReady G folder kept mid from
-    × (is ≡ from.files)
-    × Stops A from.service (record { journal = from.journal; out = before })
-    (record { journal = journal; out = after }) behind new)
+    × Stops (by_stand A) (stand_of from) (record { journal = from.journal; out = before })
+    (record { journal = journal; out = after }) behind (stand new is))
 
 -- only of an input of so many bytes it is said that it is too long: for a byte two parts may end
 abbrev pub IsFaultOf : LoopFault → Option (List ℕ) → Option (List ℕ) → Type 0
@@ -80,9 +79,9 @@ IsFaultOf fault.TooLong input rest =
 IsFaultOf _ input rest = Unit {0}
 
 -- Of what the reader gave some lines were answered.
-pub record ServesSomeSegments {S : Type 0} (A : Answering S) (G : Segmenting S) (folder : List ℕ)
-    (a : Moment S) (new : S) (is : Option Held) (input rest out after : Option (List ℕ)) :
-    Type 0 where
+pub record ServesSomeSegments {S : Type 0} (A : AnsweringWith S) (G : Segmenting S)
+    (folder : List ℕ) (a : Moment S) (new : S) (is : Option Held)
+    (input rest out after : Option (List ℕ)) : Type 0 where
   pub parts : List (Part S)
   pub mid : Moment S
   pub bytes : List ℕ

@@ -1,9 +1,9 @@
 //! The first segment that is written.
 
-ghost use Rattle.std.specs.Prelude.{◌<◌, IfOk};
+ghost use Rattle.std.specs.Prelude.{◌<◌, IfOk, OnErr};
 ghost use Rattle.ring_segments.specs.Spelling.{DigestFits};
 ghost use Rattle.segment_loop.specs.Digested.{hashed};
-ghost use Rattle.segment_loop.specs.Segments.{HasBegun, IsNamed, moment_of};
+ghost use Rattle.segment_loop.specs.Segments.{HasBegun, IsLeftUnbegun, IsNamed, moment_of};
 
 use crate::ending::{Beginning, cause_of, open_segment};
 use crate::segmented::{EndFault, Segmented};
@@ -19,7 +19,8 @@ use std::alloc::Global;
 ///
 /// # Errors
 ///
-/// `OutOfMemory`; `File` if the file cannot be made, written, put there or opened; or why the service has no such text.
+/// `OutOfMemory`; `File` if the file cannot be made, written, put there or opened; or why the service has no such text. No file has
+/// changed, unless the file was put there and cannot be opened: it has the whole text then.
 pub fn begin_segment<S: Segmented, D: Disk>(
     alloc: Global,
     disk: &mut D,
@@ -35,6 +36,8 @@ pub fn begin_segment<S: Segmented, D: Disk>(
         (moment_of service.now (D.holds disk.new) segment.number
         (hashed (D.Grown.contents segment.writer.inner) segment.writer.hasher))) }
     ensures named { IfOk result (λ segment. IsNamed rules.entry.folder.now segment) }
+    ensures left { OnErr result (IsLeftUnbegun S.segmenting rules.entry.folder.now service.now
+        number behind (D.holds disk.old) (D.holds disk.new)) }
 {
     let Ok(name) = segment_file(alloc, rules.folder, number) else {
         return Err(EndFault::OutOfMemory);

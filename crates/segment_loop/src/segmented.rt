@@ -2,7 +2,7 @@
 
 ghost use Rattle.std.specs.Prelude.{◌≡◌, ◌<◌, ℕ, true, false, IfOk};
 ghost use Rattle.ring_segments.specs.Spelling.{DigestFits};
-ghost use Rattle.segment_loop.specs.Segmenting.{Segmenting};
+ghost use Rattle.segment_loop.specs.Segmenting.{Segmenting, KeepsKnown};
 
 use line_loop::AnswersLines;
 use ring_segments::DIGEST_DIGITS;
@@ -58,6 +58,9 @@ pub trait Segmented: AnswersLines + Drop {
         requires { segmenting.is_due self.old ≡ true }
         ensures kept { segmenting.IsKept self.old why self.new }
         ensures open { Self.is_over self.new ≡ false };
+
+    /// Where the content of files is known before a line it is known after it.
+    ghost knows: { KeepsKnown Self.is_answered };
 
     /// Lines are answered as long as the segment is not due.
     ghost goes: { (s : Self) → segmenting.is_due s ≡ false → Self.is_over s ≡ false };

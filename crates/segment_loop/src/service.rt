@@ -2,6 +2,7 @@
 
 ghost use Rattle.std.specs.Prelude.{◌≡◌, ℕ, List, Option, false, IfOk, IfErr, OnErr, MatchResult, is_some, string_bytes};
 ghost use Rattle.line_loop.specs.Answering.{HasBegun};
+ghost use Rattle.line_loop.specs.Stands.{by_stand, stand};
 ghost use Rattle.line_loop.specs.Loop.{ServesPart, IsEnding, ServesSomeOf, IsFaultOf as IsPartFault};
 ghost use Rattle.segment_loop.specs.Digested.{hashed};
 ghost use Rattle.segment_loop.specs.Segments.{IsNamed, moment_of};
@@ -24,9 +25,10 @@ pub struct PartEnd<W> {
 }
 
 /// Serves a part of the lines: in a segment that goes on although it is due, up to the next block.
-fn serve_in<S: AnswersLines, J: Write + Drop, I: Read, W: Write>(
+fn serve_in<S: AnswersLines, D: Disk, J: Write + Drop, I: Read, W: Write>(
     alloc: Global,
     service: &mut S,
+    disk: &mut D,
     ready: Ready<J>,
     line: &mut Vec<u8>,
     unread: &mut Unread,
@@ -35,8 +37,9 @@ fn serve_in<S: AnswersLines, J: Write + Drop, I: Read, W: Write>(
 ) -> Result<PartEnd<J>, LoopFault>
     requires { S.is_over service.old ≡ false }
     ensures ok { IfOk result (λ end. (begun : List ℕ) → HasBegun begun line.old.items
-        → ServesPart end.ending S.is_answered service.old service.new begun unread.old unread.new
-        line.new.items (I.remaining input.old) (I.remaining input.new)
+        → ServesPart end.ending (by_stand S.is_answered) (stand service.old (D.holds disk.old))
+        (stand service.new (D.holds disk.new)) begun unread.old unread.new line.new.items
+        (I.remaining input.old) (I.remaining input.new)
         (record {
           journal = hashed (J.contents ready.segment.writer.inner) ready.segment.writer.hasher;
           out = W.contents out.old;
@@ -51,8 +54,9 @@ fn serve_in<S: AnswersLines, J: Write + Drop, I: Read, W: Write>(
         × (string_bytes end.segment.name ≡ string_bytes ready.segment.name)) }
     ensures err { OnErr result ((begun : List ℕ) → HasBegun begun line.old.items
         → (journal : Option (List ℕ))
-        × ServesSomeOf S.is_answered service.old service.new begun unread.old
-        (I.remaining input.old) (I.remaining input.new)
+        × ServesSomeOf (by_stand S.is_answered) (stand service.old (D.holds disk.old))
+        (stand service.new (D.holds disk.new)) begun unread.old (I.remaining input.old)
+        (I.remaining input.new)
         (record {
           journal = hashed (J.contents ready.segment.writer.inner) ready.segment.writer.hasher;
           out = W.contents out.old;
@@ -71,6 +75,7 @@ fn serve_in<S: AnswersLines, J: Write + Drop, I: Read, W: Write>(
     let ending = match serve_part(
         alloc,
         service,
+        disk,
         &mut journal,
         kept.is_some(),
         line,
@@ -156,7 +161,16 @@ pub fn serve_segments<S: Segmented, D: Disk, I: Read, W: Write>(
             Ok(ready) => ready,
             Err(fault) => return Err(fault),
         };
-        let end = match serve_in(alloc, service, ready, &mut line, &mut unread, input, out) {
+        let end = match serve_in(
+            alloc,
+            service,
+            disk,
+            ready,
+            &mut line,
+            &mut unread,
+            input,
+            out,
+        ) {
             Ok(end) => end,
             Err(fault) => return Err(fault),
         };

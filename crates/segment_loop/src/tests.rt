@@ -34,14 +34,19 @@ struct Tally {
 impl AnswersLines for Tally {
     ghost use Rattle.std.specs.Prelude.{◌≡◌, ◌∷◌, [], nat_lt, is_none, ◌&&◌};
 
-    ghost is_answered = { λ old line said noted new.
-        (said ≡ 46 ∷ 10 ∷ []) × (noted ≡ 33 ∷ 10 ∷ []) };
+    ghost is_answered = { λ old was line said noted new is.
+        (said ≡ 46 ∷ 10 ∷ []) × (noted ≡ 33 ∷ 10 ∷ []) × (is ≡ was) };
 
     ghost is_over = { λ s. nat_lt 1 s.told && is_none s.kept };
 
     ghost by_start = { λ old new full said noted long a. a };
 
-    fn answer(&mut self, _line: &[u8], pending: &mut Pending) -> Result<(), AllocError> {
+    fn answer<D: Disk>(
+        &mut self,
+        _disk: &mut D,
+        _line: &[u8],
+        pending: &mut Pending,
+    ) -> Result<(), AllocError> {
         self.told = self.told.saturating_add(1);
         pending.answers.extend_from_slice(b".\n")?;
         pending.notes.extend_from_slice(b"!\n")
@@ -53,8 +58,9 @@ impl AnswersLines for Tally {
 }
 
 impl Segmented for Tally {
-    ghost use Rattle.std.specs.Prelude.{◌≡◌, ◌∷◌, ◌++◌, ◌&&◌, Bool, [], Some, is_none, nat_lt};
-    ghost use Rattle.std.proofs.Common.{ap};
+    ghost use Rattle.std.specs.Prelude.{◌≡◌, ◌∷◌, ◌++◌, ◌&&◌, Bool, [], Option, Some, IsSome, is_none, nat_lt};
+    ghost use Rattle.std.proofs.Common.{ap, subst, sym};
+    ghost use Rattle.disks.specs.Held.{Held};
 
     ghost segmenting = { record {
       text = λ s number behind. s.letter ∷ 10 ∷ behind ++ 10 ∷ [];
@@ -98,6 +104,9 @@ impl Segmented for Tally {
     fn keep_on(&mut self, why: EndFault) {
         self.kept = Some(why);
     }
+
+    ghost knows = { λ old new was is line said noted a some.
+        subst (λ (f : Option Held). IsSome f) (sym a.2) some };
 
     ghost goes = { λ s e. ap (λ (b : Bool). b && is_none s.kept) e };
 }

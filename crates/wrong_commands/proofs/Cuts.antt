@@ -11,6 +11,7 @@ use Rattle.ring_model.specs.Surveys.{granted_count}
 use Rattle.ring_chains.specs.declared.bases.Base.{Base}
 use Rattle.ring_segments.specs.Spelling.{digest_of, number_line, base_line, DigestFits}
 use Rattle.ring_journal.specs.Spelling.{head_text as journal_text}
+use Rattle.line_loop.specs.Answering.{IsLine, joined_lines}
 use Rattle.ring_serve.specs.declared.answers.Answer.{Answer}
 use Rattle.ring_serve.specs.declared.answers.Answer.TheVariants as answer
 use Rattle.ring_serve.specs.declared.answers.Refusal.{Refusal}
@@ -21,7 +22,7 @@ use Rattle.ring_serve.specs.Segments.{AreNext, bases_of}
 use Rattle.ring_serve.specs.Due.{is_due}
 use Rattle.ring_serve.specs.Turns.{Turn, refused}
 use Rattle.ring_serve.specs.Permits.{Terms}
-use Rattle.ring_serve.specs.Serving.{IsLine, IsGiven, IsAnswered, Answers, name_in, joined_lines}
+use Rattle.ring_serve.specs.Serving.{IsGiven, IsAnswered, Answers, name_in}
 use Rattle.chain_serve.specs.declared.segments.SegmentRules.{SegmentRules}
 use Rattle.chain_serve.specs.Texts.{segment_text}
 use Rattle.chain_serve.specs.Segments.{Moment, IsReady, HasEnded, file_of}

@@ -7,7 +7,7 @@ use super::streams::Drops;
 use super::{NOTHING, served};
 use chain_serve::{SegmentRules, close_segment, open_segment, serve_segments};
 use disks::{Disk, FolderEntry, MemoryDisk, Stored, StoredEntry};
-use ring_serve::ServeFault;
+use line_loop::LoopFault;
 use segment_folder::segment_file;
 use segment_loop::OpenSegment;
 use sha2::{Digest, Sha256};
@@ -241,7 +241,7 @@ fn a_fault_of_the_input_leaves_what_was_told(rt: HostRuntime) {
     );
     match ended {
         Ok(_) => panic!(rt; "the input fails"),
-        Err(fault) => assert!(rt; fault == ServeFault::Read),
+        Err(fault) => assert!(rt; fault == LoopFault::Read),
     }
     assert!(rt; out.as_slice() == b"granted 1 5\nwaits\ngranted 2 9\n".as_slice());
     expect(&rt, &disk, FIRST_NAME, FIRST_END);

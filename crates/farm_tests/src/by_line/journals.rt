@@ -3,7 +3,8 @@
 use super::files::Stuck;
 use super::streams::{Drops, Late, Narrow};
 use super::{NOTHING, served};
-use ring_serve::{Journal, ServeFault, serve};
+use line_loop::LoopFault;
+use ring_serve::{Journal, serve};
 use std::alloc::Global;
 use std::process::Abort;
 
@@ -70,7 +71,7 @@ fn no_answer_leaves_before_its_call_is_in_the_journal(rt: HostRuntime) {
             &mut input,
             &mut out,
         );
-        assert!(rt; ended == Err(ServeFault::Journal));
+        assert!(rt; ended == Err(LoopFault::Journal));
         let journal = writer_of(&rt, journal);
         assert!(rt; journal.held.as_slice() == &SHORT_NOTES[..room]);
         let told: &[u8] = if room < FIRST_NOTE { b"" } else { TWO_ANSWERS };
@@ -96,7 +97,7 @@ fn an_output_that_fails_leaves_the_journal_whole(rt: HostRuntime) {
             &mut input,
             &mut out,
         );
-        assert!(rt; ended == Err(ServeFault::Write));
+        assert!(rt; ended == Err(LoopFault::Write));
         let journal = writer_of(&rt, journal);
         assert!(rt; out.held.as_slice() == &SHORT_ANSWERS[..room]);
         assert!(rt; journal.as_slice() == SHORT_NOTES);
@@ -120,7 +121,7 @@ fn the_journal_is_flushed_before_an_answer_leaves(rt: HostRuntime) {
         &mut input,
         &mut out,
     );
-    assert!(rt; ended == Err(ServeFault::Write));
+    assert!(rt; ended == Err(LoopFault::Write));
     let journal = writer_of(&rt, journal);
     assert!(rt; journal.held.as_slice() == SHORT_NOTES);
     assert!(rt; journal.waits.is_empty());
@@ -168,7 +169,7 @@ fn what_was_answered_leaves_before_more_is_read(rt: HostRuntime) {
         &mut input,
         &mut out,
     );
-    assert!(rt; ended == Err(ServeFault::Read));
+    assert!(rt; ended == Err(LoopFault::Read));
     let journal = writer_of(&rt, journal);
     assert!(rt; journal.held.as_slice() == SHORT_NOTES);
     assert!(rt; out.held.as_slice() == SHORT_ANSWERS);

@@ -1,5 +1,6 @@
 use Rattle.std.proofs.Common.{◌++◌}
 use Rattle.line_loop.specs.Loop.{Written, held_by}
+use Rattle.line_loop.specs.Stands.{stand}
 use Rattle.line_loop.proofs.Telling.{rests_goes}
 use Rattle.line_loop.proofs.Parting.{block_stops}
 use Rattle.line_loop.proofs.parts.serve_block.Goals as goal
@@ -16,7 +17,7 @@ returns-in-Ok-put_pending-clause-serves g c = λ old before bytes h.
       t.0,
       t.1,
       t.2,
-      c.in-Ok-put_pending.ensures.told old c.take_block.new.service before (bytes ++ t.0) c.take_block.new.line.items t.3,
+      c.in-Ok-put_pending.ensures.told old (stand c.take_block.new.service (g.D.Disk.holds c.take_block.new.disk)) before (bytes ++ t.0) c.take_block.new.line.items t.3,
     )
 
 pub returns-in-Err-put_pending-clause-serves : goal.returns-in-Err-put_pending-clause-serves
@@ -24,4 +25,4 @@ returns-in-Err-put_pending-clause-serves g c = λ old before bytes h.
     let now : Written = record { journal = held_by g.J.Write.contents c.args.journal.now; out = g.W.Write.contents c.args.out.now } in
     let t = c.in-Ok.ensures.serves old before now bytes (rests_goes c.args.pending.now c.requires.none.0 c.requires.none.1 h) in
     block_stops bytes c.args.unread.now t.0 c.take_block.new.unread t.1
-    (c.in-Err-put_pending.ensures.told old c.take_block.new.service before (bytes ++ t.0) c.take_block.new.line.items t.3)
+    (c.in-Err-put_pending.ensures.told old (stand c.take_block.new.service (g.D.Disk.holds c.take_block.new.disk)) before (bytes ++ t.0) c.take_block.new.line.items t.3)

@@ -1,5 +1,6 @@
 use Rattle.std.proofs.Common.{◌≤◌, [], ◌++◌, length, ◌∙◌, sym, refl, arith, length-append}
 use Rattle.line_loop.specs.Loop.{Written, held_by}
+use Rattle.line_loop.specs.Stands.{by_stand, stand}
 use Rattle.line_loop.proofs.Telling.{consumes_nil, consumes_then, consumes_kept}
 use Rattle.line_loop.proofs.Parting.{going_begins, going_block, going_stops, going_ends, going_filled, going_part}
 use Rattle.line_loop.proofs.parts.serve_part.Goals as goal
@@ -14,7 +15,7 @@ rounds-init g c =
       c.new.ensures.items,
       c.new-2.ensures.items,
       refl,
-      λ begun h. going_begins g.S.AnswersLines.is_answered c.args.service.now begun c.args.unread.now c.args.line.now.items before h,
+      λ begun h. going_begins (by_stand g.S.AnswersLines.is_answered) (stand c.args.service.now (g.D.Disk.holds c.args.disk.now)) begun c.args.unread.now c.args.line.now.items before h,
     )
 
 pub returns-in-Err-clause-err : goal.returns-in-Err-clause-err
@@ -22,21 +23,21 @@ returns-in-Err-clause-err g c = λ begun h.
     let inv = c.rounds.invariant in
     let going = inv.7 begun h in
     let before : Written = record { journal = held_by g.J.Write.contents c.args.journal.now; out = g.W.Write.contents c.args.out.now } in
-    (inv.0, inv.1, going_stops going (c.in-Err.ensures.serves c.args.service.now before (begun ++ going.taken) going.rests))
+    (inv.0, inv.1, going_stops going (c.in-Err.ensures.serves (stand c.args.service.now (g.D.Disk.holds c.args.disk.now)) before (begun ++ going.taken) going.rests))
 
 pub returns-then-over-clause-ok : goal.returns-then-over-clause-ok
 returns-then-over-clause-ok g c = λ begun h.
     let inv = c.rounds.invariant in
     let going = inv.7 begun h in
     let before : Written = record { journal = held_by g.J.Write.contents c.args.journal.now; out = g.W.Write.contents c.args.out.now } in
-    going_part inv.1 tt (going_block c.in-Ok.over going (c.in-Ok.ensures.serves c.args.service.now before (begun ++ going.taken) going.rests))
+    going_part inv.1 tt (going_block c.in-Ok.over going (c.in-Ok.ensures.serves (stand c.args.service.now (g.D.Disk.holds c.args.disk.now)) before (begun ++ going.taken) going.rests))
 
 pub returns-in-Err-fill-clause-err : goal.returns-in-Err-fill-clause-err
 returns-in-Err-fill-clause-err g c = λ begun h.
     let inv = c.rounds.invariant in
     let going = inv.7 begun h in
     let before : Written = record { journal = held_by g.J.Write.contents c.args.journal.now; out = g.W.Write.contents c.args.out.now } in
-    let more = going_block c.in-Ok.over going (c.in-Ok.ensures.serves c.args.service.now before (begun ++ going.taken) going.rests) in
+    let more = going_block c.in-Ok.over going (c.in-Ok.ensures.serves (stand c.args.service.now (g.D.Disk.holds c.args.disk.now)) before (begun ++ going.taken) going.rests) in
     (inv.0, consumes_kept (g.I.Read.remaining c.args.input.now) (g.I.Read.remaining c.rounds.input) (g.I.Read.remaining c.fill.new.input) inv.0 inv.1 c.in-Err-fill.ensures.err.1, going_ends more)
 
 pub returns-then-count-eq0-clause-ok : goal.returns-then-count-eq0-clause-ok
@@ -44,7 +45,7 @@ returns-then-count-eq0-clause-ok g c = λ begun h.
     let inv = c.rounds.invariant in
     let going = inv.7 begun h in
     let before : Written = record { journal = held_by g.J.Write.contents c.args.journal.now; out = g.W.Write.contents c.args.out.now } in
-    let taken = c.in-Ok.ensures.serves c.args.service.now before (begun ++ going.taken) going.rests in
+    let taken = c.in-Ok.ensures.serves (stand c.args.service.now (g.D.Disk.holds c.args.disk.now)) before (begun ++ going.taken) going.rests in
     let more = going_filled c.fill.new.self (taken.2 c.if-over.false) (going_block c.in-Ok.over going taken) in
     going_part (consumes_then (g.I.Read.remaining c.args.input.now) (g.I.Read.remaining c.rounds.input) (g.I.Read.remaining c.fill.new.input) inv.0 c.fill.new.self inv.1 c.in-Ok-fill.ensures.ok.0) tt more
 
@@ -53,7 +54,7 @@ returns-then-once-clause-ok g c = λ begun h.
     let inv = c.rounds.invariant in
     let going = inv.7 begun h in
     let before : Written = record { journal = held_by g.J.Write.contents c.args.journal.now; out = g.W.Write.contents c.args.out.now } in
-    let taken = c.in-Ok.ensures.serves c.args.service.now before (begun ++ going.taken) going.rests in
+    let taken = c.in-Ok.ensures.serves (stand c.args.service.now (g.D.Disk.holds c.args.disk.now)) before (begun ++ going.taken) going.rests in
     let more = going_filled c.fill.new.self (taken.2 c.if-over.false) (going_block c.in-Ok.over going taken) in
     let some : 1 ≤ length (inv.0 ++ c.fill.new.self) = omega (arith, length-append inv.0 c.fill.new.self, c.in-Ok-fill.ensures.ok.1, c.if-count-eq0.false) in
     going_part (consumes_then (g.I.Read.remaining c.args.input.now) (g.I.Read.remaining c.rounds.input) (g.I.Read.remaining c.fill.new.input) inv.0 c.fill.new.self inv.1 c.in-Ok-fill.ensures.ok.0) some more
@@ -73,7 +74,7 @@ rounds-preserved g c =
       c.in-Ok.ensures.kept ∙ inv.6,
       λ begun h.
           let going = inv.7 begun h in
-          let taken = c.in-Ok.ensures.serves c.args.service.now before (begun ++ going.taken) going.rests in
+          let taken = c.in-Ok.ensures.serves (stand c.args.service.now (g.D.Disk.holds c.args.disk.now)) before (begun ++ going.taken) going.rests in
           going_filled c.fill.new.self (taken.2 c.if-over.false) (going_block c.in-Ok.over going taken),
     )
 

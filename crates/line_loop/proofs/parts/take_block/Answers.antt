@@ -1,6 +1,7 @@
 use Rattle.std.proofs.Common.{◌≡◌, ℕ, List, ◌++◌, length, take, subst, ap, sym, ◌∙◌, arith}
 use Rattle.std.proofs.lemmas.List.{take-append-drop, drop_all}
 use Rattle.line_loop.specs.Loop.{GoesOn}
+use Rattle.line_loop.specs.Stands.{by_stand, stand}
 use Rattle.line_loop.proofs.parts.take_block.Goals as goal
 
 pub returns-in-Ok-clause-serves : goal.returns-in-Ok-clause-serves
@@ -13,6 +14,6 @@ returns-in-Ok-clause-serves g c = λ old before after bytes h.
           let size : length c.bytes.result.now ≡ length u = ap length c.bytes.ensures in
           let all = c.in-Ok.ensures.count.1 f in
           c.skip.ensures ∙ drop_all n u (omega (arith, size, all))),
-      subst (λ (x : List ℕ). GoesOn g.S.AnswersLines.is_answered old before after (bytes ++ take n x) c.take_bytes.new.service c.take_bytes.new.line.items c.take_bytes.new.pending) c.bytes.ensures
+      subst (λ (x : List ℕ). GoesOn (by_stand g.S.AnswersLines.is_answered) old before after (bytes ++ take n x) (stand c.take_bytes.new.service (g.D.Disk.holds c.take_bytes.new.disk)) c.take_bytes.new.line.items c.take_bytes.new.pending) c.bytes.ensures
           (c.in-Ok.ensures.serves old before after bytes h),
     )

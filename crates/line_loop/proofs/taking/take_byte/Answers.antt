@@ -1,6 +1,8 @@
 use Rattle.std.proofs.Common.{[], ◌∷◌, ◌∙◌}
 use Rattle.std.proofs.lemmas.Result.{err_from_is_err_and}
+use Rattle.line_loop.specs.Stands.{by_stand, stand}
 use Rattle.line_loop.proofs.Telling.{byte_more, goes_stops, line_pending, fails_line, same_line, stops_more}
+use Rattle.line_loop.proofs.Standing.{same_or_answered}
 use Rattle.line_loop.proofs.taking.take_byte.Goals as goal
 
 pub returns-in_err-keep-clause-serves : goal.returns-in_err-keep-clause-serves
@@ -15,10 +17,12 @@ returns-then-byte-ne10-clause-serves g c = λ old before after bytes h.
 pub returns-in_err-answer-clause-serves : goal.returns-in_err-answer-clause-serves
 returns-in_err-answer-clause-serves g c = λ old before after bytes h.
     let p = err_from_is_err_and c.from_residual-in_err-answer.result c.from_residual-in_err-answer.ensures.1 in
-    rw p.1 (fails_line g.met.S.AnswersLines.by_start c.args.byte h c.if-byte-ne10.false c.as_slice.result.now (c.as_slice.ensures.value ∙ c.in_ok-keep.ensures h.begun h.kept) c.in_err-answer.ensures.err)
+    rw p.1 (fails_line g.met.S.AnswersLines.by_start c.args.byte h c.if-byte-ne10.false c.as_slice.result.now (c.as_slice.ensures.value ∙ c.in_ok-keep.ensures h.begun h.kept) (same_or_answered g.S.AnswersLines.is_answered c.in_err-answer.ensures.err))
 
 pub returns-clause-serves : goal.returns-clause-serves
 returns-clause-serves g c = λ old before after bytes h.
     let said = c.in_ok-answer.ensures.ok in
-    let a = same_line g.S.AnswersLines.is_answered (c.as_slice.ensures.value ∙ c.in_ok-keep.ensures h.begun h.kept) said.2 in
+    let now = stand c.args.service.now (g.D.Disk.holds c.args.disk.now) in
+    let then = stand c.answer.new.self (g.D.Disk.holds c.answer.new.disk) in
+    let a = same_line (by_stand g.S.AnswersLines.is_answered) {old = now} {new = then} (c.as_slice.ensures.value ∙ c.in_ok-keep.ensures h.begun h.kept) said.2 in
     line_pending g.met.S.AnswersLines.by_start c.args.byte h c.if-byte-ne10.false a c.answer.new.pending c.clear.new.self.items said.3 said.4 c.clear.ensures.items

@@ -1,5 +1,5 @@
 use Rattle.std.proofs.Common.{arith}
-use Rattle.ring_serve.proofs.Telling.{name_is}
+use Rattle.ring_serve.proofs.Names.{name_is}
 use Rattle.ring_serve.proofs.serving.name_of.Goals as goal
 
 pub returns : goal.returns

@@ -1,5 +1,4 @@
-use Rattle.std.proofs.Common.{ℕ, ap, ◌∙◌}
-use Rattle.ring_desk.specs.Rings.{RingView}
+use Rattle.std.proofs.Common.{ap, ◌∙◌}
 use Rattle.ring_endless.specs.Endless.{local_survey}
 use Rattle.ring_serve.proofs.Refusing.{surveyed_turn}
 use Rattle.ring_serve.proofs.turns.make_survey.Goals as goal

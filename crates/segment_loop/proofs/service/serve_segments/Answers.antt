@@ -35,7 +35,7 @@ returns-in-Err-clause-noted g c =
     let w = c.parts.segment.writer in
     let at : Moment _ = moment_of c.parts.service (g.D.Disk.holds c.parts.disk) c.parts.segment.number (hashed (g.D.Grown.Write.contents w.inner) w.hasher) in
     let d = c.parts.invariant.1 in
-    (at.journal, all_told g.S.AnswersLines.is_answered g.S.Segmented.segmenting c.args.rules.folder.now start at c.parts.unread c.parts.line.items (g.I.Read.remaining c.args.input.now) (g.I.Read.remaining c.parts.input) (g.W.Write.contents c.args.out.now) (g.W.Write.contents c.parts.out) c.make_ready.new.service d c.in-Err.ensures.err.1)
+    (at.journal, all_told g.S.AnswersLines.is_answered g.met.S.Segmented.knows g.S.Segmented.segmenting c.args.rules.folder.now start at c.parts.unread c.parts.line.items (g.I.Read.remaining c.args.input.now) (g.I.Read.remaining c.parts.input) (g.W.Write.contents c.args.out.now) (g.W.Write.contents c.parts.out) c.make_ready.new.service d c.in-Err.ensures.err.1)
 
 pub returns-in-Err-serve_in-clause-err : goal.returns-in-Err-serve_in-clause-err
 returns-in-Err-serve_in-clause-err g c =
@@ -47,7 +47,7 @@ returns-in-Err-serve_in-clause-err g c =
     let v = c.in-Ok.ready.segment.writer in
     let from : Moment _ = moment_of c.make_ready.new.service (g.D.Disk.holds c.make_ready.new.disk) c.in-Ok.ready.segment.number (hashed (g.D.Grown.Write.contents v.inner) v.hasher) in
     let p = c.in-Err-serve_in.ensures.err d.begun d.keeps in
-    one_stops g.S.AnswersLines.is_answered g.S.Segmented.segmenting c.args.rules.folder.now start at from c.in-Ok.ready.kept c.parts.unread c.parts.line.items (g.I.Read.remaining c.args.input.now) (g.I.Read.remaining c.parts.input) (g.W.Write.contents c.args.out.now) (g.W.Write.contents c.parts.out) d c.in-Ok.ensures.ok c.serve_in.new.service p.0 (g.I.Read.remaining c.serve_in.new.input) (g.W.Write.contents c.serve_in.new.out) p.1
+    one_stops g.S.AnswersLines.is_answered g.S.Segmented.segmenting c.args.rules.folder.now start at from c.in-Ok.ready.kept c.parts.unread c.parts.line.items (g.I.Read.remaining c.args.input.now) (g.I.Read.remaining c.parts.input) (g.W.Write.contents c.args.out.now) (g.W.Write.contents c.parts.out) d c.in-Ok.ensures.ok c.serve_in.new.service (g.D.Disk.holds c.serve_in.new.disk) p.0 (g.I.Read.remaining c.serve_in.new.input) (g.W.Write.contents c.serve_in.new.out) p.1
 
 pub returns-in-Err-serve_in-clause-long : goal.returns-in-Err-serve_in-clause-long
 returns-in-Err-serve_in-clause-long g c =
@@ -65,7 +65,7 @@ returns-in-Err-serve_in-clause-noted g c =
     let from : Moment _ = moment_of c.make_ready.new.service (g.D.Disk.holds c.make_ready.new.disk) c.in-Ok.ready.segment.number (hashed (g.D.Grown.Write.contents v.inner) v.hasher) in
     let p = c.in-Err-serve_in.ensures.err d.begun d.keeps in (
       p.0,
-      some_told g.S.AnswersLines.is_answered g.S.Segmented.segmenting c.args.rules.folder.now start at from c.in-Ok.ready.kept c.parts.unread c.parts.line.items (g.I.Read.remaining c.args.input.now) (g.I.Read.remaining c.parts.input) (g.W.Write.contents c.args.out.now) (g.W.Write.contents c.parts.out) d c.in-Ok.ensures.ok c.serve_in.new.service p.0 (g.I.Read.remaining c.serve_in.new.input) (g.W.Write.contents c.serve_in.new.out) p.1.0 (consumes_then (g.I.Read.remaining c.args.input.now) (g.I.Read.remaining c.parts.input) (g.I.Read.remaining c.serve_in.new.input) d.read p.1.0 d.consumed p.1.1) p.1.2,
+      some_told g.S.AnswersLines.is_answered g.met.S.Segmented.knows g.S.Segmented.segmenting c.args.rules.folder.now start at from c.in-Ok.ready.kept c.parts.unread c.parts.line.items (g.I.Read.remaining c.args.input.now) (g.I.Read.remaining c.parts.input) (g.W.Write.contents c.args.out.now) (g.W.Write.contents c.parts.out) d c.in-Ok.ensures.ok c.serve_in.new.service (g.D.Disk.holds c.serve_in.new.disk) p.0 (g.I.Read.remaining c.serve_in.new.input) (g.W.Write.contents c.serve_in.new.out) p.1.0 (consumes_then (g.I.Read.remaining c.args.input.now) (g.I.Read.remaining c.parts.input) (g.I.Read.remaining c.serve_in.new.input) d.read p.1.0 d.consumed p.1.1) p.1.2,
     )
 
 pub returns-in-End-clause-ok : goal.returns-in-End-clause-ok
@@ -79,9 +79,9 @@ returns-in-End-clause-ok g c =
     let from : Moment _ = moment_of c.make_ready.new.service (g.D.Disk.holds c.make_ready.new.disk) c.in-Ok.ready.segment.number (hashed (g.D.Grown.Write.contents v.inner) v.hasher) in
     let x = c.in-Ok-serve_in.end.segment in
     let journal = hashed (g.D.Grown.Write.contents x.writer.inner) x.writer.hasher in
-    let to : Moment _ = moment_of c.serve_in.new.service from.files x.number journal in
+    let to : Moment _ = moment_of c.serve_in.new.service (g.D.Disk.holds c.serve_in.new.disk) x.number journal in
     let more = one_served g.S.AnswersLines.is_answered g.S.Segmented.segmenting c.args.rules.folder.now start at from c.in-Ok.ready.kept c.parts.unread c.parts.line.items (g.I.Read.remaining c.args.input.now) (g.I.Read.remaining c.parts.input) (g.W.Write.contents c.args.out.now) (g.W.Write.contents c.parts.out) d c.in-Ok.ensures.ok
-    c.in-Ok-serve_in.end.ending c.serve_in.new.service journal x.number c.serve_in.new.unread c.serve_in.new.line.items (g.I.Read.remaining c.serve_in.new.input) (g.W.Write.contents c.serve_in.new.out) c.in-Ok-serve_in.ensures.same.0 (c.in-Ok-serve_in.ensures.ok d.begun d.keeps) in
+    c.in-Ok-serve_in.end.ending c.serve_in.new.service (g.D.Disk.holds c.serve_in.new.disk) journal x.number c.serve_in.new.unread c.serve_in.new.line.items (g.I.Read.remaining c.serve_in.new.input) (g.W.Write.contents c.serve_in.new.out) c.in-Ok-serve_in.ensures.same.0 (c.in-Ok-serve_in.ensures.ok d.begun d.keeps) in
     let ends = subst (λ (e : Ending). IsEnding e (g.S.AnswersLines.is_over c.serve_in.new.service) (is_some c.in-Ok.ready.kept) c.serve_in.new.unread (g.I.Read.remaining c.serve_in.new.input)) c.in-End.is c.in-Ok-serve_in.ensures.ends in
     parts_end g.S.AnswersLines.is_answered g.S.Segmented.segmenting c.args.rules.folder.now start to c.serve_in.new.unread c.serve_in.new.line.items (g.I.Read.remaining c.args.input.now) (g.I.Read.remaining c.serve_in.new.input) (g.W.Write.contents c.args.out.now) (g.W.Write.contents c.serve_in.new.out) more ends.0 ends.1
 
@@ -101,10 +101,10 @@ returns-in-End-clause-noted g c =
     let from : Moment _ = moment_of c.make_ready.new.service (g.D.Disk.holds c.make_ready.new.disk) c.in-Ok.ready.segment.number (hashed (g.D.Grown.Write.contents v.inner) v.hasher) in
     let x = c.in-Ok-serve_in.end.segment in
     let journal = hashed (g.D.Grown.Write.contents x.writer.inner) x.writer.hasher in
-    let to : Moment _ = moment_of c.serve_in.new.service from.files x.number journal in
+    let to : Moment _ = moment_of c.serve_in.new.service (g.D.Disk.holds c.serve_in.new.disk) x.number journal in
     let more = one_served g.S.AnswersLines.is_answered g.S.Segmented.segmenting c.args.rules.folder.now start at from c.in-Ok.ready.kept c.parts.unread c.parts.line.items (g.I.Read.remaining c.args.input.now) (g.I.Read.remaining c.parts.input) (g.W.Write.contents c.args.out.now) (g.W.Write.contents c.parts.out) d c.in-Ok.ensures.ok
-    c.in-Ok-serve_in.end.ending c.serve_in.new.service journal x.number c.serve_in.new.unread c.serve_in.new.line.items (g.I.Read.remaining c.serve_in.new.input) (g.W.Write.contents c.serve_in.new.out) c.in-Ok-serve_in.ensures.same.0 (c.in-Ok-serve_in.ensures.ok d.begun d.keeps) in
-    all_told g.S.AnswersLines.is_answered g.S.Segmented.segmenting c.args.rules.folder.now start to c.serve_in.new.unread c.serve_in.new.line.items (g.I.Read.remaining c.args.input.now) (g.I.Read.remaining c.serve_in.new.input) (g.W.Write.contents c.args.out.now) (g.W.Write.contents c.serve_in.new.out) c.serve_in.new.service more refl
+    c.in-Ok-serve_in.end.ending c.serve_in.new.service (g.D.Disk.holds c.serve_in.new.disk) journal x.number c.serve_in.new.unread c.serve_in.new.line.items (g.I.Read.remaining c.serve_in.new.input) (g.W.Write.contents c.serve_in.new.out) c.in-Ok-serve_in.ensures.same.0 (c.in-Ok-serve_in.ensures.ok d.begun d.keeps) in
+    all_told g.S.AnswersLines.is_answered g.met.S.Segmented.knows g.S.Segmented.segmenting c.args.rules.folder.now start to c.serve_in.new.unread c.serve_in.new.line.items (g.I.Read.remaining c.args.input.now) (g.I.Read.remaining c.serve_in.new.input) (g.W.Write.contents c.args.out.now) (g.W.Write.contents c.serve_in.new.out) c.serve_in.new.service more refl
 
 pub parts-preserved : goal.parts-preserved
 parts-preserved g c =
@@ -121,9 +121,9 @@ parts-preserved g c =
     let same = c.in-Ok-serve_in.ensures.same in (
       same.1 ∙ (c.in-Ok.ensures.named ∙ ap (λ (n : ℕ). segment_file c.args.rules.folder.now n) (sym same.0)),
       one_served g.S.AnswersLines.is_answered g.S.Segmented.segmenting c.args.rules.folder.now start at from c.in-Ok.ready.kept c.parts.unread c.parts.line.items (g.I.Read.remaining c.args.input.now) (g.I.Read.remaining c.parts.input) (g.W.Write.contents c.args.out.now) (g.W.Write.contents c.parts.out) d c.in-Ok.ensures.ok
-          c.in-Ok-serve_in.end.ending c.serve_in.new.service journal x.number c.serve_in.new.unread c.serve_in.new.line.items (g.I.Read.remaining c.serve_in.new.input) (g.W.Write.contents c.serve_in.new.out) same.0 part,
+          c.in-Ok-serve_in.end.ending c.serve_in.new.service (g.D.Disk.holds c.serve_in.new.disk) journal x.number c.serve_in.new.unread c.serve_in.new.line.items (g.I.Read.remaining c.serve_in.new.input) (g.W.Write.contents c.serve_in.new.out) same.0 part,
       one_counted g.S.AnswersLines.is_answered g.S.Segmented.segmenting c.args.rules.folder.now start at from c.in-Ok.ready.kept c.parts.unread c.parts.line.items (g.I.Read.remaining c.args.input.now) (g.I.Read.remaining c.parts.input) (g.W.Write.contents c.args.out.now) (g.W.Write.contents c.parts.out) d c.in-Ok.ensures.ok
-          c.in-Ok-serve_in.end.ending g.S.AnswersLines.is_over (is_some c.in-Ok.ready.kept) c.parts.part c.parts.invariant.2 c.serve_in.new.service journal x.number c.serve_in.new.unread c.serve_in.new.line.items (g.I.Read.remaining c.serve_in.new.input) (g.W.Write.contents c.serve_in.new.out) same.0 part c.in-Ok.ensures.open c.in-Over.is c.in-Ok-serve_in.ensures.ends,
+          c.in-Ok-serve_in.end.ending g.S.AnswersLines.is_over (is_some c.in-Ok.ready.kept) c.parts.part c.parts.invariant.2 c.serve_in.new.service (g.D.Disk.holds c.serve_in.new.disk) journal x.number c.serve_in.new.unread c.serve_in.new.line.items (g.I.Read.remaining c.serve_in.new.input) (g.W.Write.contents c.serve_in.new.out) same.0 part c.in-Ok.ensures.open c.in-Over.is c.in-Ok-serve_in.ensures.ends,
     )
 
 pub returns-clause-long : goal.returns-clause-long
@@ -145,4 +145,4 @@ returns-clause-noted g c =
     let w = c.parts.segment.writer in
     let at : Moment _ = moment_of c.parts.service (g.D.Disk.holds c.parts.disk) c.parts.segment.number (hashed (g.D.Grown.Write.contents w.inner) w.hasher) in
     let d = c.parts.invariant.1 in
-    (at.journal, all_told g.S.AnswersLines.is_answered g.S.Segmented.segmenting c.args.rules.folder.now start at c.parts.unread c.parts.line.items (g.I.Read.remaining c.args.input.now) (g.I.Read.remaining c.parts.input) (g.W.Write.contents c.args.out.now) (g.W.Write.contents c.parts.out) c.parts.service d refl)
+    (at.journal, all_told g.S.AnswersLines.is_answered g.met.S.Segmented.knows g.S.Segmented.segmenting c.args.rules.folder.now start at c.parts.unread c.parts.line.items (g.I.Read.remaining c.args.input.now) (g.I.Read.remaining c.parts.input) (g.W.Write.contents c.args.out.now) (g.W.Write.contents c.parts.out) c.parts.service d refl)

@@ -1,4 +1,4 @@
-use Rattle.std.proofs.Common.{◌≡◌, ℕ, ◌<◌, length, List, get_or, sym, ap, ◌∙◌, subst}
+use Rattle.std.proofs.Common.{◌≡◌, ◌<◌, length, List, get_or, ap, ◌∙◌, subst}
 use Rattle.ring_saved.specs.declared.saved.SavedRing.{SavedRing}
 use Rattle.ring_serve.specs.Standings.{standing_of}
 use Rattle.ring_serve.proofs.Resuming.{segments_more, start_fault}

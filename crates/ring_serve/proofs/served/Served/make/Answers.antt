@@ -1,4 +1,4 @@
-use Rattle.std.proofs.Common.{◌≡◌, ◌∙◌, ℕ, ◌-◌, ◌^◌, List, Some, map, ap, sym}
+use Rattle.std.proofs.Common.{◌≡◌, ◌∙◌, ◌-◌, ◌^◌, List, Some, map, ap}
 use Rattle.ring_serve.specs.Commands.{seen, ring_of}
 use Rattle.ring_serve.specs.Standings.{Standing, standing_of}
 use Rattle.ring_serve.specs.Turns.{recorded_among}

@@ -1,0 +1,93 @@
+use Rattle.std.proofs.Common.{List, None, sym, ap, ◌∙◌}
+use Rattle.ring_serve.specs.Standings.{Standing}
+use Rattle.segment_loop.specs.Digested.{hashed}
+use Rattle.chain_serve.specs.Services.{service_of}
+use Rattle.chain_serve.proofs.Parts.{serves_from, some_from, recovered_from, none_in}
+use Rattle.chain_serve.proofs.serving.serve_segments.Goals as goal
+
+-- there is no memory for a name
+
+pub returns-in_default-clause-err : goal.returns-in_default-clause-err
+returns-in_default-clause-err g c =
+    let u = c.args.first.writer in
+    (none_in c.args.rules c.args.served.now (g.D.Disk.holds c.args.disk.now) c.args.first.number (hashed (g.D.Grown.Write.contents u.inner) u.hasher) (g.I.Read.remaining c.args.input.now) (g.W.Write.contents c.args.out.now)).0
+
+pub returns-in_default-clause-recovered : goal.returns-in_default-clause-recovered
+returns-in_default-clause-recovered g c =
+    let u = c.args.first.writer in
+    let journal = hashed (g.D.Grown.Write.contents u.inner) u.hasher in
+    (journal, (none_in c.args.rules c.args.served.now (g.D.Disk.holds c.args.disk.now) c.args.first.number journal (g.I.Read.remaining c.args.input.now) (g.W.Write.contents c.args.out.now)).1)
+
+-- lines were served
+
+pub returns-in-Ok-ended-clause-ok : goal.returns-in-Ok-ended-clause-ok
+returns-in-Ok-ended-clause-ok g c =
+    let s = c.args.rules in
+    let n = c.args.first.number in
+    let u = c.args.first.writer in
+    let v = c.new-service.result in
+    let new = c.serve_segments-ended.new.service in
+    let files = g.D.Disk.holds c.args.disk.now in
+    let journal = hashed (g.D.Grown.Write.contents u.inner) u.hasher in
+    let input = g.I.Read.remaining c.args.input.now in
+    let rest = g.I.Read.remaining c.serve_segments-ended.new.input in
+    let out = g.W.Write.contents c.args.out.now in
+    let after = g.W.Write.contents c.serve_segments-ended.new.out in
+    let e = c.new-service.ensures ∙ ap (λ (r : List Standing). service_of s r n None) c.replace-rings.ensures.value in
+    let x = c.in-Ok-ended.end in
+    serves_from s v new c.args.served.now c.into_rings.result files n journal input rest out after e c.are_right.ensures (sym c.into_rings.ensures)
+    (g.D.Disk.holds c.serve_segments-ended.new.disk) x.number (hashed (g.D.Grown.Write.contents x.writer.inner) x.writer.hasher) c.in-Ok-ended.ensures.ok
+
+pub returns-in-Ok-ended-clause-recovered : goal.returns-in-Ok-ended-clause-recovered
+returns-in-Ok-ended-clause-recovered g c =
+    let s = c.args.rules in
+    let n = c.args.first.number in
+    let u = c.args.first.writer in
+    let v = c.new-service.result in
+    let new = c.serve_segments-ended.new.service in
+    let files = g.D.Disk.holds c.args.disk.now in
+    let journal = hashed (g.D.Grown.Write.contents u.inner) u.hasher in
+    let input = g.I.Read.remaining c.args.input.now in
+    let rest = g.I.Read.remaining c.serve_segments-ended.new.input in
+    let out = g.W.Write.contents c.args.out.now in
+    let after = g.W.Write.contents c.serve_segments-ended.new.out in
+    let e = c.new-service.ensures ∙ ap (λ (r : List Standing). service_of s r n None) c.replace-rings.ensures.value in
+    let x = c.in-Ok-ended.end in
+    recovered_from s v new c.args.served.now c.into_rings.result files n journal input rest out after e c.are_right.ensures (sym c.into_rings.ensures)
+    (hashed (g.D.Grown.Write.contents x.writer.inner) x.writer.hasher) c.in-Ok-ended.ensures.noted
+
+pub returns-in-Err-clause-err : goal.returns-in-Err-clause-err
+returns-in-Err-clause-err g c =
+    let s = c.args.rules in
+    let n = c.args.first.number in
+    let u = c.args.first.writer in
+    let v = c.new-service.result in
+    let new = c.serve_segments-ended.new.service in
+    let files = g.D.Disk.holds c.args.disk.now in
+    let journal = hashed (g.D.Grown.Write.contents u.inner) u.hasher in
+    let input = g.I.Read.remaining c.args.input.now in
+    let rest = g.I.Read.remaining c.serve_segments-ended.new.input in
+    let out = g.W.Write.contents c.args.out.now in
+    let after = g.W.Write.contents c.serve_segments-ended.new.out in
+    let e = c.new-service.ensures ∙ ap (λ (r : List Standing). service_of s r n None) c.replace-rings.ensures.value in
+    some_from s v new c.args.served.now c.into_rings.result files n journal input rest out after e c.are_right.ensures (sym c.into_rings.ensures)
+    (g.D.Disk.holds c.serve_segments-ended.new.disk) c.in-Err.ensures.err
+
+pub returns-in-Err-clause-recovered : goal.returns-in-Err-clause-recovered
+returns-in-Err-clause-recovered g c =
+    let s = c.args.rules in
+    let n = c.args.first.number in
+    let u = c.args.first.writer in
+    let v = c.new-service.result in
+    let new = c.serve_segments-ended.new.service in
+    let files = g.D.Disk.holds c.args.disk.now in
+    let journal = hashed (g.D.Grown.Write.contents u.inner) u.hasher in
+    let input = g.I.Read.remaining c.args.input.now in
+    let rest = g.I.Read.remaining c.serve_segments-ended.new.input in
+    let out = g.W.Write.contents c.args.out.now in
+    let after = g.W.Write.contents c.serve_segments-ended.new.out in
+    let e = c.new-service.ensures ∙ ap (λ (r : List Standing). service_of s r n None) c.replace-rings.ensures.value in
+    let t = c.in-Err.ensures.noted in (
+      t.0,
+      recovered_from s v new c.args.served.now c.into_rings.result files n journal input rest out after e c.are_right.ensures (sym c.into_rings.ensures) t.0 t.1,
+    )

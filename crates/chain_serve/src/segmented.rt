@@ -1,0 +1,87 @@
+//! How rings live in segments.
+
+ghost use Rattle.std.specs.Prelude.{◌≡◌, IfOk};
+ghost use Rattle.std.specs.List.{AllByRecursion};
+ghost use Rattle.ring_serve.specs.Saved.{IsRight};
+ghost use Rattle.ring_serve.specs.Segments.{AreNext};
+ghost use Rattle.chain_serve.specs.Segments.{IsCause};
+ghost use Rattle.chain_serve.specs.Services.{refusal_of};
+
+use crate::service::ChainService;
+use crate::texts::segment_text;
+use ring_endless::NextError;
+use ring_segments::DIGEST_DIGITS;
+use ring_serve::{Refusal, Served, are_right};
+use segment_folder::segment_file;
+use segment_loop::{EndFault, Segmented};
+use std::alloc::Global;
+
+/// The rings with their next segments.
+fn next_rings(alloc: Global, served: &Served) -> Result<Served, EndFault>
+    ensures { IfOk result (λ next. AreNext served.now next × AllByRecursion IsRight next) }
+{
+    match served.next(alloc) {
+        Ok(next) => {
+            are_right(&next);
+            Ok(next)
+        }
+        Err(NextError::Full) => Err(EndFault::Full),
+        Err(NextError::OutOfMemory) => Err(EndFault::OutOfMemory),
+    }
+}
+
+/// What each line is refused with while a segment is kept on.
+pub(crate) fn refusal_of(why: EndFault) -> Refusal
+    ensures refusal { result ≡ refusal_of why }
+    ensures cause { IsCause result }
+{
+    match why {
+        EndFault::File => Refusal::File,
+        EndFault::OutOfMemory => Refusal::OutOfMemory,
+        EndFault::Full => Refusal::HistoryFull,
+    }
+}
+
+impl Segmented for ChainService<'_> {
+    ghost use Rattle.chain_serve.specs.Services.{segmenting};
+    ghost use Rattle.chain_serve.specs.Starts.{goes, knows};
+
+    ghost segmenting = { segmenting };
+
+    ghost goes = { goes };
+
+    ghost knows = { knows };
+
+    fn is_due(&self) -> bool {
+        self.served.is_due(self.rules.limit)
+    }
+
+    fn next(&self, alloc: Global) -> Result<Self, EndFault> {
+        let served = match next_rings(alloc, &self.served) {
+            Ok(served) => served,
+            Err(why) => return Err(why),
+        };
+        if self.number == u64::MAX {
+            return Err(EndFault::File);
+        }
+        let number = self.number + 1;
+        let Ok(name) = segment_file(alloc, self.rules.folder, number) else {
+            return Err(EndFault::OutOfMemory);
+        };
+        Ok(ChainService::new(self.alloc, served, self.rules, number, name))
+    }
+
+    fn text(
+        &self,
+        alloc: Global,
+        number: u64,
+        behind: [u8; DIGEST_DIGITS],
+    ) -> Result<Vec<u8>, EndFault> {
+        segment_text(alloc, number, behind, &self.served)
+    }
+
+    fn keep_on(&mut self, why: EndFault) {
+        self.refusing = Some(refusal_of(why));
+        self.shut = false;
+    }
+}

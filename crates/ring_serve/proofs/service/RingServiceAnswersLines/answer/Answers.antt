@@ -1,0 +1,29 @@
+use Rattle.std.proofs.Common.{◌≡◌, ℕ, List, false, sym, subst}
+use Rattle.ring_serve.specs.Permits.{terms_by, is_shut}
+use Rattle.ring_serve.specs.Services.{ServiceView, IsServed, service_of}
+use Rattle.ring_serve.proofs.Shutting.{tied_open}
+use Rattle.ring_serve.proofs.Looped.{served_by, told_ok, told_err}
+use Rattle.ring_serve.proofs.service.RingServiceAnswersLines.answer.Goals as goal
+
+pub answer_by-requires : goal.answer_by-requires
+answer_by-requires g c =
+    let s = c.self.inside in
+    tied_open (terms_by s.rules) s.served s.shut c.self.invariant (subst (λ (x : ServiceView). is_shut x.terms x.rings ≡ false) (sym c.self.view_is) c.requires)
+
+pub returns-clause-ok : goal.returns-clause-ok
+returns-clause-ok g c =
+    let s = c.self.inside in
+    let a = c.answer_by.ensures.answered in
+    let new : ServiceView = service_of c.answer_by.new.served (terms_by s.rules) in
+    let was = g.D.Disk.holds c.args.disk.now in
+    let is = g.D.Disk.holds c.answer_by.new.disk in
+    told_ok c.answer_by.result c.args.pending.now c.answer_by.new.pending (λ (say note : List ℕ). IsServed c.args.self.now was c.args.line.now say note new is) a.0 a.1 (served_by c.args.self.now s.served c.answer_by.new.served (terms_by s.rules) was is c.args.line.now a.0 a.1 c.self.view_is a.2) a.3
+
+pub returns-clause-err : goal.returns-clause-err
+returns-clause-err g c =
+    let s = c.self.inside in
+    let a = c.answer_by.ensures.answered in
+    let new : ServiceView = service_of c.answer_by.new.served (terms_by s.rules) in
+    let was = g.D.Disk.holds c.args.disk.now in
+    let is = g.D.Disk.holds c.answer_by.new.disk in
+    told_err c.answer_by.result ((new ≡ c.args.self.now) × (is ≡ was)) (λ (say note : List ℕ). IsServed c.args.self.now was c.args.line.now say note new is) a.0 a.1 (served_by c.args.self.now s.served c.answer_by.new.served (terms_by s.rules) was is c.args.line.now a.0 a.1 c.self.view_is a.2)

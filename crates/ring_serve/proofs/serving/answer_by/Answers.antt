@@ -1,0 +1,36 @@
+use Rattle.std.proofs.Common.{◌≡◌, ℕ, Bool, List, [], ◌++◌, cond, Option, None, Some, refl, ap, subst}
+use Rattle.std.specs.Prelude.{is_some, OnOk}
+use Rattle.std.specs.Borrow.{Bor}
+use Rattle.std.specs.Option.{option_map}
+use Rattle.line_loop.proofs.Telling.{both_ok}
+use Rattle.ring_serve.specs.Answers.{answer_line}
+use Rattle.ring_serve.specs.Notes.{notes_of}
+use Rattle.ring_serve.specs.Permits.{terms_by}
+use Rattle.ring_serve.specs.Turns.{recorded_among, turn_seen_among}
+use Rattle.ring_serve.proofs.Shutting.{tied_after}
+use Rattle.ring_serve.proofs.serving.answer_by.Goals as goal
+
+-- a journal is kept just if its name is known
+named : (x : Option (Bor (List ℕ))) → is_some x ≡ is_some (option_map (λ (name : Bor (List ℕ)). name.now) x)
+named None = refl
+named (Some x) = refl
+
+pub returns-clause-tied : goal.returns-clause-tied
+returns-clause-tied g c =
+    let t = c.turn_on-turn.result in
+    tied_after (terms_by c.args.rules) c.args.served.now c.turn_on-turn.new.served c.args.line.now t.ring t.call c.is_over.result c.requires c.turn_on-turn.ensures.turn c.turn_on-turn.ensures.due c.is_over.ensures
+
+pub returns-clause-answered : goal.returns-clause-answered
+returns-clause-answered g c =
+    let t = c.turn_on-turn.result in
+    let new = c.turn_on-turn.new.served in
+    let all : List ℕ = notes_of (recorded_among t.ring new t.call.trace) in
+    let given = c.give-given.result in
+    let old = c.args.pending.now in
+    let pending = c.add_pending.new.pending in
+    let notes = subst (λ (k : Bool). OnOk c.add_pending.result (pending.notes.items ≡ old.notes.items ++ cond k all [])) c.is_some.ensures c.add_pending.ensures.notes in (
+      answer_line given,
+      cond (is_some c.args.rules.journal) all [],
+      record { turn = turn_seen_among t.ring new t.call; given = given; goes = c.requires; of_line = c.turn_on-turn.ensures.turn; gives = c.give-given.ensures; says = refl; notes = ap (λ (k : Bool). cond k all []) (named c.args.rules.journal); leaves = refl },
+      both_ok c.add_pending.result (pending.answers.items ≡ old.answers.items ++ answer_line given) (pending.notes.items ≡ old.notes.items ++ cond (is_some c.args.rules.journal) all []) c.add_pending.ensures.answers notes,
+    )
