@@ -1,6 +1,7 @@
 //! The answers, as lines.
 
 ghost use Rattle.std.specs.Prelude.{◌≡◌, ◌≤◌, ◌+◌, ◌++◌, List, ℕ, codes, length, OnOk, OnErr};
+ghost use Rattle.std.specs.Fmt.{decimal};
 ghost use Rattle.text_lines.specs.Spelling.{spaced, ended};
 ghost use Rattle.ring_locks.specs.declared.answers.Answer.TheVariants as answer;
 ghost use Rattle.lock_lines.specs.Answers.{refusal_text, holder_text, answer_text, answer_line, denial_text, denial_line};
@@ -19,6 +20,31 @@ pub enum Denial {
     Number,
     /// It is a fault, and none is permitted.
     Off,
+}
+
+/// Puts the word in front of a line, as [`line_parts::put_word`] does. Where the word is known, no loop is left.
+#[inline(always)]
+fn put_front(line: &mut Line, word: &[u8])
+    requires { length line.old + length word.now ≤ 128 }
+    ensures { line.new ≡ word.now ++ line.old }
+{
+    for i in 0..word.len() {
+        line.byte(word[word.len() - 1 - i]);
+    }
+}
+
+/// Puts the number's decimal in front of a line. Most locks and clients have a number of one digit.
+#[inline(always)]
+fn put_decimal(line: &mut Line, number: u64)
+    requires { length line.old ≤ 108 }
+    ensures is { line.new ≡ decimal number ++ line.old }
+    ensures short { length line.new ≤ length line.old + 20 }
+{
+    if number < 10 {
+        line.byte(b'0' + number as u8);
+    } else {
+        line.number(number);
+    }
 }
 
 /// The line of these words, for a client.
@@ -40,22 +66,6 @@ fn of_lock(client: u64, word: &[u8], lock: u32) -> Line
 {
     let mut line = Line::new();
     line.byte(b'\n');
-    line.number(lock as u64);
-    put_word(&mut line, word);
-    line.byte(b' ');
-    line.number(client);
-    line
-}
-
-/// The line of a word, a lock and a number, for a client.
-fn of_number(client: u64, word: &[u8], lock: u32, number: u64) -> Line
-    requires { length word.now ≤ 32 }
-    ensures { result ≡ spaced client ++ (word.now ++ (spaced lock ++ ended number)) }
-{
-    let mut line = Line::new();
-    line.byte(b'\n');
-    line.number(number);
-    line.byte(b' ');
     line.number(lock as u64);
     put_word(&mut line, word);
     line.byte(b' ');
@@ -132,11 +142,63 @@ fn stats_start(client: u64, lock: u32, machines: u32) -> Line
 }
 
 /// Adds a line to a text.
+#[inline(always)]
 fn put(text: &mut Vec<u8>, line: &Line) -> Result<(), AllocError>
     ensures ok { OnOk result (text.new.items ≡ text.old.items ++ line.now) }
     ensures err { OnErr result (text.new.items ≡ text.old.items) }
 {
     text.extend_from_slice(line.as_bytes())
+}
+
+/// Adds the line of a word and a lock, for a client.
+#[inline(always)]
+fn put_of_lock(text: &mut Vec<u8>, client: u64, word: &[u8], lock: u32) -> Result<(), AllocError>
+    requires { length word.now ≤ 64 }
+    ensures ok { OnOk result
+        (text.new.items ≡ text.old.items ++ (spaced client ++ (word.now ++ ended lock))) }
+    ensures err { OnErr result (text.new.items ≡ text.old.items) }
+{
+    let mut line = Line::new();
+    line.byte(b'\n');
+    put_decimal(&mut line, lock as u64);
+    put_front(&mut line, word);
+    line.byte(b' ');
+    put_decimal(&mut line, client);
+    put(text, &line)
+}
+
+/// Adds the line of a word, a lock and a number, for a client.
+#[inline(always)]
+fn put_of_number(
+    text: &mut Vec<u8>,
+    client: u64,
+    word: &[u8],
+    lock: u32,
+    number: u64,
+) -> Result<(), AllocError>
+    requires { length word.now ≤ 32 }
+    ensures ok { OnOk result (text.new.items ≡ text.old.items
+        ++ (spaced client ++ (word.now ++ (spaced lock ++ ended number)))) }
+    ensures err { OnErr result (text.new.items ≡ text.old.items) }
+{
+    let mut line = Line::new();
+    line.byte(b'\n');
+    line.number(number);
+    line.byte(b' ');
+    put_decimal(&mut line, lock as u64);
+    put_front(&mut line, word);
+    line.byte(b' ');
+    put_decimal(&mut line, client);
+    put(text, &line)
+}
+
+/// Adds the line of a refusal.
+fn put_refusal(text: &mut Vec<u8>, client: u64, lock: u32, why: Refusal) -> Result<(), AllocError>
+    ensures ok { OnOk result
+        (text.new.items ≡ text.old.items ++ (spaced client ++ refusal_text lock why)) }
+    ensures err { OnErr result (text.new.items ≡ text.old.items) }
+{
+    put(text, &refusal_line(client, lock, why))
 }
 
 /// Adds the line that says all of a lock.
@@ -171,14 +233,14 @@ pub fn put_answer(
     ensures err { OnErr result (text.new.items ≡ text.old.items) }
 {
     match answer {
-        Answer::Granted(token) => put(text, &of_number(client, b"granted ", lock, token)),
-        Answer::Waiting(before) => put(text, &of_number(client, b"waiting ", lock, before)),
-        Answer::Busy => put(text, &of_lock(client, b"busy ", lock)),
-        Answer::Released => put(text, &of_lock(client, b"released ", lock)),
-        Answer::Cancelled => put(text, &of_lock(client, b"cancelled ", lock)),
-        Answer::Corrupted(old) => { put(text, &of_number(client, b"corrupted ", lock, old as u64)) }
+        Answer::Granted(token) => put_of_number(text, client, b"granted ", lock, token),
+        Answer::Waiting(before) => put_of_number(text, client, b"waiting ", lock, before),
+        Answer::Busy => put_of_lock(text, client, b"busy ", lock),
+        Answer::Released => put_of_lock(text, client, b"released ", lock),
+        Answer::Cancelled => put_of_lock(text, client, b"cancelled ", lock),
+        Answer::Corrupted(old) => put_of_number(text, client, b"corrupted ", lock, old as u64),
         Answer::Stats(stats) => put_stats(text, client, lock, stats),
-        Answer::Refused(why) => put(text, &refusal_line(client, lock, why)),
+        Answer::Refused(why) => put_refusal(text, client, lock, why),
     }
 }
 

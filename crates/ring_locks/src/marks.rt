@@ -79,7 +79,36 @@ pub(crate) fn reserve(ring: &mut EndlessRing, waiting: usize, events: u32) -> Re
     }
 }
 
-/// A pass of the first privileged machine by this seat. Answers its number, which counts all passes of the ring.
+/// A pass of the first privileged machine, which is known, by this seat. Answers its number, which counts all passes of the ring.
+///
+/// # Errors
+///
+/// `Full`, `Memory`; neither if there is room for an event. Nothing has changed then.
+pub(crate) fn pass_first(
+    ring: &mut EndlessRing,
+    seat: u32,
+    first: u32,
+    order: u64,
+) -> Result<u64, Refusal>
+    requires kept { IsKeptRing ring.old }
+    requires seat { seat < seat_count }
+    requires first { first ≡ first_privileged (state_of ring.old).ring.values }
+    ensures number { IfOk result (λ number. number ≡ (state_of ring.old).grants + 1) }
+    ensures made { OnOk result
+        (IsMade ring.old ring.new seat (first_pass (state_of ring.old) order)) }
+    ensures kept { IsKeptRing ring.new }
+    ensures err { OnErr result (ring.new ≡ ring.old) }
+    ensures why { IfErr result (λ e. IsWantOf ring.old 1 e) }
+    ensures succeeds { 1 ≤ ring.old.ring.book.room → IsOk result }
+    ensures room { OnOk result (ring.old.ring.book.room ≤ ring.new.ring.book.room + 1) }
+{
+    match ring.pass(seat, first, order) {
+        Ok(receipt) => Ok(number_of(receipt.event.reply)),
+        Err(error) => Err(want(error)),
+    }
+}
+
+/// The same, of a ring whose first privileged machine is not known.
 ///
 /// # Errors
 ///
@@ -97,10 +126,7 @@ pub(crate) fn pass(ring: &mut EndlessRing, seat: u32, order: u64) -> Result<u64,
     ensures room { OnOk result (ring.old.ring.book.room ≤ ring.new.ring.book.room + 1) }
 {
     let first = first(ring);
-    match ring.pass(seat, first, order) {
-        Ok(receipt) => Ok(number_of(receipt.event.reply)),
-        Err(error) => Err(want(error)),
-    }
+    pass_first(ring, seat, first, order)
 }
 
 /// A pass of the first privileged machine on seat 0, with room left for an event for each client that waits. Answers its number.
@@ -171,7 +197,9 @@ pub(crate) fn carry(ring: &mut EndlessRing, held: Option<Holder>)
 
 /// The end of a hold now, by this seat. It takes no memory.
 pub(crate) fn end(ring: &EndlessRing, seat: u32) -> HoldEnd
-    ensures { result ≡ record { seat = seat; survey = local_survey ring.now.ring } }
+    requires { IsKeptRing ring.now }
+    ensures is { result ≡ record { seat = seat; survey = local_survey ring.now.ring } }
+    ensures first { result.survey.first ≡ first_privileged (state_of ring.now).ring.values }
 {
     HoldEnd {
         seat,

@@ -1,6 +1,7 @@
 //! One lock: its ring, who stands in its line, who holds it.
 
 ghost use Rattle.std.specs.Prelude.{◌≡◌, ◌+◌, ◌<◌, ◌⊎◌, List, ◌∷◌, length, Some, None, IsSome};
+ghost use Rattle.ring_model.specs.Ring.{first_privileged};
 ghost use Rattle.ring_endless.specs.Endless.{local_survey};
 ghost use Rattle.ring_locks.specs.Lines.{without};
 ghost use Rattle.ring_locks.specs.Locks.{Corrupt, ended, faulted, granted, joined};
@@ -126,13 +127,15 @@ fn pass_hold(
     requires kept { IsKeptLock (view_of lock.old) }
     requires head { (others : List Waiter) × (lock.old.line.items ≡ waiter ∷ others) }
     requires now { over.survey ≡ local_survey lock.old.ring.ring }
+    requires first { over.survey.first
+        ≡ first_privileged (state_of lock.old.ring).ring.values }
     ensures turned { IsTurnedIn number (view_of lock.old) (view_of lock.new) waits.old waits.new
         client
         (ended (state_of lock.old.ring) lock.old.line.items over.seat (own_answer client own))
         result }
     ensures own { result.own ≡ own }
 {
-    match marks::pass(&mut lock.ring, 0, waiter.order) {
+    match marks::pass_first(&mut lock.ring, 0, over.survey.first, waiter.order) {
         Ok(token) => {
             let holder = Holder {
                 client: waiter.client,

@@ -8,5 +8,5 @@ use Rattle.ring_locks.proofs.marks.end.Goals as goal
 abbrev by : ℕ → Survey → HoldEnd
 by seat s = record { seat = seat; survey = s }
 
-pub returns : goal.returns
-returns c = ap (λ (s : Survey). by c.args.seat s) (c.glance.ensures ∙ ap (λ (d : RingView ℕ). local_survey d) c.segment.ensures.is)
+pub returns-clause-is : goal.returns-clause-is
+returns-clause-is c = ap (λ (s : Survey). by c.args.seat s) (c.glance.ensures ∙ ap (λ (d : RingView ℕ). local_survey d) c.segment.ensures.is)
