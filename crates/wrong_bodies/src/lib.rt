@@ -15,3 +15,4 @@ pub mod saved;
 pub mod settle;
 pub mod settling;
 pub mod state;
+pub mod told;

@@ -1,0 +1,5 @@
+pub mod Replays
+pub mod Wrongs
+pub mod BadLines
+pub mod BadLineTexts
+pub mod Laws
