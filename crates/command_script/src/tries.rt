@@ -34,11 +34,12 @@ fn is_cut(ended: &Ended, whole: &[u8], room: usize) -> bool {
         && ended.told.text.as_slice() == b"cannot write\n".as_slice()
 }
 
-/// Whether a run whose standard error was cut here wrote just the prefix of the whole that goes into it, and has its status.
+/// Whether a run whose standard error was cut here wrote just the prefix of the whole that goes into it, printed the same, and has
+/// its status.
 fn is_cut_error(ended: &Ended, whole: &Ended, room: usize) -> bool {
     let front = whole.told.text.get(..room).unwrap_or(b"no such beginning");
     ended.status == whole.status
-        && ended.printed.text.is_empty()
+        && ended.printed.text == whole.printed.text
         && ended.told.text.as_slice() == front
 }
 

@@ -75,9 +75,16 @@ on if the first are gone; the sums over all rings from the first event of all; a
 next one has to have. Else it says the file, and its line or why: `foreign`, `missing`, `number`, `behind`, `base`,
 `start`, `full`, `unfinished`.
 
+With --all it prints each bad line of a file, with what is there and what should be, before it says which is the first one.
+After a bad reply the ring goes on with its own. Behind a ring that cannot be, or a call that none of its machines can make,
+no line of that ring is judged. A folder cannot be read so.
+
 Example:
   $ ring_tool check saved.txt
   legal rings 1 events 3 granted 2 corrupted 0 surveys 1
+  $ ring_tool check --all bad.txt
+  line 6: reply: g 2 8, should be g 2 9
+  line 6: reply
 
 Exit status: 0 where it is legal, 1 where it is not or cannot be read, 2 where the words cannot be read. A file whose
 name is `-` is `./-`; one whose name begins with a dash stands behind `--`.";
@@ -190,12 +197,20 @@ fn checked_word<'a>(alloc: Global) -> Arg<'a> {
     )
 }
 
+/// Whether all bad lines are wanted.
+fn all_word<'a>(alloc: Global) -> Arg<'a> {
+    Arg::new(alloc, "ALL")
+        .long("all")
+        .action(ArgAction::SetTrue)
+        .help("Prints each bad line of a saved history, with what is there and what should be")
+}
+
 /// The words of `check`.
 fn check_command<'a>(alloc: Global) -> Result<Command<'a>, Error> {
     let command = Command::new(alloc, "check")
         .about(CHECK_ABOUT)
         .after_help(CHECK_HELP);
-    Ok(command.arg(checked_word(alloc))?)
+    Ok(command.arg(checked_word(alloc))?.arg(all_word(alloc))?)
 }
 
 /// `upgrade` with its two files.
@@ -293,9 +308,14 @@ fn run_words<'a>(words: &ArgMatches<'a>) -> Option<Request<'a>> {
 
 /// `check`, where its word is there.
 fn check_words<'a>(words: &ArgMatches<'a>) -> Option<Request<'a>> {
-    Some(Request::Check(CheckWords {
+    let check = CheckWords {
         file: words.get_str("FILE")?,
-    }))
+    };
+    if words.get_flag("ALL") {
+        Some(Request::CheckAll(check))
+    } else {
+        Some(Request::Check(check))
+    }
 }
 
 /// `upgrade`, where both its words are there.

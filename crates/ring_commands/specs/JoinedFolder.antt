@@ -38,6 +38,19 @@ IsJoinAnswer words was is =
     × IsLegalText (joined fs)
     × IsHanded words.new.now (text (joined fs)) (legal_line (summary_of (joined fs))) was is
 
+-- The word FOLDER names such a folder, so that a file may be made.
+abbrev pub IsJoinable : JoinWords → Option Held → Type 0
+IsJoinable words files =
+    (entries : List FolderEntry)
+    × (r : SegmentNumbers)
+    × (fs : List File)
+    × IsFolder files words.folder.now entries
+    × IsRightNumbers entries (Ok (Some r))
+    × (r.first ≡ 1)
+    × IsOutside files words.folder.now entries (file_of (Some words.new.now))
+    × IsChainIn files words.folder.now r fs
+    × IsLegalText (joined fs)
+
 -- ---- refusals
 
 -- the first segment is not the first of all

@@ -11,7 +11,7 @@ ghost use Rattle.ring_segments.specs.Files.{File};
 ghost use Rattle.ring_joins.specs.Joining.{joined};
 ghost use Rattle.ring_joins.specs.Joins.{IsJoinedWith};
 ghost use Rattle.ring_commands.specs.Chained.{IsChainIn, IsFolder, AreNamesRefused};
-ghost use Rattle.ring_commands.specs.JoinedFolder.{IsLaterBegin, IsUnjoined, IsJoinRefused, AreUnjoined, IsJoinAnswer, IsJoinRefusal};
+ghost use Rattle.ring_commands.specs.JoinedFolder.{IsLaterBegin, IsUnjoined, IsJoinRefused, AreUnjoined, IsJoinable, IsJoinAnswer, IsJoinRefusal};
 ghost use Rattle.ring_commands.specs.JoinSteps.{JoinLeads, JoinEnds};
 ghost use Rattle.ring_commands.specs.Named.{IsHeld};
 ghost use Rattle.ring_commands.specs.Reading.{names_stream};
@@ -187,6 +187,7 @@ fn join_folder<'a, D: Disk, W: Write, E: Write>(
     ensures nothing { IfErr result (λ e. e ≢ ToolError.Write → out.new ≡ out.old) }
     ensures silent { names_stream words.now.new.now ≡ false → err.new ≡ err.old }
     ensures printed { names_stream words.now.new.now ≡ true → disk.new ≡ disk.old }
+    ensures unmade { (disk.new ≡ disk.old) ⊎ IsJoinable words.now (D.holds disk.old) }
 {
     let numbers = match numbers_from_first(alloc, words.folder, entries) {
         Ok(numbers) => numbers,
@@ -234,6 +235,7 @@ pub fn run<'a, D: Disk, W: Write, E: Write>(
     ensures nothing { IfErr result (λ e. e ≢ ToolError.Write → out.new ≡ out.old) }
     ensures silent { names_stream words.now.new.now ≡ false → err.new ≡ err.old }
     ensures printed { names_stream words.now.new.now ≡ true → disk.new ≡ disk.old }
+    ensures unmade { (disk.new ≡ disk.old) ⊎ IsJoinable words.now (D.holds disk.old) }
 {
     match entries_of(disk, words.folder) {
         None => Err(ToolError::NoSegment(words.folder)),

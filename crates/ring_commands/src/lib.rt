@@ -7,6 +7,7 @@
 mod beginning;
 pub mod chain;
 pub mod check;
+pub mod check_all;
 pub mod endings;
 pub mod failing;
 pub mod faults;

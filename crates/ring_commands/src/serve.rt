@@ -20,24 +20,25 @@ use crate::reading::names_stream;
 use crate::resuming::{given_history, needed, resume_rings};
 use crate::serve_folder::run_in_folder;
 use disks::Disk;
+use line_loop::LoopFault;
 use ring_requests::ServeWords;
 use ring_saved::Saved;
-use ring_serve::{Journal, Permits, ServeFault, Served, serve};
+use ring_serve::{Journal, Permits, Served, serve};
 use ring_text::put_total_line;
 use std::alloc::Global;
 use std::io::{Read, Sink, Write};
 
 /// Returns the refusal for a fault while lines were served.
-pub(crate) fn serving_refusal<'a>(fault: ServeFault, journal: Option<&'a str>) -> ToolError<'a>
+pub(crate) fn serving_refusal<'a>(fault: LoopFault, journal: Option<&'a str>) -> ToolError<'a>
     ensures { IsServingFault (option_map (λ name. name.now) journal.entry) result }
 {
     match (fault, journal) {
-        (ServeFault::Read, _) => ToolError::Read("-"),
-        (ServeFault::TooLong, _) => ToolError::TooLarge("-"),
-        (ServeFault::OutOfMemory, _) => ToolError::OutOfMemory,
-        (ServeFault::Journal, Some(name)) => ToolError::Save(name),
+        (LoopFault::Read, _) => ToolError::Read("-"),
+        (LoopFault::TooLong, _) => ToolError::TooLarge("-"),
+        (LoopFault::OutOfMemory, _) => ToolError::OutOfMemory,
+        (LoopFault::Journal, Some(name)) => ToolError::Save(name),
         // without a journal none fails
-        (ServeFault::Journal | ServeFault::Write, _) => ToolError::Write,
+        (LoopFault::Journal | LoopFault::Write, _) => ToolError::Write,
     }
 }
 

@@ -20,7 +20,7 @@ pub struct RunWords<'a> {
     pub quiet: bool,
 }
 
-/// The words of `check`.
+/// The words of `check`, and of `check --all`.
 #[derive(Clone, Copy)]
 pub struct CheckWords<'a> {
     /// The name of the file, or of a folder of segments; `-` is standard input.
@@ -144,6 +144,8 @@ pub enum Request<'a> {
     Step(StepWords<'a>),
     Run(RunWords<'a>),
     Check(CheckWords<'a>),
+    /// `check` with all bad lines.
+    CheckAll(CheckWords<'a>),
     Report(ReportWords<'a>),
     Picture(PictureWords<'a>),
     Upgrade(UpgradeWords<'a>),

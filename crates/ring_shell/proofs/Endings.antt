@@ -96,6 +96,7 @@ files_kept : (request : Request) (was is : World) → IsRefusal request was is t
 files_kept (asked.Step words) was is refused kept = kept (λ lines. lines)
 files_kept (asked.Run words) was is refused kept = kept (λ lines. lines)
 files_kept (asked.Check words) was is refused kept = kept (λ lines. lines)
+files_kept (asked.CheckAll words) was is refused kept = kept (λ lines. lines)
 files_kept (asked.Report words) was is refused kept = kept (λ lines. lines)
 files_kept (asked.Picture words) was is refused kept = kept (λ lines. lines)
 files_kept (asked.Upgrade words) was is refused kept = kept (λ lines. lines)

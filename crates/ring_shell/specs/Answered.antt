@@ -4,6 +4,7 @@ use Rattle.ring_commands.specs.Stepped.{IsStepAnswer, IsStepWordsRefusal}
 use Rattle.ring_commands.specs.Saved.{IsRunAnswer}
 use Rattle.ring_commands.specs.Ran.{history_file, IsRunRefusal}
 use Rattle.ring_commands.specs.Checked.{IsCheckAnswer, IsCheckRunRefusal}
+use Rattle.ring_commands.specs.CheckedAll.{IsCheckAllAnswer, IsCheckAllRefusal}
 use Rattle.ring_commands.specs.JoinedFolder.{IsJoinAnswer, IsJoinRefusal}
 use Rattle.ring_commands.specs.New.{IsNewAnswer, IsNewRefusal}
 use Rattle.ring_commands.specs.Pictured.{IsPictureAnswer, IsPictureRefusal}
@@ -19,12 +20,14 @@ use Rattle.lock_commands.specs.HoldsAnswer.{IsHoldsAnswer, IsHoldsRefusal}
 use Rattle.ring_requests.specs.declared.requests.Request.{Request}
 use Rattle.ring_requests.specs.declared.requests.Request.TheVariants as request
 
--- the answer of the command that was asked for; `step`, `check`, `report`, `holds` and `new` change
--- no file
+-- the answer of the command that was asked for; `step`, `check`, `check --all`, `report`, `holds` and
+-- `new` change no file
 abbrev pub IsAnswer : Request → World → World → Type 0
 IsAnswer (request.Step words) was is = IsStepAnswer words was.out is.out × (is.files ≡ was.files)
 IsAnswer (request.Run words) was is = IsRunAnswer words was is
 IsAnswer (request.Check words) was is = IsCheckAnswer words was is × (is.files ≡ was.files)
+IsAnswer (request.CheckAll words) was is =
+    IsCheckAllAnswer words was is × (is.files ≡ was.files)
 IsAnswer (request.Report words) was is = IsReportAnswer words was is × (is.files ≡ was.files)
 IsAnswer (request.Picture words) was is = IsPictureAnswer words was is
 IsAnswer (request.Upgrade words) was is = IsUpgradeAnswer words was is
@@ -42,6 +45,8 @@ IsRefusal (request.Step words) was is e =
 IsRefusal (request.Run words) was is e = IsRunRefusal words was is e
 IsRefusal (request.Check words) was is e =
     IsCheckRunRefusal words was is e × (is.files ≡ was.files)
+IsRefusal (request.CheckAll words) was is e =
+    IsCheckAllRefusal words was is e × (is.files ≡ was.files)
 IsRefusal (request.Report words) was is e =
     IsReportRefusal words was is e × (is.files ≡ was.files)
 IsRefusal (request.Picture words) was is e = IsPictureRefusal words was is e
@@ -59,6 +64,7 @@ abbrev pub IsOfLines : Request → Type 0
 IsOfLines (request.Step words) = ⊥
 IsOfLines (request.Run words) = ⊥
 IsOfLines (request.Check words) = ⊥
+IsOfLines (request.CheckAll words) = ⊥
 IsOfLines (request.Report words) = ⊥
 IsOfLines (request.Picture words) = ⊥
 IsOfLines (request.Upgrade words) = ⊥
@@ -74,6 +80,7 @@ abbrev pub IsOfFile : Request → Type 0
 IsOfFile (request.Step words) = Unit {0}
 IsOfFile (request.Run words) = names_stream words.settings.now ≡ false
 IsOfFile (request.Check words) = names_stream words.file.now ≡ false
+IsOfFile (request.CheckAll words) = names_stream words.file.now ≡ false
 IsOfFile (request.Report words) = names_stream words.file.now ≡ false
 IsOfFile (request.Picture words) = names_stream words.file.now ≡ false
 IsOfFile (request.Upgrade words) = names_stream words.file.now ≡ false
@@ -89,6 +96,7 @@ abbrev pub MakesNoFile : Request → Type 0
 MakesNoFile (request.Step words) = Unit {0}
 MakesNoFile (request.Run words) = history_file words ≡ None
 MakesNoFile (request.Check words) = Unit {0}
+MakesNoFile (request.CheckAll words) = Unit {0}
 MakesNoFile (request.Report words) = Unit {0}
 MakesNoFile (request.Picture words) = names_stream words.picture.now ≡ true
 MakesNoFile (request.Upgrade words) = names_stream words.new.now ≡ true
@@ -104,6 +112,7 @@ abbrev pub IsSilent : Request → Type 0
 IsSilent (request.Step words) = Unit {0}
 IsSilent (request.Run words) = Unit {0}
 IsSilent (request.Check words) = Unit {0}
+IsSilent (request.CheckAll words) = Unit {0}
 IsSilent (request.Report words) = Unit {0}
 IsSilent (request.Picture words) = names_stream words.picture.now ≡ false
 IsSilent (request.Upgrade words) = names_stream words.new.now ≡ false

@@ -10,7 +10,9 @@ use crate::ends::{Ending, done, fail};
 use disks::Disk;
 use lock_commands::{holds, locks};
 use ring_commands::faults::ToolError;
-use ring_commands::{check, fresh, join, picture, recover, report, run, serve, step, upgrade};
+use ring_commands::{
+    check, check_all, fresh, join, picture, recover, report, run, serve, step, upgrade,
+};
 use ring_requests::Request;
 use std::io::{BufWriter, Read, Write};
 use std::sync::Wait;
@@ -49,6 +51,7 @@ pub fn answer<'a, R: AllocGlobal + Threads + Wait + Sync, D: Disk, I: Read, O: W
         Request::Step(words) => step::run(rt.alloc(), words, out),
         Request::Run(words) => run::run(rt, disk, words, input, out),
         Request::Check(words) => check::run(rt.alloc(), disk, words, input, out),
+        Request::CheckAll(words) => check_all::run(rt.alloc(), disk, words, input, out),
         Request::Report(words) => report::run(rt.alloc(), disk, words, input, out),
         Request::Picture(words) => picture::run(rt.alloc(), disk, words, input, out, err),
         Request::Upgrade(words) => upgrade::run(rt.alloc(), disk, words, input, out, err),

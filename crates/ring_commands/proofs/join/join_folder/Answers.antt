@@ -55,3 +55,33 @@ returns-clause-err g c early late =
     let refused = subst (λ (k : Content). IsHandRefusal c.args.words.now.new.now (text k) (legal_line (summary_of k)) was end c.in-Err-hand_over.fault) x.2
     (subst (λ s. IsHandRefusal c.args.words.now.new.now (text (content v.0)) (legal_line s) was end c.in-Err-hand_over.fault) c.in-Ok-whole_history.ensures.sums c.in-Err-hand_over.ensures.err) in
     inr (c.args.entries.now, c.requires, inr (c.in-Ok.numbers, c.in-Ok.ensures.ok.0, inr (inr (inr (x.0, x.1, record { to_file = refused.to_file; to_output = refused.to_output })))))
+
+pub returns-in-Ok-hand_over-clause-unmade : goal.returns-in-Ok-hand_over-clause-unmade
+returns-in-Ok-hand_over-clause-unmade g c =
+    let x = c.in-Ok-whole_history.ensures.ok in
+    inr (
+      c.args.entries.now,
+      c.in-Ok.numbers,
+      x.0,
+      c.requires,
+      c.in-Ok.ensures.ok.0,
+      c.in-Ok.ensures.ok.1,
+      c.in-Ok-keep_outside.ensures.ok,
+      x.1,
+      subst IsLegalText x.2 c.in-Ok-whole_history.ensures.legal,
+    )
+
+pub returns-clause-unmade : goal.returns-clause-unmade
+returns-clause-unmade g c =
+    let x = c.in-Ok-whole_history.ensures.ok in
+    inr (
+      c.args.entries.now,
+      c.in-Ok.numbers,
+      x.0,
+      c.requires,
+      c.in-Ok.ensures.ok.0,
+      c.in-Ok.ensures.ok.1,
+      c.in-Ok-keep_outside.ensures.ok,
+      x.1,
+      subst IsLegalText x.2 c.in-Ok-whole_history.ensures.legal,
+    )

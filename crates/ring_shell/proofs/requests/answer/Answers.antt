@@ -41,6 +41,9 @@ returns-in-Upgrade-clause-unread g c = rw c.in-Upgrade.is c.run-in-Upgrade.ensur
 pub returns-in-Check-clause-unread : goal.returns-in-Check-clause-unread
 returns-in-Check-clause-unread g c = rw c.in-Check.is c.run-in-Check.ensures.unread
 
+pub returns-in-CheckAll-clause-unread : goal.returns-in-CheckAll-clause-unread
+returns-in-CheckAll-clause-unread g c = rw c.in-CheckAll.is c.run-in-CheckAll.ensures.unread
+
 pub returns-in-Report-clause-unread : goal.returns-in-Report-clause-unread
 returns-in-Report-clause-unread g c = rw c.in-Report.is c.run-in-Report.ensures.unread
 
