@@ -1,7 +1,8 @@
 #!/bin/sh
-# Builds the static library for other languages and the examples in C, Python and Rust, runs them, and has `ring_tool check`
-# judge each history that they saved; with -v it prints what the C program measures, too. Word: a `ring_tool` that judges in
-# place of one that is proved and built here. Needs rt, a C and a C++ compiler with their sanitizers, Python 3.9 and cargo.
+# Builds the library for other languages, runs the examples in C, Python and Rust and the tests of the packages, and has `ring_tool
+# check` judge each history that was saved; with -v it prints what the C program measures, too. bench/sanitizers.sh runs the programs
+# in C under sanitizers. Word: a `ring_tool` that judges in place of one that is proved and built here. PYTHONS names interpreters to
+# try in place of python3. Needs rt, a C and a C++ compiler, Python 3.8 or later and cargo.
 set -eu
 . "$(dirname "$0")/common.sh"
 measure=
@@ -14,10 +15,10 @@ echo "proving and building ring_desk_c"
 (cd "$top/crates/ring_desk_c" && rt lib >"$out/ring_desk_c-build.log" 2>&1) || { cat "$out/ring_desk_c-build.log"; exit 1; }
 folder=$out/languages
 mkdir -p "$folder"
-cp "$top/crates/ring_desk_c/out/libring_desk_c.a" "$(dirname "$(rt doc)")/c/liblibc_c.a" "$folder"
-libraries="$folder/libring_desk_c.a $folder/liblibc_c.a"
-flags="-std=c11 -Wall -Wextra -Wpedantic -Werror -I$top/include"
-checked="-g -O1 -fsanitize=address,undefined -fno-sanitize-recover=all"
+"$top/release/library" "$folder"
+library=$folder/libwozgirt.a
+strict="-Wall -Wextra -Wpedantic -Werror -I$top/include"
+flags="-std=c11 $strict"
 
 # judge NAME: what the separate checker says of the history that an example saved
 judge() {
@@ -25,24 +26,26 @@ judge() {
     "$tool" check "$folder/$1.txt"
 }
 
-for name in refusals four_threads; do
-    cc $flags $checked -o "$folder/$name-checked" "$top/examples/c/$name.c" $libraries -pthread
+for name in refusals locks waits four_threads speed; do
+    cc $flags -O2 -o "$folder/$name" "$top/examples/c/$name.c" "$library" -pthread
 done
-for name in four_threads speed; do
-    cc $flags -O2 -o "$folder/$name" "$top/examples/c/$name.c" $libraries -pthread
+for header in wozgirt wozgirt_wait; do
+    printf '#include "%s.h"\nint main(void) { return wozgirt_version() == WOZGIRT_VERSION ? 0 : 1; }\n' $header >"$folder/header.c"
+    for compiler in "cc -std=c99" "cc -std=c11" "c++ -x c++ -std=c++11" "c++ -x c++ -std=c++17"; do
+        $compiler $strict -c -o "$folder/header.o" "$folder/header.c"
+    done
+    cc -o "$folder/header" "$folder/header.o" "$library" -pthread
+    "$folder/header"
 done
-echo '#include "wozgirt.h"
-int main() { return wozgirt_version() == 100 ? 0 : 1; }' >"$folder/header.cpp"
-c++ -std=c++17 -Wall -Wextra -Wpedantic -Werror "-I$top/include" -o "$folder/header" "$folder/header.cpp" $libraries
-"$folder/header"
-
-"$folder/refusals-checked"
-"$folder/four_threads-checked" "$folder/c-checked.txt"
-judge c-checked
+(cd "$folder" && c++ -x c++ -std=c++11 $strict -o first "$top/examples/c/first.c" -x none "$library" && ./first && mv history.txt first.txt)
+judge first
+"$folder/refusals"
+"$folder/locks"
+"$folder/waits" endless
 "$folder/four_threads" "$folder/c.txt"
 judge c
 
-cc $flags -O1 -o "$folder/memory" "$top/bench/languages_memory.c" $libraries
+cc $flags -O1 -o "$folder/memory" "$top/bench/languages_memory.c" "$library"
 cc -shared -fPIC -O1 -o "$folder/refuse_memory.so" "$top/bench/refuse_memory.c" -ldl
 number=0
 while :; do
@@ -54,12 +57,16 @@ while :; do
 done
 echo "$((number - 1)) requests for memory refused in turn"
 
-cc -shared -o "$folder/libwozgirt.so" -Wl,--whole-archive "$folder/libring_desk_c.a" -Wl,--no-whole-archive "$folder/liblibc_c.a"
-WOZGIRT_LIBRARY=$folder/libwozgirt.so PYTHONPATH=$top/python PYTHONDONTWRITEBYTECODE=1 python3 "$top/examples/python/four_threads.py" "$folder/python.txt"
-judge python
+export WOZGIRT_LIBRARY="$folder/libwozgirt.so.0" WOZGIRT_LIBRARIES="$folder" PYTHONDONTWRITEBYTECODE=1
+for python in ${PYTHONS:-python3}; do
+    "$python" --version
+    "$python" -m unittest discover -q -s "$top/python/tests" -t "$top/python"
+    PYTHONPATH=$top/python "$python" "$top/examples/python/four_threads.py" "$folder/python.txt"
+    judge python
+done
 
 rust=$folder/rust-target
-(cd "$top/rust" && export WOZGIRT_LIBRARIES="$folder" CARGO_TARGET_DIR="$rust" &&
+(cd "$top/rust" && export CARGO_TARGET_DIR="$rust" &&
     cargo test -q --release --offline && cargo build -q --release --offline --example four_threads &&
     cargo doc -q --offline --no-deps && cargo package -q --offline --workspace --allow-dirty)
 "$rust/release/examples/four_threads" "$folder/rust.txt"

@@ -1,6 +1,6 @@
 /* Plays one scene twice by the calls from C, and compares the two saved texts. A call that is refused because memory runs out must
  * have changed nothing, and is made once more; so where one request for memory is refused, as bench/languages.sh has it with
- * bench/refuse_memory.c, both scenes end alike. Status 0 if they do. */
+ * bench/refuse_memory.c, both scenes end alike; and locks are given all the same. Status 0 if so. */
 #include "wozgirt.h"
 #include <string.h>
 
@@ -14,8 +14,9 @@ struct scene {
 static int open_one(struct wozgirt_ring *ring, const struct scene *from)
 {
     const uint32_t start[3] = {0, 2, 0};
+    struct wozgirt_sums sums;
     for (int tries = 0; tries < 2; tries++) {
-        const uint32_t code = from ? wozgirt_open_saved(ring, from->text, from->size, 0, 2) : wozgirt_open(ring, 3, 3, start, 3, 2);
+        const uint32_t code = from ? wozgirt_open_saved(ring, from->text, from->size, 0, 2, &sums) : wozgirt_open(ring, 3, 3, start, 3, 2);
         if (code == WOZGIRT_DONE)
             return 1;
         if (code != WOZGIRT_NO_MEMORY || ring->at)
@@ -43,10 +44,12 @@ static uint32_t call(struct wozgirt_ring *ring, int number)
 static int call_all(struct wozgirt_ring *ring)
 {
     for (int number = 0; number < 60; number++) {
-        const uint64_t before = wozgirt_history_length(ring);
+        uint64_t before = 0, after = 0;
+        if (wozgirt_history_length(ring, &before) != WOZGIRT_DONE)
+            return 0;
         uint32_t code = call(ring, number);
         if (code == WOZGIRT_NO_MEMORY) {
-            if (wozgirt_history_length(ring) != before)
+            if (wozgirt_history_length(ring, &after) != WOZGIRT_DONE || after != before)
                 return 0;
             code = call(ring, number);
         }
@@ -83,11 +86,40 @@ static int play(struct scene *first, struct scene *second)
     struct wozgirt_ring ring = {0}, on = {0};
     if (!open_one(&ring, NULL) || !call_all(&ring) || !save(&ring, first))
         return 0;
-    wozgirt_close(ring);
+    wozgirt_close(&ring);
     if (!open_one(&on, first) || !call_all(&on) || !save(&on, second))
         return 0;
-    wozgirt_close(on);
+    wozgirt_close(&on);
     return is_legal(first) && is_legal(second);
+}
+
+/* A client acquires lock 0: what it is told, also where the first ask is refused for want of memory. */
+static uint32_t acquired(struct wozgirt_locks *locks, uint64_t client, struct wozgirt_hold *hold)
+{
+    const uint32_t code = wozgirt_locks_acquire(locks, client, 0, client, hold);
+    return code == WOZGIRT_NO_MEMORY ? wozgirt_locks_acquire(locks, client, 0, client, hold) : code;
+}
+
+/* Three clients want a lock. Whoever ends a hold, or waits no more, is not refused for want of memory. */
+static int play_locks(void)
+{
+    struct wozgirt_locks locks = {0};
+    struct wozgirt_hold hold = {0, 0};
+    struct wozgirt_grant grant = {0, 0, 0};
+    uint32_t code = wozgirt_locks_open(&locks, 2, 4);
+    if (code == WOZGIRT_NO_MEMORY && !locks.at)
+        code = wozgirt_locks_open(&locks, 2, 4);
+    int is_right = code == WOZGIRT_DONE && acquired(&locks, 1, &hold) == WOZGIRT_DONE && hold.token == 1;
+    is_right = is_right && acquired(&locks, 2, &hold) == WOZGIRT_WAITS && hold.ahead == 0;
+    is_right = is_right && acquired(&locks, 3, &hold) == WOZGIRT_WAITS && hold.ahead == 1;
+    is_right = is_right && wozgirt_locks_release(&locks, 1, 0, 1) == WOZGIRT_DONE;
+    is_right = is_right && wozgirt_locks_next(&locks, &grant) == WOZGIRT_DONE && grant.client == 2 && grant.token == 2;
+    is_right = is_right && wozgirt_locks_next(&locks, &grant) == WOZGIRT_NO_MORE;
+    is_right = is_right && wozgirt_locks_cancel(&locks, 3, 0) == WOZGIRT_DONE && wozgirt_locks_leave(&locks, 2) == WOZGIRT_DONE;
+    is_right = is_right && wozgirt_locks_next(&locks, &grant) == WOZGIRT_NO_MORE;
+    is_right = is_right && acquired(&locks, 3, &hold) == WOZGIRT_DONE && hold.token == 3;
+    wozgirt_locks_close(&locks);
+    return is_right;
 }
 
 static struct scene scenes[4];
@@ -99,5 +131,5 @@ int main(void)
     for (int i = 0; i < 2; i++)
         if (scenes[i].size != scenes[i + 2].size || memcmp(scenes[i].text, scenes[i + 2].text, scenes[i].size) != 0)
             return 2;
-    return 0;
+    return play_locks() ? 0 : 3;
 }

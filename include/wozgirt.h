@@ -1,25 +1,29 @@
-/* Wozgirt for C and C++, and for each language that calls C: Dijkstra's token rings, one ring for each resource, and the
- * separate checker of their saved histories. The static library is `ring_desk_c`; docs/LANGUAGES.md says how it is built,
- * and what is proved of it.
+/* Wozgirt for C and C++, and for each language that calls C: Dijkstra's token rings, one ring for each resource, the
+ * separate checker of their saved histories, and locks over such rings. The static library is `ring_desk_c`;
+ * docs/LANGUAGES.md says how it is built, and what is proved of it.
  *
  * The caller has to keep these rules, since nothing checks them:
  *
- *   1. A ring begins as `struct wozgirt_ring ring = {0};`. One of the three functions `wozgirt_open..` opens it,
- *      `wozgirt_close` ends it, and nobody else writes it. No other function takes a ring that is not open.
- *   2. A ring is not thread-safe: threads that share one hold a mutex around each call. Different rings, and
- *      `wozgirt_check`, need none.
+ *   1. A ring begins as `struct wozgirt_ring ring = {0};`, which is closed. One of the functions `wozgirt_open..` opens it,
+ *      `wozgirt_close` closes it, and nobody else writes it or copies it. The same holds for `struct wozgirt_locks`.
+ *      Each call of a closed one is refused with WOZGIRT_CLOSED, and opening an open one with WOZGIRT_OPEN.
+ *   2. A ring may go from thread to thread, but only one call at a time may use it: threads that share one hold a mutex
+ *      around each call, also where the ring is const. Different rings, and `wozgirt_check`, need none.
  *   3. Pointers are not null, are aligned for their type, and point to as many elements as their length says, which
  *      nobody else writes during the call, and the written memory is apart from the memory that is read. For an empty
  *      list any address that is not null serves.
- *   4. malloc, realloc and free are one allocator's.
- *   5. No call is made in a signal's handler, since calls allocate. After fork() one of the two processes goes on with
- *      a ring: if both do, they give the same grant numbers twice.
+ *   4. malloc, realloc and free are one allocator's, and align a block as C asks.
+ *   5. No call is made in a signal's handler, since calls allocate, nor in the child behind fork() of a process with
+ *      threads. After fork() one of the two processes goes on with a ring: if both do, they give the same grant numbers
+ *      twice.
  *
  * The numbers of grants begin at 1 with `wozgirt_open` and `wozgirt_open_idle`: who uses them as fencing tokens has to
- * save a ring and go on by `wozgirt_open_saved`, which goes on with the numbers. A till stops at 2^64 - 1.
+ * save a ring and go on by `wozgirt_open_saved`, which goes on with the numbers. A till stops at 2^64 - 1: what it would
+ * be given beyond that is lost.
  *
  * Each number is checked: a seat, machine, value or group that a ring does not have is refused, and then nothing has
- * changed. Each function returns a code of `enum wozgirt_code`, if nothing else is said.
+ * changed. Each function returns a code of `enum wozgirt_code`, if nothing else is said. Who asks again and again whether
+ * a machine may pass asks by `wozgirt_try`.
  */
 #ifndef WOZGIRT_H
 #define WOZGIRT_H
@@ -29,9 +33,15 @@
 extern "C" {
 #endif
 
+/* The version of this header, as `wozgirt_version` has the library's: compare them before the first call. */
+#define WOZGIRT_VERSION 100
+
 enum wozgirt_code {
     WOZGIRT_DONE = 0,           /* granted, written, opened, answered, saved, legal */
-    WOZGIRT_WAITS = 1,          /* the machine is not privileged: a pass was recorded, and did no work; a try was not */
+    WOZGIRT_WAITS = 1,          /* the machine is not privileged: a pass was recorded, and did no work; a try was not.
+                                   Of a lock: the client waits */
+    WOZGIRT_BUSY = 2,           /* somebody holds the lock */
+    WOZGIRT_NO_MORE = 3,        /* there is no further grant */
     /* a call is refused, and nothing has changed */
     WOZGIRT_NO_SEAT = 16,
     WOZGIRT_NO_MACHINE = 17,
@@ -41,17 +51,19 @@ enum wozgirt_code {
     WOZGIRT_NOT_PRIVILEGED = 21, /* a machine of the group is not privileged: the least such one is returned */
     WOZGIRT_HISTORY_FULL = 22,  /* a history has at most 4,000,000 events */
     WOZGIRT_NO_MEMORY = 23,
+    WOZGIRT_CLOSED = 24,        /* the struct holds nothing that is open */
     /* a ring is not opened, and the struct is as it was */
     WOZGIRT_BAD_SEATS = 32,     /* they are not 1 to 10 */
     WOZGIRT_BAD_MACHINES = 33,  /* n is not 2 to 1,024 */
     WOZGIRT_BAD_VALUES = 34,    /* K is not n to 65,536 */
     WOZGIRT_BAD_LENGTH = 35,    /* there are not n start values */
     WOZGIRT_BAD_START = 36,     /* a start value is not below K */
-    /* bytes are not a saved text, or a saved ring is not resumed */
+    WOZGIRT_OPEN = 37,          /* the struct holds one that is open: close it first */
+    WOZGIRT_BAD_LOCKS = 38,     /* they are not 1 to 1,000,000 */
+    /* bytes are not a saved text, or a saved text has no such ring */
     WOZGIRT_SYNTAX = 48,
     WOZGIRT_TRUNCATED = 49,
     WOZGIRT_NO_RING = 50,       /* the text has no ring at this place */
-    WOZGIRT_DIFFERS = 51,       /* its history or a survey of it is not legal */
     /* a saved text is not legal: the fault of its first bad line */
     WOZGIRT_PARAMETER = 64,
     WOZGIRT_RANGE = 65,
@@ -59,9 +71,18 @@ enum wozgirt_code {
     WOZGIRT_COUNT = 67,
     WOZGIRT_SURVEY = 68,
     WOZGIRT_GROUP = 69,
-    /* a ring is not saved */
+    /* a ring is not saved, or not read */
     WOZGIRT_NO_TILL = 80,       /* a saved text is of tills, and the ring is not over one */
-    WOZGIRT_TOO_SMALL = 81      /* the buffer: the size that is needed is returned */
+    WOZGIRT_TOO_SMALL = 81,     /* the buffer: the size that is needed is returned */
+    WOZGIRT_NO_EVENT = 82,      /* the history has no event of this number */
+    /* a lock's input is refused, and nothing has changed */
+    WOZGIRT_NO_LOCK = 96,
+    WOZGIRT_HOLDS = 97,         /* the client holds the lock already */
+    WOZGIRT_STANDS = 98,        /* the client waits already */
+    WOZGIRT_CIRCLE = 99,        /* the client would wait, step by step, for itself */
+    WOZGIRT_NOT_HELD = 100,     /* the client does not hold the lock with this token */
+    WOZGIRT_NOT_WAITING = 101,  /* the client does not wait for the lock */
+    WOZGIRT_GRANTS_LEFT = 102   /* grants of an earlier input were not taken: call `wozgirt_locks_next` first */
 };
 
 /* What the code means, in English. */
@@ -70,6 +91,8 @@ static inline const char *wozgirt_text(uint32_t code)
     switch (code) {
     case WOZGIRT_DONE: return "done";
     case WOZGIRT_WAITS: return "the machine is not privileged";
+    case WOZGIRT_BUSY: return "somebody holds the lock";
+    case WOZGIRT_NO_MORE: return "there is no further grant";
     case WOZGIRT_NO_SEAT: return "there is no such seat";
     case WOZGIRT_NO_MACHINE: return "there is no such machine";
     case WOZGIRT_NO_VALUE: return "the value is not below K";
@@ -78,15 +101,17 @@ static inline const char *wozgirt_text(uint32_t code)
     case WOZGIRT_NOT_PRIVILEGED: return "a machine of the group is not privileged";
     case WOZGIRT_HISTORY_FULL: return "the history is full";
     case WOZGIRT_NO_MEMORY: return "out of memory";
+    case WOZGIRT_CLOSED: return "it is closed";
     case WOZGIRT_BAD_SEATS: return "a ring has 1 to 10 seats";
     case WOZGIRT_BAD_MACHINES: return "a ring has 2 to 1,024 machines";
     case WOZGIRT_BAD_VALUES: return "a ring has at least as many values as machines, and at most 65,536";
     case WOZGIRT_BAD_LENGTH: return "there is not one start value for each machine";
     case WOZGIRT_BAD_START: return "a start value is not below K";
+    case WOZGIRT_OPEN: return "it is open already";
+    case WOZGIRT_BAD_LOCKS: return "there are 1 to 1,000,000 locks";
     case WOZGIRT_SYNTAX: return "a line cannot stand in a saved text";
     case WOZGIRT_TRUNCATED: return "the saved text is cut short";
     case WOZGIRT_NO_RING: return "the saved text has no ring at this place";
-    case WOZGIRT_DIFFERS: return "the saved history is not legal";
     case WOZGIRT_PARAMETER: return "parameter";
     case WOZGIRT_RANGE: return "range";
     case WOZGIRT_REPLY: return "reply";
@@ -95,11 +120,19 @@ static inline const char *wozgirt_text(uint32_t code)
     case WOZGIRT_GROUP: return "group";
     case WOZGIRT_NO_TILL: return "the ring is over no till, so it has no saved text";
     case WOZGIRT_TOO_SMALL: return "the buffer is too small";
+    case WOZGIRT_NO_EVENT: return "there is no such event";
+    case WOZGIRT_NO_LOCK: return "there is no such lock";
+    case WOZGIRT_HOLDS: return "the client holds the lock already";
+    case WOZGIRT_STANDS: return "the client waits already";
+    case WOZGIRT_CIRCLE: return "the client would wait for itself";
+    case WOZGIRT_NOT_HELD: return "the client does not hold the lock with this token";
+    case WOZGIRT_NOT_WAITING: return "the client does not wait for the lock";
+    case WOZGIRT_GRANTS_LEFT: return "grants were not taken";
     default: return "no code of this library";
     }
 }
 
-/* A ring. The memory that it points to is the library's. */
+/* A ring. The memory that it points to is the library's; at null it is closed. */
 struct wozgirt_ring {
     void *at;
 };
@@ -134,8 +167,28 @@ struct wozgirt_sums {
     uint32_t rings;
 };
 
+/* What an event of a history is. */
+enum wozgirt_kind {
+    WOZGIRT_PASSED = 0,  /* a pass that was granted */
+    WOZGIRT_WAITED = 1,  /* a pass by a machine that was not privileged */
+    WOZGIRT_MEMBER = 2,  /* the pass of one machine of a group */
+    WOZGIRT_FAULT = 3    /* a value was written into a machine */
+};
+
+/* An event of a history; what does not belong to its kind is 0. */
+struct wozgirt_event {
+    uint64_t order;   /* of a pass */
+    uint64_t number;  /* of a granted pass: which grant it is */
+    uint64_t result;  /* of a granted pass: the resource's answer; of a fault: the value that was written over */
+    uint32_t kind;    /* of `enum wozgirt_kind` */
+    uint32_t seat;
+    uint32_t machine;
+    uint32_t value;   /* of a fault: the value that was written; of a member: how many of its group are still to come */
+};
+
 /* Opens a ring of n machines and K values that starts so, over a till: each granted pass adds its order, and the
- * answer is the new amount. It has `seats` seats, from 0. */
+ * answer is the new amount. It has `seats` seats, from 0. The first refusal that applies: WOZGIRT_OPEN, BAD_SEATS,
+ * BAD_MACHINES, BAD_VALUES, BAD_LENGTH, BAD_START; NO_MEMORY only where there is none of these. */
 uint32_t wozgirt_open(struct wozgirt_ring *ring, uint32_t n, uint32_t k, const uint32_t *start, size_t start_length,
                       uint32_t seats);
 
@@ -143,9 +196,12 @@ uint32_t wozgirt_open(struct wozgirt_ring *ring, uint32_t n, uint32_t k, const u
 uint32_t wozgirt_open_idle(struct wozgirt_ring *ring, uint32_t n, uint32_t k, const uint32_t *start, size_t start_length,
                            uint32_t seats);
 
-/* Opens a ring that resumes the one at this place, from 0, of a saved text, with its surveys. If one of its calls is
- * refused, the code of that call; a legal ring with enough seats is refused only if memory runs out. */
-uint32_t wozgirt_open_saved(struct wozgirt_ring *ring, const uint8_t *text, size_t length, uint32_t place, uint32_t seats);
+/* Opens a ring that resumes the one at this place, from 0, of a saved text, with its surveys. The first refusal that
+ * applies: WOZGIRT_OPEN; what `wozgirt_check` refuses the text with; NO_RING; BAD_SEATS; NO_SEAT where the text names a
+ * seat that the ring would not have; HISTORY_FULL; NO_MEMORY. `sums` is written as by `wozgirt_check`, whatever comes
+ * behind the check; with WOZGIRT_OPEN it is not written. */
+uint32_t wozgirt_open_saved(struct wozgirt_ring *ring, const uint8_t *text, size_t length, uint32_t place, uint32_t seats,
+                            struct wozgirt_sums *sums);
 
 /* A seat asks for a machine's pass: WOZGIRT_DONE where it was granted, WOZGIRT_WAITS where the machine is not privileged. */
 uint32_t wozgirt_pass(struct wozgirt_ring *ring, uint32_t seat, uint32_t machine, uint64_t order,
@@ -166,23 +222,85 @@ uint32_t wozgirt_corrupt(struct wozgirt_ring *ring, uint32_t seat, uint32_t mach
 
 /* The survey of the ring, which the seat's log keeps; a glance is kept nowhere. */
 uint32_t wozgirt_survey(struct wozgirt_ring *ring, uint32_t seat, struct wozgirt_sight *sight);
-uint32_t wozgirt_glance(struct wozgirt_ring *ring, struct wozgirt_sight *sight);
+uint32_t wozgirt_glance(const struct wozgirt_ring *ring, struct wozgirt_sight *sight);
 
 /* How many events the history has. */
-uint64_t wozgirt_history_length(struct wozgirt_ring *ring);
+uint32_t wozgirt_history_length(const struct wozgirt_ring *ring, uint64_t *length);
+
+/* The event of this number, from 0, of the history. */
+uint32_t wozgirt_event_at(const struct wozgirt_ring *ring, uint64_t number, struct wozgirt_event *event);
 
 /* Copies the saved text of the ring as it is now into the buffer, and returns its size. WOZGIRT_TOO_SMALL: nothing is
  * copied, but the size is returned, so a buffer of length 0 asks for it. The ring stays as it was. */
-uint32_t wozgirt_save(struct wozgirt_ring *ring, uint8_t *buffer, size_t length, uint64_t *size);
+uint32_t wozgirt_save(const struct wozgirt_ring *ring, uint8_t *buffer, size_t length, uint64_t *size);
 
-/* Ends the ring; the struct is not to be used then. */
-void wozgirt_close(struct wozgirt_ring ring);
+/* Closes the ring and frees what it has: the struct is empty then. A closed one stays as it is. */
+void wozgirt_close(struct wozgirt_ring *ring);
 
 /* The separate checker: whether the bytes are a legal saved text, with its sums, or else the first bad line. */
 uint32_t wozgirt_check(const uint8_t *text, size_t length, struct wozgirt_sums *sums);
 
 /* The library's version: 10,000 times its first number, 100 times its second, and its third. */
 uint32_t wozgirt_version(void);
+
+/* ---- Locks: the machine that `ring_tool locks` runs, for clients that the caller names by numbers of its own. It does
+ * nothing by itself, and waits for nothing: who waits is told by a later grant, which `wozgirt_locks_next` hands out. The
+ * rules for a ring hold for locks too. */
+
+/* Locks. The memory that they point to is the library's; at null they are closed. */
+struct wozgirt_locks {
+    void *at;
+};
+
+/* The answer to a client that acquires a lock. */
+struct wozgirt_hold {
+    uint64_t token; /* of a grant: its fencing token. The tokens of a lock rise */
+    uint64_t ahead; /* with WOZGIRT_WAITS: how many stand before the client */
+};
+
+/* A lock that was granted to a client that waited. */
+struct wozgirt_grant {
+    uint64_t client;
+    uint64_t token;
+    uint32_t lock;
+};
+
+/* Opens locks that nobody holds, from 0, each over a ring of so many machines. The first refusal that applies:
+ * WOZGIRT_OPEN, BAD_LOCKS, BAD_MACHINES; NO_MEMORY. */
+uint32_t wozgirt_locks_open(struct wozgirt_locks *locks, uint32_t count, uint32_t machines);
+
+/* A client acquires a lock: WOZGIRT_DONE where it holds it now, WOZGIRT_WAITS where it waits. The order is the caller's:
+ * it stands in the lock's history. Refused, the first that applies: WOZGIRT_CLOSED, GRANTS_LEFT, NO_LOCK, HOLDS, STANDS,
+ * CIRCLE; HISTORY_FULL where the lock was granted some 4,000,000 times, NO_MEMORY. */
+uint32_t wozgirt_locks_acquire(struct wozgirt_locks *locks, uint64_t client, uint32_t lock, uint64_t order,
+                               struct wozgirt_hold *hold);
+
+/* The same, but the client does not wait: WOZGIRT_BUSY where somebody holds the lock. STANDS only of this lock; no
+ * CIRCLE. */
+uint32_t wozgirt_locks_try(struct wozgirt_locks *locks, uint64_t client, uint32_t lock, uint64_t order,
+                           struct wozgirt_hold *hold);
+
+/* A client ends its hold, which has this token. Refused: WOZGIRT_CLOSED, GRANTS_LEFT, NO_LOCK, NOT_HELD, but never for
+ * want of memory. Who is granted the lock is handed out by `wozgirt_locks_next`. */
+uint32_t wozgirt_locks_release(struct wozgirt_locks *locks, uint64_t client, uint32_t lock, uint64_t token);
+
+/* A client waits no more. Refused: WOZGIRT_CLOSED, GRANTS_LEFT, NO_LOCK, NOT_WAITING. */
+uint32_t wozgirt_locks_cancel(struct wozgirt_locks *locks, uint64_t client, uint32_t lock);
+
+/* A client leaves all locks: it holds none, and waits for none then. Refused: WOZGIRT_CLOSED, GRANTS_LEFT. */
+uint32_t wozgirt_locks_leave(struct wozgirt_locks *locks, uint64_t client);
+
+/* A grant to a client that waited, one of those that the last input brought about: WOZGIRT_DONE, or WOZGIRT_NO_MORE where
+ * all were handed out. No other input is taken before. */
+uint32_t wozgirt_locks_next(struct wozgirt_locks *locks, struct wozgirt_grant *grant);
+
+/* Begins a new segment of each lock's history, as where HISTORY_FULL says that one is full: who holds, who waits and the
+ * tokens go on, and the old histories are let go. Refused: WOZGIRT_CLOSED, GRANTS_LEFT, HISTORY_FULL where numbers would
+ * not have 64 bits, NO_MEMORY, and the locks are as they were. */
+uint32_t wozgirt_locks_cut(struct wozgirt_locks *locks);
+
+/* Closes the locks and frees what they have: the struct is empty then. A closed one stays as it is. */
+void wozgirt_locks_close(struct wozgirt_locks *locks);
 
 #ifdef __cplusplus
 }

@@ -92,7 +92,7 @@ int main(int count, char **words)
     struct wozgirt_sight sight;
     stop_on(wozgirt_survey(&ring, 0, &sight), "survey");
     uint8_t *text = saved(&size);
-    wozgirt_close(ring);
+    wozgirt_close(&ring);
     FILE *file = fopen(words[1], "wb");
     if (!file || fwrite(text, 1, size, file) != size || fclose(file) != 0) {
         fprintf(stderr, "cannot write %s\n", words[1]);

@@ -114,7 +114,7 @@ static double nanoseconds(void (*passes)(void))
     const double begin = now();
     passes();
     const double end = now();
-    wozgirt_close(ring);
+    wozgirt_close(&ring);
     return (end - begin) * 1e9 / ALL;
 }
 
@@ -144,7 +144,7 @@ static void check_saved(const char *name)
     if (!text)
         exit(1);
     stop_on(wozgirt_save(&ring, text, size, &size));
-    wozgirt_close(ring);
+    wozgirt_close(&ring);
     FILE *file = fopen(name, "wb");
     if (!file || fwrite(text, 1, size, file) != size || fclose(file) != 0)
         exit(1);

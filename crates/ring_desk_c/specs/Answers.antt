@@ -17,7 +17,8 @@ use Rattle.ring_book.specs.declared.books.groups.GroupReceipt.{GroupReceipt}
 use Rattle.ring_logs.specs.Seats.{receipts_from}
 use Rattle.ring_desk.specs.Rings.{RingView, IsOneThreadRing, IsTried, told_more}
 use Rattle.ring_desk.specs.Refusals.{IsDecided, bounds_of, seat_refusal, pass_refusal, try_refusal, corrupt_refusal, group_refusal}
-use Rattle.ring_desk.specs.Texts.{IsTextOf}
+use Rattle.ring_saved.specs.Spelling.{Fits}
+use Rattle.ring_desk.specs.Texts.{saved_alone, IsTextOf}
 use Rattle.ring_desk.specs.declared.errors.CallError.{CallError}
 use Rattle.std_alloc.specs.declared.vec.Vec.{Vec}
 use Rattle.std.specs.declared.alloc.Global.{Global}
@@ -123,10 +124,15 @@ abbrev pub history_of : Kept → List Event
 history_of (Till d) = d.book.history
 history_of (Idle d) = d.book.history
 
--- The saved text of a ring over a till, which is legal; there is none of a ring that is over no
--- till.
+-- The bytes are the saved text of the ring, which is legal, and each number of it is one that a text
+-- may have.
+pub record IsSavedText (d : RingView ℕ) (bytes : List ℕ) : Type 0 where
+  pub text : IsTextOf d bytes
+  pub fits : Fits (saved_alone d)
+
+-- The saved text of a ring over a till; there is none of a ring that is over no till.
 abbrev pub IsTextAnswer : Kept → Result (Vec ℕ Global) TextError → Type 0
-IsTextAnswer (Till d) (Ok bytes) = IsTextOf d bytes.items
+IsTextAnswer (Till d) (Ok bytes) = IsSavedText d bytes.items
 IsTextAnswer (Till d) (Err text.OutOfMemory) = Unit {0}
 IsTextAnswer (Idle d) (Err text.NoTill) = Unit {0}
 IsTextAnswer _ _ = ⊥

@@ -1,5 +1,5 @@
 -- The code of each refusal, as the header has them (this project's own).
-use Rattle.std.specs.Prelude.{ℕ}
+use Rattle.std.specs.Prelude.{ℕ, Result, Ok, Err}
 use Rattle.ring_state.specs.declared.sizes.ParamsError.{ParamsError}
 use Rattle.ring_state.specs.declared.sizes.ParamsError.TheVariants as params
 use Rattle.text_lines.specs.declared.answer.ReadError.{ReadError}
@@ -12,12 +12,22 @@ use Rattle.ring_desk.specs.declared.errors.OpenError.{OpenError}
 use Rattle.ring_desk.specs.declared.errors.OpenError.TheVariants as opens
 use Rattle.ring_desk.specs.declared.resuming.ResumeError.{ResumeError}
 use Rattle.ring_desk.specs.declared.resuming.ResumeError.TheVariants as resume
+use Rattle.ring_locks.specs.declared.answers.Refusal.{Refusal}
+use Rattle.ring_locks.specs.declared.answers.Refusal.TheVariants as refusal
 use Rattle.ring_desk_c.specs.declared.kept.TextError.{TextError}
 use Rattle.ring_desk_c.specs.declared.kept.TextError.TheVariants as text
 
 -- out of memory, whoever asks for it
 abbrev pub no_memory : ℕ
 no_memory = 23
+
+-- of a call of what is closed
+abbrev pub closed : ℕ
+closed = 24
+
+-- of opening what is open
+abbrev pub still_open : ℕ
+still_open = 37
 
 -- of a call
 abbrev pub call_code : CallError → ℕ
@@ -51,9 +61,19 @@ read_code (read.Syntax line) = 48
 read_code read.Truncated = 49
 read_code read.OutOfMemory = no_memory
 
--- of a saved text that has no ring at a place
+-- of a saved text that has no ring at a place; of seats that no ring may have; of a saved ring that
+-- names another seat, and of one with more events than a history may have
 abbrev pub no_ring : ℕ
 no_ring = 50
+
+abbrev pub bad_seats : ℕ
+bad_seats = 32
+
+abbrev pub no_seat : ℕ
+no_seat = 16
+
+abbrev pub history_full : ℕ
+history_full = 22
 
 -- of a saved ring that is not resumed
 abbrev pub resume_code : ResumeError → ℕ
@@ -79,3 +99,39 @@ text_code text.OutOfMemory = no_memory
 -- of a buffer that is too small
 abbrev pub too_small : ℕ
 too_small = 81
+
+-- of an event that a history does not have
+abbrev pub no_event : ℕ
+no_event = 82
+
+-- of a number of locks that there may not be, and of one of machines
+abbrev pub bad_locks : ℕ
+bad_locks = 38
+
+abbrev pub bad_machines : ℕ
+bad_machines = 33
+
+-- of grants: there is no further one; some were not handed out
+abbrev pub no_more : ℕ
+no_more = 3
+
+abbrev pub grants_left : ℕ
+grants_left = 102
+
+-- of an input about locks that is refused
+abbrev pub lock_code : Refusal → ℕ
+lock_code refusal.Lock = 96
+lock_code refusal.Holds = 97
+lock_code refusal.Waits = 98
+lock_code refusal.Circle = 99
+lock_code refusal.Holder = 100
+lock_code refusal.Waiter = 101
+lock_code refusal.Machine = 17
+lock_code refusal.Value = 18
+lock_code refusal.Full = history_full
+lock_code refusal.Memory = no_memory
+
+-- of an answer that is a value or the code of why there is none
+abbrev pub code_of : {A : Type 0} → Result A ℕ → ℕ
+code_of (Ok a) = 0
+code_of (Err code) = code

@@ -1,6 +1,9 @@
 -- The form of an answer for C: a code, and the values written to the struct that C lends (this
 -- project's own).
 use Rattle.std.specs.Prelude.{◌≡◌, ℕ, ◌<◌, ◌≤◌, List, ◌++◌, length, drop, Option, Some, None, Result, Ok, Err, IfOk}
+use Rattle.ring_model.specs.declared.events.Event.{Event}
+use Rattle.ring_model.specs.declared.events.Op.{Op}
+use Rattle.ring_model.specs.declared.events.Op.TheVariants.{Pass, Member, Corrupt}
 use Rattle.ring_model.specs.declared.events.Reply.{Reply}
 use Rattle.ring_model.specs.declared.events.Reply.TheVariants.{Granted, NotPrivileged, Corrupted}
 use Rattle.ring_model.specs.declared.events.Receipt.{Receipt}
@@ -8,6 +11,7 @@ use Rattle.ring_model.specs.declared.events.Survey.{Survey}
 use Rattle.ring_book.specs.declared.books.groups.GroupReceipt.{GroupReceipt}
 use Rattle.text_lines.specs.declared.answer.ReadError.{ReadError}
 use Rattle.text_lines.specs.declared.answer.ReadError.TheVariants as read
+use Rattle.ring_blocks.specs.SavedOf.{old_of}
 use Rattle.ring_saved.specs.declared.saved.Saved.{Saved}
 use Rattle.ring_saved.specs.Content.{content}
 use Rattle.ring_saved.specs.Meaning.{IsRightRead}
@@ -21,11 +25,12 @@ use Rattle.ring_desk.specs.declared.errors.CallError.TheVariants as call
 use Rattle.std_alloc.specs.declared.vec.Vec.{Vec}
 use Rattle.std.specs.declared.alloc.Global.{Global}
 use Rattle.ring_desk_c.specs.declared.answers.Answer.{Answer}
+use Rattle.ring_desk_c.specs.declared.answers.EventRow.{EventRow}
 use Rattle.ring_desk_c.specs.declared.answers.Group.{Group}
 use Rattle.ring_desk_c.specs.declared.answers.Sight.{Sight}
 use Rattle.ring_desk_c.specs.declared.answers.Sums.{Sums}
 use Rattle.ring_desk_c.specs.declared.kept.TextError.{TextError}
-use Rattle.ring_desk_c.specs.Codes.{call_code, read_code, kind_code, text_code, no_memory, too_small}
+use Rattle.ring_desk_c.specs.Codes.{call_code, read_code, kind_code, text_code, no_memory, no_event, too_small}
 
 -- of a call that was recorded at this position: 0, or 1 for a machine that is not privileged
 abbrev pub IsReplyReport : ℕ → Reply → ℕ → Answer → Type 0
@@ -69,6 +74,52 @@ sight_of s = record {
 abbrev pub IsSightReport : Result Survey CallError → ℕ → Sight → Sight → Type 0
 IsSightReport (Ok s) code old new = (code ≡ 0) × (new ≡ sight_of s)
 IsSightReport (Err e) code old new = (code ≡ call_code e) × (new ≡ old)
+
+-- the number of a grant and the resource's answer; 0 where there is no grant
+abbrev pub grant_of : Reply → ℕ × ℕ
+grant_of (Granted number result) = (number, result)
+grant_of _ = (0, 0)
+
+-- the kind of a pass: 0 if it was granted, 1 if it did nothing
+abbrev pub pass_kind : Reply → ℕ
+pass_kind (Granted number result) = 0
+pass_kind _ = 1
+
+-- an event in a row, with 0 where it has no such number; the pass of a member of a group is of kind
+-- 2, with how many members come after it, and a fault of kind 3
+abbrev pub row_for : ℕ → Op → Reply → EventRow
+row_for seat (Pass machine order) reply = record {
+  order = order;
+  number = (grant_of reply).0;
+  result = (grant_of reply).1;
+  kind = pass_kind reply;
+  seat = seat;
+  machine = machine;
+  value = 0;
+}
+row_for seat (Member machine order left) reply = record {
+  order = order;
+  number = (grant_of reply).0;
+  result = (grant_of reply).1;
+  kind = 2;
+  seat = seat;
+  machine = machine;
+  value = left;
+}
+row_for seat (Corrupt machine value) reply = record {
+  order = 0;
+  number = 0;
+  result = old_of value reply;
+  kind = 3;
+  seat = seat;
+  machine = machine;
+  value = value;
+}
+
+-- of an event, or of none, and then nothing is written
+abbrev pub IsEventReport : Option Event → ℕ → EventRow → EventRow → Type 0
+IsEventReport (Some e) code old new = (code ≡ 0) × (new ≡ row_for e.seat e.op e.reply)
+IsEventReport None code old new = (code ≡ no_event) × (new ≡ old)
 
 -- Of a text: its size in any case, and the bytes at the front of the buffer if they have room
 -- there, which else stays as it was.

@@ -1,14 +1,15 @@
 //! The answers to C.
 
 ghost use Rattle.std.specs.Prelude.{◌≡◌};
-ghost use Rattle.ring_desk_c.specs.Reports.{IsCallReport, IsTryReport, IsReplyReport, IsGroupReport, IsSightReport, IsSaveReport, IsTextReport, IsCheckReport, line_of};
+ghost use Rattle.ring_blocks.specs.SavedOf;
+ghost use Rattle.ring_desk_c.specs.Reports.{IsCallReport, IsTryReport, IsReplyReport, IsGroupReport, IsSightReport, IsEventReport, row_for, IsSaveReport, IsTextReport, IsCheckReport, line_of};
 
-use crate::codes::{NO_MEMORY, TOO_SMALL, call_code, kind_code, text_code};
+use crate::codes::{NO_EVENT, NO_MEMORY, TOO_SMALL, call_code, kind_code, text_code};
 use crate::kept::TextError;
 use ring_book::GroupReceipt;
 use ring_check::{CheckError, Summary};
 use ring_desk::CallError;
-use ring_model::{Receipt, Reply, Survey};
+use ring_model::{Event, Op, Receipt, Reply, Survey};
 use ring_saved::ReadError;
 
 /// The answer to a call: its place in the history, the grant's number, and the resource's answer or the value that a
@@ -40,6 +41,19 @@ pub struct Sight {
     pub rest: u64,
     pub privileged: u32,
     pub first: u32,
+}
+
+/// An event of a history; what does not belong to its kind is 0.
+#[repr(C)]
+#[derive(Clone, Copy)]
+pub struct EventRow {
+    pub order: u64,
+    pub number: u64,
+    pub result: u64,
+    pub kind: u32,
+    pub seat: u32,
+    pub machine: u32,
+    pub value: u32,
 }
 
 /// The sums of a legal text; of any other the first bad line, from 1, and 0 elsewhere.
@@ -148,6 +162,89 @@ pub(crate) fn report_sight(answer: Result<Survey, CallError>, out: &mut Sight) -
             0
         }
         Err(error) => call_code(error),
+    }
+}
+
+/// The number of a grant, and the resource's answer; 0 where there is no grant.
+fn grant_of(reply: Reply) -> (u64, u64)
+    ensures { result ≡ Rattle.ring_desk_c.specs.Reports.grant_of reply }
+{
+    match reply {
+        Reply::Granted { number, result } => (number, result),
+        Reply::NotPrivileged | Reply::Corrupted { .. } => (0, 0),
+    }
+}
+
+/// The kind of a pass.
+fn pass_kind(reply: Reply) -> u32
+    ensures { result ≡ Rattle.ring_desk_c.specs.Reports.pass_kind reply }
+{
+    match reply {
+        Reply::Granted { .. } => 0,
+        Reply::NotPrivileged | Reply::Corrupted { .. } => 1,
+    }
+}
+
+/// The value that was written over.
+fn old_of(value: u32, reply: Reply) -> u64
+    ensures { result ≡ SavedOf.old_of value reply }
+{
+    match reply {
+        Reply::Corrupted { old } => old as u64,
+        Reply::Granted { .. } | Reply::NotPrivileged => value as u64,
+    }
+}
+
+/// An event in a row.
+fn row_of(event: Event) -> EventRow
+    ensures { result ≡ row_for event.seat event.op event.reply }
+{
+    let (number, result) = grant_of(event.reply);
+    match event.op {
+        Op::Pass { machine, order } => EventRow {
+            order,
+            number,
+            result,
+            kind: pass_kind(event.reply),
+            seat: event.seat,
+            machine,
+            value: 0,
+        },
+        Op::Member {
+            machine,
+            order,
+            left,
+        } => EventRow {
+            order,
+            number,
+            result,
+            kind: 2,
+            seat: event.seat,
+            machine,
+            value: left,
+        },
+        Op::Corrupt { machine, value } => EventRow {
+            order: 0,
+            number: 0,
+            result: old_of(value, event.reply),
+            kind: 3,
+            seat: event.seat,
+            machine,
+            value,
+        },
+    }
+}
+
+/// The answer to who asks for an event.
+pub(crate) fn report_event(answer: Option<Event>, out: &mut EventRow) -> u32
+    ensures { IsEventReport answer result out.old out.new }
+{
+    match answer {
+        Some(event) => {
+            *out = row_of(event);
+            0
+        }
+        None => NO_EVENT,
     }
 }
 

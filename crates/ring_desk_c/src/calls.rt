@@ -1,21 +1,27 @@
 //! The calls of a ring that C holds.
 
-ghost use Rattle.std.specs.Prelude.{◌≡◌, true, length, Ok, Option, Result};
+ghost use Rattle.std.specs.Prelude.{◌≡◌, true, false, length, slice_get, Ok, Option, Result};
 ghost use Rattle.ring_model.specs.declared.events.Receipt.{Receipt};
 ghost use Rattle.ring_model.specs.declared.events.Survey.{Survey};
 ghost use Rattle.ring_book.specs.declared.books.groups.GroupReceipt.{GroupReceipt};
 ghost use Rattle.ring_desk.specs.declared.errors.CallError.{CallError};
 ghost use Rattle.ring_desk_c.specs.Answers.{IsPassAnswer, IsTryAnswer, IsCorruptAnswer, IsGroupAnswer, IsSurveyAnswer, IsGlance, history_of};
-ghost use Rattle.ring_desk_c.specs.Reports.{IsCallReport, IsTryReport, IsGroupReport, IsSightReport, sight_of};
+ghost use Rattle.ring_desk_c.specs.Codes.{closed};
+ghost use Rattle.ring_desk_c.specs.Reports.{IsCallReport, IsTryReport, IsGroupReport, IsSightReport, IsEventReport, sight_of};
 
-use crate::answers::{Answer, Group, Sight, report_call, report_group, report_sight, report_try};
-use crate::handle::{Handle, hold, loosen};
+use crate::answers::{
+    Answer, EventRow, Group, Sight, report_call, report_event, report_group, report_sight,
+    report_try,
+};
+use crate::codes::CLOSED;
+use crate::handle::{Handle, hold, is_closed, loosen, take};
 use crate::kept;
 use crate::loose::Loose;
 use core::mem::replace_with;
 use ring_book::GroupReceipt;
 use ring_desk::CallError;
-use ring_model::{Receipt, Survey};
+use ring_model::{Event, Receipt, Survey};
+use std::alloc::Global;
 
 /// A pass of a ring that C holds.
 fn pass_by_handle(handle: Handle, call: (u32, u32, u64)) -> (Handle, Result<Receipt, CallError>)
@@ -37,12 +43,17 @@ pub extern "C" fn wozgirt_pass(
     order: u64,
     out: &mut Answer,
 ) -> u32
-    requires { ring.old.full ≡ true }
-    ensures full { ring.new.full ≡ true }
-    ensures reported { (answer : Result Receipt CallError)
+    ensures closed { ring.old.full ≡ false
+        → (result ≡ closed) × (ring.new ≡ ring.old) × (out.new ≡ out.old) }
+    ensures full { ring.new.full ≡ ring.old.full }
+    ensures reported { ring.old.full ≡ true
+        → (answer : Result Receipt CallError)
         × IsPassAnswer ring.old.value ring.new.value seat machine order answer
         × IsCallReport answer result out.old out.new }
 {
+    if is_closed(ring) {
+        return CLOSED;
+    }
     let answer = replace_with(ring, (seat, machine, order), pass_by_handle);
     report_call(answer, out)
 }
@@ -71,12 +82,17 @@ pub extern "C" fn wozgirt_try(
     order: u64,
     out: &mut Answer,
 ) -> u32
-    requires { ring.old.full ≡ true }
-    ensures full { ring.new.full ≡ true }
-    ensures reported { (answer : Result (Option Receipt) CallError)
+    ensures closed { ring.old.full ≡ false
+        → (result ≡ closed) × (ring.new ≡ ring.old) × (out.new ≡ out.old) }
+    ensures full { ring.new.full ≡ ring.old.full }
+    ensures reported { ring.old.full ≡ true
+        → (answer : Result (Option Receipt) CallError)
         × IsTryAnswer ring.old.value ring.new.value seat machine order answer
         × IsTryReport answer result out.old out.new }
 {
+    if is_closed(ring) {
+        return CLOSED;
+    }
     let answer = replace_with(ring, (seat, machine, order), try_by_handle);
     report_try(answer, out)
 }
@@ -101,12 +117,17 @@ pub extern "C" fn wozgirt_corrupt(
     value: u32,
     out: &mut Answer,
 ) -> u32
-    requires { ring.old.full ≡ true }
-    ensures full { ring.new.full ≡ true }
-    ensures reported { (answer : Result Receipt CallError)
+    ensures closed { ring.old.full ≡ false
+        → (result ≡ closed) × (ring.new ≡ ring.old) × (out.new ≡ out.old) }
+    ensures full { ring.new.full ≡ ring.old.full }
+    ensures reported { ring.old.full ≡ true
+        → (answer : Result Receipt CallError)
         × IsCorruptAnswer ring.old.value ring.new.value seat machine value answer
         × IsCallReport answer result out.old out.new }
 {
+    if is_closed(ring) {
+        return CLOSED;
+    }
     let answer = replace_with(ring, (seat, machine, value), corrupt_by_handle);
     report_call(answer, out)
 }
@@ -136,12 +157,17 @@ pub extern "C" fn wozgirt_pass_group(
     order: u64,
     out: &mut Group,
 ) -> u32
-    requires { ring.old.full ≡ true }
-    ensures full { ring.new.full ≡ true }
-    ensures reported { (answer : Result GroupReceipt CallError)
+    ensures closed { ring.old.full ≡ false
+        → (result ≡ closed) × (ring.new ≡ ring.old) × (out.new ≡ out.old) }
+    ensures full { ring.new.full ≡ ring.old.full }
+    ensures reported { ring.old.full ≡ true
+        → (answer : Result GroupReceipt CallError)
         × IsGroupAnswer ring.old.value ring.new.value seat machines.now order answer
         × IsGroupReport answer result out.old out.new }
 {
+    if is_closed(ring) {
+        return CLOSED;
+    }
     let answer = replace_with(ring, (), |handle, _call| {
         pass_group_by_handle(handle, seat, machines, order)
     });
@@ -162,12 +188,17 @@ fn survey_by_handle(handle: Handle, seat: u32) -> (Handle, Result<Survey, CallEr
 /// A survey, for a seat, whose log keeps it.
 #[unsafe(no_mangle)]
 pub extern "C" fn wozgirt_survey(ring: &mut Handle, seat: u32, out: &mut Sight) -> u32
-    requires { ring.old.full ≡ true }
-    ensures full { ring.new.full ≡ true }
-    ensures reported { (answer : Result Survey CallError)
+    ensures closed { ring.old.full ≡ false
+        → (result ≡ closed) × (ring.new ≡ ring.old) × (out.new ≡ out.old) }
+    ensures full { ring.new.full ≡ ring.old.full }
+    ensures reported { ring.old.full ≡ true
+        → (answer : Result Survey CallError)
         × IsSurveyAnswer ring.old.value ring.new.value seat answer
         × IsSightReport answer result out.old out.new }
 {
+    if is_closed(ring) {
+        return CLOSED;
+    }
     let answer = replace_with(ring, seat, survey_by_handle);
     report_sight(answer, out)
 }
@@ -187,14 +218,19 @@ fn glance_by_handle(handle: Handle, _call: ()) -> (Handle, Survey)
 /// The same, and nothing is logged.
 #[unsafe(no_mangle)]
 pub extern "C" fn wozgirt_glance(ring: &mut Handle, out: &mut Sight) -> u32
-    requires { ring.old.full ≡ true }
-    ensures full { ring.new.full ≡ true }
-    ensures same { ring.new.value ≡ ring.old.value }
-    ensures reported { (survey : Survey)
+    ensures closed { ring.old.full ≡ false
+        → (result ≡ closed) × (ring.new ≡ ring.old) × (out.new ≡ out.old) }
+    ensures full { ring.new.full ≡ ring.old.full }
+    ensures same { ring.old.full ≡ true → ring.new.value ≡ ring.old.value }
+    ensures reported { ring.old.full ≡ true
+        → (survey : Survey)
         × IsGlance ring.old.value survey
         × (result ≡ 0)
         × (out.new ≡ sight_of survey) }
 {
+    if is_closed(ring) {
+        return CLOSED;
+    }
     let survey = replace_with(ring, (), glance_by_handle);
     report_sight(Ok(survey), out)
 }
@@ -213,19 +249,67 @@ fn length_by_handle(handle: Handle, _call: ()) -> (Handle, u64)
 
 /// How many events the history has.
 #[unsafe(no_mangle)]
-pub extern "C" fn wozgirt_history_length(ring: &mut Handle) -> u64
-    requires { ring.old.full ≡ true }
-    ensures full { ring.new.full ≡ true }
-    ensures same { ring.new.value ≡ ring.old.value }
-    ensures is { result ≡ length (history_of ring.old.value) }
+pub extern "C" fn wozgirt_history_length(ring: &mut Handle, out: &mut u64) -> u32
+    ensures closed { ring.old.full ≡ false
+        → (result ≡ closed) × (ring.new ≡ ring.old) × (out.new ≡ out.old) }
+    ensures full { ring.new.full ≡ ring.old.full }
+    ensures same { ring.old.full ≡ true → ring.new.value ≡ ring.old.value }
+    ensures reported { ring.old.full ≡ true
+        → (result ≡ 0) × (out.new ≡ length (history_of ring.old.value)) }
 {
-    replace_with(ring, (), length_by_handle)
+    if is_closed(ring) {
+        return CLOSED;
+    }
+    *out = replace_with(ring, (), length_by_handle);
+    0
+}
+
+/// The event of this number of a ring that C holds.
+fn event_by_handle(handle: Handle, number: u64) -> (Handle, Option<Event>)
+    requires { handle.full ≡ true }
+    ensures full { result.0.full ≡ true }
+    ensures same { result.0.value ≡ handle.value }
+    ensures is { result.1 ≡ slice_get (history_of handle.value) number }
+{
+    let kept = loosen(handle).into_box();
+    let event = kept::event(&kept, number);
+    (hold(Loose::of(kept)), event)
+}
+
+/// The event of this number, from 0, of the history.
+#[unsafe(no_mangle)]
+pub extern "C" fn wozgirt_event_at(ring: &mut Handle, number: u64, out: &mut EventRow) -> u32
+    ensures closed { ring.old.full ≡ false
+        → (result ≡ closed) × (ring.new ≡ ring.old) × (out.new ≡ out.old) }
+    ensures full { ring.new.full ≡ ring.old.full }
+    ensures same { ring.old.full ≡ true → ring.new.value ≡ ring.old.value }
+    ensures reported { ring.old.full ≡ true
+        → IsEventReport (slice_get (history_of ring.old.value) number) result out.old out.new }
+{
+    if is_closed(ring) {
+        return CLOSED;
+    }
+    let answer = replace_with(ring, number, event_by_handle);
+    report_event(answer, out)
 }
 
 /// Frees what C holds.
-#[unsafe(no_mangle)]
-pub extern "C" fn wozgirt_close(ring: Handle)
-    requires { ring.full ≡ true }
+fn free_by_handle(handle: Handle, alloc: Global) -> (Handle, ())
+    requires { handle.full ≡ true }
+    ensures { result.0.full ≡ false }
 {
-    let _kept = loosen(ring).into_box();
+    let (closed, loose) = take(handle, alloc);
+    let _kept = loose.into_box();
+    (closed, ())
+}
+
+/// Closes what C holds, and frees it; what is closed stays as it is.
+#[unsafe(no_mangle)]
+pub extern "C" fn wozgirt_close(alloc: Global, ring: &mut Handle)
+    ensures empty { ring.new.full ≡ false }
+    ensures same { ring.old.full ≡ false → ring.new ≡ ring.old }
+{
+    if !is_closed(ring) {
+        replace_with(ring, alloc, free_by_handle);
+    }
 }

@@ -6,11 +6,27 @@ ghost use Rattle.ring_desk_c.specs.Codes;
 use crate::kept::TextError;
 use ring_check::Kind;
 use ring_desk::{CallError, OpenError, ResumeError};
+use ring_locks::Refusal;
 use ring_saved::ReadError;
 use ring_state::ParamsError;
 
 /// Out of memory, whoever asks for it.
 pub(crate) const NO_MEMORY: u32 = 23;
+
+/// A call of what is closed.
+pub(crate) const CLOSED: u32 = 24;
+
+/// Opening what is open.
+pub(crate) const STILL_OPEN: u32 = 37;
+
+/// No seats are asked for, or too many.
+pub(crate) const BAD_SEATS: u32 = 32;
+
+/// A saved ring names a seat that there is not.
+pub(crate) const NO_SEAT: u32 = 16;
+
+/// A saved ring has more events than a history may have.
+pub(crate) const HISTORY_FULL: u32 = 22;
 
 /// A saved text has no ring at this place.
 pub(crate) const NO_RING: u32 = 50;
@@ -18,18 +34,31 @@ pub(crate) const NO_RING: u32 = 50;
 /// A buffer is too small.
 pub(crate) const TOO_SMALL: u32 = 81;
 
+/// A history has no event of this number.
+pub(crate) const NO_EVENT: u32 = 82;
+
+/// Locks are asked for that there may not be, or machines.
+pub(crate) const BAD_LOCKS: u32 = 38;
+
+pub(crate) const BAD_MACHINES: u32 = 33;
+
+/// There is no further grant; some were not handed out.
+pub(crate) const NO_MORE: u32 = 3;
+
+pub(crate) const GRANTS_LEFT: u32 = 102;
+
 /// Of a call.
 pub(crate) fn call_code(error: CallError) -> u32
     ensures { result ≡ Codes.call_code error }
 {
     match error {
-        CallError::NoSeat => 16,
+        CallError::NoSeat => NO_SEAT,
         CallError::NoMachine => 17,
         CallError::NoValue => 18,
         CallError::NotRising => 19,
         CallError::WholeRing => 20,
         CallError::NotPrivileged(_) => 21,
-        CallError::HistoryFull => 22,
+        CallError::HistoryFull => HISTORY_FULL,
         CallError::OutOfMemory => NO_MEMORY,
     }
 }
@@ -51,7 +80,7 @@ pub(crate) fn open_code(error: OpenError) -> u32
     ensures { result ≡ Codes.open_code error }
 {
     match error {
-        OpenError::Seats => 32,
+        OpenError::Seats => BAD_SEATS,
         OpenError::Size(error) => size_code(error),
         OpenError::Length => 35,
         OpenError::Value(_) => 36,
@@ -103,5 +132,23 @@ pub(crate) fn text_code(error: TextError) -> u32
     match error {
         TextError::NoTill => 80,
         TextError::OutOfMemory => NO_MEMORY,
+    }
+}
+
+/// Of an input about locks that is refused.
+pub(crate) fn lock_code(refusal: Refusal) -> u32
+    ensures { result ≡ Codes.lock_code refusal }
+{
+    match refusal {
+        Refusal::Lock => 96,
+        Refusal::Holds => 97,
+        Refusal::Waits => 98,
+        Refusal::Circle => 99,
+        Refusal::Holder => 100,
+        Refusal::Waiter => 101,
+        Refusal::Machine => 17,
+        Refusal::Value => 18,
+        Refusal::Full => HISTORY_FULL,
+        Refusal::Memory => NO_MEMORY,
     }
 }

@@ -1,5 +1,5 @@
 //! The handle that C holds: a pointer whose type says nothing.
-ghost use Rattle.std.specs.Prelude.{◌≡◌, Bool, true};
+ghost use Rattle.std.specs.Prelude.{◌≡◌, Bool, true, false, not};
 ghost use Rattle.std_alloc.specs.Box.Ownership.{box_owns};
 ghost use Rattle.ring_desk_c.specs.Held.{held};
 ghost use Rattle.std.specs.contracts.impls.GlobalAllocator.TheImpl.{ghosts};
@@ -8,9 +8,12 @@ ghost use Rattle.ring_desk_c.specs.declared.kept.Kept.{Kept};
 
 use crate::kept::Kept;
 use crate::loose::Loose;
+use core::mem::replace_with;
 use std::alloc::Global;
 use std::marker::Model;
+use std::ptr::null_mut;
 
+/// What C holds: where it is full the box at `at`, whose value is `value`; else nothing, and `at` is null.
 #[repr(C)]
 #[derive(Drop)]
 pub struct Handle {
@@ -21,8 +24,44 @@ pub struct Handle {
 }
 
 impl Model for Handle {
-    ghost also_owns = { λ h.
-        held h.full (box_owns (ghosts.dealloc_token h.alloc) kept.the_row h.at h.value) };
+    ghost also_owns = { λ h. held h.at h.full
+        (box_owns (ghosts.dealloc_token h.alloc) kept.the_row h.at h.value) };
+}
+
+// C may give a handle to another thread, one call at a time.
+unsafe impl Send for Handle {}
+
+/// Takes what another thread may have.
+fn send<T: Send>(_value: &T) {}
+
+/// A handle may go to another thread: without a proof of that, this is no program.
+pub(crate) fn handles_are_sent(handle: &Handle) {
+    send(handle);
+}
+
+/// Whether a handle has nothing, and the handle as it was.
+fn test(handle: Handle) -> (Handle, bool)
+    ensures { (result.0 ≡ handle) × (result.1 ≡ not handle.full) }
+{
+    let Handle { at, alloc } = handle;
+    let closed = at.is_null();
+    (Handle { at, alloc }, closed)
+}
+
+/// The same, as C lends the handle.
+fn test_lent(handle: Handle, _call: ()) -> (Handle, bool)
+    ensures same { result.0 ≡ handle }
+    ensures is { result.1 ≡ not handle.full }
+{
+    test(handle)
+}
+
+/// Whether what C holds is closed.
+pub(crate) fn is_closed(ring: &mut Handle) -> bool
+    ensures same { ring.new ≡ ring.old }
+    ensures is { result ≡ not ring.old.full }
+{
+    replace_with(ring, (), test_lent)
 }
 
 /// The box that a handle has.
@@ -37,6 +76,7 @@ pub(crate) fn loosen(handle: Handle) -> Loose<Kept, Global>
     }
 }
 
+/// A handle that has the box.
 pub(crate) fn hold(loose: Loose<Kept, Global>) -> Handle
     requires { loose.full ≡ true }
     ensures { (result.full ≡ true) × (result.value ≡ loose.value) }
@@ -46,4 +86,24 @@ pub(crate) fn hold(loose: Loose<Kept, Global>) -> Handle
         at: at as *mut u8,
         alloc,
     }
+}
+
+/// A handle that has nothing, and the box that this one has.
+pub(crate) fn take(handle: Handle, alloc: Global) -> (Handle, Loose<Kept, Global>)
+    requires { handle.full ≡ true }
+    ensures { (result.0.full ≡ false)
+        × (result.1.full ≡ true)
+        × (result.1.value ≡ handle.value) }
+{
+    let Handle { at, alloc: own } = handle;
+    (
+        Handle {
+            at: null_mut(),
+            alloc,
+        },
+        Loose {
+            at: at as *mut Kept,
+            alloc: own,
+        },
+    )
 }

@@ -1,11 +1,11 @@
 //! The ring that C holds, over one of the two resources.
 
 ghost use Rattle.ring_desk_c.specs.Answers.{IsPassAnswer, IsTryAnswer, IsCorruptAnswer, IsGroupAnswer, IsSurveyAnswer, IsGlance, IsTextAnswer, history_of};
-ghost use Rattle.std.specs.Prelude.{◌≡◌, length};
+ghost use Rattle.std.specs.Prelude.{◌≡◌, length, slice_get};
 
 use ring_book::{GroupReceipt, Idle, Till};
 use ring_desk::{CallError, OneThreadRing};
-use ring_model::{Receipt, Survey};
+use ring_model::{Event, Receipt, Survey};
 use std::alloc::Global;
 
 /// A ring over a till, which adds up the orders of granted passes, or over a resource that does no work.
@@ -113,15 +113,28 @@ pub(crate) fn history_length(kept: &Kept) -> u64
     }
 }
 
+/// The event of this number, if the history has one.
+pub(crate) fn event(kept: &Kept, number: u64) -> Option<Event>
+    ensures { result ≡ slice_get (history_of kept.now) number }
+{
+    match kept {
+        Kept::Till(ring) => ring.history().get(number as usize).copied(),
+        Kept::Idle(ring) => ring.history().get(number as usize).copied(),
+    }
+}
+
 /// The saved text of the ring as it is, if it is one over a till.
 pub(crate) fn text(kept: &Kept, alloc: Global) -> Result<Vec<u8>, TextError>
     ensures { IsTextAnswer kept.now result }
 {
     match kept {
-        Kept::Till(ring) => match ring.text(alloc) {
-            Ok(text) => Ok(text),
-            Err(_) => Err(TextError::OutOfMemory),
-        },
+        Kept::Till(ring) => {
+            let mut text = Vec::new(alloc);
+            match ring.save(&mut text) {
+                Ok(()) => Ok(text),
+                Err(_) => Err(TextError::OutOfMemory),
+            }
+        }
         Kept::Idle(_) => Err(TextError::NoTill),
     }
 }

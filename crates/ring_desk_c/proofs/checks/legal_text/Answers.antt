@@ -2,7 +2,7 @@ use Rattle.std.proofs.Common.{◌≡◌, length, ap, arith}
 use Rattle.ring_saved.specs.Content.{content}
 use Rattle.ring_saved.specs.Spelling.{text}
 use Rattle.ring_check.proofs.SavedLines.{lines_some}
-use Rattle.ring_desk_c.proofs.checks.wozgirt_check.Goals as goal
+use Rattle.ring_desk_c.proofs.checks.legal_text.Goals as goal
 
 pub check_saved-requires : goal.check_saved-requires
 check_saved-requires c =

@@ -1,0 +1,29 @@
+-- A lock that is added over a ring with no events is free.
+use Rattle.std.proofs.Common.{◌≡◌, ℕ, ◌+◌, List, [], ◌∷◌, ◌++◌, map, drop, length, refl, sym, ap, ◌∙◌, subst, Option, Some, None, arith}
+use Rattle.std.specs.List.{All}
+use Rattle.std.proofs.lemmas.List.{drop_all, length-append}
+use Rattle.std.proofs.lemmas.List.Elements.{All-nil, All-cons, All-append}
+use Rattle.ring_model.specs.declared.events.Event.{Event}
+use Rattle.ring_chains.specs.Bases.{shifted}
+use Rattle.ring_endless.specs.Endless.{EndlessView}
+use Rattle.ring_locks.specs.declared.answers.Holder.{Holder}
+use Rattle.ring_locks.specs.Locks.{Call}
+use Rattle.ring_locks.specs.Promises.{open_after}
+use Rattle.ring_locks.specs.Kept.{LockView}
+use Rattle.ring_locks.specs.Opened.{ended_before, events_in, open_in, holder_behind, IsAdded}
+use Rattle.ring_desk_c.specs.Desks.{IsFree}
+
+none_open : (e : EndlessView) → e.ring.book.history ≡ [] → open_in e ≡ None
+none_open e h =
+    let nothing : events_in e ≡ [] = ap (λ (es : List Event). shifted e.base es) h in
+    let rest : drop (ended_before e) (events_in e) ≡ [] = ap (λ (es : List Event). drop (ended_before e) es) nothing ∙ drop_all (ended_before e) [] (omega arith) in
+    ap (λ (es : List Event). open_after None (map Call es)) rest
+
+pub added_free : (old new : List LockView) (e : EndlessView) → IsAdded old new e → e.ring.book.history ≡ [] → All IsFree old → All IsFree new
+added_free old new e a h free =
+    let v : LockView = record { ring = a.ring; line = []; holder = holder_behind (open_in e) } in
+    let one : IsFree v = (refl, ap (λ (t : Option ℕ). holder_behind t) (none_open e h)) in
+    subst (λ (vs : List LockView). All IsFree vs) (sym a.added) (All-append IsFree old (v ∷ []) free (All-cons IsFree v [] one (All-nil IsFree)))
+
+pub added_many : (old new : List LockView) (e : EndlessView) → IsAdded old new e → length new ≡ length old + 1
+added_many old new e a = ap length a.added ∙ length-append old (record { ring = a.ring; line = []; holder = holder_behind (open_in e) } ∷ [])

@@ -1,0 +1,18 @@
+-- A ring that is saved and opened again (this project's own).
+use Rattle.std.specs.Prelude.{◌≡◌, ℕ, List}
+use Rattle.ring_model.specs.Resources.{till}
+use Rattle.ring_desk.specs.Rings.{RingView, IsOneThreadRing}
+use Rattle.ring_desk.specs.Texts.{surveys_told}
+use Rattle.ring_desk_c.specs.Answers.{IsSavedText}
+use Rattle.ring_desk_c.specs.Resumed.{IsResumedFrom}
+
+-- Whatever is opened from the saved text of a ring is that ring again, which is the text's only
+-- one: with the same start, the same history and the same surveys.
+abbrev pub SavesComeBack : Type 0
+SavesComeBack =
+    (d e : RingView ℕ) (bytes : List ℕ) (place seats : ℕ) → IsOneThreadRing till 0 d
+    → IsSavedText d bytes → IsResumedFrom bytes place seats e
+    → (place ≡ 0)
+    × (e.book.start ≡ d.book.start)
+    × (e.book.history ≡ d.book.history)
+    × (surveys_told e.clients ≡ surveys_told d.clients)

@@ -1,0 +1,109 @@
+//! The handle of locks that C holds, as that of a ring (`handle.rt`).
+ghost use Rattle.std.specs.Prelude.{◌≡◌, Bool, true, false, not};
+ghost use Rattle.std_alloc.specs.Box.Ownership.{box_owns};
+ghost use Rattle.ring_desk_c.specs.Held.{held};
+ghost use Rattle.std.specs.contracts.impls.GlobalAllocator.TheImpl.{ghosts};
+ghost use Rattle.ring_desk_c.specs.contracts.desks.LockDesk as desk;
+ghost use Rattle.ring_desk_c.specs.declared.desks.LockDesk.{LockDesk};
+
+use crate::desks::LockDesk;
+use crate::loose::Loose;
+use core::mem::replace_with;
+use std::alloc::Global;
+use std::marker::Model;
+use std::ptr::null_mut;
+
+/// What C holds: where it is full the box at `at`, whose value is `value`; else nothing, and `at` is null.
+#[repr(C)]
+#[derive(Drop)]
+pub struct LockHandle {
+    at: *mut u8,
+    alloc: Global,
+    pub ghost full: { Bool },
+    pub ghost value: { LockDesk } by { desk.the_row.coded },
+}
+
+impl Model for LockHandle {
+    ghost also_owns = { λ h. held h.at h.full
+        (box_owns (ghosts.dealloc_token h.alloc) desk.the_row h.at h.value) };
+}
+
+// C may give a handle to another thread, one call at a time.
+unsafe impl Send for LockHandle {}
+
+/// Takes what another thread may have.
+fn send<T: Send>(_value: &T) {}
+
+/// A handle may go to another thread: without a proof of that, this is no program.
+pub(crate) fn lock_handles_are_sent(handle: &LockHandle) {
+    send(handle);
+}
+
+/// Whether a handle has nothing, and the handle as it was.
+fn test(handle: LockHandle) -> (LockHandle, bool)
+    ensures { (result.0 ≡ handle) × (result.1 ≡ not handle.full) }
+{
+    let LockHandle { at, alloc } = handle;
+    let closed = at.is_null();
+    (LockHandle { at, alloc }, closed)
+}
+
+/// The same, as C lends the handle.
+fn test_lent(handle: LockHandle, _call: ()) -> (LockHandle, bool)
+    ensures same { result.0 ≡ handle }
+    ensures is { result.1 ≡ not handle.full }
+{
+    test(handle)
+}
+
+/// Whether what C holds is closed.
+pub(crate) fn is_closed(locks: &mut LockHandle) -> bool
+    ensures same { locks.new ≡ locks.old }
+    ensures is { result ≡ not locks.old.full }
+{
+    replace_with(locks, (), test_lent)
+}
+
+/// The box that a handle has.
+pub(crate) fn loosen(handle: LockHandle) -> Loose<LockDesk, Global>
+    requires { handle.full ≡ true }
+    ensures { (result.full ≡ true) × (result.value ≡ handle.value) }
+{
+    let LockHandle { at, alloc } = handle;
+    Loose {
+        at: at as *mut LockDesk,
+        alloc,
+    }
+}
+
+/// A handle that has the box.
+pub(crate) fn hold(loose: Loose<LockDesk, Global>) -> LockHandle
+    requires { loose.full ≡ true }
+    ensures { (result.full ≡ true) × (result.value ≡ loose.value) }
+{
+    let Loose { at, alloc } = loose;
+    LockHandle {
+        at: at as *mut u8,
+        alloc,
+    }
+}
+
+/// A handle that has nothing, and the box that this one has.
+pub(crate) fn take(handle: LockHandle, alloc: Global) -> (LockHandle, Loose<LockDesk, Global>)
+    requires { handle.full ≡ true }
+    ensures { (result.0.full ≡ false)
+        × (result.1.full ≡ true)
+        × (result.1.value ≡ handle.value) }
+{
+    let LockHandle { at, alloc: own } = handle;
+    (
+        LockHandle {
+            at: null_mut(),
+            alloc,
+        },
+        Loose {
+            at: at as *mut LockDesk,
+            alloc: own,
+        },
+    )
+}
