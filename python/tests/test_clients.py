@@ -191,7 +191,7 @@ class Tasks(unittest.IsolatedAsyncioTestCase):
             with self.assertRaises(NoSuchLock):
                 await two.acquire("nothing")
             waits = asyncio.create_task(two.acquire("a"))
-            await asyncio.to_thread(server.wait_for_waiters, "a", 1)
+            await asyncio.get_running_loop().run_in_executor(None, server.wait_for_waiters, "a", 1)
             with self.assertRaises(Waits):
                 await two.acquire("a")
             held = (await one.status())[0]
@@ -229,7 +229,7 @@ class Tasks(unittest.IsolatedAsyncioTestCase):
             await client.acquire("a")
             waits = await aio.Client.connect(server.path, lease=20)
             task = asyncio.create_task(waits.acquire("a"))
-            await asyncio.to_thread(server.wait_for_waiters, "a", 1)
+            await asyncio.get_running_loop().run_in_executor(None, server.wait_for_waiters, "a", 1)
             server.process.kill()
             server.process.wait()
             with self.assertRaises(LockLost):

@@ -1,18 +1,22 @@
 """Lines, without a server."""
 
+import importlib
+import inspect
 import os
 import subprocess
 import sys
 import tempfile
+import typing
 import unittest
 import zipfile
+from unittest import mock
 
 PYTHON = os.path.dirname(os.path.dirname(os.path.abspath(__file__)))
 sys.path.insert(0, PYTHON)
 
 import build_backend  # noqa: E402
 import wozgirt  # noqa: E402
-from wozgirt import lines, ring  # noqa: E402
+from wozgirt import lines  # noqa: E402
 
 
 class Lines(unittest.TestCase):
@@ -56,42 +60,39 @@ class Lines(unittest.TestCase):
                 lines.status(text.split())
 
 
-class RingNumbers(unittest.TestCase):
-    """Without the library: a number that its types cannot hold never gets there."""
+class Annotations(unittest.TestCase):
+    """What a checker of types needs, since the package says by py.typed that it has it."""
 
-    def test_range(self):
-        with self.assertRaises(ValueError):
-            ring.Ring(3, 3, [0, 2, 2 ** 32], 1)
-        with self.assertRaises(ValueError):
-            ring.Ring(2 ** 32 + 3, 3, [0, 2, 0], 1)
-        with self.assertRaises(ValueError):
-            ring.Ring.from_saved(b"", -1, 1)
-        with self.assertRaises(TypeError):
-            ring.Ring(3, 3, [0, 2, 1.5], 1)
+    def functions(self):
+        for name in ("aio", "client", "library", "lines", "local", "refusals", "ring"):
+            module = importlib.import_module(f"wozgirt.{name}")
+            for it in vars(module).values():
+                if getattr(it, "__module__", None) == module.__name__:
+                    parts = filter(inspect.isfunction, [it, *getattr(it, "__dict__", {}).values()])
+                    yield from (part for part in parts if part.__code__.co_filename == module.__file__)  # not what a class made
 
-    def test_range_of_a_call(self):
-        it = ring.Ring.__new__(ring.Ring)
-        for call in (lambda: it.pass_(2 ** 32, 0, 1), lambda: it.pass_(0, -1, 1), lambda: it.pass_(0, 0, 2 ** 64),
-                     lambda: it.pass_group(0, [1, 2 ** 32], 1), lambda: it.corrupt(0, 0, 2 ** 32), lambda: it.survey(-1)):
-            with self.assertRaises(ValueError):
-                call()
+    def test_each_parameter_has_one(self):
+        for function in self.functions():
+            given = inspect.signature(function)
+            names = [name for name in given.parameters if name not in ("self", "cls")]
+            if function.__qualname__.endswith("__init__"):
+                names += [] if names else ["return"]
+            else:
+                names.append("return")
+            self.assertLessEqual(set(names), set(function.__annotations__), function.__qualname__)
 
-
-class RingCalls(unittest.TestCase):
-    @unittest.skipUnless(os.environ.get("WOZGIRT_LIBRARY"), "WOZGIRT_LIBRARY names no library")
-    def test_a_ring(self):
-        with ring.Ring(3, 3, [0, 2, 0], 2) as it:
-            self.assertEqual(it.pass_(0, 0, 5), ring.Grant(0, 1, 5))
-            self.assertIsNone(it.pass_(0, 0, 1))
-            with self.assertRaises(ring.Refused):
-                it.pass_(2, 0, 1)
-            self.assertEqual(ring.check(it.save()).granted, 1)
+    @unittest.skipIf(sys.version_info < (3, 9), "generic types of the standard library came with 3.9")
+    def test_they_can_be_read(self):
+        for function in self.functions():
+            typing.get_type_hints(function)
 
 
 class Wheel(unittest.TestCase):
     def test_it_has_the_package_and_its_record(self):
         with tempfile.TemporaryDirectory() as folder:
-            name = build_backend.build_wheel(folder)
+            with mock.patch.dict(os.environ):
+                os.environ.pop("WOZGIRT_LIBRARY", None)
+                name = build_backend.build_wheel(folder)
             self.assertEqual(name, f"wozgirt-{wozgirt.__version__}-py3-none-any.whl")
             with zipfile.ZipFile(os.path.join(folder, name)) as wheel:
                 self.assertIsNone(wheel.testzip())

@@ -5,71 +5,34 @@
     with Ring(n=3, k=3, start=[0, 2, 0], seats=2) as ring:
         grant = ring.pass_(seat=0, machine=0, order=5)
 
-`include/wozgirt.h` says what each call returns. A ring holds a lock of its own, so threads may share it. A number that the
-library's type cannot hold is refused with `ValueError`, and is never cut off. The library is the one that the environment's
-WOZGIRT_LIBRARY names, or `libwozgirt.so`; it is loaded at the first call.
+`include/wozgirt.h` says what each call returns. Each call that is refused raises the exception of its reason, from
+`wozgirt.refusals`. A number that the library's type cannot hold is refused with `ValueError`, and what is no number with
+`TypeError`. A ring holds a lock of its own, so threads may share it. The library is the one that WOZGIRT_LIBRARY names, that
+of the wheel, or the system's; it is loaded at the first call.
 """
 
 from __future__ import annotations
 
 import ctypes
-import functools
-import operator
-import os
 import threading
-from ctypes import POINTER, Structure, byref, c_size_t, c_uint8, c_uint32, c_uint64, c_void_p
+import weakref
+from ctypes import byref, c_uint8, c_uint64
 from dataclasses import dataclass
 from enum import IntEnum
-from typing import Optional, Sequence
+from typing import Any, Callable, Iterable, Iterator, NoReturn, Optional, SupportsIndex, Type, TypeVar
 
+from .library import RawAnswer, RawEvent, RawGroup, RawRing, RawSight, RawSums, Text, load, number, numbers, text_of
+from .refusals import (BadCount, BadGroup, BadLength, BadMachines, BadNumbers, BadParameter, BadRange, BadReply, BadSeats,
+                       BadStart, BadSurvey, BadSyntax, BadValues, Closed, Code, HistoryFull, NoEvent, NoMachine, NoMemory,
+                       NoRing, NoSeat, NoTill, NoValue, NotLegal, NotPrivileged, NotRising, Refused, RingError, Truncated,
+                       WholeRing, error_of)
 
-class Code(IntEnum):
-    """The codes of `enum wozgirt_code`."""
+__all__ = ["BadCount", "BadGroup", "BadLength", "BadMachines", "BadNumbers", "BadParameter", "BadRange", "BadReply", "BadSeats",
+           "BadStart", "BadSurvey", "BadSyntax", "BadValues", "Closed", "Code", "Event", "Grant", "HistoryFull", "Kind",
+           "NoEvent", "NoMachine", "NoMemory", "NoRing", "NoSeat", "NoTill", "NoValue", "NotLegal", "NotPrivileged", "NotRising",
+           "Refused", "Ring", "RingError", "Sight", "Sums", "Truncated", "WholeRing", "check"]
 
-    DONE = 0
-    WAITS = 1
-    NO_SEAT = 16
-    NO_MACHINE = 17
-    NO_VALUE = 18
-    NOT_RISING = 19
-    WHOLE_RING = 20
-    NOT_PRIVILEGED = 21
-    HISTORY_FULL = 22
-    NO_MEMORY = 23
-    BAD_SEATS = 32
-    BAD_MACHINES = 33
-    BAD_VALUES = 34
-    BAD_LENGTH = 35
-    BAD_START = 36
-    SYNTAX = 48
-    TRUNCATED = 49
-    NO_RING = 50
-    DIFFERS = 51
-    PARAMETER = 64
-    RANGE = 65
-    REPLY = 66
-    COUNT = 67
-    SURVEY = 68
-    GROUP = 69
-    NO_TILL = 80
-    TOO_SMALL = 81
-
-
-class Refused(Exception):
-    """A call that was refused, and changed nothing. `code` says why; `machine` is the least machine of a group that is
-    not privileged, where that is why."""
-
-    def __init__(self, code: Code, machine: Optional[int] = None):
-        super().__init__(code.name.lower().replace("_", " "))
-        self.code, self.machine = code, machine
-
-
-class NotLegal(Exception):
-    """A saved text that is not legal: the code, and the first bad line, or 0."""
-
-    def __init__(self, code: Code, line: int):
-        super().__init__(f"line {line}: {code.name.lower()}" if line else code.name.lower())
-        self.code, self.line = code, line
+SomeRing = TypeVar("SomeRing", bound="Ring")
 
 
 @dataclass(frozen=True)
@@ -83,13 +46,37 @@ class Grant:
 
 @dataclass(frozen=True)
 class Sight:
-    """A survey of a ring."""
+    """A survey of a ring: how many events there are, how many passes were granted since the last fault, how many are left at
+    most until one machine is privileged, how many are privileged, and the least of them."""
 
     position: int
     calm: int
     rest: int
     privileged: int
     first: int
+
+
+class Kind(IntEnum):
+    """What an event of a history is."""
+
+    PASSED = 0  # a pass that was granted
+    WAITED = 1  # a pass by a machine that was not privileged
+    MEMBER = 2  # the pass of one machine of a group
+    FAULT = 3  # a value was written into a machine
+
+
+@dataclass(frozen=True)
+class Event:
+    """An event of a history; what does not belong to its kind is 0. `number` is which grant it is, `result` the resource's answer
+    or the value that a fault was written over; `value` is what a fault wrote, or how many of a member's group are still to come."""
+
+    kind: Kind
+    seat: int
+    machine: int
+    order: int
+    number: int
+    result: int
+    value: int
 
 
 @dataclass(frozen=True)
@@ -103,166 +90,151 @@ class Sums:
     surveys: int
 
 
-class _Ring(Structure):
-    _fields_ = [("at", c_void_p)]
-
-
-class _Answer(Structure):
-    _fields_ = [("position", c_uint64), ("number", c_uint64), ("result", c_uint64)]
-
-
-class _Group(Structure):
-    _fields_ = [("first", c_uint64), ("count", c_uint32), ("machine", c_uint32)]
-
-
-class _Sight(Structure):
-    _fields_ = [("position", c_uint64), ("calm", c_uint64), ("rest", c_uint64), ("privileged", c_uint32), ("first", c_uint32)]
-
-
-class _Sums(Structure):
-    _fields_ = [(name, c_uint64) for name in ("events", "granted", "corrupted", "surveys", "line")] + [("rings", c_uint32)]
-
-
-@functools.lru_cache(maxsize=None)
-def _library() -> ctypes.CDLL:
-    library = ctypes.CDLL(os.environ.get("WOZGIRT_LIBRARY", "libwozgirt.so"))
-    ring, numbers = POINTER(_Ring), POINTER(c_uint32)
-    for name, answers, takes in [
-        ("wozgirt_open", c_uint32, [ring, c_uint32, c_uint32, numbers, c_size_t, c_uint32]),
-        ("wozgirt_open_saved", c_uint32, [ring, ctypes.c_char_p, c_size_t, c_uint32, c_uint32]),
-        ("wozgirt_pass", c_uint32, [ring, c_uint32, c_uint32, c_uint64, POINTER(_Answer)]),
-        ("wozgirt_pass_group", c_uint32, [ring, c_uint32, numbers, c_size_t, c_uint64, POINTER(_Group)]),
-        ("wozgirt_corrupt", c_uint32, [ring, c_uint32, c_uint32, c_uint32, POINTER(_Answer)]),
-        ("wozgirt_survey", c_uint32, [ring, c_uint32, POINTER(_Sight)]),
-        ("wozgirt_glance", c_uint32, [ring, POINTER(_Sight)]),
-        ("wozgirt_history_length", c_uint64, [ring]),
-        ("wozgirt_save", c_uint32, [ring, POINTER(c_uint8), c_size_t, POINTER(c_uint64)]),
-        ("wozgirt_close", None, [_Ring]),
-        ("wozgirt_check", c_uint32, [ctypes.c_char_p, c_size_t, POINTER(_Sums)]),
-        ("wozgirt_version", c_uint32, []),
-    ]:
-        function = getattr(library, name)
-        function.restype, function.argtypes = answers, takes
-    return library
-
-
-def _number(number: int, bits: int, what: str) -> int:
-    """The number, if so many bits hold it: `ctypes` would cut it off."""
-    number = operator.index(number)
-    if not 0 <= number < 1 << bits:
-        raise ValueError(f"{what} is not 0 to 2 ** {bits} - 1: {number}")
-    return number
-
-
-def _numbers(numbers: Sequence[int], what: str) -> ctypes.Array[c_uint32]:
-    """The numbers for the library; for none, an address that is not null."""
-    checked = [_number(number, 32, what) for number in numbers]
-    return (c_uint32 * max(1, len(checked)))(*checked)
-
-
-def check(text: bytes) -> Sums:
+def check(text: Text) -> Sums:
     """The sums of a saved text; `NotLegal` if it is not legal."""
-    sums = _Sums()
-    code = _library().wozgirt_check(text, len(text), byref(sums))
-    if code != Code.DONE:
-        raise NotLegal(Code(code), sums.line)
+    bytes_, sums = text_of(text), RawSums()
+    _stop_on(load().wozgirt_check(bytes_, len(bytes_), byref(sums)), line=sums)
     return Sums(sums.rings, sums.events, sums.granted, sums.corrupted, sums.surveys)
 
 
-def _told(code: int, machine: Optional[int] = None) -> Code:
+def _stop_on(code: int, *, group: Optional[RawGroup] = None, line: Optional[RawSums] = None) -> bool:
+    """Raises what a call refused; else whether it was done, and not left waiting."""
     if code > Code.WAITS:
-        raise Refused(Code(code), machine)
-    return Code(code)
+        raise error_of(code, machine=None if group is None else group.machine, line=None if line is None else line.line)
+    return code == Code.DONE
+
+
+def _close(close: Callable[[Any], object], raw: RawRing) -> None:
+    """Closes what is open. It is a ring's finalizer, and so knows nothing of the ring."""
+    close(byref(raw))
 
 
 class Ring:
-    """A ring over a till. Each call is refused by `Refused`, which changes nothing. It is a context manager, which closes it."""
+    """A ring over a till: each granted pass adds its order. A refused call changes nothing. It is a context manager, which closes
+    it; it is true as long as it is open."""
 
-    def __init__(self, n: int, k: int, start: Sequence[int], seats: int):
-        self._lock, self._ring = threading.Lock(), _Ring()
-        start = list(start)
-        values, n, k, seats = _numbers(start, "start"), _number(n, 32, "n"), _number(k, 32, "k"), _number(seats, 32, "seats")
-        _told(_library().wozgirt_open(byref(self._ring), n, k, values, len(start), seats))
+    def __init__(self, n: SupportsIndex, k: SupportsIndex, start: Iterable[SupportsIndex], seats: SupportsIndex):
+        self._open("wozgirt_open", n, k, start, seats)
 
     @classmethod
-    def from_saved(cls, text: bytes, place: int, seats: int) -> Ring:
-        """A ring that resumes the one at this place of a saved text."""
+    def idle(cls: Type[SomeRing], n: SupportsIndex, k: SupportsIndex, start: Iterable[SupportsIndex],
+             seats: SupportsIndex) -> SomeRing:
+        """A ring over a resource that does no work; it cannot be saved."""
         self = cls.__new__(cls)
-        self._lock, self._ring = threading.Lock(), _Ring()
-        place, seats = _number(place, 32, "place"), _number(seats, 32, "seats")
-        _told(_library().wozgirt_open_saved(byref(self._ring), text, len(text), place, seats))
+        self._open("wozgirt_open_idle", n, k, start, seats)
         return self
 
-    def _open(self) -> object:
-        if not self._ring.at:
-            raise ValueError("the ring is closed")
-        return byref(self._ring)
+    @classmethod
+    def from_saved(cls: Type[SomeRing], text: Text, place: SupportsIndex, seats: SupportsIndex) -> SomeRing:
+        """A ring that resumes the one at this place of a saved text; `NotLegal` just as `check` says, with the line."""
+        self = cls.__new__(cls)
+        bytes_, at, count = text_of(text), number(place, 32, "place"), number(seats, 32, "seats")
+        self._own()
+        sums = RawSums()
+        _stop_on(self._library.wozgirt_open_saved(byref(self._raw), bytes_, len(bytes_), at, count, byref(sums)), line=sums)
+        return self
 
-    def pass_(self, seat: int, machine: int, order: int) -> Optional[Grant]:
-        """The grant, or none where the machine is not privileged."""
-        answer = _Answer()
-        seat, machine, order = _number(seat, 32, "seat"), _number(machine, 32, "machine"), _number(order, 64, "order")
+    def _own(self) -> None:
+        # the lock may be taken twice: the handler of a signal runs between the calls of the thread that it interrupts
+        self._lock, self._raw, self._library = threading.RLock(), RawRing(), load()
+        self._end = weakref.finalize(self, _close, self._library.wozgirt_close, self._raw)
+        self._end.atexit = False  # a thread may still be in a call, and the process gives all back
+
+    def _open(self, opener: str, n: SupportsIndex, k: SupportsIndex, start: Iterable[SupportsIndex], seats: SupportsIndex) -> None:
+        values, length = numbers(start, "start")
+        sizes, count = (number(n, 32, "n"), number(k, 32, "k")), number(seats, 32, "seats")
+        self._own()
+        _stop_on(getattr(self._library, opener)(byref(self._raw), *sizes, values, length, count))
+
+    def _call(self, name: str, *given: Any) -> int:
+        """The code of a call, which no other call is beside."""
         with self._lock:
-            code = _told(_library().wozgirt_pass(self._open(), seat, machine, order, byref(answer)))
-        return Grant(answer.position, answer.number, answer.result) if code == Code.DONE else None
+            return int(getattr(self._library, f"wozgirt_{name}")(byref(self._raw), *given))
 
-    def pass_group(self, seat: int, machines: Sequence[int], order: int) -> int:
+    def _pass(self, name: str, seat: SupportsIndex, machine: SupportsIndex, order: SupportsIndex) -> Optional[Grant]:
+        answer = RawAnswer()
+        given = number(seat, 32, "seat"), number(machine, 32, "machine"), number(order, 64, "order")
+        if not _stop_on(self._call(name, *given, byref(answer))):
+            return None
+        return Grant(answer.position, answer.number, answer.result)
+
+    def pass_(self, seat: SupportsIndex, machine: SupportsIndex, order: SupportsIndex) -> Optional[Grant]:
+        """The grant, or none where the machine is not privileged, which the history records too."""
+        return self._pass("pass", seat, machine, order)
+
+    def try_pass(self, seat: SupportsIndex, machine: SupportsIndex, order: SupportsIndex) -> Optional[Grant]:
+        """The same, but nothing is recorded where the machine is not privileged: the call to poll with."""
+        return self._pass("try", seat, machine, order)
+
+    def pass_group(self, seat: SupportsIndex, machines: Iterable[SupportsIndex], order: SupportsIndex) -> int:
         """Machines whose numbers rise pass at once: returns how many events are before the first."""
-        machines = list(machines)
-        answer, numbers = _Group(), _numbers(machines, "machine")
-        seat, order = _number(seat, 32, "seat"), _number(order, 64, "order")
-        with self._lock:
-            code = _library().wozgirt_pass_group(self._open(), seat, numbers, len(machines), order, byref(answer))
-        _told(code, answer.machine if code == Code.NOT_PRIVILEGED else None)
-        return answer.first
+        answer, (values, count) = RawGroup(), numbers(machines, "machine")
+        given = number(seat, 32, "seat"), values, count, number(order, 64, "order")
+        _stop_on(self._call("pass_group", *given, byref(answer)), group=answer)
+        return int(answer.first)
 
-    def corrupt(self, seat: int, machine: int, value: int) -> int:
+    def corrupt(self, seat: SupportsIndex, machine: SupportsIndex, value: SupportsIndex) -> int:
         """Writes a value into a machine, and returns the old one."""
-        answer = _Answer()
-        seat, machine, value = _number(seat, 32, "seat"), _number(machine, 32, "machine"), _number(value, 32, "value")
-        with self._lock:
-            _told(_library().wozgirt_corrupt(self._open(), seat, machine, value, byref(answer)))
-        return answer.result
+        answer = RawAnswer()
+        given = number(seat, 32, "seat"), number(machine, 32, "machine"), number(value, 32, "value")
+        _stop_on(self._call("corrupt", *given, byref(answer)))
+        return int(answer.result)
 
-    def survey(self, seat: int) -> Sight:
+    def survey(self, seat: SupportsIndex) -> Sight:
         """The survey of the ring, which the seat's log keeps."""
-        sight, seat = _Sight(), _number(seat, 32, "seat")
-        with self._lock:
-            _told(_library().wozgirt_survey(self._open(), seat, byref(sight)))
+        sight = RawSight()
+        _stop_on(self._call("survey", number(seat, 32, "seat"), byref(sight)))
         return Sight(sight.position, sight.calm, sight.rest, sight.privileged, sight.first)
 
     def glance(self) -> Sight:
         """The same, which is kept nowhere."""
-        sight = _Sight()
-        with self._lock:
-            _told(_library().wozgirt_glance(self._open(), byref(sight)))
+        sight = RawSight()
+        _stop_on(self._call("glance", byref(sight)))
         return Sight(sight.position, sight.calm, sight.rest, sight.privileged, sight.first)
 
     def __len__(self) -> int:
         """How many events the history has."""
-        with self._lock:
-            return _library().wozgirt_history_length(self._open())
+        length = c_uint64()
+        _stop_on(self._call("history_length", byref(length)))
+        return length.value
+
+    def event(self, at: SupportsIndex) -> Event:
+        """The event at this place of the history, from 0."""
+        event = RawEvent()
+        _stop_on(self._call("event_at", number(at, 64, "at"), byref(event)))
+        return Event(Kind(event.kind), event.seat, event.machine, event.order, event.number, event.result, event.value)
+
+    def __iter__(self) -> Iterator[Event]:
+        """The events of the history, from the first to the one that is the last then."""
+        return map(self.event, range(len(self)))
+
+    def __bool__(self) -> bool:
+        """Whether the ring is open."""
+        return bool(self._raw.at)
 
     def save(self) -> bytes:
         """The saved text of the ring as it is now, which `check` and `ring_tool check` judge."""
-        size, none = c_uint64(), (c_uint8 * 1)()
-        with self._lock:
-            code = _library().wozgirt_save(self._open(), none, 0, byref(size))
-            if code != Code.TOO_SMALL:
-                _told(code)
-            text = (c_uint8 * size.value)()
-            _told(_library().wozgirt_save(self._open(), text, size.value, byref(size)))
-        return bytes(text)
+        size, room = c_uint64(), (c_uint8 * 1)()
+        code = self._call("save", room, 0, byref(size))
+        while code == Code.TOO_SMALL:  # other threads may have made it longer since
+            room = (c_uint8 * size.value)()
+            code = self._call("save", room, size.value, byref(size))
+        _stop_on(code)
+        return ctypes.string_at(room, size.value)
 
     def close(self) -> None:
         """Ends the ring. It may be called again."""
         with self._lock:
-            if self._ring.at:
-                _library().wozgirt_close(self._ring)
-                self._ring = _Ring()
+            self._end()
 
-    def __enter__(self) -> Ring:
+    def __enter__(self: SomeRing) -> SomeRing:
         return self
 
     def __exit__(self, *given: object) -> None:
         self.close()
+
+    def __reduce__(self) -> NoReturn:
+        raise TypeError("a ring is not copied or pickled: save it, and resume it by Ring.from_saved")
+
+    def __repr__(self) -> str:
+        return f"<{type(self).__name__}, {f'{len(self)} events' if self else 'closed'}>"
