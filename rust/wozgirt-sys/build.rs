@@ -17,6 +17,7 @@ fn link_in(folder: &Path) -> bool {
         return false;
     };
     println!("cargo:rustc-link-search=native={}", folder.display());
+    println!("cargo:rerun-if-changed={}", folder.display());
     for library in libraries {
         println!("cargo:rustc-link-lib={library}");
     }

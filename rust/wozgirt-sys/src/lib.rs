@@ -71,6 +71,65 @@ pub struct wozgirt_sums {
     pub rings: u32,
 }
 
+/// What [`wozgirt_event::kind`] is of a pass that was granted.
+pub const WOZGIRT_PASSED: u32 = 0;
+/// What [`wozgirt_event::kind`] is of a pass by a machine that was not privileged.
+pub const WOZGIRT_WAITED: u32 = 1;
+/// What [`wozgirt_event::kind`] is of the pass of one machine of a group.
+pub const WOZGIRT_MEMBER: u32 = 2;
+/// What [`wozgirt_event::kind`] is of a value that was written into a machine.
+pub const WOZGIRT_FAULT: u32 = 3;
+
+/// An event of a history; what does not belong to its kind is 0.
+#[repr(C)]
+#[derive(Clone, Copy, Debug, Default, PartialEq, Eq)]
+pub struct wozgirt_event {
+    /// Of a pass.
+    pub order: u64,
+    /// Of a granted pass: which grant it is.
+    pub number: u64,
+    /// Of a granted pass: the resource's answer; of a fault: the value that was written over.
+    pub result: u64,
+    /// [`WOZGIRT_PASSED`], [`WOZGIRT_WAITED`], [`WOZGIRT_MEMBER`] or [`WOZGIRT_FAULT`].
+    pub kind: u32,
+    /// The seat that asked.
+    pub seat: u32,
+    /// The machine.
+    pub machine: u32,
+    /// Of a fault: the value that was written; of a member: how many of its group are still to come.
+    pub value: u32,
+}
+
+/// Locks: `{null}` before `wozgirt_locks_open` opens them.
+#[repr(C)]
+#[derive(Debug)]
+pub struct wozgirt_locks {
+    /// The library's memory.
+    pub at: *mut c_void,
+}
+
+/// The answer to a client that acquires a lock.
+#[repr(C)]
+#[derive(Clone, Copy, Debug, Default, PartialEq, Eq)]
+pub struct wozgirt_hold {
+    /// Of a grant: its fencing token.
+    pub token: u64,
+    /// With [`WOZGIRT_WAITS`]: how many stand before the client.
+    pub ahead: u64,
+}
+
+/// A lock that was granted to a client that waited.
+#[repr(C)]
+#[derive(Clone, Copy, Debug, Default, PartialEq, Eq)]
+pub struct wozgirt_grant {
+    /// Who holds it now.
+    pub client: u64,
+    /// Its fencing token.
+    pub token: u64,
+    /// The lock.
+    pub lock: u32,
+}
+
 macro_rules! codes {
     ($($name:ident = $value:literal, $text:literal;)*) => {
         $(#[doc = $text] pub const $name: u32 = $value;)*
@@ -88,6 +147,8 @@ macro_rules! codes {
 codes! {
     WOZGIRT_DONE = 0, "done";
     WOZGIRT_WAITS = 1, "the machine is not privileged";
+    WOZGIRT_BUSY = 2, "somebody holds the lock";
+    WOZGIRT_NO_MORE = 3, "there is no further grant";
     WOZGIRT_NO_SEAT = 16, "there is no such seat";
     WOZGIRT_NO_MACHINE = 17, "there is no such machine";
     WOZGIRT_NO_VALUE = 18, "the value is not below K";
@@ -96,15 +157,17 @@ codes! {
     WOZGIRT_NOT_PRIVILEGED = 21, "a machine of the group is not privileged";
     WOZGIRT_HISTORY_FULL = 22, "the history is full";
     WOZGIRT_NO_MEMORY = 23, "out of memory";
+    WOZGIRT_CLOSED = 24, "it is closed";
     WOZGIRT_BAD_SEATS = 32, "a ring has 1 to 10 seats";
     WOZGIRT_BAD_MACHINES = 33, "a ring has 2 to 1,024 machines";
     WOZGIRT_BAD_VALUES = 34, "a ring has at least as many values as machines, and at most 65,536";
     WOZGIRT_BAD_LENGTH = 35, "there is not one start value for each machine";
     WOZGIRT_BAD_START = 36, "a start value is not below K";
+    WOZGIRT_OPEN = 37, "it is open already";
+    WOZGIRT_BAD_LOCKS = 38, "there are 1 to 1,000,000 locks";
     WOZGIRT_SYNTAX = 48, "a line cannot stand in a saved text";
     WOZGIRT_TRUNCATED = 49, "the saved text is cut short";
     WOZGIRT_NO_RING = 50, "the saved text has no ring at this place";
-    WOZGIRT_DIFFERS = 51, "the saved history is not legal";
     WOZGIRT_PARAMETER = 64, "parameter";
     WOZGIRT_RANGE = 65, "range";
     WOZGIRT_REPLY = 66, "reply";
@@ -113,7 +176,18 @@ codes! {
     WOZGIRT_GROUP = 69, "group";
     WOZGIRT_NO_TILL = 80, "the ring is over no till, so it has no saved text";
     WOZGIRT_TOO_SMALL = 81, "the buffer is too small";
+    WOZGIRT_NO_EVENT = 82, "there is no such event";
+    WOZGIRT_NO_LOCK = 96, "there is no such lock";
+    WOZGIRT_HOLDS = 97, "the client holds the lock already";
+    WOZGIRT_STANDS = 98, "the client waits already";
+    WOZGIRT_CIRCLE = 99, "the client would wait for itself";
+    WOZGIRT_NOT_HELD = 100, "the client does not hold the lock with this token";
+    WOZGIRT_NOT_WAITING = 101, "the client does not wait for the lock";
+    WOZGIRT_GRANTS_LEFT = 102, "grants were not taken";
 }
+
+/// The version of the header that this crate is of; [`wozgirt_version`] has the library's.
+pub const WOZGIRT_VERSION: u32 = 100;
 
 extern "C" {
     /// Opens a ring of n machines and K values over a till.
@@ -134,8 +208,15 @@ extern "C" {
         start_length: usize,
         seats: u32,
     ) -> u32;
-    /// Opens a ring that resumes the one at this place of a saved text.
-    pub fn wozgirt_open_saved(ring: *mut wozgirt_ring, text: *const u8, length: usize, place: u32, seats: u32) -> u32;
+    /// Opens a ring that resumes the one at this place of a saved text; the sums are those of the check of the text.
+    pub fn wozgirt_open_saved(
+        ring: *mut wozgirt_ring,
+        text: *const u8,
+        length: usize,
+        place: u32,
+        seats: u32,
+        sums: *mut wozgirt_sums,
+    ) -> u32;
     /// A seat asks for a machine's pass.
     pub fn wozgirt_pass(
         ring: *mut wozgirt_ring,
@@ -172,15 +253,48 @@ extern "C" {
     /// A survey, which the seat's log keeps.
     pub fn wozgirt_survey(ring: *mut wozgirt_ring, seat: u32, sight: *mut wozgirt_sight) -> u32;
     /// A survey that nothing keeps.
-    pub fn wozgirt_glance(ring: *mut wozgirt_ring, sight: *mut wozgirt_sight) -> u32;
+    pub fn wozgirt_glance(ring: *const wozgirt_ring, sight: *mut wozgirt_sight) -> u32;
     /// How many events the history has.
-    pub fn wozgirt_history_length(ring: *mut wozgirt_ring) -> u64;
+    pub fn wozgirt_history_length(ring: *const wozgirt_ring, length: *mut u64) -> u32;
+    /// The event of this number, from 0, of the history.
+    pub fn wozgirt_event_at(ring: *const wozgirt_ring, number: u64, event: *mut wozgirt_event) -> u32;
     /// Copies the saved text into the buffer, if it has room, and returns its size.
-    pub fn wozgirt_save(ring: *mut wozgirt_ring, buffer: *mut u8, length: usize, size: *mut u64) -> u32;
-    /// Ends the ring.
-    pub fn wozgirt_close(ring: wozgirt_ring);
+    pub fn wozgirt_save(ring: *const wozgirt_ring, buffer: *mut u8, length: usize, size: *mut u64) -> u32;
+    /// Closes the ring, if it is open.
+    pub fn wozgirt_close(ring: *mut wozgirt_ring);
     /// The separate checker.
     pub fn wozgirt_check(text: *const u8, length: usize, sums: *mut wozgirt_sums) -> u32;
     /// The library's version.
     pub fn wozgirt_version() -> u32;
+
+    /// Opens locks that nobody holds, each over a ring of so many machines.
+    pub fn wozgirt_locks_open(locks: *mut wozgirt_locks, count: u32, machines: u32) -> u32;
+    /// A client acquires a lock: it holds it now, or waits.
+    pub fn wozgirt_locks_acquire(
+        locks: *mut wozgirt_locks,
+        client: u64,
+        lock: u32,
+        order: u64,
+        hold: *mut wozgirt_hold,
+    ) -> u32;
+    /// The same, but the client does not wait.
+    pub fn wozgirt_locks_try(
+        locks: *mut wozgirt_locks,
+        client: u64,
+        lock: u32,
+        order: u64,
+        hold: *mut wozgirt_hold,
+    ) -> u32;
+    /// A client ends its hold, which has this token.
+    pub fn wozgirt_locks_release(locks: *mut wozgirt_locks, client: u64, lock: u32, token: u64) -> u32;
+    /// A client waits no more.
+    pub fn wozgirt_locks_cancel(locks: *mut wozgirt_locks, client: u64, lock: u32) -> u32;
+    /// A client leaves all locks.
+    pub fn wozgirt_locks_leave(locks: *mut wozgirt_locks, client: u64) -> u32;
+    /// A grant to a client that waited.
+    pub fn wozgirt_locks_next(locks: *mut wozgirt_locks, grant: *mut wozgirt_grant) -> u32;
+    /// Begins a new segment of each lock's history.
+    pub fn wozgirt_locks_cut(locks: *mut wozgirt_locks) -> u32;
+    /// Closes the locks, if they are open.
+    pub fn wozgirt_locks_close(locks: *mut wozgirt_locks);
 }

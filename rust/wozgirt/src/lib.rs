@@ -4,10 +4,12 @@
 extern crate alloc;
 
 mod errors;
+mod locks;
 mod ring;
 
-pub use errors::{Fault, NotLegal, Reason, Refused};
-pub use ring::{Grant, Group, Ring, Survey};
+pub use errors::{Fault, NotLegal, NotResumed, Reason, Refused};
+pub use locks::{Acquired, Granted, Grants, Locks};
+pub use ring::{Event, Grant, Group, Ring, Step, Survey};
 
 use wozgirt_sys as sys;
 
@@ -39,7 +41,7 @@ pub fn check(text: &[u8]) -> Result<Sums, NotLegal> {
             let sys::wozgirt_sums { events, granted, corrupted, surveys, rings, .. } = sums;
             Ok(Sums { rings, events, granted, corrupted, surveys })
         }
-        code => Err(NotLegal { fault: Fault::of(code), line: (sums.line > 0).then_some(sums.line) }),
+        code => Err(NotLegal::by(code, &sums)),
     }
 }
 

@@ -1,9 +1,9 @@
 //! A ring, and its calls.
 
-use crate::{Reason, Refused};
+use crate::{NotResumed, Reason, Refused};
 use alloc::vec::Vec;
 use core::cell::UnsafeCell;
-use core::{fmt, mem, ptr};
+use core::{fmt, ptr};
 use wozgirt_sys as sys;
 
 /// A pass that was granted.
@@ -39,6 +39,57 @@ pub struct Survey {
     pub privileged: u32,
     /// The least of them.
     pub first: u32,
+}
+
+/// An event of a ring's history.
+#[derive(Clone, Copy, Debug, PartialEq, Eq, Hash)]
+pub struct Event {
+    /// The seat that asked.
+    pub seat: u32,
+    /// The machine.
+    pub machine: u32,
+    /// What came of it.
+    pub step: Step,
+}
+
+/// What an event is.
+#[derive(Clone, Copy, Debug, PartialEq, Eq, Hash)]
+#[non_exhaustive]
+pub enum Step {
+    /// A pass was granted.
+    Passed {
+        /// What the seat asked with.
+        order: u64,
+        /// Which grant of the ring it is.
+        number: u64,
+        /// The resource's answer.
+        result: u64,
+    },
+    /// The machine was not privileged.
+    Waited {
+        /// What the seat asked with.
+        order: u64,
+    },
+    /// The pass of one machine of a group was granted.
+    Member {
+        /// What the seat asked with.
+        order: u64,
+        /// Which grant of the ring it is.
+        number: u64,
+        /// The resource's answer.
+        result: u64,
+        /// How many of its group are still to come.
+        left: u32,
+    },
+    /// A value was written into the machine.
+    Fault {
+        /// The value.
+        value: u32,
+        /// The one that it was written over.
+        old: u64,
+    },
+    /// A kind that this crate does not know.
+    Other(u32),
 }
 
 /// A ring of machines that pass a privilege, with its history. It is freed when it is dropped.
@@ -80,6 +131,18 @@ fn surveyed(sight: sys::wozgirt_sight) -> Survey {
     Survey { position, calm, rest, privileged, first }
 }
 
+fn told(event: sys::wozgirt_event) -> Event {
+    let sys::wozgirt_event { order, number, result, kind, seat, machine, value } = event;
+    let step = match kind {
+        sys::WOZGIRT_PASSED => Step::Passed { order, number, result },
+        sys::WOZGIRT_WAITED => Step::Waited { order },
+        sys::WOZGIRT_MEMBER => Step::Member { order, number, result, left: value },
+        sys::WOZGIRT_FAULT => Step::Fault { value, old: result },
+        kind => Step::Other(kind),
+    };
+    Event { seat, machine, step }
+}
+
 impl Ring {
     fn opened(open: impl FnOnce(*mut sys::wozgirt_ring) -> u32) -> Result<Ring, Refused> {
         let mut raw = NONE;
@@ -113,11 +176,16 @@ impl Ring {
     ///
     /// # Errors
     ///
-    /// [`Reason::Syntax`], [`Reason::Truncated`]; [`Reason::NoRing`]; the refusal of a call of the history, as [`Reason::NoSeat`] for
-    /// too few seats; [`Reason::Differs`] if the history is not legal; [`Reason::NoMemory`].
-    pub fn from_saved(text: &[u8], place: u32, seats: u32) -> Result<Ring, Refused> {
+    /// [`NotResumed::NotLegal`] with what [`check`](crate::check) says of the text; else [`NotResumed::Refused`] with
+    /// [`Reason::NoRing`], [`Reason::BadSeats`], [`Reason::NoSeat`] where the text names a seat that the ring would not have,
+    /// [`Reason::HistoryFull`], [`Reason::NoMemory`].
+    pub fn from_saved(text: &[u8], place: u32, seats: u32) -> Result<Ring, NotResumed> {
+        let (mut raw, mut sums) = (NONE, sys::wozgirt_sums::default());
         // SAFETY: the struct is empty, and the text has this length
-        Ring::opened(|raw| unsafe { sys::wozgirt_open_saved(raw, text.as_ptr(), text.len(), place, seats) })
+        match unsafe { sys::wozgirt_open_saved(&mut raw, text.as_ptr(), text.len(), place, seats, &mut sums) } {
+            sys::WOZGIRT_DONE => Ok(Ring { raw: UnsafeCell::new(raw) }),
+            code => Err(NotResumed::by(code, &sums)),
+        }
     }
 
     /// A seat asks for a machine's pass: none where the machine is not privileged, which the history records too.
@@ -194,8 +262,23 @@ impl Ring {
 
     /// How many events the history has.
     pub fn history_length(&self) -> u64 {
+        let mut length = 0;
         // SAFETY: as in `glance`
-        unsafe { sys::wozgirt_history_length(self.raw.get()) }
+        unsafe { sys::wozgirt_history_length(self.raw.get(), &mut length) };
+        length
+    }
+
+    /// The event of this number, from 0, of the history.
+    pub fn event(&self, number: u64) -> Option<Event> {
+        let mut event = Default::default();
+        // SAFETY: as in `glance`
+        let code = unsafe { sys::wozgirt_event_at(self.raw.get(), number, &mut event) };
+        (code == sys::WOZGIRT_DONE).then(|| told(event))
+    }
+
+    /// The events of the history, from the first.
+    pub fn events(&self) -> impl Iterator<Item = Event> + '_ {
+        (0..self.history_length()).map_while(|number| self.event(number))
     }
 
     /// The saved text of the ring as it is now.
@@ -228,7 +311,7 @@ impl fmt::Debug for Ring {
 
 impl Drop for Ring {
     fn drop(&mut self) {
-        // SAFETY: the ring is open, and not used after this
-        unsafe { sys::wozgirt_close(mem::replace(self.raw.get_mut(), NONE)) }
+        // SAFETY: the ring is open, and nobody else has it
+        unsafe { sys::wozgirt_close(self.raw.get_mut()) }
     }
 }

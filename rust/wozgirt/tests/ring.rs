@@ -1,6 +1,9 @@
 //! Exact answers of a ring of three machines.
 
-use wozgirt::{check, version, Fault, Grant, Group, NotLegal, Reason, Refused, Ring, Sums, Survey};
+use std::error::Error;
+use wozgirt::{
+    check, version, Event, Fault, Grant, Group, NotLegal, NotResumed, Reason, Refused, Ring, Step, Sums, Survey,
+};
 
 const TEXT: &str =
     "ringfarm 2\nring 0 3 3\nstart 0 2 0\np 0 0 5 g 1 5\np 0 0 1 n\np 0 2 4 g 2 9\nend 3\ns 0 3 1 1 2 0\ndone 1\n";
@@ -22,7 +25,7 @@ fn ring() -> Result<Ring, Refused> {
 }
 
 #[test]
-fn saves_and_resumes() -> Result<(), Refused> {
+fn saves_and_resumes() -> Result<(), Box<dyn Error>> {
     let text = ring()?.save()?;
     assert_eq!(String::from_utf8_lossy(&text), TEXT);
     assert_eq!(check(&text), Ok(Sums { rings: 1, events: 3, granted: 2, corrupted: 0, surveys: 1 }));
@@ -55,9 +58,37 @@ fn refuses() -> Result<(), Refused> {
     ] {
         assert_eq!(Ring::open(n, k, start, seats).map(|_| ()), refused(reason));
     }
-    assert_eq!(Ring::from_saved(b"no text", 0, 1).map(|_| ()), refused(Reason::Syntax));
-    assert_eq!(Ring::from_saved(TEXT.as_bytes(), 1, 1).map(|_| ()), refused(Reason::NoRing));
     assert_eq!(Ring::open_idle(2, 2, &[0, 0], 1)?.save(), refused(Reason::NoTill));
+    Ok(())
+}
+
+#[test]
+fn resumes_only_what_is_legal() {
+    let changed = TEXT.replace("g 2 9", "g 2 8");
+    for (text, place, seats, wanted) in [
+        (&TEXT.as_bytes()[..20], 0, 1, NotResumed::NotLegal(NotLegal { fault: Fault::Truncated, line: None })),
+        (b"no text", 0, 1, NotResumed::NotLegal(NotLegal { fault: Fault::Syntax, line: Some(1) })),
+        (changed.as_bytes(), 0, 1, NotResumed::NotLegal(NotLegal { fault: Fault::Reply, line: Some(6) })),
+        (changed.as_bytes(), 1, 0, NotResumed::NotLegal(NotLegal { fault: Fault::Reply, line: Some(6) })),
+        (TEXT.as_bytes(), 1, 1, NotResumed::Refused(Refused { reason: Reason::NoRing, machine: None })),
+        (TEXT.as_bytes(), 0, 0, NotResumed::Refused(Refused { reason: Reason::BadSeats, machine: None })),
+    ] {
+        assert_eq!(Ring::from_saved(text, place, seats).map(|_| ()), Err(wanted));
+    }
+}
+
+#[test]
+fn shows_its_events() -> Result<(), Refused> {
+    let mut ring = ring()?;
+    ring.corrupt(0, 1, 0)?;
+    let events = [
+        Event { seat: 0, machine: 0, step: Step::Passed { order: 5, number: 1, result: 5 } },
+        Event { seat: 0, machine: 0, step: Step::Waited { order: 1 } },
+        Event { seat: 0, machine: 2, step: Step::Passed { order: 4, number: 2, result: 9 } },
+        Event { seat: 0, machine: 1, step: Step::Fault { value: 0, old: 2 } },
+    ];
+    assert_eq!(ring.events().collect::<Vec<_>>(), events);
+    assert_eq!((ring.event(3), ring.event(4)), (Some(events[3]), None));
     Ok(())
 }
 
