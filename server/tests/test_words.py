@@ -134,10 +134,18 @@ class ManPages(unittest.TestCase):
         commands = commands_of(helps[""]) - {"help"}
         self.assertEqual(set(re.findall(r"^\.Ss (\w+)$", read(PAGES, "ring_tool.1"), re.MULTILINE)), commands)
 
+    def declared(self, header):
+        """The functions of a header, each with its parameters."""
+        found = re.findall(r"^(?:static inline )?[\w ]+ \*?(wozgirt_\w+)\(([^)]*)\)", read(TOP, "include", header), re.MULTILINE)
+        return {(name, ", ".join(it.strip() for it in " ".join(words.split()).split(","))) for name, words in found}
+
     def test_functions(self):
-        header = set(re.findall(r"\b(wozgirt_\w+)\(", read(TOP, "include", "wozgirt.h")))
-        page = set(re.findall(r"^\.Fn (\w+) (?:\"|void)", read(PAGES, "libwozgirt.3"), re.MULTILINE))
-        self.assertEqual(page, header)
+        lines = re.findall(r"^\.Fn (\w+) (\".*\"|void)$", read(PAGES, "libwozgirt.3"), re.MULTILINE)
+        page = {(name, words[1:-1].replace('" "', ", ") if words != "void" else words) for name, words in lines}
+        waits = {it for it in page if it[0].startswith("wozgirt_wait_")}
+        self.assertEqual(page - waits, self.declared("wozgirt.h"))
+        self.assertLessEqual(waits, self.declared("wozgirt_wait.h"))
+        self.assertEqual(len(waits), 6)
 
     def test_they_are_laid_out_without_a_warning(self):
         for page in os.listdir(PAGES):

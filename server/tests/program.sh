@@ -1,0 +1,82 @@
+#!/bin/sh
+# program.sh TOOL: runs the built program as a process, and compares the status that it ends with, its standard output and its standard
+# error, byte by byte: a request that is done, refusals, words and a list that cannot be read, and an output that cannot be written.
+# The last line is `N passed, M failed`.
+set -u
+tool=$1
+folder=$(mktemp -d) || exit 1
+trap 'rm -rf "$folder"' EXIT
+cd "$folder" || exit 1
+passed=0 failed=0
+
+# is NAME TEST ..: counts a test
+is() {
+    name=$1
+    shift
+    if "$@"; then
+        passed=$((passed + 1))
+    else
+        failed=$((failed + 1))
+        echo "failed: $name: status $status"
+        cat out err
+    fi
+}
+
+# run WORD ..: what it printed is in `out`, what it told is in `err`
+run() {
+    "$tool" "$@" >out 2>err </dev/null
+    status=$?
+}
+
+# ended STATUS PRINTED TOLD: the two texts as printf has them
+ended() {
+    # shellcheck disable=SC2059 # they are formats
+    printf "$2" >printed && printf "$3" >told
+    [ "$status" -eq "$1" ] && cmp -s out printed && cmp -s err told
+}
+
+# asked_in_vain TEXT: the first line on standard error is this one, the usage comes behind it, and nothing was printed
+asked_in_vain() {
+    [ "$status" -eq 2 ] && [ ! -s out ] && [ "$(head -n 1 err)" = "$1" ] && grep -q '^Usage: ring_tool' err
+}
+
+cat >history.txt <<'END'
+ringfarm 2
+ring 0 3 3
+start 0 2 0
+p 0 0 5 g 1 5
+p 0 0 1 n
+p 0 2 4 g 2 9
+end 3
+s 0 3 1 1 2 0
+done 1
+END
+sed 's/g 2 9/g 2 8/' history.txt >bad.txt
+
+run check history.txt
+is "legal history" ended 0 'legal rings 1 events 3 granted 2 corrupted 0 surveys 1\n' ''
+run step 3 3 0,2,0 0,0,2
+is "choices" ended 0 '0 granted 1\n0 not privileged\n2 granted 2\nstates 1,2,2\nprivileged 1 first 1\n' ''
+run check bad.txt
+is "history that is not legal" ended 1 '' 'line 6: reply\n'
+run check --all bad.txt
+is "all bad lines" ended 1 'line 6: reply: g 2 8, should be g 2 9\n' 'line 6: reply\n'
+run check missing.txt
+is "file that is not there" ended 1 '' 'cannot read missing.txt\n'
+run step 3 3 0,,0
+is "list that cannot be read" ended 2 '' 'bad list\n'
+run leap
+is "command that there is not" asked_in_vain "error: unrecognized subcommand 'leap'"
+run check
+is "word that is missing" asked_in_vain 'error: the following required arguments were not provided:'
+
+"$tool" check history.txt >/dev/full 2>err </dev/null
+status=$?
+: >out
+is "output that cannot be written" ended 1 '' 'cannot write\n'
+"$tool" --help >/dev/full 2>err </dev/null
+status=$?
+is "help that cannot be written" ended 1 '' 'cannot write\n'
+
+echo "$passed passed, $failed failed"
+[ "$failed" -eq 0 ]
