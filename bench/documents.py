@@ -10,7 +10,8 @@ Of each page (README, CHANGELOG, docs/, each crate's README):
   next block of the section is what it printed; words in capitals or brackets are no run: then only the options are looked up;
 - behind `$ ` in a block stands a command, and behind it what it prints; a block with `wozgirt-server` is a shell's, with jobs, and
   `server/tests/test_documents.py` plays it;
-- `<!-- run: COMMAND -->` before a block says what prints it, `<!-- file: PATH -->` where its lines stand, in order;
+- `<!-- run: COMMAND -->` before a block says what prints it, `<!-- file: PATH -->` where its lines stand, in order, and
+  `<!-- played: PATH -->` which script runs it;
 - a block that begins with `ringfarm 1` or `ringfarm 2` is a legal history, one that begins with `legal rings` what `check`
   says of the last one; one of settings is run;
 - `<!-- order: DEFINITIONS -->` before a table says that it is the one of reading_order.py;
@@ -96,7 +97,7 @@ class Page:
                 block.lines.append("")
             else:
                 block = None
-                found = re.match(r"<!-- ((?:run|file|order|journal): .*) -->$", line)
+                found = re.match(r"<!-- ((?:run|file|played|order|journal): .*) -->$", line)
                 if mark and line.startswith("|"):
                     kind, _, word = mark.partition(": ")
                     {"order": self.orders, "journal": self.journals}.get(kind, []).append((number, word))
@@ -349,6 +350,10 @@ class Trial:
             self.compare(page, block, self.run(word, self.place)[0])
             return
         self.counts["outputs"] += 1
+        if kind == "played":
+            if not os.access(f"{self.top}/{word}", os.X_OK):
+                self.differs(page, block.number, f"there is no {word}")
+            return
         with open(f"{self.top}/{word}", encoding="utf-8") as file:
             there = iter([it.strip() for it in file])
         missing = [it for it in map(str.strip, block.lines) if it and it not in there]
