@@ -265,7 +265,7 @@ struct wozgirt_grant {
     uint32_t lock;
 };
 
-/* Opens locks that nobody holds, from 0, each over a ring of so many machines. The first refusal that applies:
+/* Opens `count` locks that nobody holds, from 0, each over a ring of `machines` machines. The first refusal that applies:
  * WOZGIRT_OPEN, BAD_LOCKS, BAD_MACHINES; NO_MEMORY. */
 uint32_t wozgirt_locks_open(struct wozgirt_locks *locks, uint32_t count, uint32_t machines);
 
@@ -280,8 +280,8 @@ uint32_t wozgirt_locks_acquire(struct wozgirt_locks *locks, uint64_t client, uin
 uint32_t wozgirt_locks_try(struct wozgirt_locks *locks, uint64_t client, uint32_t lock, uint64_t order,
                            struct wozgirt_hold *hold);
 
-/* A client ends its hold, which has this token. Refused: WOZGIRT_CLOSED, GRANTS_LEFT, NO_LOCK, NOT_HELD, but never for
- * want of memory. Who is granted the lock is handed out by `wozgirt_locks_next`. */
+/* A client ends its hold, which has this token. Refused: WOZGIRT_CLOSED, GRANTS_LEFT, NO_LOCK, NOT_HELD, but never
+ * because memory runs out. Who is granted the lock is handed out by `wozgirt_locks_next`. */
 uint32_t wozgirt_locks_release(struct wozgirt_locks *locks, uint64_t client, uint32_t lock, uint64_t token);
 
 /* A client waits no more. Refused: WOZGIRT_CLOSED, GRANTS_LEFT, NO_LOCK, NOT_WAITING. */

@@ -46,8 +46,8 @@ struct wozgirt_wait {
     pthread_mutex_t mutex;               /* is held around each use of what is above it */
 };
 
-/* Opens so many locks, from 0, each over a ring of so many machines: refused as by `wozgirt_locks_open`. What was in the struct
- * does not matter. */
+/* Opens `count` locks, from 0, each over a ring of `machines` machines: refused as by `wozgirt_locks_open`. What was in the
+ * struct does not matter. */
 static inline uint32_t wozgirt_wait_open(struct wozgirt_wait *wait, uint32_t count, uint32_t machines)
 {
     memset(wait, 0, sizeof *wait);

@@ -105,7 +105,7 @@ static void pause_for(long milliseconds)
     nanosleep(&time, NULL);
 }
 
-/* Starts a thread that asks, and leaves when so many wait. */
+/* Starts a thread that asks, and leaves when this many wait. */
 static void start(struct asker *asker, uint64_t client, int64_t milliseconds, int count)
 {
     memset(asker, 0, sizeof *asker);

@@ -132,7 +132,7 @@ def load() -> ctypes.CDLL:
 
 
 def number(given: SupportsIndex, bits: int, what: str) -> int:
-    """The number, if so many bits hold it. ctypes would cut it off; and no seat is `True`."""
+    """The number, if that many bits hold it. ctypes would cut it off; and no seat is `True`."""
     if isinstance(given, bool):
         raise TypeError(f"{what} is a number, and no bool")
     it = operator.index(given)

@@ -45,7 +45,7 @@ def _close(close: Any, raw: RawLocks) -> None:
 
 
 class Locks:
-    """So many locks, from 0, each over a ring of so many machines. Threads share them. It is a context manager, which closes them;
+    """Locks, from 0, each over a ring with this number of machines. Threads share them. It is a context manager, which closes them;
     it is true as long as they are open."""
 
     def __init__(self, count: SupportsIndex, machines: SupportsIndex = 8):

@@ -9,7 +9,7 @@ use wozgirt_sys as sys;
 pub enum Acquired {
     /// It holds the lock, with this token, which is greater than that of every hold of the lock before.
     Held(u64),
-    /// It waits, and so many clients stand before it.
+    /// It waits, and this many clients stand before it.
     Waits(u64),
 }
 
@@ -65,7 +65,7 @@ impl Iterator for Grants<'_> {
 }
 
 impl Locks {
-    /// Opens so many locks, from 0, that nobody holds, each over a ring of so many machines.
+    /// Opens `count` locks, from 0, that nobody holds, each over a ring of `machines` machines.
     ///
     /// # Errors
     ///
