@@ -74,6 +74,9 @@ is "word that is missing" asked_in_vain 'error: the following required arguments
 status=$?
 : >out
 is "output that cannot be written" ended 1 '' 'cannot write\n'
+"$tool" check --all bad.txt >/dev/full 2>err </dev/null
+status=$?
+is "bad lines that cannot be written" ended 1 '' 'cannot write\n'
 "$tool" --help >/dev/full 2>err </dev/null
 status=$?
 is "help that cannot be written" ended 1 '' 'cannot write\n'
