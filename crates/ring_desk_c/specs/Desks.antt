@@ -1,6 +1,9 @@
 -- Locks that C holds, and what their calls answer (this project's own).
-use Rattle.std.specs.Prelude.{◌≡◌, ◌≢◌, ℕ, ◌≤◌, ◌⊎◌, List, [], ◌∷◌, ◌++◌, All, length, Option, Some, None}
+use Rattle.std.specs.Prelude.{◌≡◌, ◌≢◌, ℕ, ◌≤◌, ◌⊎◌, List, [], ◌∷◌, ◌++◌, All, length, replicate, Option, Some, None}
 use Rattle.ring_model.specs.Limits.{machine_limit}
+use Rattle.ring_chains.specs.Bases.{no_base}
+use Rattle.ring_book.specs.BookView.{IsFresh}
+use Rattle.ring_endless.specs.Endless.{EndlessView}
 use Rattle.ring_locks.specs.declared.answers.Answer.{Answer}
 use Rattle.ring_locks.specs.declared.answers.Answer.TheVariants as answer
 use Rattle.ring_locks.specs.declared.answers.Answers.{Answers}
@@ -10,6 +13,7 @@ use Rattle.ring_locks.specs.declared.answers.Refusal.{Refusal}
 use Rattle.ring_locks.specs.Cuts.{AreNext, HaveNoNext}
 use Rattle.ring_locks.specs.Locks.{Ask}
 use Rattle.ring_locks.specs.Kept.{LockView, lock_limit, IsAnswer, IsDone, IsLeft}
+use Rattle.ring_locks.specs.Opened.{IsAdded}
 use Rattle.ring_desk_c.specs.declared.desks.Grant.{Grant}
 use Rattle.ring_desk_c.specs.declared.lock_answers.Hold.{Hold}
 use Rattle.ring_desk_c.specs.Codes.{lock_code, no_memory, bad_locks, bad_machines, no_more, grants_left}
@@ -59,14 +63,24 @@ IsNextGrant old new (Some g) =
     (old.grants ≡ new.grants ++ g ∷ []) × (new.locks ≡ old.locks)
 IsNextGrant old new None = (old.grants ≡ []) × (new ≡ old)
 
--- a lock that nobody holds and nobody waits for
-abbrev pub IsFree : LockView → Type 0
-IsFree v = (v.line ≡ []) × (v.holder ≡ None)
+-- a ring with no events of this many machines and values, each machine at 0
+abbrev pub IsNewRing : ℕ → EndlessView → Type 0
+IsNewRing machines e =
+    (e.base ≡ no_base)
+    × IsFresh (record { k = machines; values = replicate machines 0 }) 0 e.ring.book
 
--- so many such locks
-pub record AreFreeLocks (count : ℕ) (d : DeskView) : Type 0 where
+-- a lock that was added over such a ring, which nobody holds and nobody waits for
+pub record IsFree (machines : ℕ) (v : LockView) : Type 0 where
+  pub ring : EndlessView
+  pub new : IsNewRing machines ring
+  pub over : IsAdded [] (v ∷ []) ring
+  pub line : v.line ≡ []
+  pub holder : v.holder ≡ None
+
+-- this many such locks
+pub record AreFreeLocks (count machines : ℕ) (d : DeskView) : Type 0 where
   pub many : length d.locks ≡ count
-  pub free : All IsFree d.locks
+  pub free : All (IsFree machines) d.locks
   pub grants : d.grants ≡ []
 
 -- the numbers of locks and of the machines of each that may be asked for

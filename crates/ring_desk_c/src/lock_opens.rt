@@ -1,9 +1,9 @@
 //! How locks are opened for C.
 
-ghost use Rattle.std.specs.Prelude.{◌≡◌, ◌≢◌, [], true, false, All, length, IfOk, IfErr};
+ghost use Rattle.std.specs.Prelude.{◌≡◌, ◌≢◌, true, false, All, length, replicate, IfOk, IfErr};
 ghost use Rattle.ring_locks.specs.Kept.{IsKeptRing};
 ghost use Rattle.ring_desk_c.specs.Codes.{no_memory, still_open};
-ghost use Rattle.ring_desk_c.specs.Desks.{IsFree, AreFreeLocks, IsLockCount, IsMachineCount, IsLocksRefused};
+ghost use Rattle.ring_desk_c.specs.Desks.{IsNewRing, IsFree, AreFreeLocks, IsLockCount, IsMachineCount, IsLocksRefused};
 
 use crate::codes::{BAD_LOCKS, BAD_MACHINES, NO_MEMORY, STILL_OPEN};
 use crate::desks::LockDesk;
@@ -20,7 +20,8 @@ use std::alloc::{AllocError, Global};
 
 /// A ring of so many machines for a lock, with no events.
 fn fresh_ring(alloc: Global, machines: u32, start: &[u32]) -> Result<EndlessRing, AllocError>
-    ensures { IfOk result (λ e. IsKeptRing e × (e.ring.book.history ≡ [])) }
+    requires { start.now ≡ replicate machines 0 }
+    ensures { IfOk result (λ e. IsKeptRing e × IsNewRing machines e) }
 {
     match OneThreadRing::open(alloc, machines, machines, start, 10, Till::new()) {
         Ok(ring) => Ok(EndlessRing::after(Base::none(), ring)),
@@ -30,7 +31,8 @@ fn fresh_ring(alloc: Global, machines: u32, start: &[u32]) -> Result<EndlessRing
 
 /// So many locks, each over a ring that starts so.
 fn fresh_locks(alloc: Global, count: u32, machines: u32, start: &[u32]) -> Result<Locks, AllocError>
-    ensures { IfOk result (λ ls. (length ls ≡ count) × All IsFree ls) }
+    requires { start.now ≡ replicate machines 0 }
+    ensures { IfOk result (λ ls. (length ls ≡ count) × All (IsFree machines) ls) }
 {
     let mut locks = Locks::none(alloc);
     for number in 0..count {
@@ -48,7 +50,7 @@ fn fresh_locks(alloc: Global, count: u32, machines: u32, start: &[u32]) -> Resul
 
 /// A desk of so many locks, each over a ring of so many machines.
 fn fresh_desk(alloc: Global, count: u32, machines: u32) -> Result<LockDesk, AllocError>
-    ensures { IfOk result (λ d. AreFreeLocks count d) }
+    ensures { IfOk result (λ d. AreFreeLocks count machines d) }
 {
     let start = match Vec::from_elem(alloc, 0u32, machines as usize) {
         Ok(start) => start,
@@ -63,7 +65,7 @@ fn fresh_desk(alloc: Global, count: u32, machines: u32) -> Result<LockDesk, Allo
 
 /// The same, or the code of why there is none.
 fn open_desk(alloc: Global, count: u32, machines: u32) -> Result<LockDesk, u32>
-    ensures ok { IfOk result (λ d. AreFreeLocks count d) }
+    ensures ok { IfOk result (λ d. AreFreeLocks count machines d) }
     ensures counts { IfOk result (λ _. IsLockCount count × IsMachineCount machines) }
     ensures err { IfErr result (λ code. IsLocksRefused count machines code) }
 {
@@ -99,7 +101,7 @@ pub extern "C" fn wozgirt_locks_open(
     machines: u32,
 ) -> u32
     ensures held { locks.old.full ≡ true → result ≡ still_open }
-    ensures ok { result ≡ 0 → (locks.new.full ≡ true) × AreFreeLocks count locks.new.value }
+    ensures ok { result ≡ 0 → (locks.new.full ≡ true) × AreFreeLocks count machines locks.new.value }
     ensures err { locks.old.full ≡ false → result ≢ 0 → IsLocksRefused count machines result }
     ensures same { result ≢ 0 → locks.new ≡ locks.old }
 {

@@ -6,5 +6,5 @@ use Rattle.ring_desk_c.proofs.lock_opens.fresh_locks.Given as goal
 abbrev pub invariant-loop-number : goal.invariant-loop-number
 invariant-loop-number l = record {
   many : length l.locks ≡ l.number;
-  free : All IsFree l.locks;
+  free : All (IsFree l.machines) l.locks;
 }
