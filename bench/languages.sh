@@ -26,7 +26,7 @@ judge() {
     "$tool" check "$folder/$1.txt"
 }
 
-for name in refusals locks waits four_threads speed; do
+for name in refusals journal locks waits four_threads speed; do
     cc $flags -O2 -o "$folder/$name" "$top/examples/c/$name.c" "$library" -pthread
 done
 for header in wozgirt wozgirt_wait; do
@@ -40,6 +40,9 @@ done
 (cd "$folder" && c++ -x c++ -std=c++11 $strict -o first "$top/examples/c/first.c" -x none "$library" && ./first && mv history.txt first.txt)
 judge first
 "$folder/refusals"
+rm -rf "$folder/chain" && mkdir "$folder/chain"
+"$folder/journal" "$folder/chain"
+printf 'journal: ' && "$tool" check "$folder/chain"
 "$folder/locks"
 "$folder/waits" endless
 "$folder/four_threads" "$folder/c.txt"

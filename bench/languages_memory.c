@@ -4,7 +4,7 @@
 #include "wozgirt.h"
 #include <string.h>
 
-enum { MOST = 4096 };
+enum { MOST = 16384 };
 
 struct scene {
     uint8_t text[MOST];
@@ -93,6 +93,39 @@ static int play(struct scene *first, struct scene *second)
     return is_legal(first) && is_legal(second);
 }
 
+typedef uint32_t texts(struct wozgirt_ring *ring, uint8_t *buffer, size_t length, uint64_t *size);
+
+/* Puts a text of a ring behind others, also where the first call is refused for want of memory. */
+static int add(texts *call, struct wozgirt_ring *ring, struct scene *scene)
+{
+    uint64_t size = 7;
+    uint32_t code = call(ring, scene->text + scene->size, MOST - scene->size, &size);
+    if (code == WOZGIRT_NO_MEMORY && size == 7)
+        code = call(ring, scene->text + scene->size, MOST - scene->size, &size);
+    scene->size += size;
+    return code == WOZGIRT_DONE;
+}
+
+/* The scene with a journal, which is cut once; a ring goes on in the file that was cut. */
+static int play_files(struct scene *scene)
+{
+    struct wozgirt_ring ring = {0}, on = {0};
+    uint64_t line = 7;
+    scene->size = 0;
+    if (!open_one(&ring, NULL) || !add(wozgirt_open_journal, &ring, scene) || !call_all(&ring) || !add(wozgirt_take_journal, &ring, scene))
+        return 0;
+    const uint64_t at = scene->size;
+    if (!add(wozgirt_cut, &ring, scene) || !add(wozgirt_open_journal, &ring, scene))
+        return 0;
+    wozgirt_close(&ring);
+    uint32_t code = wozgirt_open_segment(&on, scene->text, at, 2, &line);
+    if (code == WOZGIRT_NO_MEMORY && !on.at)
+        code = wozgirt_open_segment(&on, scene->text, at, 2, &line);
+    const int is_right = code == WOZGIRT_DONE && line == 0 && add(wozgirt_cut, &on, scene);
+    wozgirt_close(&on);
+    return is_right;
+}
+
 /* A client acquires lock 0: what it is told, also where the first ask is refused for want of memory. */
 static uint32_t acquired(struct wozgirt_locks *locks, uint64_t client, struct wozgirt_hold *hold)
 {
@@ -122,7 +155,7 @@ static int play_locks(void)
     return is_right;
 }
 
-static struct scene scenes[4];
+static struct scene scenes[6];
 
 int main(void)
 {
@@ -131,5 +164,9 @@ int main(void)
     for (int i = 0; i < 2; i++)
         if (scenes[i].size != scenes[i + 2].size || memcmp(scenes[i].text, scenes[i + 2].text, scenes[i].size) != 0)
             return 2;
+    if (!play_files(&scenes[4]) || !play_files(&scenes[5]))
+        return 4;
+    if (scenes[4].size != scenes[5].size || memcmp(scenes[4].text, scenes[5].text, scenes[4].size) != 0)
+        return 5;
     return play_locks() ? 0 : 3;
 }

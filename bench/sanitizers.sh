@@ -58,6 +58,7 @@ ran() {
 # words NAME: the words of a program
 words() {
     [ "$1" != four_threads ] || echo "$folder/history.txt"
+    [ "$1" != journal ] || mktemp -d "$folder/chain.XXXXXX"
 }
 
 # source_of NAME: where a program is, with what it includes
@@ -103,12 +104,12 @@ can() {
 
 for kind in address,undefined thread; do
     can "$kind" || continue
-    for name in refusals locks four_threads waits languages_memory; do
+    for name in refusals journal locks four_threads waits languages_memory; do
         sanitized "$name" "$kind"
     done
 done
 if command -v valgrind >/dev/null; then
-    for name in refusals locks four_threads waits languages_memory; do
+    for name in refusals journal locks four_threads waits languages_memory; do
         valgrinded "$name" memcheck
     done
     for name in four_threads waits; do

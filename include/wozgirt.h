@@ -17,9 +17,9 @@
  *      threads. After fork() one of the two processes goes on with a ring: if both do, they give the same grant numbers
  *      twice.
  *
- * The numbers of grants begin at 1 with `wozgirt_open` and `wozgirt_open_idle`: who uses them as fencing tokens has to
- * save a ring and go on by `wozgirt_open_saved`, which goes on with the numbers. A till stops at 2^64 - 1: what it would
- * be given beyond that is lost.
+ * The numbers of grants begin at 1 with `wozgirt_open` and `wozgirt_open_idle`: who uses them as fencing tokens keeps the
+ * journal of a ring on a disk, and goes on by `wozgirt_open_segment`, which goes on with the numbers ("A journal", below). A
+ * till stops at 2^64 - 1: what it would be given beyond that is lost.
  *
  * Each number is checked: a seat, machine, value or group that a ring does not have is refused, and then nothing has
  * changed. Each function returns a code of `enum wozgirt_code`, if nothing else is said. Who asks again and again whether
@@ -49,7 +49,7 @@ enum wozgirt_code {
     WOZGIRT_NOT_RISING = 19,    /* the machines of a group do not rise below n, or there are none */
     WOZGIRT_WHOLE_RING = 20,    /* the group is the whole ring */
     WOZGIRT_NOT_PRIVILEGED = 21, /* a machine of the group is not privileged: the least such one is returned */
-    WOZGIRT_HISTORY_FULL = 22,  /* a history has at most 4,000,000 events */
+    WOZGIRT_HISTORY_FULL = 22,  /* a segment of a history has at most 4,000,000 events: `wozgirt_cut` begins the next */
     WOZGIRT_NO_MEMORY = 23,
     WOZGIRT_CLOSED = 24,        /* the struct holds nothing that is open */
     /* a ring is not opened, and the struct is as it was */
@@ -64,6 +64,9 @@ enum wozgirt_code {
     WOZGIRT_SYNTAX = 48,
     WOZGIRT_TRUNCATED = 49,
     WOZGIRT_NO_RING = 50,       /* the text has no ring at this place */
+    /* bytes are no file of a chain that a ring can go on in */
+    WOZGIRT_NO_CHAIN = 52,      /* what it says of the files before it cannot be */
+    WOZGIRT_MANY_RINGS = 53,    /* it is not of one ring */
     /* a saved text is not legal: the fault of its first bad line */
     WOZGIRT_PARAMETER = 64,
     WOZGIRT_RANGE = 65,
@@ -74,7 +77,8 @@ enum wozgirt_code {
     /* a ring is not saved, or not read */
     WOZGIRT_NO_TILL = 80,       /* a saved text is of tills, and the ring is not over one */
     WOZGIRT_TOO_SMALL = 81,     /* the buffer: the size that is needed is returned */
-    WOZGIRT_NO_EVENT = 82,      /* the history has no event of this number */
+    WOZGIRT_NO_EVENT = 82,      /* the segment has no event of this number */
+    WOZGIRT_NO_JOURNAL = 83,    /* no journal is kept of the segment: call `wozgirt_open_journal` first */
     /* a lock's input is refused, and nothing has changed */
     WOZGIRT_NO_LOCK = 96,
     WOZGIRT_HOLDS = 97,         /* the client holds the lock already */
@@ -85,7 +89,7 @@ enum wozgirt_code {
     WOZGIRT_GRANTS_LEFT = 102   /* grants of an earlier input were not taken: call `wozgirt_locks_next` first */
 };
 
-/* What the code means, in English. */
+/* What the code means, in English. The library has it as a symbol too. */
 static inline const char *wozgirt_text(uint32_t code)
 {
     switch (code) {
@@ -112,6 +116,8 @@ static inline const char *wozgirt_text(uint32_t code)
     case WOZGIRT_SYNTAX: return "a line cannot stand in a saved text";
     case WOZGIRT_TRUNCATED: return "the saved text is cut short";
     case WOZGIRT_NO_RING: return "the saved text has no ring at this place";
+    case WOZGIRT_NO_CHAIN: return "no chain of files ends with this one";
+    case WOZGIRT_MANY_RINGS: return "the file is not of one ring";
     case WOZGIRT_PARAMETER: return "parameter";
     case WOZGIRT_RANGE: return "range";
     case WOZGIRT_REPLY: return "reply";
@@ -121,6 +127,7 @@ static inline const char *wozgirt_text(uint32_t code)
     case WOZGIRT_NO_TILL: return "the ring is over no till, so it has no saved text";
     case WOZGIRT_TOO_SMALL: return "the buffer is too small";
     case WOZGIRT_NO_EVENT: return "there is no such event";
+    case WOZGIRT_NO_JOURNAL: return "no journal is kept";
     case WOZGIRT_NO_LOCK: return "there is no such lock";
     case WOZGIRT_HOLDS: return "the client holds the lock already";
     case WOZGIRT_STANDS: return "the client waits already";
@@ -139,7 +146,7 @@ struct wozgirt_ring {
 
 /* The answer to a call. */
 struct wozgirt_answer {
-    uint64_t position; /* how many events of the history are before it */
+    uint64_t position; /* how many events are before it, over all segments, as all numbers are counted */
     uint64_t number;   /* of a granted pass: which grant of the ring it is, from 1 and without a gap: a fencing token */
     uint64_t result;   /* of a granted pass: the resource's answer; of a fault: the value that was written over */
 };
@@ -147,13 +154,15 @@ struct wozgirt_answer {
 /* The answer to a group. */
 struct wozgirt_group {
     uint64_t first;   /* how many events are before its first member */
+    uint64_t number;  /* which grant that member's is; those of the others follow */
+    uint64_t result;  /* the resource's answer to that member; over a till each further one gets more by the order */
     uint32_t count;   /* how many members it has */
     uint32_t machine; /* with WOZGIRT_NOT_PRIVILEGED: the least machine that is not */
 };
 
 /* A survey of a ring. */
 struct wozgirt_sight {
-    uint64_t position;   /* how many events the history has */
+    uint64_t position;   /* how many events there were */
     uint64_t calm;       /* how many passes were granted since the last fault */
     uint64_t rest;       /* at most this many granted passes are left until one machine is privileged */
     uint32_t privileged; /* how many machines are privileged */
@@ -224,15 +233,51 @@ uint32_t wozgirt_corrupt(struct wozgirt_ring *ring, uint32_t seat, uint32_t mach
 uint32_t wozgirt_survey(struct wozgirt_ring *ring, uint32_t seat, struct wozgirt_sight *sight);
 uint32_t wozgirt_glance(const struct wozgirt_ring *ring, struct wozgirt_sight *sight);
 
-/* How many events the history has. */
+/* How many events there were. */
 uint32_t wozgirt_history_length(const struct wozgirt_ring *ring, uint64_t *length);
 
-/* The event of this number, from 0, of the history. */
+/* How many of them are before the segment, and so gone. */
+uint32_t wozgirt_events_before(const struct wozgirt_ring *ring, uint64_t *count);
+
+/* The event of this number, from 0; of one that is gone WOZGIRT_NO_EVENT. */
 uint32_t wozgirt_event_at(const struct wozgirt_ring *ring, uint64_t number, struct wozgirt_event *event);
 
 /* Copies the saved text of the ring as it is now into the buffer, and returns its size. WOZGIRT_TOO_SMALL: nothing is
- * copied, but the size is returned, so a buffer of length 0 asks for it. The ring stays as it was. */
+ * copied, but the size is returned, so a buffer of length 0 asks for it. The ring stays as it was. Behind a `wozgirt_cut`
+ * this is the text of the new segment, whose numbers begin anew. */
 uint32_t wozgirt_save(const struct wozgirt_ring *ring, uint8_t *buffer, size_t length, uint64_t *size);
+
+/* ---- A journal, and a history without end, of a ring over a till (else WOZGIRT_NO_TILL). The history is cut into segments,
+ * each of which is a file of a chain, as `ring_tool serve` keeps one in a folder: 0000000001.ring and so on, which
+ * `ring_tool check FOLDER` checks. The caller writes the files:
+ *
+ *   1. `wozgirt_open_journal`: write the bytes as a new file, sync it, and put it in the place of the segment's file by a
+ *      rename. Then the calls. Behind each, or behind some, `wozgirt_take_journal`: append the bytes to the file and sync
+ *      it, before anybody acts on the answers.
+ *   2. Where the segment is long enough, `wozgirt_cut`: put the bytes in the place of its file by a rename, and begin the
+ *      next file with 1.
+ *   3. To resume, `wozgirt_open_segment` with the bytes of the last file, whatever was cut off of it, and then 1.
+ *
+ * So numbers never repeat, as long as one process at a time goes on from a file. Each of the three calls copies bytes into a
+ * buffer, and is WOZGIRT_TOO_SMALL as `wozgirt_save` is; nothing has changed then. */
+
+/* The beginning of the journal of the ring's segment: its file with all of the segment so far. A journal is kept from then
+ * on. */
+uint32_t wozgirt_open_journal(struct wozgirt_ring *ring, uint8_t *buffer, size_t length, uint64_t *size);
+
+/* What was recorded since the journal was opened or taken from: a line for each event, and then one for each survey. Each is
+ * handed out once. WOZGIRT_NO_JOURNAL where none is kept. */
+uint32_t wozgirt_take_journal(struct wozgirt_ring *ring, uint8_t *buffer, size_t length, uint64_t *size);
+
+/* Seals the segment: the whole file of it. The ring goes on in the next segment, with its numbers, and no journal of that is
+ * kept yet. WOZGIRT_HISTORY_FULL where the numbers of a further segment would not have 64 bits. */
+uint32_t wozgirt_cut(struct wozgirt_ring *ring, uint8_t *buffer, size_t length, uint64_t *size);
+
+/* Opens a ring that goes on where the last file of a chain ends. The first refusal that applies: WOZGIRT_OPEN; TRUNCATED,
+ * SYNTAX or what is wrong with a line, which is written, from 1; NO_CHAIN, HISTORY_FULL; MANY_RINGS; BAD_SEATS; NO_SEAT where
+ * the file names a seat that the ring would not have; NO_MEMORY. With another code the line is 0, with WOZGIRT_OPEN it is
+ * not written. */
+uint32_t wozgirt_open_segment(struct wozgirt_ring *ring, const uint8_t *file, size_t length, uint32_t seats, uint64_t *line);
 
 /* Closes the ring and frees what it has: the struct is empty then. A closed one stays as it is. */
 void wozgirt_close(struct wozgirt_ring *ring);

@@ -72,6 +72,7 @@ def _files(project: Dict[str, str], library: Optional[bytes]) -> Dict[str, bytes
     files[f"{info}/WHEEL"] = (f"Wheel-Version: 1.0\nGenerator: wozgirt\nRoot-Is-Purelib: {str(library is None).lower()}\n"
                               f"Tag: py3-none-{_tag(library)}\n").encode()
     files[f"{info}/top_level.txt"] = b"wozgirt\n"
+    files[f"{info}/entry_points.txt"] = b"[console_scripts]\nwozgirt-log = wozgirt.log:main\n"
     return files
 
 

@@ -26,7 +26,7 @@ static uint64_t events_of(const struct wozgirt_ring *ring)
 static void closed(struct wozgirt_ring *ring)
 {
     struct wozgirt_answer answer = {7, 7, 7};
-    struct wozgirt_group group = {7, 7, 7};
+    struct wozgirt_group group = {7, 7, 7, 7, 7};
     struct wozgirt_sight sight = {7, 7, 7, 7, 7};
     struct wozgirt_event event = {7, 7, 7, 7, 7, 7, 7};
     const uint32_t one[1] = {2};
@@ -73,7 +73,7 @@ static void opened(void)
 static void called(struct wozgirt_ring *ring)
 {
     struct wozgirt_answer answer = {7, 7, 7};
-    struct wozgirt_group group = {7, 7, 7};
+    struct wozgirt_group group = {7, 7, 7, 7, 7};
     struct wozgirt_sight sight;
     const uint32_t falling[2] = {2, 1}, past[1] = {3}, whole[3] = {0, 1, 2}, zero[2] = {0, 1}, last[1] = {2};
     expect("seat 1", wozgirt_pass(ring, 1, 0, 5, &answer), WOZGIRT_NO_SEAT);
@@ -101,7 +101,7 @@ static void called(struct wozgirt_ring *ring)
     expect("a group with it", wozgirt_pass_group(ring, 0, zero, 2, 5, &group), WOZGIRT_NOT_PRIVILEGED);
     expect("the machine is told", group.machine, 0);
     expect("a group", wozgirt_pass_group(ring, 0, last, 1, 4, &group), WOZGIRT_DONE);
-    expect("its place and members", group.first * 100 + group.count, 201);
+    expect("its place, number, answer and members", group.first * 10000 + group.number * 1000 + group.result * 10 + group.count, 22091);
     expect("a survey", wozgirt_survey(ring, 0, &sight), WOZGIRT_DONE);
     expect("what it shows", sight.position * 10000 + sight.privileged * 1000 + sight.first * 100 + sight.calm * 10 + sight.rest, 31120);
     expect("events", events_of(ring), 3);

@@ -1,7 +1,9 @@
 """Rings, with the library that WOZGIRT_LIBRARY names; and what is refused before the library is asked."""
 
 import copy
+import ctypes
 import gc
+import hashlib
 import inspect
 import mmap
 import os
@@ -21,13 +23,15 @@ sys.path.insert(0, PYTHON)
 import build_backend  # noqa: E402
 import wozgirt  # noqa: E402
 from wozgirt import library, local, refusals, ring  # noqa: E402
-from wozgirt.ring import Code, Event, Grant, Kind, Ring, Sight, Sums, check  # noqa: E402
+from wozgirt.ring import Code, Event, Grant, Group, Kind, Ring, Sight, Sums, check  # noqa: E402
 
 LIBRARY = os.environ.get("WOZGIRT_LIBRARY")
 needs_library = unittest.skipUnless(LIBRARY, "WOZGIRT_LIBRARY names no library of rings")
 
 TEXT = (b"ringfarm 2\nring 0 3 3\nstart 0 2 0\np 0 0 5 g 1 5\np 0 0 1 n\np 0 2 4 g 2 9\nend 3\n"
         b"s 0 3 1 1 2 0\ndone 1\n")
+
+BEGUN = (b"ringsegment 1 1 1\nbehind " + b"0" * 64 + b"\nbase 0 0 0 0\nringjournal 1\nringfarm 2\nring 0 3 3\nstart 0 2 0\n")
 
 
 def run(code, **variables):
@@ -60,7 +64,7 @@ class Numbers(unittest.TestCase):
                      lambda: it.pass_group(2 ** 32, [1], 1), lambda: it.pass_group(0, [1, 2 ** 32], 1),
                      lambda: it.pass_group(0, [1], 2 ** 64), lambda: it.corrupt(0, 0, 2 ** 32), lambda: it.corrupt(0, -1, 0),
                      lambda: it.corrupt(2 ** 32, 0, 0), lambda: it.survey(-1), lambda: Ring.from_saved(b"", -1, 1),
-                     lambda: Ring.from_saved(b"", 0, 2 ** 32)):
+                     lambda: Ring.from_saved(b"", 0, 2 ** 32), lambda: Ring.from_segment(b"", 2 ** 32)):
             with self.assertRaises(ValueError, msg=inspect.getsource(call)):
                 call()
 
@@ -79,6 +83,8 @@ class Numbers(unittest.TestCase):
                 check(text)
             with self.assertRaises(TypeError):
                 Ring.from_saved(text, 0, 1)
+            with self.assertRaises(TypeError):
+                Ring.from_segment(text, 1)
 
 
 class Refusals(unittest.TestCase):
@@ -131,7 +137,7 @@ class Rings(unittest.TestCase):
             self.assertIsNone(it.pass_(1, 0, 1))
             self.assertEqual(it.try_pass(0, 2, 4), Grant(2, 2, 9))
             self.assertEqual(it.glance(), Sight(3, 2, 0, 1, 1))
-            self.assertEqual(it.pass_group(1, [1], 7), 3)
+            self.assertEqual(it.pass_group(1, [1], 7), Group(3, 3, 16, 1))
             self.assertEqual(it.corrupt(0, 1, 2), 1)
             self.assertEqual(it.survey(1).position, 5)
             self.assertEqual((len(it), bool(it), repr(it)), (5, True, "<Ring, 5 events>"))
@@ -234,6 +240,48 @@ class Rings(unittest.TestCase):
             self.assertEqual([(event.kind, event.machine, event.number, event.value) for event in it],
                              [(Kind.MEMBER, 3, 1, 2), (Kind.MEMBER, 2, 2, 1), (Kind.MEMBER, 1, 3, 0)])
 
+    def test_a_journal(self):
+        first = BEGUN + b"end 0\ndone 1\n"
+        with Ring(3, 3, [0, 2, 0], 1) as it:
+            with self.assertRaises(ring.NoJournal):
+                it.take_journal()
+            self.assertEqual(it.open_journal(), first)
+            self.assertEqual(it.take_journal(), b"")
+            it.pass_(0, 0, 5), it.survey(0), it.pass_(0, 2, 4)
+            lines = it.take_journal()
+            self.assertEqual(lines, b"0 p 0 0 5 g 1 5\n0 p 0 2 4 g 2 9\n0 s 0 1 2 1 1 3\n")
+            self.assertEqual(it.take_journal(), b"")
+            sealed = it.cut()
+            self.assertEqual(sealed, BEGUN + b"p 0 0 5 g 1 5\np 0 2 4 g 2 9\nend 2\ns 0 1 2 1 1 3\ndone 1\n")
+            self.assertEqual((len(it), list(it)), (2, []))
+            with self.assertRaises(ring.NoEvent):
+                it.event(1)
+            self.assertEqual(it.pass_(0, 1, 1), Grant(2, 3, 10))
+            self.assertEqual([(event.number, event.result) for event in it], [(3, 10)])
+            second = it.open_journal()
+            self.assertEqual(second.split(b"\n")[:3], [b"ringsegment 1 2 1", b"behind " + hashlib.sha256(sealed).hexdigest().encode(),
+                                                       b"base 2 2 9 2"])
+        with Ring.from_segment(first + lines[:-3], 1) as it:
+            self.assertEqual((len(it), it.pass_(0, 1, 1)), (2, Grant(2, 3, 10)))
+        with Ring.from_segment(second, 1) as it:
+            self.assertEqual(it.open_journal(), second)
+
+    def test_files_that_are_not_gone_on_from(self):
+        first = BEGUN + b"end 0\ndone 1\n"
+        for file, error, line in ((first[:40], ring.Truncated, 0), (b"x" + first, ring.BadSyntax, 1),
+                                  (first + b"0 p 0 0 5 g 2 5\n", ring.BadReply, 10)):
+            with self.assertRaises(error) as caught:
+                Ring.from_segment(file, 1)
+            self.assertEqual(caught.exception.line, line)
+        for file, seats, error in ((first.replace(b"base 0", b"base 1"), 1, ring.NoChain), (first, 0, ring.BadSeats),
+                                   (first + b"0 p 1 0 5 g 1 5\n", 1, ring.NoSeat)):
+            with self.assertRaises(error):
+                Ring.from_segment(file, seats)
+        with Ring.idle(3, 3, [0, 2, 0], 1) as it:
+            for call in (it.open_journal, it.take_journal, it.cut):
+                with self.assertRaises(ring.NoTill):
+                    call()
+
     def test_it_is_neither_copied_nor_pickled(self):
         with open_ring() as it:
             for call in (lambda: copy.copy(it), lambda: copy.deepcopy(it), lambda: pickle.dumps(it)):
@@ -317,6 +365,12 @@ class Library(unittest.TestCase):
         first, second, third = map(int, wozgirt.__version__.split("."))
         self.assertEqual(library.VERSION, first * 10000 + second * 100 + third)
         self.assertEqual(library.load().wozgirt_version() // 100, library.VERSION // 100)
+
+    def test_the_library_has_the_texts(self):
+        text = library.load().wozgirt_text
+        text.restype, text.argtypes = ctypes.c_char_p, [ctypes.c_uint32]
+        self.assertEqual([text(code).decode() for code in Code], [code.text for code in Code])
+        self.assertEqual(text(9), b"no code of this library")
 
     def test_a_wheel_with_the_library(self):
         with tempfile.TemporaryDirectory() as folder:

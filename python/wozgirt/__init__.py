@@ -9,13 +9,19 @@ A client is one connection. It waits for one lock at a time; a program that wait
 If the connection goes, the server lets others have what it held. `LockLost` says so here, and the token says so to a
 storage that refuses tokens that are older than one it has seen.
 
+Several servers that share their locks are given as `Lock("tcp:one:7000,tcp:two:7000,tcp:three:7000", "deploy")`: what was asked is
+done once and holds stay, also if the one that was asked dies (`Session`).
+
 `wozgirt.aio` has the same for asyncio, and `wozgirt.ring` has token rings inside a program.
 """
 
-from .client import Client, Lock
+from .client import Client
 from .lines import (Circle, Holds, LockError, LockLost, LockStatus, NoSuchLock, NotHolder, NotInTime, NotPermitted, NotWaiter,
-                    Place, Refused, TooMany, Waits)
+                    Place, Places, Refused, TooMany, Waits)
+from .lock import Lock
+from .session import Session
 
 __all__ = ["Circle", "Client", "Holds", "Lock", "LockError", "LockLost", "LockStatus", "NoSuchLock", "NotHolder", "NotInTime",
-           "NotPermitted", "NotWaiter", "Place", "Refused", "TooMany", "Waits"]
+           "NotPermitted", "NotWaiter", "Place", "Places", "Refused", "Session",
+           "TooMany", "Waits"]
 __version__ = "0.1.0"

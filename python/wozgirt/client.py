@@ -6,11 +6,10 @@ import collections
 import socket
 import threading
 import time
-from types import TracebackType
-from typing import Deque, NoReturn, Optional, Type, Union
+from typing import Deque, NoReturn, Optional
 
 from . import lines
-from .lines import LockLost, LockStatus, NotInTime, NotWaiter, Place, Refused
+from .lines import LockLost, LockStatus, NotInTime, NotWaiter, Place
 
 PING = b"ping\n"
 #: How long the server may take to be there.
@@ -43,6 +42,7 @@ class Client:
     each connection a lease, so one is asked for there in any case."""
 
     def __init__(self, place: Place, *, lease: Optional[float] = None):
+        place = lines.place(place)
         self._sock = connected(place)
         self._mutex = threading.RLock()
         self._bytes = bytearray()
@@ -165,10 +165,9 @@ class Client:
             if end >= 0:
                 line = bytes(self._bytes[:end])
                 del self._bytes[:end + 1]
-                if line == b"pong" and self._pings:
-                    self._spoken = self._pings.popleft()
+                words = self._heard(line)
+                if words is None:
                     continue
-                words = lines.words_of(line)
                 refused = lines.refusal(words)
                 if refused is not None:
                     raise refused
@@ -176,6 +175,13 @@ class Client:
             if not self._receive(deadline):
                 return None
         return None
+
+    def _heard(self, line: bytes) -> Optional[list[str]]:
+        """The words of a line, if it is an answer."""
+        if line == b"pong" and self._pings:
+            self._spoken = self._pings.popleft()
+            return None
+        return lines.words_of(line)
 
     def _receive(self, deadline: Optional[float], flags: int = 0) -> bool:
         try:
@@ -244,49 +250,3 @@ class Client:
                 return
             finally:
                 self._mutex.release()
-
-
-class Lock:
-    """`with Lock(place, name, wait=5) as token:` holds the lock inside. `place` is that of a server, or a `Client` that is
-    shared. One object holds once at a time, and can be used again."""
-
-    def __init__(self, place: Union[Place, Client], name: str, *, wait: Optional[float] = None, label: int = 0,
-                 lease: Optional[float] = None):
-        self._place, self.name, self._wait, self._label, self._lease = place, name, wait, label, lease
-        self.client: Optional[Client] = None
-        #: The token of the hold, inside.
-        self.token: Optional[int] = None
-
-    def __enter__(self) -> int:
-        if self.token is not None:
-            raise RuntimeError("this object holds the lock already")
-        shared = isinstance(self._place, Client)
-        self.client = client = self._place if isinstance(self._place, Client) else Client(self._place, lease=self._lease)
-        try:
-            self.token = client.acquire(self.name, label=self._label, wait=self._wait)
-        except BaseException:
-            if not shared:
-                client.close()
-            raise
-        return self.token
-
-    def check(self) -> None:
-        """Raises `LockLost` if others may hold the lock by now."""
-        if self.client is None or self.token is None:
-            raise RuntimeError("this object does not hold the lock")
-        self.client.check()
-
-    def __exit__(self, kind: Optional[Type[BaseException]], value: Optional[BaseException],
-                 trace: Optional[TracebackType]) -> None:
-        token, self.token = self.token, None
-        client = self.client
-        if client is None or token is None:
-            return
-        try:
-            client.release(self.name, token)
-        except (LockLost, Refused):
-            if kind is None:
-                raise
-        finally:
-            if client is not self._place:
-                client.close()

@@ -32,7 +32,7 @@ class RawAnswer(Structure):
 class RawGroup(Structure):
     """`struct wozgirt_group`."""
 
-    _fields_ = [("first", c_uint64), ("count", c_uint32), ("machine", c_uint32)]
+    _fields_ = [("first", c_uint64), ("number", c_uint64), ("result", c_uint64), ("count", c_uint32), ("machine", c_uint32)]
 
 
 class RawSight(Structure):
@@ -76,6 +76,7 @@ def _declare(library: ctypes.CDLL) -> None:
     ring, locks, numbers = POINTER(RawRing), POINTER(RawLocks), POINTER(c_uint32)
     opens = [ring, c_uint32, c_uint32, numbers, c_size_t, c_uint32]
     passes = [ring, c_uint32, c_uint32, c_uint64, POINTER(RawAnswer)]
+    texts = [ring, POINTER(c_uint8), c_size_t, POINTER(c_uint64)]
     asks = [locks, c_uint64, c_uint32, c_uint64, POINTER(RawHold)]
     for name, answers, takes in [
         ("open", c_uint32, opens),
@@ -88,8 +89,13 @@ def _declare(library: ctypes.CDLL) -> None:
         ("survey", c_uint32, [ring, c_uint32, POINTER(RawSight)]),
         ("glance", c_uint32, [ring, POINTER(RawSight)]),
         ("history_length", c_uint32, [ring, POINTER(c_uint64)]),
+        ("events_before", c_uint32, [ring, POINTER(c_uint64)]),
         ("event_at", c_uint32, [ring, c_uint64, POINTER(RawEvent)]),
-        ("save", c_uint32, [ring, POINTER(c_uint8), c_size_t, POINTER(c_uint64)]),
+        ("save", c_uint32, texts),
+        ("open_journal", c_uint32, texts),
+        ("take_journal", c_uint32, texts),
+        ("cut", c_uint32, texts),
+        ("open_segment", c_uint32, [ring, c_char_p, c_size_t, c_uint32, POINTER(c_uint64)]),
         ("close", None, [ring]),
         ("check", c_uint32, [c_char_p, c_size_t, POINTER(RawSums)]),
         ("locks_open", c_uint32, [locks, c_uint32, c_uint32]),

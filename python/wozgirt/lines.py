@@ -4,10 +4,12 @@ from __future__ import annotations
 
 import operator
 from dataclasses import dataclass
-from typing import Optional, Tuple, Union
+from typing import List, Optional, Tuple, Union
 
-#: Where a server is: the path of its socket, or host and port.
+#: Where a server is: the path of its socket, or host and port, also as tcp:HOST:PORT.
 Place = Union[str, Tuple[str, int]]
+#: One server, or several that share their locks: a list, or in one text with commas.
+Places = Union[Place, List[Place]]
 
 MOST = 1 << 64
 LONGEST_LEASE = 365 * 24 * 3600.0
@@ -84,6 +86,28 @@ class LockStatus:
     oldest_wait: float
     grants: int
     longest_wait: float
+
+
+def place(given: Place) -> Place:
+    """The same place, where a text tcp:HOST:PORT is host and port."""
+    if not isinstance(given, str) or not given.startswith("tcp:"):
+        return given
+    host, _, port = given[4:].rpartition(":")
+    if not host or not port.isdigit() or not 0 < int(port) < 65536:
+        raise ValueError(f"no server: {given!r}")
+    return host.strip("[]"), int(port)
+
+
+def places(given: Places) -> List[Place]:
+    """One server or several: a text is cut at commas if each piece begins with tcp: or /."""
+    if isinstance(given, tuple):
+        return [given]
+    pieces = given.split(",") if isinstance(given, str) else given
+    if isinstance(given, str) and not all(it.startswith(("tcp:", "/")) for it in pieces):
+        return [given]
+    if not pieces:
+        raise ValueError("no server")
+    return [place(it) for it in pieces]
 
 
 def checked_name(name: str) -> str:

@@ -41,6 +41,8 @@ class Code(IntEnum):
     SYNTAX = 48, "a line cannot stand in a saved text"
     TRUNCATED = 49, "the saved text is cut short"
     NO_RING = 50, "the saved text has no ring at this place"
+    NO_CHAIN = 52, "no chain of files ends with this one"
+    MANY_RINGS = 53, "the file is not of one ring"
     PARAMETER = 64, "parameter"
     RANGE = 65, "range"
     REPLY = 66, "reply"
@@ -50,6 +52,7 @@ class Code(IntEnum):
     NO_TILL = 80, "the ring is over no till, so it has no saved text"
     TOO_SMALL = 81, "the buffer is too small"
     NO_EVENT = 82, "there is no such event"
+    NO_JOURNAL = 83, "no journal is kept"
     NO_LOCK = 96, "there is no such lock"
     HOLDS = 97, "the client holds the lock already"
     STANDS = 98, "the client waits already"
@@ -116,7 +119,7 @@ class NotPrivileged(Refused):
 
 
 class HistoryFull(Refused):
-    """A history has at most 4,000,000 events."""
+    """A segment of a history has at most 4,000,000 events: `Ring.cut` begins the next."""
 
     code = Code.HISTORY_FULL
 
@@ -185,8 +188,26 @@ class NoTill(Refused):
     code = Code.NO_TILL
 
 
+class NoJournal(Refused):
+    """No journal is kept of the segment."""
+
+    code = Code.NO_JOURNAL
+
+
+class NoChain(Refused):
+    """No chain of files ends with this one: what it says of those before it cannot be."""
+
+    code = Code.NO_CHAIN
+
+
+class ManyRings(Refused):
+    """The file is not of one ring."""
+
+    code = Code.MANY_RINGS
+
+
 class NoEvent(Refused, IndexError):
-    """The history has no event of this number."""
+    """The segment has no event of this number."""
 
     code = Code.NO_EVENT
 

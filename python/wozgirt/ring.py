@@ -23,25 +23,38 @@ from typing import Any, Callable, Iterable, Iterator, NoReturn, Optional, Suppor
 
 from .library import RawAnswer, RawEvent, RawGroup, RawRing, RawSight, RawSums, Text, load, number, numbers, text_of
 from .refusals import (BadCount, BadGroup, BadLength, BadMachines, BadNumbers, BadParameter, BadRange, BadReply, BadSeats,
-                       BadStart, BadSurvey, BadSyntax, BadValues, Closed, Code, HistoryFull, NoEvent, NoMachine, NoMemory,
-                       NoRing, NoSeat, NoTill, NoValue, NotLegal, NotPrivileged, NotRising, Refused, RingError, Truncated,
-                       WholeRing, error_of)
+                       BadStart, BadSurvey, BadSyntax, BadValues, Closed, Code, HistoryFull, ManyRings, NoChain, NoEvent,
+                       NoJournal, NoMachine, NoMemory, NoRing, NoSeat, NoTill, NoValue, NotLegal, NotPrivileged, NotRising,
+                       Refused, RingError, Truncated, WholeRing, error_of)
 
 __all__ = ["BadCount", "BadGroup", "BadLength", "BadMachines", "BadNumbers", "BadParameter", "BadRange", "BadReply", "BadSeats",
-           "BadStart", "BadSurvey", "BadSyntax", "BadValues", "Closed", "Code", "Event", "Grant", "HistoryFull", "Kind",
-           "NoEvent", "NoMachine", "NoMemory", "NoRing", "NoSeat", "NoTill", "NoValue", "NotLegal", "NotPrivileged", "NotRising",
-           "Refused", "Ring", "RingError", "Sight", "Sums", "Truncated", "WholeRing", "check"]
+           "BadStart", "BadSurvey", "BadSyntax", "BadValues", "Closed", "Code", "Event", "Grant", "Group", "HistoryFull", "Kind",
+           "ManyRings", "NoChain", "NoEvent", "NoJournal", "NoMachine", "NoMemory", "NoRing", "NoSeat", "NoTill", "NoValue",
+           "NotLegal", "NotPrivileged", "NotRising", "Refused", "Ring", "RingError", "Sight", "Sums", "Truncated", "WholeRing",
+           "check"]
 
 SomeRing = TypeVar("SomeRing", bound="Ring")
 
 
 @dataclass(frozen=True)
 class Grant:
-    """A granted pass: its place in the history, its number, which is a fencing token, and the resource's answer."""
+    """A granted pass: how many events came before it, its number, which is a fencing token, and the resource's answer. The numbers
+    count all segments of the history."""
 
     position: int
     number: int
     result: int
+
+
+@dataclass(frozen=True)
+class Group:
+    """A group that passed: how many events came before its first member, that member's number and the resource's answer to it,
+    and how many members it has. Their numbers follow one another; over a till each further answer is more by the order."""
+
+    first: int
+    number: int
+    result: int
+    count: int
 
 
 @dataclass(frozen=True)
@@ -93,14 +106,15 @@ class Sums:
 def check(text: Text) -> Sums:
     """The sums of a saved text; `NotLegal` if it is not legal."""
     bytes_, sums = text_of(text), RawSums()
-    _stop_on(load().wozgirt_check(bytes_, len(bytes_), byref(sums)), line=sums)
+    code = load().wozgirt_check(bytes_, len(bytes_), byref(sums))
+    _stop_on(code, line=sums.line)
     return Sums(sums.rings, sums.events, sums.granted, sums.corrupted, sums.surveys)
 
 
-def _stop_on(code: int, *, group: Optional[RawGroup] = None, line: Optional[RawSums] = None) -> bool:
+def _stop_on(code: int, *, group: Optional[RawGroup] = None, line: Optional[int] = None) -> bool:
     """Raises what a call refused; else whether it was done, and not left waiting."""
     if code > Code.WAITS:
-        raise error_of(code, machine=None if group is None else group.machine, line=None if line is None else line.line)
+        raise error_of(code, machine=None if group is None else group.machine, line=line)
     return code == Code.DONE
 
 
@@ -131,7 +145,19 @@ class Ring:
         bytes_, at, count = text_of(text), number(place, 32, "place"), number(seats, 32, "seats")
         self._own()
         sums = RawSums()
-        _stop_on(self._library.wozgirt_open_saved(byref(self._raw), bytes_, len(bytes_), at, count, byref(sums)), line=sums)
+        code = self._library.wozgirt_open_saved(byref(self._raw), bytes_, len(bytes_), at, count, byref(sums))
+        _stop_on(code, line=sums.line)
+        return self
+
+    @classmethod
+    def from_segment(cls: Type[SomeRing], file: Text, seats: SupportsIndex) -> SomeRing:
+        """A ring that goes on where the last file of a chain ends, whatever was cut off of it; `NotLegal` with the bad line."""
+        self = cls.__new__(cls)
+        bytes_, count = text_of(file), number(seats, 32, "seats")
+        self._own()
+        line = c_uint64()
+        code = self._library.wozgirt_open_segment(byref(self._raw), bytes_, len(bytes_), count, byref(line))
+        _stop_on(code, line=line.value)
         return self
 
     def _own(self) -> None:
@@ -166,12 +192,12 @@ class Ring:
         """The same, but nothing is recorded where the machine is not privileged: the call to poll with."""
         return self._pass("try", seat, machine, order)
 
-    def pass_group(self, seat: SupportsIndex, machines: Iterable[SupportsIndex], order: SupportsIndex) -> int:
-        """Machines whose numbers rise pass at once: returns how many events are before the first."""
+    def pass_group(self, seat: SupportsIndex, machines: Iterable[SupportsIndex], order: SupportsIndex) -> Group:
+        """Machines whose numbers rise pass at once."""
         answer, (values, count) = RawGroup(), numbers(machines, "machine")
         given = number(seat, 32, "seat"), values, count, number(order, 64, "order")
         _stop_on(self._call("pass_group", *given, byref(answer)), group=answer)
-        return int(answer.first)
+        return Group(answer.first, answer.number, answer.result, answer.count)
 
     def corrupt(self, seat: SupportsIndex, machine: SupportsIndex, value: SupportsIndex) -> int:
         """Writes a value into a machine, and returns the old one."""
@@ -193,34 +219,55 @@ class Ring:
         return Sight(sight.position, sight.calm, sight.rest, sight.privileged, sight.first)
 
     def __len__(self) -> int:
-        """How many events the history has."""
+        """How many events there were, over all segments of the history."""
         length = c_uint64()
         _stop_on(self._call("history_length", byref(length)))
         return length.value
 
     def event(self, at: SupportsIndex) -> Event:
-        """The event at this place of the history, from 0."""
+        """The event at this place of the history, from 0; `NoEvent` for one before the last `cut`."""
         event = RawEvent()
         _stop_on(self._call("event_at", number(at, 64, "at"), byref(event)))
         return Event(Kind(event.kind), event.seat, event.machine, event.order, event.number, event.result, event.value)
 
     def __iter__(self) -> Iterator[Event]:
-        """The events of the history, from the first to the one that is the last then."""
-        return map(self.event, range(len(self)))
+        """The events of the segment, from its first to the one that is the last then."""
+        first = c_uint64()
+        with self._lock:
+            _stop_on(self._call("events_before", byref(first)))
+            return map(self.event, range(first.value, len(self)))
 
     def __bool__(self) -> bool:
         """Whether the ring is open."""
         return bool(self._raw.at)
 
-    def save(self) -> bytes:
-        """The saved text of the ring as it is now, which `check` and `ring_tool check` judge."""
+    def _text(self, name: str) -> bytes:
+        """The text that a call copies into a buffer, which is as large as is needed."""
         size, room = c_uint64(), (c_uint8 * 1)()
-        code = self._call("save", room, 0, byref(size))
+        code = self._call(name, room, 0, byref(size))
         while code == Code.TOO_SMALL:  # other threads may have made it longer since
             room = (c_uint8 * size.value)()
-            code = self._call("save", room, size.value, byref(size))
+            code = self._call(name, room, size.value, byref(size))
         _stop_on(code)
         return ctypes.string_at(room, size.value)
+
+    def save(self) -> bytes:
+        """The saved text of the ring's segment as it is now, which `check` and `ring_tool check` judge."""
+        return self._text("save")
+
+    def open_journal(self) -> bytes:
+        """The beginning of a journal: the file of the segment, with all of it so far. The journal is kept from then on."""
+        return self._text("open_journal")
+
+    def take_journal(self) -> bytes:
+        """What was recorded since the journal was opened or taken from, each line once: append it to the file and sync that, before
+        anybody acts on the answers."""
+        return self._text("take_journal")
+
+    def cut(self) -> bytes:
+        """Seals the segment: the whole file of it, to be put in the place of the file. The ring goes on in the next segment, with its
+        numbers, and no journal of that is kept yet."""
+        return self._text("cut")
 
     def close(self) -> None:
         """Ends the ring. It may be called again."""

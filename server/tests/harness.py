@@ -177,9 +177,11 @@ class Server:
             try:
                 with open(f"/proc/{number}/stat", encoding="utf-8", errors="replace") as file:
                     state, parent = file.read().rpartition(")")[2].split()[:2]
+                with open(f"/proc/{number}/cmdline", "rb") as file:
+                    is_engine = b"\0locks\0" in file.read()
             except OSError:
                 continue  # it ended meanwhile
-            if int(parent) == self.process.pid and state != "Z":
+            if int(parent) == self.process.pid and state != "Z" and is_engine:
                 return int(number)
         return None
 

@@ -1,9 +1,11 @@
 #!/bin/sh
 # program.sh TOOL: runs the built program as a process, and compares the status that it ends with, its standard output and its standard
-# error, byte by byte: a request that is done, refusals, words and a list that cannot be read, and an output that cannot be written.
+# error, byte by byte: a request that is done, refusals, words and a list that cannot be read, an output that cannot be written, and
+# locks whose memory is short.
 # The last line is `N passed, M failed`.
 set -u
 tool=$1
+refuser=$(cd "$(dirname "$0")/../../bench" && pwd)/refuse_memory.c
 folder=$(mktemp -d) || exit 1
 trap 'rm -rf "$folder"' EXIT
 cd "$folder" || exit 1
@@ -80,6 +82,34 @@ is "bad lines that cannot be written" ended 1 '' 'cannot write\n'
 "$tool" --help >/dev/full 2>err </dev/null
 status=$?
 is "help that cannot be written" ended 1 '' 'cannot write\n'
+
+# short FOLDER WORD ..: locks answer `calls.txt`, where no request for memory may be for more than 128 KiB
+short() {
+    mkdir "$1" && LARGEST_REQUEST=131072 LD_PRELOAD=$PWD/refuse.so "$tool" locks --journal "$@" --locks deploy --no-sync <calls.txt >out 2>err
+    status=$?
+}
+
+# is_told: without `--strict` memory is short at some call, and later ones are answered
+is_told() {
+    [ "$status" -eq 0 ] && grep -q '^1 refused memory 0$' whole && [ "$(wc -l <whole)" -eq 8000 ]
+}
+
+# is_stopped: with it the calls of the blocks before are answered, and nothing more
+is_stopped() {
+    printf 'out of memory\n' >told
+    [ "$status" -eq 1 ] && cmp -s err told && [ -s out ] && head -c "$(wc -c <out)" whole | cmp -s - out && ! grep -q refused out
+}
+
+if "${CC:-cc}" -shared -fPIC -O1 -o refuse.so "$refuser" -ldl 2>/dev/null; then
+    awk 'BEGIN { for (i = 1; i <= 4000; i++) printf "1 try 0 %d\n1 release 0 %d\n", i, i }' >calls.txt
+    short short.told
+    cp out whole
+    is "memory that is short, told" is_told
+    short short.strict --strict
+    is "memory that is short, on strict terms" is_stopped
+else
+    echo 'skipped: memory that is short, without a C compiler'
+fi
 
 echo "$passed passed, $failed failed"
 [ "$failed" -eq 0 ]

@@ -129,6 +129,8 @@ class ManPages(unittest.TestCase):
     def test_options(self):
         self.assertEqual(self.options("wozgirt.1"), options_of(help_of(COMMAND)) | {"--every"})
         self.assertEqual(self.options("wozgirt-server.8"), options_of(help_of(SERVER)) | {"--journal", "--locks"})
+        log = help_of(os.path.join(TOP, "python", "wozgirt-log"))
+        self.assertEqual(self.options("wozgirt-log.8"), options_of(log) - {"-h", "--help"})
         helps = ring_tool()
         self.assertEqual(self.options("ring_tool.1"), set().union(*map(options_of, helps.values())))
         commands = commands_of(helps[""]) - {"help"}

@@ -24,7 +24,7 @@ use Rattle.ring_serve.specs.Serving.{IsAnswered, Answers, Stops}
 use Rattle.ring_serve.proofs.Looped.{answers_of, stops_of}
 use Rattle.chain_serve.specs.declared.segments.SegmentRules.{SegmentRules}
 use Rattle.chain_serve.specs.Texts.{segment_text}
-use Rattle.chain_serve.specs.Segments.{Moment, moment_of, file_of, HasEnded, IsCause, IsReady}
+use Rattle.chain_serve.specs.Segments.{Moment, moment_of, IsPut, HasEnded, IsCause, IsReady, IsLeft}
 use Rattle.chain_serve.specs.Service.{part_terms, Part, AreParts, all_lines, all_said, IsStopped, ServesSegments, ServesSomeSegments}
 use Rattle.chain_serve.specs.Recovered.{AnsweredCallsAreRecovered}
 use Rattle.chain_serve.specs.Services.{ServiceView, service_of, terms_of, IsServed, IsNext, refusal_of, segmenting}
@@ -99,12 +99,23 @@ no_refusal : (x : Option Refusal) (due : Bool) → due ≡ false → (is_some x 
 no_refusal None due low f = refl
 no_refusal (Some why) due low f = absurd (false≢true (sym low ∙ f refl))
 
+put_in : (s : SegmentRules) (a : at.Moment ServiceView) (next : ServiceView) (is : Option Held) → at.IsPut segmenting s.folder.now a next is → IsPut s (moment_in a) next.rings is
+put_in s a next is h = record {
+  behind = h.behind;
+  between = h.between;
+  rings = h.follows.rings;
+  digest = h.digest;
+  settled = h.settled;
+  put = h.put;
+}
+
 has_cause : (why : EndFault) → IsCause (refusal_of why)
 has_cause end.File = tt
 has_cause end.OutOfMemory = tt
 has_cause end.Full = tt
 
 ready_in : (s : SegmentRules) (kept : Option EndFault) (a b : at.Moment ServiceView) → IsSound s a.number a.service → at.IsReady segmenting s.folder.now kept a b → IsReady s b.service.refusing (moment_in a) (moment_in b) × IsSound s b.number b.service
+unfolding put_in
 ready_in s None a b is (inl h) =
     let low : is_due (Some s.limit) a.service.rings ≡ false = subst (λ (r : SegmentRules). is_due (Some r.limit) a.service.rings ≡ false) is.rules h.0 in
     let none : b.service.refusing ≡ None = ap (λ (m : at.Moment ServiceView). m.service.refusing) h.1 ∙ no_refusal a.service.refusing (is_due (Some s.limit) a.service.rings) low is.due in (
@@ -113,16 +124,10 @@ ready_in s None a b is (inl h) =
     )
 ready_in s None a b is (inr h) =
     let high : is_due (Some s.limit) a.service.rings ≡ true = subst (λ (r : SegmentRules). is_due (Some r.limit) a.service.rings ≡ true) is.rules h.0 in
-    let file = h.1.file in
-    let next : IsNext a.service b.service = file.follows in
+    let next : IsNext a.service b.service = h.1.file.follows in
     let ended : HasEnded s (moment_in a) (moment_in b) = record {
-      behind = file.behind;
-      between = file.between;
-      rings = next.rings;
+      file = put_in s a b.service b.files h.1.file;
       number = h.1.number;
-      digest = file.digest;
-      settled = file.settled;
-      begun = subst (λ (n : ℕ). Replaces file.between b.files (file_of s n) (Some (segment_text n file.behind b.service.rings))) (sym h.1.number) file.put;
       journal = h.1.journal;
     } in (
       subst (λ (x : Option Refusal). IsReady s x (moment_in a) (moment_in b)) (sym next.refusing) (inr (high, ended)),
@@ -198,9 +203,14 @@ serves_in s a b input rest out after is h = record {
   wrote = subst (λ (x : List ℕ). Appends out after x) (sym (said_in h.parts)) h.wrote;
 }
 
+left_in : (s : SegmentRules) (mid : at.Moment ServiceView) (is : Option Held) → at.IsLeft segmenting s.folder.now mid is → IsLeft s (moment_in mid) is
+left_in s mid is (inl h) = inl h
+left_in s mid is (inr (inl h)) = inr (inl h)
+left_in s mid is (inr (inr h)) = inr (inr (h.0.rings, put_in s mid h.0 is h.1))
+
 stopped_in : (s : SegmentRules) (mid : at.Moment ServiceView) (new : ServiceView) (is : Option Held) (before after : Option (List ℕ)) (behind : List ℕ) → IsSound s mid.number mid.service → loop.IsStopped IsServed segmenting s.folder.now mid new is before after behind →
     IsStopped s (moment_in mid) new.rings is before after behind
-stopped_in s mid new is before after behind sound (inl h) = inl (ap (λ (v : ServiceView). v.rings) h.0, h.1)
+stopped_in s mid new is before after behind sound (inl h) = inl (ap (λ (v : ServiceView). v.rings) h.0, h.1, left_in s mid is h.2)
 stopped_in s mid new is before after behind sound (inr h) =
     let from : at.Moment ServiceView = h.1 in
     let ready = ready_in s h.0 mid from sound h.3 in
@@ -288,7 +298,7 @@ none_in s rings files number journal input out = (
     read = consumes_nil input;
     split = refl;
     wrote = appends_nil out;
-    stopped = inl (refl, refl);
+    stopped = inl (refl, refl, inl refl);
   },
   record {
     parts = [];

@@ -31,18 +31,25 @@ moment_of rings files number journal = record {
   journal = journal;
 }
 
--- The segment has ended, and the next one begun: the whole file before was settled; then the file
--- of the next one was put there, with the digest of the file before and the rings as they begin.
+-- The whole file of the segment was settled; then the file of the next one was put there, with the
+-- digest of the file before and these rings as they begin.
+pub record IsPut (s : SegmentRules) (a : Moment) (next : List Standing) (is : Option Held) : Type 0
+  where
+    pub behind : List ℕ
+    pub between : Option Held
+    pub rings : AreNext a.rings next
+    pub digest : IfSome a.journal (λ bytes. behind ≡ digest_of bytes)
+    pub settled : Replaces a.files between (file_of s a.number) a.journal
+    pub put : Replaces between is (file_of s (a.number + 1))
+        (Some (segment_text (a.number + 1) behind next))
+
+-- The segment has ended, and the next one begun: its file was put there, and is being written from
+-- its text on.
 pub record HasEnded (s : SegmentRules) (a b : Moment) : Type 0 where
-  pub behind : List ℕ
-  pub between : Option Held
-  pub rings : AreNext a.rings b.rings
+  pub file : IsPut s a b.rings b.files
   pub number : b.number ≡ a.number + 1
-  pub digest : IfSome a.journal (λ bytes. behind ≡ digest_of bytes)
-  pub settled : Replaces a.files between (file_of s a.number) a.journal
-  pub begun : Replaces between b.files (file_of s b.number)
-      (Some (segment_text b.number behind b.rings))
-  pub journal : IfSome between (λ _. b.journal ≡ Some (segment_text b.number behind b.rings))
+  pub journal : IfSome file.between
+      (λ _. b.journal ≡ Some (segment_text b.number file.behind b.rings))
 
 -- It could not be ended, and goes on: the rings are as they were, and its file holds what it held,
 -- settled or not.
@@ -68,3 +75,11 @@ IsReady s None a b =
     ((is_due (Some s.limit) a.rings ≡ false) × (b ≡ a))
     ⊎ ((is_due (Some s.limit) a.rings ≡ true) × HasEnded s a b)
 IsReady s (Some why) a b = (is_due (Some s.limit) a.rings ≡ true) × IsCause why × IsKept s a b
+
+-- What the disk has where it could be neither ended nor go on: the files as they were; or the file
+-- of the segment is settled; and then perhaps that of the next one was put there.
+abbrev pub IsLeft : SegmentRules → Moment → Option Held → Type 0
+IsLeft s a is =
+    (is ≡ a.files)
+    ⊎ (Replaces a.files is (file_of s a.number) a.journal
+    ⊎ ((next : List Standing) × IsPut s a next is))

@@ -8,7 +8,7 @@ use Rattle.ring_serve.specs.declared.answers.Refusal.{Refusal}
 use Rattle.ring_serve.specs.Standings.{Standing}
 use Rattle.ring_serve.specs.Permits.{Terms, terms_in}
 use Rattle.ring_serve.specs.Serving.{Answers, Stops}
-use Rattle.chain_serve.specs.Segments.{Moment, file_of, IsReady}
+use Rattle.chain_serve.specs.Segments.{Moment, file_of, IsReady, IsLeft}
 use Rattle.chain_serve.specs.declared.segments.SegmentRules.{SegmentRules}
 
 -- the terms of lines that are answered in the segment of this number, or that are all refused
@@ -63,12 +63,12 @@ pub record ServesSegments (s : SegmentRules) (a b : Moment) (input rest out afte
   pub ended : IsAtEnd rest
   pub wrote : Appends out after (all_said parts)
 
--- After some parts nothing more was done; or some of the lines behind them were answered, as the
--- serving of a part stops.
+-- After some parts no more was answered, and this is what the disk has; or some of the lines behind
+-- them were answered, as the serving of a part stops.
 abbrev pub IsStopped : SegmentRules → Moment → List Standing → Option Held → Option (List ℕ)
     → Option (List ℕ) → List ℕ → Type 0
 IsStopped s mid new is before after behind =
-    ((new ≡ mid.rings) × (after ≡ before))
+    ((new ≡ mid.rings) × (after ≡ before) × IsLeft s mid is)
     ⊎ ((refusing : Option Refusal)
     × (from : Moment)
     × (journal : Option (List ℕ))

@@ -148,6 +148,7 @@ fn words(journal: &str, synced: bool) -> ServeWords<'_> {
         synced,
         faults: false,
         saves: None,
+        strict: false,
     }
 }
 

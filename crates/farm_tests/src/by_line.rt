@@ -19,6 +19,7 @@ use std::process::Abort;
 const NOTHING: Permits<'static> = Permits {
     faults: false,
     saves: None,
+    strict: false,
 };
 
 /// A ring of three machines with three values, and one seat.

@@ -15,9 +15,10 @@ use Rattle.ring_saved.specs.declared.saved.SavedRing.{SavedRing}
 use Rattle.lock_lists.specs.declared.locks.ListError.{ListError}
 use Rattle.lock_lists.specs.declared.locks.ListError.TheVariants as list
 use Rattle.lock_lists.specs.Lists.{Listed, IsWordFault}
+use Rattle.ring_locks.specs.declared.handing.Handover.{Handover}
 use Rattle.lock_folder.specs.declared.faults.StartFault.{StartFault}
 use Rattle.lock_folder.specs.declared.faults.StartFault.TheVariants as start
-use Rattle.lock_folder.specs.Folders.{Place, IsFileRefusal, IsListless, IsPlaceFault, IsStartRefusal, AreUnstarted}
+use Rattle.lock_folder.specs.Folders.{Place, IsFileRefusal, IsListless, IsPlaceFault, IsHandingFault, IsStartRefusal, AreUnstarted}
 use Rattle.lock_folder.specs.Rings.{IsRingFault, AreRingsRefused}
 use Rattle.ring_requests.specs.declared.requests.LocksWords.{LocksWords}
 use Rattle.ring_commands.specs.Chained.{IsFolderFault}
@@ -25,7 +26,8 @@ use Rattle.ring_commands.specs.Worlds.{World}
 use Rattle.ring_commands.specs.declared.faults.ToolError.{ToolError}
 use Rattle.ring_commands.specs.declared.faults.ToolError.TheVariants as tool
 use Rattle.lock_commands.specs.Refusals.{fault_of_list, IsStartName, IsBeginName, IsLoopName, IsListIf}
-use Rattle.lock_commands.specs.Locks.{folder_of, list_of, IsUnbegun, IsRunRefused, IsStartRefused, IsRefusedIn, IsLocksRefusal}
+use Rattle.lock_commands.specs.HoldersFile.{holders_word, name_of, HasNoHolders}
+use Rattle.lock_commands.specs.Locks.{folder_of, list_of, IsUnbegun, IsRunRefused, IsStartRefused, IsRefusedIn, IsRefusedWith, IsLocksRefusal}
 
 abbrev is_word : StartFault → Bool
 is_word (start.Word e) = true
@@ -54,6 +56,10 @@ of_place files folder (Some r) ls e (inl (inl h)) = h
 of_place files folder (Some r) ls e (inl (inr (bytes, held, h))) = h
 of_place files folder (Some r) ls e (inr (segment, last, h)) = of_rings segment.saved.rings.items ls e h
 
+of_handing : (files : Option Held) (folder : List ℕ) (range : Option SegmentNumbers) (ls : List Listed) (holders : List Handover) (e : ListError) → IsHandingFault files folder range ls holders (start.Word e) → ⊥
+of_handing files folder range ls holders e (inl h) = of_place files folder range ls e h
+of_handing files folder range ls holders e (inr (found, stands, h)) = h
+
 of_listless : (range : Option SegmentNumbers) (word : Option (List ℕ)) (e : ListError) → IsListless range word (start.Word e) → ⊥
 of_listless None word e h = h
 of_listless (Some r) word e h = h
@@ -66,21 +72,21 @@ of_file files folder e (inr (inr (bytes, held, h))) = h
 no_fault : (word : List ℕ) → IsListIf (Some word) → IsWordFault word list.Syntax → ⊥
 no_fault word (locks, list) fault = fault locks list.1.some list.0
 
-of_start : (files : Option Held) (folder : List ℕ) (has : Bool) (range : Option SegmentNumbers) (word : Option (List ℕ)) → IsListIf word →
-    IsStartRefusal files folder has range word (start.Word list.Syntax) → ⊥
-of_start files folder has range word listed (inl (none, h)) = of_listless range word list.Syntax h
-of_start files folder has range word listed (inr (inl (there, h))) = of_file files folder list.Syntax h
-of_start files folder has range word listed (inr (inr (inl (w, is, h)))) = no_fault w (subst (λ (x : Option (List ℕ)). IsListIf x) is listed) h
-of_start files folder has range word listed (inr (inr (inr (inl (w, old, ls, is, file, new, h))))) = h
-of_start files folder has range word listed (inr (inr (inr (inr (inl (ls, named, h)))))) = of_place files folder range ls list.Syntax h
-of_start files folder has range word listed (inr (inr (inr (inr (inr (inl h)))))) = false≢true (sym (ap is_word h))
-of_start files folder has range word listed (inr (inr (inr (inr (inr (inr h)))))) = false≢true (sym (ap is_word h))
+of_start : (files : Option Held) (folder : List ℕ) (has : Bool) (range : Option SegmentNumbers) (word : Option (List ℕ)) (holders : List Handover) → IsListIf word →
+    IsStartRefusal files folder has range word holders (start.Word list.Syntax) → ⊥
+of_start files folder has range word holders listed (inl (none, h)) = of_listless range word list.Syntax h
+of_start files folder has range word holders listed (inr (inl (there, h))) = of_file files folder list.Syntax h
+of_start files folder has range word holders listed (inr (inr (inl (w, is, h)))) = no_fault w (subst (λ (x : Option (List ℕ)). IsListIf x) is listed) h
+of_start files folder has range word holders listed (inr (inr (inr (inl (w, old, ls, is, file, new, h))))) = h
+of_start files folder has range word holders listed (inr (inr (inr (inr (inl (ls, named, h)))))) = of_handing files folder range ls holders list.Syntax h
+of_start files folder has range word holders listed (inr (inr (inr (inr (inr (inl h)))))) = false≢true (sym (ap is_word h))
+of_start files folder has range word holders listed (inr (inr (inr (inr (inr (inr h)))))) = false≢true (sym (ap is_word h))
 
-of_word : (files : Option Held) (folder : List ℕ) (word : Option (List ℕ)) → IsListIf word → AreUnstarted files folder word (start.Word list.Syntax) → ⊥
-of_word files folder word listed (inl h) = false≢true (sym (ap is_word h))
-of_word files folder word listed (inr (entries, lists, inl (error, same, right))) = false≢true (sym (ap is_word same))
-of_word files folder word listed (inr (entries, lists, inr (range, right, h))) =
-    of_start files folder (is_among (names_of entries) (codes "locks")) range word listed h
+of_word : (files : Option Held) (folder : List ℕ) (word : Option (List ℕ)) (holders : List Handover) → IsListIf word → AreUnstarted files folder word holders (start.Word list.Syntax) → ⊥
+of_word files folder word holders listed (inl h) = false≢true (sym (ap is_word h))
+of_word files folder word holders listed (inr (entries, lists, inl (error, same, right))) = false≢true (sym (ap is_word same))
+of_word files folder word holders listed (inr (entries, lists, inr (range, right, h))) =
+    of_start files folder (is_among (names_of entries) (codes "locks")) range word holders listed h
 
 -- ---- the names of refusals
 
@@ -91,29 +97,30 @@ of_names folder (names.Irregular n) h = h
 of_names folder (names.Missing n) h = h
 of_names folder names.OutOfMemory h = h
 
-of_list : (files : Option Held) (folder : List ℕ) (word : Option (List ℕ)) (error : ListError) → IsListIf word → AreUnstarted files folder word (start.Word error) →
+of_list : (files : Option Held) (folder : List ℕ) (word : Option (List ℕ)) (holders : List Handover) (error : ListError) → IsListIf word → AreUnstarted files folder word holders (start.Word error) →
     tool.BadList ≡ fault_of_list error → ⊥
-of_list files folder word list.Syntax listed refused h = of_word files folder word listed refused
-of_list files folder word list.Many listed refused h = false≢true (sym (ap is_list h))
-of_list files folder word (list.Size place cause) listed refused h = false≢true (sym (ap is_list h))
-of_list files folder word (list.Twice place) listed refused h = false≢true (sym (ap is_list h))
-of_list files folder word list.OutOfMemory listed refused h = false≢true (sym (ap is_list h))
+of_list files folder word holders list.Syntax listed refused h = of_word files folder word holders listed refused
+of_list files folder word holders list.Many listed refused h = false≢true (sym (ap is_list h))
+of_list files folder word holders (list.Size place cause) listed refused h = false≢true (sym (ap is_list h))
+of_list files folder word holders (list.Twice place) listed refused h = false≢true (sym (ap is_list h))
+of_list files folder word holders list.OutOfMemory listed refused h = false≢true (sym (ap is_list h))
 
-of_fault : (files : Option Held) (folder : List ℕ) (word : Option (List ℕ)) (why : StartFault) → IsListIf word → AreUnstarted files folder word why →
-    IsStartName folder why tool.BadList → ⊥
-of_fault files folder word (start.Folder error) listed refused h = of_names folder error h
-of_fault files folder word (start.Word error) listed refused h = of_list files folder word error listed refused h
-of_fault files folder word start.NoLocks listed refused h = h
-of_fault files folder word start.NoLocksFile listed refused h = h
-of_fault files folder word start.UnreadLocks listed refused h = h
-of_fault files folder word start.BadLocks listed refused h = h
-of_fault files folder word (start.OtherLock i) listed refused h = h
-of_fault files folder word (start.UnreadSegment n) listed refused h = h
-of_fault files folder word (start.Segment n error) listed refused h = h
-of_fault files folder word (start.OtherRing i) listed refused h = h
-of_fault files folder word (start.Full i) listed refused h = h
-of_fault files folder word start.Unsaved listed refused h = h
-of_fault files folder word start.OutOfMemory listed refused h = h
+of_fault : (files : Option Held) (folder : List ℕ) (file : List ℕ) (word : Option (List ℕ)) (holders : List Handover) (why : StartFault) → IsListIf word → AreUnstarted files folder word holders why →
+    IsStartName folder file why tool.BadList → ⊥
+of_fault files folder file word holders (start.Folder error) listed refused h = of_names folder error h
+of_fault files folder file word holders (start.Word error) listed refused h = of_list files folder word holders error listed refused h
+of_fault files folder file word holders start.NoLocks listed refused h = h
+of_fault files folder file word holders start.NoLocksFile listed refused h = h
+of_fault files folder file word holders start.UnreadLocks listed refused h = h
+of_fault files folder file word holders start.BadLocks listed refused h = h
+of_fault files folder file word holders (start.OtherLock i) listed refused h = h
+of_fault files folder file word holders (start.UnreadSegment n) listed refused h = h
+of_fault files folder file word holders (start.Segment n error) listed refused h = h
+of_fault files folder file word holders (start.OtherRing i) listed refused h = h
+of_fault files folder file word holders (start.Full i) listed refused h = h
+of_fault files folder file word holders (start.Holder l) listed refused h = h
+of_fault files folder file word holders start.Unsaved listed refused h = h
+of_fault files folder file word holders start.OutOfMemory listed refused h = h
 
 of_begin : (folder : List ℕ) (why : EndFault) → IsBeginName folder why tool.BadList → ⊥
 of_begin folder end.File h = h
@@ -129,26 +136,36 @@ of_loop folder loop.TooLong h = h
 
 -- ---- locks that are refused
 
-of_unbegun : (words : LocksWords) → IsUnbegun words tool.BadList → ⊥
-of_unbegun words (inl h) = false≢true (sym (ap is_list h))
-of_unbegun words (inr (why, h)) = of_begin (folder_of words) why h
+of_unbegun : (words : LocksWords) (place : Place) (before after : Option Held) → IsUnbegun words place before after tool.BadList → ⊥
+of_unbegun words place before after (inl h) = false≢true (sym (ap is_list h.1))
+of_unbegun words place before after (inr h) = of_begin (folder_of words) h.3.0 h.3.1
 
 of_run : (words : LocksWords) (place : Place) (before after : Option Held) (was is old new : Option (List ℕ)) →
     IsRunRefused words place before after was is old new tool.BadList → ⊥
-of_run words place before after was is old new (inl (unserved, h)) = of_unbegun words h
+of_run words place before after was is old new (inl (unserved, h)) = of_unbegun words place before after h
 of_run words place before after was is old new (inr (first, started, inl h)) = of_loop (folder_of words) h.why h.named
-of_run words place before after was is old new (inr (first, started, inr (last, served, h))) = of_loop (folder_of words) loop.Journal h
+of_run words place before after was is old new (inr (first, started, inr (last, served, kept, h))) = of_loop (folder_of words) loop.Journal h
 
-of_unstarted : (words : LocksWords) (there after : Option Held) → IsListIf (list_of words) → IsStartRefused words there after tool.BadList → ⊥
-of_unstarted words there after listed (same, h) = of_fault there (folder_of words) (list_of words) h.0 listed h.1 h.2
+of_unstarted : (words : LocksWords) (holders : List Handover) (there after : Option Held) → IsListIf (list_of words) → IsStartRefused words holders there after tool.BadList → ⊥
+of_unstarted words holders there after listed (same, h) = of_fault there (folder_of words) (name_of (holders_word words)) (list_of words) holders h.0 listed h.1 h.2
 
-of_folder : (words : LocksWords) (before after : Option Held) (was is old new : Option (List ℕ)) → IsListIf (list_of words) →
-    IsRefusedIn words before after was is old new tool.BadList → ⊥
-of_folder words before after was is old new listed (inl (unserved, h)) = h
-of_folder words before after was is old new listed (inr (there, locked, inl (unserved, h))) = of_unstarted words there after listed h
-of_folder words before after was is old new listed (inr (there, locked, inr (saved, place, started, h))) = of_run words place saved after was is old new h
+of_folder : (words : LocksWords) (holders : List Handover) (before after : Option Held) (was is old new : Option (List ℕ)) → IsListIf (list_of words) →
+    IsRefusedIn words holders before after was is old new tool.BadList → ⊥
+of_folder words holders before after was is old new listed (inl (unserved, left, h)) = h
+of_folder words holders before after was is old new listed (inr (there, locked, inl (unserved, h))) = of_unstarted words holders there after listed h
+of_folder words holders before after was is old new listed (inr (there, locked, inr (saved, place, started, h))) = of_run words place saved after was is old new h
+
+of_holders : (files : Option Held) (file : Option (List ℕ)) → HasNoHolders files file tool.BadList → ⊥
+of_holders files None h = h
+of_holders files (Some name) (inl (inl h)) = h
+of_holders files (Some name) (inl (inr (from, left, opens, h))) = h
+of_holders files (Some name) (inr (bytes, held, h)) = h
+
+of_locks : (words : LocksWords) (holders : List Handover) (was is : World) → IsListIf (list_of words) → IsRefusedWith words holders was is tool.BadList → ⊥
+of_locks words holders was is listed (inl (silent, h)) = of_folder words holders was.files is.files was.input is.input was.out is.out listed h
+of_locks words holders was is listed (inr (end, served, h)) = h
 
 pub unread_list_keeps : (words : LocksWords) (was is : World) → IsLocksRefusal words was is tool.BadList → is.files ≡ was.files
 unread_list_keeps words was is (inl (same, h)) = ap (λ (w : World). w.files) same
-unread_list_keeps words was is (inr (listed, inl (silent, h))) = absurd (of_folder words was.files is.files was.input is.input was.out is.out listed h)
-unread_list_keeps words was is (inr (listed, inr (end, served, h))) = absurd h
+unread_list_keeps words was is (inr (listed, inl (same, h))) = absurd (of_holders was.files (holders_word words) h)
+unread_list_keeps words was is (inr (listed, inr (holders, given, h))) = absurd (of_locks words holders was is listed h)

@@ -1,4 +1,5 @@
 pub mod Refusals
+pub mod HoldersFile
 pub mod Totals
 pub mod Locks
 pub mod HoldsAnswer

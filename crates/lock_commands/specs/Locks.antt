@@ -1,11 +1,12 @@
 -- The answer of `locks` (this project's own).
-use Rattle.std.specs.Prelude.{◌≡◌, ℕ, ◌⊎◌, max, true, List, Option, Some}
+use Rattle.std.specs.Prelude.{◌≡◌, ℕ, ◌⊎◌, max, true, false, List, [], Option, Some}
 use Rattle.std.specs.Option.{option_map}
 use Rattle.std.specs.Io.KnownBytes.{Appends}
 use Rattle.disks.specs.Held.{Held, Replaces}
 use Rattle.segment_folder.specs.Names.{segment_file}
 use Rattle.line_loop.specs.declared.faults.LoopFault.{LoopFault}
 use Rattle.line_loop.specs.declared.faults.LoopFault.TheVariants as loop
+use Rattle.ring_locks.specs.declared.handing.Handover.{Handover}
 use Rattle.ring_locks.specs.Kept.{LockView}
 use Rattle.lock_folder.specs.declared.faults.StartFault.{StartFault}
 use Rattle.lock_folder.specs.Folders.{Place, AreStarted, AreUnstarted}
@@ -15,17 +16,28 @@ use Rattle.lock_serve.specs.declared.service.Terms.{Terms}
 use Rattle.lock_serve.specs.Counting.{IsStart}
 use Rattle.lock_serve.specs.Segmented.{segmenting}
 use Rattle.lock_serve.specs.Serving.{IsServed, is_past, stage_after}
+use Rattle.lock_serve.specs.State.{state_lines}
 use Rattle.segment_loop.specs.declared.segmented.EndFault.{EndFault}
-use Rattle.segment_loop.specs.Segments.{Moment, HasBegun}
+use Rattle.line_loop.specs.Stands.{AnsweringWith}
+use Rattle.segment_loop.specs.Segmenting.{Segmenting}
+use Rattle.segment_loop.specs.Segments.{Moment, HasBegun, IsLeftUnbegun}
 use Rattle.segment_loop.specs.Service.{ServesSegments, ServesSomeSegments, IsFaultOf}
 use Rattle.segment_loop.specs.Notes.{ToldLinesAreNoted}
+use Rattle.line_replica.specs.declared.replica.Replica.{Replica}
+use Rattle.line_replica.specs.declared.restorable.Restorable.{Restorable}
+use Rattle.line_replica.specs.Replies.{IsReplied}
+use Rattle.line_replica.specs.Running.{at_place}
+use Rattle.line_replica.specs.Segmented as around
+use Rattle.line_replica.specs.Restoring as behind
+use Rattle.line_replica.specs.State.{lines_of, IsRestorable}
 use Rattle.ring_requests.specs.declared.requests.LocksWords.{LocksWords}
 use Rattle.ring_commands.specs.declared.faults.ToolError.{ToolError}
 use Rattle.ring_commands.specs.declared.faults.ToolError.TheVariants as tool
 use Rattle.ring_commands.specs.Served.{IsUnserved}
-use Rattle.ring_commands.specs.ServedFolder.{IsLocked, IsUnkeptFolder}
+use Rattle.ring_commands.specs.ServedFolder.{IsLocked, IsLockLeft, IsUnkeptFolder}
 use Rattle.ring_commands.specs.Worlds.{World}
 use Rattle.lock_commands.specs.Refusals.{IsStartName, IsBeginName, IsLoopName, IsListIf, IsNoListFor}
+use Rattle.lock_commands.specs.HoldersFile.{holders_word, name_of, AreHoldersOf, HasNoHolders}
 use Rattle.lock_commands.specs.Totals.{total_line, IsUntold}
 
 -- the folder, and the list of locks, by the words
@@ -44,117 +56,157 @@ terms_of words = record {
   faults = words.faults;
   noting = true;
   limit = Some (most_lines words);
+  strict = words.strict;
 }
 
--- the service begins with these locks
-pub record BeginsWith (words : LocksWords) (locks : List LockView) (s : LockService) : Type 0
+-- the service that answers: a replica of the locks' service, whose state is told where it is asked;
+-- how it answers a line, and how it lives in segments
+abbrev pub Service : Type 0
+Service = Restorable (Replica LockService)
+
+abbrev pub answering : AnsweringWith Service
+answering = IsRestorable (IsReplied IsServed) (lines_of state_lines)
+
+abbrev pub by_segments : Segmenting Service
+by_segments = behind.segmenting (around.segmenting segmenting)
+
+-- the service inside begins with these locks
+pub record BeginsInside (words : LocksWords) (locks : List LockView) (s : LockService) : Type 0
   where
     pub segment : IsStart (most_lines words) locks s.segment
     pub terms : s.terms ≡ terms_of words
     pub stage_is : s.stage ≡ stage_after stage.Open (is_past (terms_of words) s.segment)
 
+-- the service begins with these locks, with no key, before the first place
+pub record BeginsWith (words : LocksWords) (locks : List LockView) (s : Service) : Type 0 where
+  pub inside : BeginsInside words locks s.inner.numbered.inner
+  pub keys : s.inner.numbered.keys ≡ []
+  pub running : s.inner.running ≡ at_place 0 []
+  pub whole : s.inner.lost ≡ false
+
 -- It began where the locks start: the file of its first segment was put into the folder.
 pub record HasStarted (words : LocksWords) (start : Place) (files : Option Held)
-    (first : Moment LockService) : Type 0 where
-  pub service : LockService
+    (first : Moment Service) : Type 0 where
+  pub service : Service
   pub begins : BeginsWith words start.locks service
-  pub begun : HasBegun segmenting (folder_of words) service start.number start.behind files first
+  pub begun : HasBegun by_segments (folder_of words) service start.number start.behind files first
 
 -- All lines were served from there on, in segments, and the file of the last one was settled.
-pub record IsRun (words : LocksWords) (start : Place) (end : LockService)
+pub record IsRun (words : LocksWords) (start : Place) (end : Service)
     (before after : Option Held) (was is old new : Option (List ℕ)) : Type 0 where
-  pub first : Moment LockService
-  pub last : Moment LockService
+  pub first : Moment Service
+  pub last : Moment Service
   pub started : HasStarted words start before first
-  pub served : ServesSegments IsServed segmenting (folder_of words) first last was is old new
+  pub served : ServesSegments answering by_segments (folder_of words) first last was is old new
   pub end_is : end ≡ last.service
   pub settled : Replaces last.files after (segment_file (folder_of words) last.number) last.journal
 
--- The folder's lock was had, the locks started, and all lines were served from there.
-pub record IsServedIn (words : LocksWords) (end : LockService) (before after : Option Held)
-    (was is old new : Option (List ℕ)) : Type 0 where
+-- The folder's lock was had, the locks started with these holders, and all lines were served from
+-- there.
+pub record IsServedIn (words : LocksWords) (holders : List Handover) (end : Service)
+    (before after : Option Held) (was is old new : Option (List ℕ)) : Type 0 where
   pub there : Option Held
   pub locked : IsLocked before there (folder_of words)
   pub listed : Option Held
   pub start : Place
-  pub started : AreStarted (folder_of words) (list_of words) there listed start
+  pub started : AreStarted (folder_of words) (list_of words) holders there listed start
   pub run : IsRun words start end listed after was is old new
 
 -- The same, and the sums over the locks are reported on standard error.
 pub record IsLocksAnswer (words : LocksWords) (was is : World) : Type 0 where
-  pub end : LockService
-  pub served : IsServedIn words end was.files is.files was.input is.input was.out is.out
-  pub told : Appends was.err is.err (total_line end.segment.locks)
+  pub holders : List Handover
+  pub given : AreHoldersOf was.files (holders_word words) holders
+  pub end : Service
+  pub served : IsServedIn words holders end was.files is.files was.input is.input was.out is.out
+  pub told : Appends was.err is.err (total_line end.inner.numbered.inner.segment.locks)
 
 -- ---- refusals
 
--- there is no memory for the service, or its first segment cannot be begun
-abbrev pub IsUnbegun : LocksWords → ToolError → Type 0
-IsUnbegun words e =
-    (e ≡ tool.OutOfMemory) ⊎ ((why : EndFault) × IsBeginName (folder_of words) why e)
+-- there is no memory for the service, and no file has changed; or its first segment cannot be begun,
+-- and the files are as they were, or its whole file was put there
+abbrev pub IsUnbegun : LocksWords → Place → Option Held → Option Held → ToolError → Type 0
+IsUnbegun words start before after e =
+    ((after ≡ before) × (e ≡ tool.OutOfMemory))
+    ⊎ ((service : Service)
+    × BeginsWith words start.locks service
+    × IsLeftUnbegun (folder_of words) start.number
+    (by_segments.text service start.number start.behind) before after
+    × ((why : EndFault) × IsBeginName (folder_of words) why e))
 
 -- Some lines were answered, and then there was this fault. Whatever was told is noted.
-pub record IsBroken (words : LocksWords) (first : Moment LockService) (after : Option Held)
+pub record IsBroken (words : LocksWords) (first : Moment Service) (after : Option Held)
     (was is old new : Option (List ℕ)) (e : ToolError) : Type 0 where
   pub why : LoopFault
-  pub end : LockService
+  pub end : Service
   pub journal : Option (List ℕ)
-  pub served : ServesSomeSegments IsServed segmenting (folder_of words) first end after was is old
+  pub served : ServesSomeSegments answering by_segments (folder_of words) first end after was is old
       new
-  pub noted : ToldLinesAreNoted IsServed segmenting (folder_of words) first end was is old new
+  pub noted : ToldLinesAreNoted answering by_segments (folder_of words) first end was is old new
       journal
   pub long : IsFaultOf why was is
   pub named : IsLoopName (folder_of words) why e
 
--- all lines were answered, and the last segment cannot be settled
-abbrev pub IsUnsettled : LocksWords → Moment LockService → Option (List ℕ) → Option (List ℕ)
-    → Option (List ℕ) → Option (List ℕ) → ToolError → Type 0
-IsUnsettled words first was is old new e =
-    (last : Moment LockService)
-    × ServesSegments IsServed segmenting (folder_of words) first last was is old new
+-- all lines were answered, and the last segment cannot be settled: that changed no file
+abbrev pub IsUnsettled : LocksWords → Moment Service → Option Held → Option (List ℕ)
+    → Option (List ℕ) → Option (List ℕ) → Option (List ℕ) → ToolError → Type 0
+IsUnsettled words first after was is old new e =
+    (last : Moment Service)
+    × ServesSegments answering by_segments (folder_of words) first last was is old new
+    × (after ≡ last.files)
     × IsLoopName (folder_of words) loop.Journal e
 
 -- the locks that start here are not served to the end
 abbrev pub IsRunRefused : LocksWords → Place → Option Held → Option Held → Option (List ℕ)
     → Option (List ℕ) → Option (List ℕ) → Option (List ℕ) → ToolError → Type 0
 IsRunRefused words start before after was is old new e =
-    (IsUnserved was is old new × IsUnbegun words e)
-    ⊎ ((first : Moment LockService)
+    (IsUnserved was is old new × IsUnbegun words start before after e)
+    ⊎ ((first : Moment Service)
     × HasStarted words start before first
     × (IsBroken words first after was is old new e
-    ⊎ IsUnsettled words first was is old new e))
+    ⊎ IsUnsettled words first after was is old new e))
 
 -- the locks of the folder do not start, and only the lock of the folder was made
-abbrev pub IsStartRefused : LocksWords → Option Held → Option Held → ToolError → Type 0
-IsStartRefused words there after e =
+abbrev pub IsStartRefused : LocksWords → List Handover → Option Held → Option Held → ToolError
+    → Type 0
+IsStartRefused words holders there after e =
     (after ≡ there)
     × ((why : StartFault)
-    × AreUnstarted there (folder_of words) (list_of words) why
-    × IsStartName (folder_of words) why e)
+    × AreUnstarted there (folder_of words) (list_of words) holders why
+    × IsStartName (folder_of words) (name_of (holders_word words)) why e)
 
 -- The folder is not to be had, or its locks do not start, and no line is read; or they are not
 -- served to the end.
-abbrev pub IsRefusedIn : LocksWords → Option Held → Option Held → Option (List ℕ)
-    → Option (List ℕ) → Option (List ℕ) → Option (List ℕ) → ToolError → Type 0
-IsRefusedIn words before after was is old new e =
-    (IsUnserved was is old new × IsUnkeptFolder (folder_of words) e)
+abbrev pub IsRefusedIn : LocksWords → List Handover → Option Held → Option Held
+    → Option (List ℕ) → Option (List ℕ) → Option (List ℕ) → Option (List ℕ) → ToolError → Type 0
+IsRefusedIn words holders before after was is old new e =
+    (IsUnserved was is old new
+    × IsLockLeft before after (folder_of words)
+    × IsUnkeptFolder (folder_of words) e)
     ⊎ ((there : Option Held)
     × IsLocked before there (folder_of words)
-    × ((IsUnserved was is old new × IsStartRefused words there after e)
+    × ((IsUnserved was is old new × IsStartRefused words holders there after e)
     ⊎ ((listed : Option Held)
     × (start : Place)
-    × AreStarted (folder_of words) (list_of words) there listed start
+    × AreStarted (folder_of words) (list_of words) holders there listed start
     × IsRunRefused words start listed after was is old new e)))
 
--- Which refusals `locks` may meet: that of the list that is named, where nothing has changed at
--- all; those of the folder, and those while lines are served, where nothing is told on standard
--- error; and, when all lines have been served, those of the sums.
+-- with these holders: those of the folder, and those while lines are served, where nothing is told
+-- on standard error; and, when all lines have been served, those of the sums
+abbrev pub IsRefusedWith : LocksWords → List Handover → World → World → ToolError → Type 0
+IsRefusedWith words holders was is e =
+    ((is.err ≡ was.err)
+    × IsRefusedIn words holders was.files is.files was.input is.input was.out is.out e)
+    ⊎ ((end : Service)
+    × IsServedIn words holders end was.files is.files was.input is.input was.out is.out
+    × IsUntold end.inner.numbered.inner.segment.locks was.err is.err e)
+
+-- Which refusals `locks` may meet: that of the list that is named, and that of the file of the
+-- holders, where nothing has changed at all; and those of the locks that start with these holders.
 abbrev pub IsLocksRefusal : LocksWords → World → World → ToolError → Type 0
 IsLocksRefusal words was is e =
     ((is ≡ was) × IsNoListFor (list_of words) e)
     ⊎ (IsListIf (list_of words)
-    × (((is.err ≡ was.err)
-    × IsRefusedIn words was.files is.files was.input is.input was.out is.out e)
-    ⊎ ((end : LockService)
-    × IsServedIn words end was.files is.files was.input is.input was.out is.out
-    × IsUntold end.segment.locks was.err is.err e)))
+    × (((is ≡ was) × HasNoHolders was.files (holders_word words) e)
+    ⊎ ((holders : List Handover)
+    × AreHoldersOf was.files (holders_word words) holders
+    × IsRefusedWith words holders was is e)))

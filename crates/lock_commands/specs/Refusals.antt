@@ -32,26 +32,28 @@ fault_of_list (list.Size place error) = tool.Ring place (cause_of error)
 fault_of_list (list.Twice place) = tool.Twice place
 fault_of_list list.OutOfMemory = tool.OutOfMemory
 
--- the refusal for locks of this folder that do not start
-abbrev pub IsStartName : List ℕ → StartFault → ToolError → Type 0
-IsStartName folder (start.Folder error) e = IsFolderFault folder error e
-IsStartName folder (start.Word error) e = e ≡ fault_of_list error
-IsStartName folder start.NoLocks (tool.NoLocks named) = named.now ≡ folder
-IsStartName folder start.NoLocksFile (tool.NoLocksFile named) = named.now ≡ folder
-IsStartName folder start.UnreadLocks (tool.UnreadLocks named) = named.now ≡ folder
-IsStartName folder start.BadLocks (tool.BadLocks named) = named.now ≡ folder
-IsStartName folder (start.OtherLock i) (tool.OtherLock named place) =
+-- the refusal for locks of this folder that do not start, with holders of the file of this name
+abbrev pub IsStartName : List ℕ → List ℕ → StartFault → ToolError → Type 0
+IsStartName folder file (start.Folder error) e = IsFolderFault folder error e
+IsStartName folder file (start.Word error) e = e ≡ fault_of_list error
+IsStartName folder file start.NoLocks (tool.NoLocks named) = named.now ≡ folder
+IsStartName folder file start.NoLocksFile (tool.NoLocksFile named) = named.now ≡ folder
+IsStartName folder file start.UnreadLocks (tool.UnreadLocks named) = named.now ≡ folder
+IsStartName folder file start.BadLocks (tool.BadLocks named) = named.now ≡ folder
+IsStartName folder file (start.OtherLock i) (tool.OtherLock named place) =
     (named.now ≡ folder) × (place ≡ i)
-IsStartName folder (start.UnreadSegment n) (tool.UnreadSegment named number) =
+IsStartName folder file (start.UnreadSegment n) (tool.UnreadSegment named number) =
     (named.now ≡ folder) × (number ≡ n)
-IsStartName folder (start.Segment n error) (tool.Segment named number cause) =
+IsStartName folder file (start.Segment n error) (tool.Segment named number cause) =
     (named.now ≡ folder) × (number ≡ n) × (cause ≡ error)
-IsStartName folder (start.OtherRing i) (tool.OtherRing named place) =
+IsStartName folder file (start.OtherRing i) (tool.OtherRing named place) =
     (named.now ≡ folder) × (place ≡ i)
-IsStartName folder (start.Full i) (tool.Full place) = place ≡ i
-IsStartName folder start.Unsaved (tool.Save named) = named.now ≡ folder
-IsStartName folder start.OutOfMemory tool.OutOfMemory = Unit {0}
-IsStartName folder _ _ = ⊥
+IsStartName folder file (start.Full i) (tool.Full place) = place ≡ i
+IsStartName folder file (start.Holder l) (tool.NoOpenHold named line) =
+    (named.now ≡ file) × (line ≡ l)
+IsStartName folder file start.Unsaved (tool.Save named) = named.now ≡ folder
+IsStartName folder file start.OutOfMemory tool.OutOfMemory = Unit {0}
+IsStartName folder file _ _ = ⊥
 
 -- the refusal for a segment in this folder that cannot be begun
 abbrev pub IsBeginName : List ℕ → EndFault → ToolError → Type 0

@@ -8,15 +8,17 @@ ghost use Rattle.ring_commands.specs.Worlds.{world};
 ghost use Rattle.lock_commands.specs.Refusals.{IsListIf, IsNoListFor};
 ghost use Rattle.lock_commands.specs.Locks.{terms_of, BeginsWith, IsRun, IsServedIn, IsLocksAnswer, IsRunRefused, IsRefusedIn, IsLocksRefusal};
 
+use crate::holders::{holders_of, name_of};
 use crate::refusals::{begin_refusal, list_refusal, serving_refusal, start_refusal};
 use crate::totals::tell_totals;
 use disks::Disk;
+use line_replica::{Replica, Restorable};
 use lock_folder::{Start, start_locks};
 use lock_lists::read_list_word;
 use lock_serve::{LockService, Terms};
 use ring_commands::faults::ToolError;
 use ring_commands::serve_folder::lock_folder;
-use ring_locks::Locks;
+use ring_locks::{Handover, Locks};
 use ring_requests::LocksWords;
 use segment_loop::{SegmentRules, begin_segment, close_segment, serve_segments};
 use std::alloc::Global;
@@ -30,20 +32,21 @@ fn terms_of(words: &LocksWords<'_>) -> Terms
         faults: words.faults,
         noting: true,
         limit: Some((words.segment as u64).max(1)),
+        strict: words.strict,
     }
 }
 
-/// The service as it begins with these locks.
+/// The service as it begins with these locks: a replica without a key, whose state is told where it is asked.
 fn service_of(
     alloc: Global,
     locks: Locks,
     words: &LocksWords<'_>,
-) -> Result<LockService, ToolError<'static>>
+) -> Result<Restorable<Replica<LockService>>, ToolError<'static>>
     ensures ok { IfOk result (λ service. BeginsWith words.now locks service) }
     ensures err { IfErr result (λ e. e ≡ ToolError.OutOfMemory) }
 {
     match LockService::new(alloc, locks, terms_of(words)) {
-        Ok(service) => Ok(service),
+        Ok(service) => Ok(Restorable::new(Replica::new(alloc, service))),
         Err(_) => Err(ToolError::OutOfMemory),
     }
 }
@@ -56,7 +59,7 @@ fn serve_from<'a, D: Disk, I: Read, W: Write>(
     words: &LocksWords<'a>,
     input: &mut I,
     out: &mut W,
-) -> Result<LockService, ToolError<'a>>
+) -> Result<Restorable<Replica<LockService>>, ToolError<'a>>
     requires digest { DigestFits start.behind }
     requires number { 0 < start.number }
     ensures ok { IfOk result (λ end.
@@ -99,23 +102,28 @@ fn run_in_folder<'a, D: Disk, I: Read, W: Write>(
     alloc: Global,
     disk: &mut D,
     words: &LocksWords<'a>,
+    holders: &[Handover],
     input: &mut I,
     out: &mut W,
-) -> Result<LockService, ToolError<'a>>
+) -> Result<Restorable<Replica<LockService>>, ToolError<'a>>
     ensures ok { IfOk result (λ end.
-        IsServedIn words.now end (D.holds disk.old) (D.holds disk.new) (I.remaining input.old)
-        (I.remaining input.new) (W.contents out.old) (W.contents out.new)) }
+        IsServedIn words.now holders.now end (D.holds disk.old) (D.holds disk.new)
+        (I.remaining input.old) (I.remaining input.new) (W.contents out.old)
+        (W.contents out.new)) }
     ensures err { IfErr result (λ e.
-        IsRefusedIn words.now (D.holds disk.old) (D.holds disk.new) (I.remaining input.old)
-        (I.remaining input.new) (W.contents out.old) (W.contents out.new) e) }
+        IsRefusedIn words.now holders.now (D.holds disk.old) (D.holds disk.new)
+        (I.remaining input.old) (I.remaining input.new) (W.contents out.old)
+        (W.contents out.new) e) }
 {
     let lock = match lock_folder(alloc, disk, words.journal) {
         Ok(lock) => lock,
         Err(fault) => return Err(fault),
     };
-    let start = match start_locks(alloc, disk, words.journal, words.locks) {
+    let start = match start_locks(alloc, disk, words.journal, words.locks, holders) {
         Ok(start) => start,
-        Err(fault) => return Err(start_refusal(fault, words.journal)),
+        Err(fault) => {
+            return Err(start_refusal(fault, words.journal, name_of(words.holders)));
+        }
     };
     let end = serve_from(alloc, disk, start, words, input, out);
     drop(lock);
@@ -136,8 +144,8 @@ fn check_named(alloc: Global, word: Option<&str>) -> Result<(), ToolError<'stati
     }
 }
 
-/// `locks`, from its words: the locks of the folder answer the lines of `input` on `out`; when all have been, the sums over the
-/// locks are reported on `err`.
+/// `locks`, from its words: the locks of the folder, with the open holds of the clients that the file of the holders names, answer
+/// the lines of `input` on `out`; when all have been, the sums over the locks are reported on `err`.
 pub fn run<'a, D: Disk, I: Read, W: Write, E: Write>(
     alloc: Global,
     disk: &mut D,
@@ -160,11 +168,15 @@ pub fn run<'a, D: Disk, I: Read, W: Write, E: Write>(
         Ok(()) => {}
         Err(fault) => return Err(fault),
     }
-    let end = match run_in_folder(alloc, disk, words, input, out) {
+    let holders = match holders_of(alloc, disk, words.holders) {
+        Ok(holders) => holders,
+        Err(fault) => return Err(fault),
+    };
+    let end = match run_in_folder(alloc, disk, words, holders.as_slice(), input, out) {
         Ok(end) => end,
         Err(fault) => return Err(fault),
     };
-    match tell_totals(end.locks(), err) {
+    match tell_totals(end.inner().inner().locks(), err) {
         Ok(()) => Ok(()),
         Err(fault) => Err(fault),
     }

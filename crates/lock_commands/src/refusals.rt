@@ -51,9 +51,9 @@ fn folder_refusal<'a>(error: FolderError, folder: &'a str) -> ToolError<'a>
     }
 }
 
-/// Returns the refusal for locks of a folder that do not start.
-pub(crate) fn start_refusal<'a>(fault: StartFault, folder: &'a str) -> ToolError<'a>
-    ensures { IsStartName folder.now fault result }
+/// Returns the refusal for locks of a folder that do not start, with holders of a file.
+pub(crate) fn start_refusal<'a>(fault: StartFault, folder: &'a str, file: &'a str) -> ToolError<'a>
+    ensures { IsStartName folder.now file.now fault result }
 {
     match fault {
         StartFault::Folder(error) => folder_refusal(error, folder),
@@ -67,6 +67,7 @@ pub(crate) fn start_refusal<'a>(fault: StartFault, folder: &'a str) -> ToolError
         StartFault::Segment(number, error) => ToolError::Segment(folder, number, error),
         StartFault::OtherRing(place) => ToolError::OtherRing(folder, place),
         StartFault::Full(place) => ToolError::Full(place as u64),
+        StartFault::Holder(line) => ToolError::NoOpenHold(file, line),
         StartFault::Unsaved => ToolError::Save(folder),
         StartFault::OutOfMemory => ToolError::OutOfMemory,
     }

@@ -2,6 +2,7 @@
 
 use crate::locks::run;
 use disks::{MemoryDisk, Stored, StoredEntry};
+use ring_commands::faults::ToolError;
 use ring_requests::LocksWords;
 use std::alloc::Global;
 use std::process::Abort;
@@ -47,9 +48,11 @@ fn serves(
     let words = LocksWords {
         journal: "j",
         locks,
+        holders: None,
         segment: 100,
         synced: false,
         faults: false,
+        strict: false,
     };
     let alloc = disk.alloc;
     let mut input: &[u8] = lines.as_bytes();
@@ -105,4 +108,95 @@ fn ends_an_open_hold(rt: HostRuntime) {
     );
     assert!(rt; has(&disk, "j/locks", "deploy 3 3\n"));
     assert!(rt; has(&disk, "j/0000000001.ring", AGAIN));
+}
+
+/// Adds a file.
+fn put(rt: &impl Abort, disk: &mut MemoryDisk, name: &str, bytes: &str) {
+    let mut held = Vec::new(disk.alloc);
+    assert!(rt; held.extend_from_slice(bytes.as_bytes()).is_ok());
+    let Ok(name) = String::from_str(disk.alloc, name) else {
+        panic!(rt; "a name");
+    };
+    let file = StoredEntry {
+        name,
+        stored: Stored::File(held),
+    };
+    assert!(rt; disk.entries.push(file).is_ok());
+}
+
+/// The words of a start that hands the open holds over to the clients of this file.
+fn with_holders(file: &str) -> LocksWords<'_> {
+    LocksWords {
+        journal: "j",
+        locks: None,
+        holders: Some(file),
+        segment: 100,
+        synced: false,
+        faults: false,
+        strict: false,
+    }
+}
+
+/// The segment of such a start.
+const HANDED: &str =
+    "ringsegment 1 1 1\nbehind 0000000000000000000000000000000000000000000000000000000000000000\nbase 0 0 0 0\nringjournal 1\nringfarm 2\nring 0 3 3\nstart 0 0 0\np 0 0 77 g 1 77\nend 1\ndone 1\n0 s 1 1 1 1 1 0\n";
+
+#[test]
+fn hands_an_open_hold_over(rt: HostRuntime) {
+    let alloc = rt.alloc();
+    let mut disk = with_folder(&rt, alloc);
+    serves(
+        &rt,
+        &mut disk,
+        Some("deploy:3"),
+        "7 try 0 77\n",
+        "7 granted 0 1\n",
+        "total locks 1 events 1 granted 1\n",
+    );
+    put(&rt, &mut disk, "bad", "hold 0 1 9\nhold 0 1 9\n");
+    let mut input: &[u8] = b"0 leave\n";
+    let mut out = Vec::new(alloc);
+    let mut err = Vec::new(alloc);
+    let words = with_holders("bad");
+    let refused = run(alloc, &mut disk, &words, &mut input, &mut out, &mut err);
+    assert!(rt; matches!(refused, Err(ToolError::NoOpenHold("bad", 2))));
+    assert!(rt; input == b"0 leave\n".as_slice() && out.is_empty() && err.is_empty());
+    put(&rt, &mut disk, "who", "hold 0 1 9\n");
+    let mut input: &[u8] = b"0 leave\n0 release 0 1\n9 release 0 1\n";
+    let words = with_holders("who");
+    assert!(rt; run(alloc, &mut disk, &words, &mut input, &mut out, &mut err).is_ok());
+    assert!(rt; out.as_slice() == b"0 refused holder 0\n9 released 0\n".as_slice());
+    assert!(rt; err.as_slice() == b"total locks 1 events 1 granted 1\n".as_slice());
+    assert!(rt; has(&disk, "j/0000000001.ring", HANDED));
+}
+
+/// A state: a hold, a client that waits, a key, and a place.
+const STATE: &str =
+    "hold 0 1 1\n2 acquire 0 78\n8 3 did 2 waiting 0 0\nat 5 0000000000000000000000000000000000000000000000000000000000000000\nstate 4\n";
+
+// A state is told; a start with its hold and its other lines tells it again.
+#[test]
+fn brings_a_state_back(rt: HostRuntime) {
+    let alloc = rt.alloc();
+    let mut disk = with_folder(&rt, alloc);
+    serves(
+        &rt,
+        &mut disk,
+        Some("deploy:3"),
+        "1 acquire 0 77\n8 3 2 acquire 0 78\nat 5\nstate\n",
+        "1 granted 0 1\n2 waiting 0 0\nat 5 0000000000000000000000000000000000000000000000000000000000000000\nhold 0 1 1\n2 acquire 0 78\n8 3 did 2 waiting 0 0\nat 5 0000000000000000000000000000000000000000000000000000000000000000\nstate 4\n",
+        "total locks 1 events 1 granted 1\n",
+    );
+    put(&rt, &mut disk, "who", "hold 0 1 1\n");
+    let mut input: &[u8] =
+        b"2 acquire 0 78\n8 3 did 2 waiting 0 0\nat 5 0000000000000000000000000000000000000000000000000000000000000000\nstate\n8 3 2 acquire 0 78\n";
+    let mut out = Vec::new(alloc);
+    let mut err = Vec::new(alloc);
+    let words = with_holders("who");
+    assert!(rt; run(alloc, &mut disk, &words, &mut input, &mut out, &mut err).is_ok());
+    let first = b"2 waiting 0 0\n";
+    assert!(rt; out.starts_with(first.as_slice()) && out.ends_with(first.as_slice()));
+    assert!(rt; out.len() == 2 * first.len() + STATE.len());
+    assert!(rt; out[first.len()..].starts_with(STATE.as_bytes()));
+    assert!(rt; err.as_slice() == b"total locks 1 events 1 granted 1\n".as_slice());
 }

@@ -1,10 +1,10 @@
 -- The locks of a folder (this project's own).
-use Rattle.std.specs.Prelude.{◌≡◌, ◌≢◌, ℕ, ◌<◌, List, [], ◌++◌, length, slice_get, codes, Bool, true, false, Option, Some, None, Ok, Err, ◌⊎◌, ⊤}
+use Rattle.std.specs.Prelude.{◌≡◌, ◌≢◌, ℕ, ◌<◌, List, [], ◌++◌, length, slice_get, Bool, true, false, Option, Some, None, Ok, Err, ◌⊎◌, ⊤}
 use Rattle.std.specs.Str.{IsUtf8}
 use Rattle.disks.specs.Held.{Held, bytes_of, Replaces}
 use Rattle.disks.specs.Folders.{Lists, is_among, names_of, path_in}
 use Rattle.disks.specs.declared.disk.FolderEntry.{FolderEntry}
-use Rattle.segment_folder.specs.Names.{segment_file}
+use Rattle.segment_folder.specs.Names.{list_name, segment_file}
 use Rattle.segment_folder.specs.Numbers.{IsRightNumbers}
 use Rattle.segment_folder.specs.declared.errors.FolderError.{FolderError}
 use Rattle.segment_folder.specs.declared.errors.FolderError.TheVariants as folders
@@ -13,7 +13,10 @@ use Rattle.ring_segments.specs.Spelling.{no_digest}
 use Rattle.ring_segments.specs.Last.{IsRightLast}
 use Rattle.ring_segments.specs.declared.last.LastSegment.{LastSegment}
 use Rattle.ring_segments.specs.declared.errors.SegmentError.TheVariants as segment
+use Rattle.ring_locks.specs.declared.handing.Handover.{Handover}
 use Rattle.ring_locks.specs.Kept.{LockView}
+use Rattle.ring_locks.specs.Handed.{AreHanded}
+use Rattle.lock_holders.specs.Holders.{IsNotHanded}
 use Rattle.lock_lists.specs.declared.locks.ListError.{ListError}
 use Rattle.lock_lists.specs.Lists.{Listed, IsLockList, IsLockFile, IsWordFault, IsFileFault, file_text}
 use Rattle.lock_folder.specs.declared.faults.StartFault.{StartFault}
@@ -28,7 +31,7 @@ IsHeld (Some held) name bytes = bytes_of held name ≡ Some bytes
 
 -- the file of the locks of a folder
 abbrev pub locks_file : List ℕ → List ℕ
-locks_file folder = path_in folder (codes "locks")
+locks_file folder = path_in folder list_name
 
 -- ---- where locks start
 
@@ -70,6 +73,15 @@ abbrev pub StandsAt : Option Held → List ℕ → Option SegmentNumbers → Lis
 StandsAt files folder None ls p = IsAtFirst ls p
 StandsAt files folder (Some r) ls p = IsAfter files folder r.last ls p
 
+-- and then each of these open holds was handed to its client
+pub record StandsHanded (files : Option Held) (folder : List ℕ) (range : Option SegmentNumbers)
+    (ls : List Listed) (holders : List Handover) (p : Place) : Type 0 where
+  pub found : Place
+  pub stands : StandsAt files folder range ls found
+  pub handed : AreHanded found.locks holders p.locks
+  pub number : p.number ≡ found.number
+  pub behind : p.behind ≡ found.behind
+
 -- ---- which locks a folder has
 
 -- the list continues another
@@ -105,21 +117,22 @@ IsListSaved folder (Some word) ls before after =
 -- The locks of the folder start here, by whether it has a file of locks and by which segments it
 -- has.
 pub record AreStartedIn (folder : List ℕ) (has : Bool) (range : Option SegmentNumbers)
-    (word : Option (List ℕ)) (before after : Option Held) (p : Place) : Type 0 where
+    (word : Option (List ℕ)) (holders : List Handover) (before after : Option Held) (p : Place) :
+    Type 0 where
   pub locks : List Listed
   pub named : AreLocksOf before folder has range word locks
-  pub stands : StandsAt before folder range locks p
+  pub stands : StandsHanded before folder range locks holders p
   pub saved : IsListSaved folder word locks before after
 
 -- the same, by the names in the folder
-pub record AreStarted (folder : List ℕ) (word : Option (List ℕ)) (before after : Option Held)
-    (p : Place) : Type 0 where
+pub record AreStarted (folder : List ℕ) (word : Option (List ℕ)) (holders : List Handover)
+    (before after : Option Held) (p : Place) : Type 0 where
   pub entries : List FolderEntry
   pub listed : Lists before folder (names_of entries)
   pub range : Option SegmentNumbers
   pub right : IsRightNumbers entries (Ok range)
-  pub started : AreStartedIn folder (is_among (names_of entries) (codes "locks")) range word before
-      after p
+  pub started : AreStartedIn folder (is_among (names_of entries) list_name) range word holders
+      before after p
 
 -- ---- refusals
 
@@ -177,6 +190,20 @@ abbrev pub IsPlaceFault : Option Held → List ℕ → Option SegmentNumbers →
 IsPlaceFault files folder None ls e = IsFirstFault ls e
 IsPlaceFault files folder (Some r) ls e = IsLastFault files folder r.last ls e
 
+-- the hold of a line is not open
+abbrev pub IsUnhanded : List LockView → List Handover → StartFault → Type 0
+IsUnhanded locks holders (fault.Holder line) = IsNotHanded locks holders line
+IsUnhanded locks holders _ = ⊥
+
+-- the locks do not start, or a hold is not open
+abbrev pub IsHandingFault : Option Held → List ℕ → Option SegmentNumbers → List Listed
+    → List Handover → StartFault → Type 0
+IsHandingFault files folder range ls holders e =
+    IsPlaceFault files folder range ls e
+    ⊎ ((found : Place)
+    × StandsAt files folder range ls found
+    × IsUnhanded found.locks holders e)
+
 -- no locks are named and the folder has none; or it has segments, but no file of locks
 abbrev pub IsListless : Option SegmentNumbers → Option (List ℕ) → StartFault → Type 0
 IsListless range word fault.NoLocks = (range ≡ None) × (word ≡ None)
@@ -194,8 +221,8 @@ IsFileRefusal files folder e =
 -- Why the locks of a folder do not start, by whether it has a file of locks. Every file is as it
 -- was.
 abbrev pub IsStartRefusal : Option Held → List ℕ → Bool → Option SegmentNumbers
-    → Option (List ℕ) → StartFault → Type 0
-IsStartRefusal files folder has range word e =
+    → Option (List ℕ) → List Handover → StartFault → Type 0
+IsStartRefusal files folder has range word holders e =
     ((has ≡ false) × IsListless range word e)
     ⊎ (((has ≡ true) × IsFileRefusal files folder e)
     ⊎ (((w : List ℕ) × (word ≡ Some w) × IsWordRefusal w e)
@@ -208,12 +235,13 @@ IsStartRefusal files folder has range word e =
     × IsDifference old ls e)
     ⊎ (((ls : List Listed)
     × AreLocksOf files folder has range word ls
-    × IsPlaceFault files folder range ls e)
+    × IsHandingFault files folder range ls holders e)
     ⊎ ((e ≡ fault.Unsaved) ⊎ (e ≡ fault.OutOfMemory))))))
 
 -- the same of the folder; or its names are refused
-abbrev pub AreUnstarted : Option Held → List ℕ → Option (List ℕ) → StartFault → Type 0
-AreUnstarted files folder word e =
+abbrev pub AreUnstarted : Option Held → List ℕ → Option (List ℕ) → List Handover → StartFault
+    → Type 0
+AreUnstarted files folder word holders e =
     (e ≡ fault.Folder folders.Unlisted)
     ⊎ ((entries : List FolderEntry)
     × Lists files folder (names_of entries)
@@ -222,4 +250,5 @@ AreUnstarted files folder word e =
     × IsRightNumbers entries (Err error))
     ⊎ ((range : Option SegmentNumbers)
     × IsRightNumbers entries (Ok range)
-    × IsStartRefusal files folder (is_among (names_of entries) (codes "locks")) range word e)))
+    × IsStartRefusal files folder (is_among (names_of entries) list_name) range word holders
+    e)))

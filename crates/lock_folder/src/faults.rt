@@ -29,6 +29,8 @@ pub enum StartFault {
     OtherRing(usize),
     /// Its ring at this place has no room for its repair.
     Full(usize),
+    /// The hold on this line of the holders, from 1, is not open.
+    Holder(u64),
     /// The file of locks cannot be written.
     Unsaved,
     OutOfMemory,

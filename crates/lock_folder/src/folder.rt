@@ -5,13 +5,14 @@ ghost use Rattle.std.specs.Option.{option_map};
 ghost use Rattle.disks.specs.Held.{Replaces};
 ghost use Rattle.ring_segments.specs.Spelling.{DigestFits};
 ghost use Rattle.lock_lists.specs.Lists.{listed, file_text};
-ghost use Rattle.lock_folder.specs.Folders.{AreStarted, AreUnstarted, AreStartedIn, IsStartRefusal, IsPlaceFault, IsOfFile, StandsAt, locks_file, place_of};
+ghost use Rattle.lock_folder.specs.Folders.{AreStarted, AreUnstarted, AreStartedIn, IsStartRefusal, IsHandingFault, IsOfFile, StandsHanded, locks_file, place_of};
 
 use crate::faults::StartFault;
 use crate::lists::{check_continues, has_list, list_bytes, list_in, list_named, save_list};
-use crate::places::{Start, place};
+use crate::places::{Start, place_handed};
 use disks::Disk;
 use lock_lists::ListedLock;
+use ring_locks::Handover;
 use segment_folder::{FolderError, SegmentNumbers, numbers_among};
 use std::alloc::Global;
 
@@ -22,16 +23,19 @@ fn start_named<D: Disk>(
     folder: &str,
     range: Option<SegmentNumbers>,
     list: &[ListedLock<'_>],
+    holders: &[Handover],
 ) -> Result<Start, StartFault>
-    ensures ok { IfOk result (λ start. StandsAt (D.holds disk.old) folder.now range (map listed list.now) (place_of start)
+    ensures ok { IfOk result (λ start. StandsHanded (D.holds disk.old) folder.now range
+        (map listed list.now) holders.now (place_of start)
         × Replaces (D.holds disk.old) (D.holds disk.new) (locks_file folder.now) (Some (file_text (map listed list.now)))) }
     ensures fits { IfOk result (λ start. DigestFits start.behind) }
     ensures some { IfOk result (λ start. 0 < start.number) }
     ensures kept { OnErr result (D.holds disk.new ≡ D.holds disk.old) }
-    ensures err { IfErr result (λ e. IsPlaceFault (D.holds disk.old) folder.now range (map listed list.now) e
+    ensures err { IfErr result (λ e. IsHandingFault (D.holds disk.old) folder.now range
+        (map listed list.now) holders.now e
         ⊎ ((e ≡ StartFault.Unsaved) ⊎ (e ≡ StartFault.OutOfMemory))) }
 {
-    let start = match place(alloc, disk, folder, range, list) {
+    let start = match place_handed(alloc, disk, folder, range, list, holders) {
         Ok(start) => start,
         Err(fault) => return Err(fault),
     };
@@ -48,14 +52,15 @@ fn start_new<D: Disk>(
     folder: &str,
     range: Option<SegmentNumbers>,
     word: Option<&str>,
+    holders: &[Handover],
 ) -> Result<Start, StartFault>
     ensures ok { IfOk result (λ start. AreStartedIn folder.now false range
-        (option_map (λ w. w.now) word.entry) (D.holds disk.old) (D.holds disk.new) (place_of start)) }
+        (option_map (λ w. w.now) word.entry) holders.now (D.holds disk.old) (D.holds disk.new) (place_of start)) }
     ensures fits { IfOk result (λ start. DigestFits start.behind) }
     ensures some { IfOk result (λ start. 0 < start.number) }
     ensures kept { OnErr result (D.holds disk.new ≡ D.holds disk.old) }
     ensures err { IfErr result (λ e. IsStartRefusal (D.holds disk.old) folder.now false range
-        (option_map (λ w. w.now) word.entry) e) }
+        (option_map (λ w. w.now) word.entry) holders.now e) }
 {
     if range.is_some() {
         return Err(StartFault::NoLocksFile);
@@ -67,7 +72,7 @@ fn start_new<D: Disk>(
         Ok(list) => list,
         Err(fault) => return Err(fault),
     };
-    match start_named(alloc, disk, folder, range, &list) {
+    match start_named(alloc, disk, folder, range, &list, holders) {
         Ok(start) => Ok(start),
         Err(fault) => Err(fault),
     }
@@ -81,18 +86,19 @@ fn start_again<D: Disk>(
     range: Option<SegmentNumbers>,
     word: Option<&str>,
     old: &[ListedLock<'_>],
+    holders: &[Handover],
 ) -> Result<Start, StartFault>
     requires { IsOfFile (D.holds disk.old) folder.now (map listed old.now) }
     ensures ok { IfOk result (λ start. AreStartedIn folder.now true range
-        (option_map (λ w. w.now) word.entry) (D.holds disk.old) (D.holds disk.new) (place_of start)) }
+        (option_map (λ w. w.now) word.entry) holders.now (D.holds disk.old) (D.holds disk.new) (place_of start)) }
     ensures fits { IfOk result (λ start. DigestFits start.behind) }
     ensures some { IfOk result (λ start. 0 < start.number) }
     ensures kept { OnErr result (D.holds disk.new ≡ D.holds disk.old) }
     ensures err { IfErr result (λ e. IsStartRefusal (D.holds disk.old) folder.now true range
-        (option_map (λ w. w.now) word.entry) e) }
+        (option_map (λ w. w.now) word.entry) holders.now e) }
 {
     let Some(word) = word else {
-        return place(alloc, disk, folder, range, old);
+        return place_handed(alloc, disk, folder, range, old, holders);
     };
     let list = match list_named(alloc, word) {
         Ok(list) => list,
@@ -102,7 +108,7 @@ fn start_again<D: Disk>(
         Ok(()) => {}
         Err(fault) => return Err(fault),
     }
-    match start_named(alloc, disk, folder, range, &list) {
+    match start_named(alloc, disk, folder, range, &list, holders) {
         Ok(start) => Ok(start),
         Err(fault) => Err(fault),
     }
@@ -115,14 +121,15 @@ fn start_old<D: Disk>(
     folder: &str,
     range: Option<SegmentNumbers>,
     word: Option<&str>,
+    holders: &[Handover],
 ) -> Result<Start, StartFault>
     ensures ok { IfOk result (λ start. AreStartedIn folder.now true range
-        (option_map (λ w. w.now) word.entry) (D.holds disk.old) (D.holds disk.new) (place_of start)) }
+        (option_map (λ w. w.now) word.entry) holders.now (D.holds disk.old) (D.holds disk.new) (place_of start)) }
     ensures fits { IfOk result (λ start. DigestFits start.behind) }
     ensures some { IfOk result (λ start. 0 < start.number) }
     ensures kept { OnErr result (D.holds disk.new ≡ D.holds disk.old) }
     ensures err { IfErr result (λ e. IsStartRefusal (D.holds disk.old) folder.now true range
-        (option_map (λ w. w.now) word.entry) e) }
+        (option_map (λ w. w.now) word.entry) holders.now e) }
 {
     let bytes = match list_bytes(alloc, disk, folder) {
         Ok(bytes) => bytes,
@@ -132,7 +139,7 @@ fn start_old<D: Disk>(
         Ok(old) => old,
         Err(fault) => return Err(fault),
     };
-    match start_again(alloc, disk, folder, range, word, &old) {
+    match start_again(alloc, disk, folder, range, word, &old, holders) {
         Ok(start) => Ok(start),
         Err(fault) => Err(fault),
     }
@@ -146,44 +153,46 @@ fn start_in<D: Disk>(
     has: bool,
     range: Option<SegmentNumbers>,
     word: Option<&str>,
+    holders: &[Handover],
 ) -> Result<Start, StartFault>
     ensures ok { IfOk result (λ start. AreStartedIn folder.now has range
-        (option_map (λ w. w.now) word.entry) (D.holds disk.old) (D.holds disk.new) (place_of start)) }
+        (option_map (λ w. w.now) word.entry) holders.now (D.holds disk.old) (D.holds disk.new) (place_of start)) }
     ensures fits { IfOk result (λ start. DigestFits start.behind) }
     ensures some { IfOk result (λ start. 0 < start.number) }
     ensures kept { OnErr result (D.holds disk.new ≡ D.holds disk.old) }
     ensures err { IfErr result (λ e. IsStartRefusal (D.holds disk.old) folder.now has range
-        (option_map (λ w. w.now) word.entry) e) }
+        (option_map (λ w. w.now) word.entry) holders.now e) }
 {
     if has {
-        start_old(alloc, disk, folder, range, word)
+        start_old(alloc, disk, folder, range, word, holders)
     } else {
-        start_new(alloc, disk, folder, range, word)
+        start_new(alloc, disk, folder, range, word, holders)
     }
 }
 
 /// Where the locks of a folder start: with the rings of its last segment where that ends, each repaired, and a settled ring for
-/// each lock that has none there. An open hold is client 0's. The locks are those of the file `locks` in the folder; `word` may
+/// each lock that has none there. An open hold is client 0's, or that of the client to which `holders` hands it. The locks are those of the file `locks` in the folder; `word` may
 /// name more after them, or the locks of a new folder, and then that file is replaced.
 ///
 /// # Errors
 ///
 /// `Folder` if a name in the folder may not stand there; `NoLocks`, `NoLocksFile`, `UnreadLocks`, `BadLocks`, `Word`, `OtherLock`
-/// for the list; `UnreadSegment`, `Segment`, `OtherRing`, `Full` for the last segment; `Unsaved`, `OutOfMemory`. Every file is as
-/// it was then.
+/// for the list; `UnreadSegment`, `Segment`, `OtherRing`, `Full` for the last segment; `Holder` for a hold that is not open;
+/// `Unsaved`, `OutOfMemory`. Every file is as it was then.
 pub fn start_locks<D: Disk>(
     alloc: Global,
     disk: &mut D,
     folder: &str,
     word: Option<&str>,
+    holders: &[Handover],
 ) -> Result<Start, StartFault>
-    ensures ok { IfOk result (λ start. AreStarted folder.now (option_map (λ w. w.now) word.entry)
+    ensures ok { IfOk result (λ start. AreStarted folder.now (option_map (λ w. w.now) word.entry) holders.now
         (D.holds disk.old) (D.holds disk.new) (place_of start)) }
     ensures fits { IfOk result (λ start. DigestFits start.behind) }
     ensures some { IfOk result (λ start. 0 < start.number) }
     ensures kept { OnErr result (D.holds disk.new ≡ D.holds disk.old) }
     ensures err { IfErr result (λ e. AreUnstarted (D.holds disk.old) folder.now
-        (option_map (λ w. w.now) word.entry) e) }
+        (option_map (λ w. w.now) word.entry) holders.now e) }
 {
     let Ok(entries) = disk.list(folder) else {
         return Err(StartFault::Folder(FolderError::Unlisted));
@@ -193,7 +202,7 @@ pub fn start_locks<D: Disk>(
         Err(error) => return Err(StartFault::Folder(error)),
     };
     let has = has_list(&entries);
-    match start_in(alloc, disk, folder, has, range, word) {
+    match start_in(alloc, disk, folder, has, range, word, holders) {
         Ok(start) => Ok(start),
         Err(fault) => Err(fault),
     }

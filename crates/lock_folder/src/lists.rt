@@ -1,8 +1,9 @@
 //! The list of the locks of a folder.
 
-ghost use Rattle.std.specs.Prelude.{◌≡◌, ◌⊎◌, map, codes, string_bytes, OnOk, OnErr, IfOk, IfErr, Some};
+ghost use Rattle.std.specs.Prelude.{◌≡◌, ◌⊎◌, map, string_bytes, OnOk, OnErr, IfOk, IfErr, Some};
 ghost use Rattle.disks.specs.Folders.{is_among, names_of};
 ghost use Rattle.disks.specs.Held.{Replaces};
+ghost use Rattle.segment_folder.specs.Names.{list_name};
 ghost use Rattle.lock_lists.specs.Lists.{listed, file_text, IsLockFile, IsLockList};
 ghost use Rattle.lock_folder.specs.Folders.{IsHeld, locks_file, IsTextFault, IsWordRefusal, IsDifference, Continues};
 
@@ -16,7 +17,7 @@ use std::io::{Read, Write};
 
 /// Whether the file of locks is among these entries of a folder.
 pub fn has_list(entries: &[FolderEntry]) -> bool
-    ensures { result ≡ is_among (names_of entries.now) (codes "locks") }
+    ensures { result ≡ is_among (names_of entries.now) list_name }
 {
     for entry in entries {
         if entry.name.as_str() == "locks" {
@@ -121,6 +122,7 @@ struct ListFile<'t> {
 
 impl Contents for ListFile<'_> {
     ghost use Rattle.std.specs.Prelude.{map};
+    ghost use Rattle.segment_folder.specs.Names.{list_name};
     ghost use Rattle.lock_lists.specs.Lists.{listed, file_text};
 
     ghost bytes = { λ f. file_text (map listed f.list.now) };

@@ -6,14 +6,16 @@ ghost use Rattle.ring_chains.specs.Bases.{IsBase};
 ghost use Rattle.ring_segments.specs.Spelling.{DigestFits};
 ghost use Rattle.ring_segments.specs.Last.{IsRightLast};
 ghost use Rattle.lock_lists.specs.Lists.{listed};
-ghost use Rattle.lock_folder.specs.Folders.{IsHeld, IsUnread, IsNoEnd, IsSegmentFault, IsAtFirst, IsAtLast, IsAfter, StandsAt, place_of, IsFirstFault, IsLastFault, IsPlaceFault};
+ghost use Rattle.ring_locks.specs.Handed.{AreHanded};
+ghost use Rattle.lock_folder.specs.Folders.{IsHeld, IsUnread, IsNoEnd, IsSegmentFault, IsAtFirst, IsAtLast, IsAfter, StandsAt, StandsHanded, place_of, IsFirstFault, IsLastFault, IsPlaceFault, IsUnhanded, IsHandingFault};
 
 use crate::faults::StartFault;
 use crate::lists::file_bytes;
 use crate::rings::locks_of;
 use disks::Disk;
+use lock_holders::hand_all;
 use lock_lists::ListedLock;
-use ring_locks::Locks;
+use ring_locks::{Handover, Locks};
 use ring_segments::{DIGEST_DIGITS, LastSegment, SegmentError, read_last};
 use segment_folder::{SegmentNumbers, segment_file};
 use std::alloc::Global;
@@ -140,7 +142,7 @@ fn last_place<D: Disk>(
 }
 
 /// The locks of a list where the last segment of a folder ends, if there is one.
-pub(crate) fn place<D: Disk>(
+fn place<D: Disk>(
     alloc: Global,
     disk: &D,
     folder: &str,
@@ -157,5 +159,53 @@ pub(crate) fn place<D: Disk>(
     match range {
         None => first_place(alloc, list),
         Some(numbers) => last_place(alloc, disk, folder, numbers.last, list),
+    }
+}
+
+/// Hands each of these open holds to its client.
+fn with_holders(found: Start, holders: &[Handover]) -> Result<Start, StartFault>
+    ensures ok { IfOk result (λ start. AreHanded found.locks holders.now start.locks) }
+    ensures same { IfOk result
+        (λ start. (start.number ≡ found.number) × (start.behind ≡ found.behind)) }
+    ensures err { IfErr result (λ e. IsUnhanded found.locks holders.now e) }
+{
+    let Start {
+        mut locks,
+        number,
+        behind,
+    } = found;
+    match hand_all(&mut locks, holders) {
+        Ok(()) => Ok(Start {
+            locks,
+            number,
+            behind,
+        }),
+        Err(line) => Err(StartFault::Holder(line)),
+    }
+}
+
+/// The same, with each of these open holds as its client's.
+pub(crate) fn place_handed<D: Disk>(
+    alloc: Global,
+    disk: &D,
+    folder: &str,
+    range: Option<SegmentNumbers>,
+    list: &[ListedLock<'_>],
+    holders: &[Handover],
+) -> Result<Start, StartFault>
+    ensures ok { IfOk result (λ start. StandsHanded (D.holds disk.now) folder.now range
+        (map listed list.now) holders.now (place_of start)) }
+    ensures fits { IfOk result (λ start. DigestFits start.behind) }
+    ensures some { IfOk result (λ start. 0 < start.number) }
+    ensures err { IfErr result (λ e. IsHandingFault (D.holds disk.now) folder.now range
+        (map listed list.now) holders.now e) }
+{
+    let found = match place(alloc, disk, folder, range, list) {
+        Ok(found) => found,
+        Err(fault) => return Err(fault),
+    };
+    match with_holders(found, holders) {
+        Ok(start) => Ok(start),
+        Err(fault) => Err(fault),
     }
 }

@@ -2,7 +2,7 @@
 
 use crate::{Start, StartFault, start_locks};
 use disks::{MemoryDisk, Stored, StoredEntry};
-use ring_locks::{Answer, Holder, Stats};
+use ring_locks::{Answer, Handover, Holder, Stats};
 use std::alloc::Global;
 use std::process::Abort;
 
@@ -48,7 +48,7 @@ fn has(disk: &MemoryDisk, name: &str, bytes: &[u8]) -> bool {
 
 /// Starts the locks of the folder.
 fn started(rt: &impl Abort, alloc: Global, disk: &mut MemoryDisk, word: Option<&str>) -> Start {
-    match start_locks(alloc, disk, "j", word) {
+    match start_locks(alloc, disk, "j", word, &[]) {
         Ok(start) => start,
         Err(_) => panic!(rt; "the locks start"),
     }
@@ -59,7 +59,7 @@ fn new_and_again(rt: HostRuntime) {
     let alloc = rt.alloc();
     let mut disk = with_folder(&rt, alloc);
     put(&rt, &mut disk, "j/lock", b"");
-    let nothing = start_locks(alloc, &mut disk, "j", None);
+    let nothing = start_locks(alloc, &mut disk, "j", None, &[]);
     assert!(rt; matches!(nothing, Err(StartFault::NoLocks)));
     let start = started(&rt, alloc, &mut disk, Some("deploy,db:3:5"));
     assert!(rt; start.locks.count() == 2 && start.number == 1);
@@ -69,7 +69,7 @@ fn new_and_again(rt: HostRuntime) {
     let more = started(&rt, alloc, &mut disk, Some("deploy,db:3:5,gpu/0"));
     assert!(rt; more.locks.count() == 3);
     assert!(rt; has(&disk, "j/locks", b"deploy 8 8\ndb 3 5\ngpu/0 8 8\n"));
-    let other = start_locks(alloc, &mut disk, "j", Some("deploy,db:3:6,gpu/0"));
+    let other = start_locks(alloc, &mut disk, "j", Some("deploy,db:3:6,gpu/0"), &[]);
     assert!(rt; matches!(other, Err(StartFault::OtherLock(1))));
 }
 
@@ -78,7 +78,7 @@ fn open_hold(rt: HostRuntime) {
     let alloc = rt.alloc();
     let mut disk = with_folder(&rt, alloc);
     put(&rt, &mut disk, "j/0000000001.ring", SEGMENT);
-    let rings = start_locks(alloc, &mut disk, "j", Some("a:3"));
+    let rings = start_locks(alloc, &mut disk, "j", Some("a:3"), &[]);
     assert!(rt; matches!(rings, Err(StartFault::NoLocksFile)));
     put(&rt, &mut disk, "j/locks", b"a 3 3\nb 2 2\n");
     let start = started(&rt, alloc, &mut disk, None);
@@ -88,6 +88,37 @@ fn open_hold(rt: HostRuntime) {
         passes: 1,
         holder: Some(Holder {
             client: 0,
+            token: 1,
+        }),
+    };
+    assert!(rt; start.locks.stats(0).own == Some(Answer::Stats(held)));
+    assert!(rt; start.locks.count() == 2 && start.number == 1);
+}
+
+#[test]
+fn hands_over(rt: HostRuntime) {
+    let alloc = rt.alloc();
+    let mut disk = with_folder(&rt, alloc);
+    put(&rt, &mut disk, "j/0000000001.ring", SEGMENT);
+    put(&rt, &mut disk, "j/locks", b"a 3 3\n");
+    let hold = Handover {
+        lock: 0,
+        token: 1,
+        client: 9,
+    };
+    let other = Handover { token: 2, ..hold };
+    let refused = start_locks(alloc, &mut disk, "j", Some("a:3,b"), &[hold, other]);
+    assert!(rt; matches!(refused, Err(StartFault::Holder(2))));
+    assert!(rt; has(&disk, "j/locks", b"a 3 3\n"));
+    let Ok(start) = start_locks(alloc, &mut disk, "j", Some("a:3,b"), &[hold]) else {
+        panic!(rt; "the locks start");
+    };
+    let held = Stats {
+        machines: 3,
+        waiters: 0,
+        passes: 1,
+        holder: Some(Holder {
+            client: 9,
             token: 1,
         }),
     };

@@ -9,3 +9,8 @@ pub mod Recovering
 pub mod Restarting
 pub mod Keeping
 pub mod Segments
+pub mod HandedHolds
+pub mod EqualRings
+pub mod EqualLocks
+pub mod EqualLines
+pub mod EqualSegments

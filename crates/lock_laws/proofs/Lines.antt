@@ -206,9 +206,12 @@ module _ (rings : List Standing) (old new : List LockView) (few : length rings <
   noted_want : (r : Answers) → IsWant old new i ask r → IsLineSo rings new (lines_about i (answers_of c r)) (note_about i old new r.ended)
   noted_want r d =
       let note : note_about i old new r.ended ≡ [] = ap (λ (x : Option HoldEnd). end_line i x ++ events_from i (events_at (slice_get old i)) (slice_get new i)) d.none.0 ∙ go (slice_get old i) (slice_get new i) refl refl in
-      let unchanged : IsNotedSo rings new [] = nothing_new rings old new f (record { locks = d.locks; each = d.rings }) in
+      let unchanged : IsNotedSo rings new [] = nothing_new rings old new f still in
       subst (λ (x : List ℕ). IsLineSo rings new (lines_about i (answers_of c r)) x) (sym note) (record { noted = unchanged; told = wanted unchanged.behind d.why })
     where
+      still : AreSame old new
+      still = subst (λ (vs : List LockView). AreSame old vs) (sym d.same) (itself old)
+
       only : (why : Refusal) → r.own ≡ Some (answer.Refused why) → answers_of c r ≡ (c, answer.Refused why) ∷ []
       only why e = ap (λ (x : Option Answer). own_answer c x ++ other_grant r.granted) e ∙ ap (λ (x : Option Holder). (c, answer.Refused why) ∷ other_grant x) d.none.1
 
@@ -217,12 +220,12 @@ module _ (rings : List Standing) (old new : List LockView) (few : length rings <
       wanted behind (inr w) = told_quiet rings behind i c (answer.Refused refusal.Memory) (answers_of c r) refl (only refusal.Memory w)
 
       n : length new ≡ length old
-      n = as_many old new ls d.locks refl
+      n = ap (λ (vs : List LockView). length vs) d.same
 
       go : (x y : Option LockView) → slice_get old i ≡ x → slice_get new i ≡ y → events_from i (events_at x) y ≡ []
       go x None e g = refl
       go None (Some w) e g = let v = also_there new old i w n g in absurd (none_is v.0 (sym e ∙ v.1))
-      go (Some v) (Some w) e g = all_past i w.ring.ring.book.history (length v.ring.ring.book.history) (ap (λ (b : BookView ℕ). length b.history) (d.rings i v w e g).ring.book)
+      go (Some v) (Some w) e g = all_past i w.ring.ring.book.history (length v.ring.ring.book.history) (ap (λ (b : BookView ℕ). length b.history) (still.each i v w e g).ring.book)
 
   noted_answer : (r : Answers) → IsAnswer old new c i ask r → IsSmallAsk ask → IsLineSo rings new (lines_about i (answers_of c r)) (note_about i old new r.ended)
   noted_answer r (inl d) small = noted_done r d small
@@ -451,30 +454,30 @@ module _ (rings : List Standing) (old new : SegmentView) (few : length rings < 2
   noted_denied : (client : ℕ) (why : Denial) (said noted : List ℕ) → IsSaid (denial_line client why) old said noted new → IsLineSo rings new.locks said noted
   noted_denied client why said noted s = let n = unchanged noted s.notes s.leaves in record { noted = n; told = told_denied rings n.behind client why said s.says }
 
-  noted_told : (c i : ℕ) (ask : Ask) (said noted : List ℕ) → IsSmallAsk ask → IsToldOf true c i ask old said noted new → IsLineSo rings new.locks said noted
-  noted_told c i ask said noted small t =
+  noted_told : (strict : Bool) (c i : ℕ) (ask : Ask) (said noted : List ℕ) → IsSmallAsk ask → IsToldOf strict true c i ask old said noted new → IsLineSo rings new.locks said noted
+  noted_told strict c i ask said noted small t =
       subst (λ (x : List ℕ). IsLineSo rings new.locks x noted) (sym t.says)
       (subst (λ (x : List ℕ). IsLineSo rings new.locks (lines_about i (answers_of c t.answers)) x) (sym t.notes) (noted_ask rings old.locks new.locks few f most c i ask t.answers t.done small))
 
-  noted_of : (c : ℕ) (a : asks.Ask) (said noted : List ℕ) → heard a ≡ Some a → IsTold true c (one_ask a) old said noted new → IsLineSo rings new.locks said noted
-  noted_of c (asks.acquire lock order) said noted h t = noted_told c (in_32_bits lock) (Acquire order) said noted (order_small asks.acquire lock order (asks.acquire lock order) h) t
-  noted_of c (asks.try lock order) said noted h t = noted_told c (in_32_bits lock) (Try order) said noted (order_small asks.try lock order (asks.try lock order) h) t
-  noted_of c (asks.release lock token) said noted h t = noted_told c (in_32_bits lock) (Release token) said noted tt t
-  noted_of c (asks.cancel lock) said noted h t = noted_told c (in_32_bits lock) Cancel said noted tt t
-  noted_of c asks.leave said noted h t =
+  noted_of : (strict : Bool) (c : ℕ) (a : asks.Ask) (said noted : List ℕ) → heard a ≡ Some a → IsTold strict true c (one_ask a) old said noted new → IsLineSo rings new.locks said noted
+  noted_of strict c (asks.acquire lock order) said noted h t = noted_told strict c (in_32_bits lock) (Acquire order) said noted (order_small asks.acquire lock order (asks.acquire lock order) h) t
+  noted_of strict c (asks.try lock order) said noted h t = noted_told strict c (in_32_bits lock) (Try order) said noted (order_small asks.try lock order (asks.try lock order) h) t
+  noted_of strict c (asks.release lock token) said noted h t = noted_told strict c (in_32_bits lock) (Release token) said noted tt t
+  noted_of strict c (asks.cancel lock) said noted h t = noted_told strict c (in_32_bits lock) Cancel said noted tt t
+  noted_of strict c asks.leave said noted h t =
       subst (λ (x : List ℕ). IsLineSo rings new.locks x noted) (sym t.says)
       (subst (λ (x : List ℕ). IsLineSo rings new.locks (lines_of_left t.left) x) (sym t.notes) (noted_left rings old.locks new.locks few f most c t.left t.done))
-  noted_of c (asks.corrupt lock machine value) said noted h t = noted_told c (in_32_bits lock) (Corrupt (in_32_bits machine) (in_32_bits value)) said noted tt t
-  noted_of c (asks.stats lock) said noted h t = noted_told c (in_32_bits lock) Stats said noted tt t
+  noted_of strict c (asks.corrupt lock machine value) said noted h t = noted_told strict c (in_32_bits lock) (Corrupt (in_32_bits machine) (in_32_bits value)) said noted tt t
+  noted_of strict c (asks.stats lock) said noted h t = noted_told strict c (in_32_bits lock) Stats said noted tt t
 
-  noted_if : (off : Bool) (c : ℕ) (a : asks.Ask) (said noted : List ℕ) → heard a ≡ Some a → IsAnsweredIf off true c a old said noted new → IsLineSo rings new.locks said noted
-  noted_if true c a said noted h t = noted_denied c denial.Off said noted t
-  noted_if false c a said noted h t = noted_of c a said noted h t
+  noted_if : (off : Bool) (terms : Terms) (c : ℕ) (a : asks.Ask) (said noted : List ℕ) → terms.noting ≡ true → heard a ≡ Some a → IsAnsweredIf off terms c a old said noted new → IsLineSo rings new.locks said noted
+  noted_if true terms c a said noted noting h t = noted_denied c denial.Off said noted t
+  noted_if false terms c a said noted noting h t = noted_of terms.strict c a said noted h (subst (λ (b : Bool). IsTold terms.strict b c (one_ask a) old said noted new) noting t)
 
   noted_input : (terms : Terms) (line : List ℕ) (i : Input) (said noted : List ℕ) → terms.noting ≡ true → IsReadAs line i → IsInputAnswered terms i old said noted new → IsLineSo rings new.locks said noted
   noted_input terms line (input.Asked c ask) said noted noting r t =
       let off : Bool = is_off terms.faults (seen ask) in
-      noted_if off c (seen ask) said noted r.2 (subst (λ (b : Bool). IsAnsweredIf off b c (seen ask) old said noted new) noting t)
+      noted_if off terms c (seen ask) said noted noting r.2 t
   noted_input terms line (input.Refused c why) said noted noting r t = noted_denied c (denial_of why) said noted t
   noted_input terms line input.Nobody said noted noting r t = let n = unchanged noted t.notes t.leaves in record { noted = n; told = told_nobody rings n.behind said t.says }
 

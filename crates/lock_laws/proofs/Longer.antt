@@ -2,7 +2,6 @@
 use Rattle.std.proofs.Common.{◌≡◌, ℕ, ◌<◌, ◌≤◌, ◌^◌, Bool, true, false, List, [], ◌∷◌, ◌++◌, length, Option, Some, None, refl, sym, ◌∙◌, ap, subst, inl, inr, arith, append_assoc, slice_get}
 use Rattle.std.proofs.lemmas.Bool.{cases_eq}
 use Rattle.std.proofs.lemmas.Grind.{flat_map-append}
-use Rattle.ring_book.specs.BookView.{BookView}
 use Rattle.ring_journal.specs.Spelling.{journal_line}
 use Rattle.ring_serve.specs.Standings.{Standing}
 use Rattle.ring_serve.proofs.Recovering.{lines_of}
@@ -56,10 +55,7 @@ module _ (old new : List LockView) where
 
   longer_answer : (c i : ℕ) (ask : Ask) (r : Answers) → IsAnswer old new c i ask r → AreLonger old new
   longer_answer c i ask r (inl d) = longer_done c i ask r d
-  longer_answer c i ask r (inr d) = record {
-    many = as_many old new (locks_of old) d.locks refl;
-    each = λ j v w p q. let n = ap (λ (b : BookView ℕ). length b.history) (d.rings j v w p q).ring.book in omega (arith, n);
-  }
+  longer_answer c i ask r (inr d) = longer_itself old new d.same
 
   longer_ask : (c i : ℕ) (ask : Ask) (r : Answers) → IsAnswerTo old new c i ask r → AreLonger old new
   longer_ask c i (Acquire order) r d = longer_answer c i (Acquire order) r d
@@ -80,16 +76,16 @@ module _ (old new : SegmentView) where
   longer_kept : new ≡ old → AreLonger old.locks new.locks
   longer_kept e = longer_itself old.locks new.locks (ap (λ (s : SegmentView). s.locks) e)
 
-  longer_told : (noting : Bool) (c : ℕ) (x : Option (ℕ × Ask)) (said noted : List ℕ) → IsTold noting c x old said noted new → AreLonger old.locks new.locks
-  longer_told noting c None said noted t = longer_left old.locks new.locks c t.left t.done
-  longer_told noting c (Some (i, ask)) said noted t = longer_ask old.locks new.locks c i ask t.answers t.done
+  longer_told : (strict noting : Bool) (c : ℕ) (x : Option (ℕ × Ask)) (said noted : List ℕ) → IsTold strict noting c x old said noted new → AreLonger old.locks new.locks
+  longer_told strict noting c None said noted t = longer_left old.locks new.locks c t.left t.done
+  longer_told strict noting c (Some (i, ask)) said noted t = longer_ask old.locks new.locks c i ask t.answers t.done
 
-  longer_if : (off noting : Bool) (c : ℕ) (a : asks.Ask) (said noted : List ℕ) → IsAnsweredIf off noting c a old said noted new → AreLonger old.locks new.locks
-  longer_if true noting c a said noted t = longer_kept t.leaves
-  longer_if false noting c a said noted t = longer_told noting c (one_ask a) said noted t
+  longer_if : (off : Bool) (terms : Terms) (c : ℕ) (a : asks.Ask) (said noted : List ℕ) → IsAnsweredIf off terms c a old said noted new → AreLonger old.locks new.locks
+  longer_if true terms c a said noted t = longer_kept t.leaves
+  longer_if false terms c a said noted t = longer_told terms.strict terms.noting c (one_ask a) said noted t
 
   longer_input : (terms : Terms) (i : Input) (said noted : List ℕ) → IsInputAnswered terms i old said noted new → AreLonger old.locks new.locks
-  longer_input terms (input.Asked c ask) said noted t = longer_if (is_off terms.faults (seen ask)) terms.noting c (seen ask) said noted t
+  longer_input terms (input.Asked c ask) said noted t = longer_if (is_off terms.faults (seen ask)) terms c (seen ask) said noted t
   longer_input terms (input.Refused c why) said noted t = longer_kept t.leaves
   longer_input terms input.Nobody said noted t = longer_kept t.leaves
 

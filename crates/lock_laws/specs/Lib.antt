@@ -1,3 +1,4 @@
 pub mod Begun
 pub mod Told
 pub mod Recovered
+pub mod Equal

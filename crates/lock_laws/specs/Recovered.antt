@@ -18,6 +18,8 @@ use Rattle.ring_locks.specs.Promises.{Alternate, events_of, open_after, token_of
 use Rattle.ring_locks.specs.Kept.{LockView, locks_of, seat_count, IsKeptRing, AreKept}
 use Rattle.ring_locks.specs.Opened.{events_in, open_in, IsAdded}
 use Rattle.ring_locks.specs.Cuts.{AreNext}
+use Rattle.ring_locks.specs.declared.handing.Handover.{Handover}
+use Rattle.ring_locks.specs.Handed.{AreHanded}
 use Rattle.lock_serve.specs.declared.service.Terms.{Terms}
 use Rattle.lock_serve.specs.Counting.{SegmentView}
 use Rattle.lock_serve.specs.Segments.{rings_of}
@@ -123,3 +125,9 @@ NextLocksBegin =
     (said noted : List ℕ) → HaveBegun old.locks → AreAnswered terms old lines said noted new
     → AreKept new.locks entries → (next : List LockView) → AreNext new.locks next
     → (i : ℕ) (v : LockView) → slice_get next i ≡ Some v → IsBegun v
+
+-- And locks that begin a segment still do so where open holds were handed over.
+abbrev pub HandedLocksBegin : Type 0
+HandedLocksBegin =
+    (old new : List LockView) (hs : List Handover) → HaveBegun old → AreHanded old hs new
+    → HaveBegun new

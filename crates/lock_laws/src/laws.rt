@@ -1,8 +1,9 @@
 //! The laws of locks whose lines are answered with a journal: what is recovered of it. Each law is the contract of a function
-//! that does nothing; the statements are in `specs/Recovered.antt`.
+//! that does nothing; the statements are in `specs/Recovered.antt` and `specs/Equal.antt`.
 
 ghost use Rattle.lock_laws.specs.Begun.{ServedLinesAreAnswered, AnsweredLinesFollow};
-ghost use Rattle.lock_laws.specs.Recovered.{LocksComeBack, NothingToldIsLost, AddedLocksBegin, NextLocksBegin};
+ghost use Rattle.lock_laws.specs.Equal.{EqualLinesGiveEqualAnswers, EqualSegmentsEndEqually};
+ghost use Rattle.lock_laws.specs.Recovered.{LocksComeBack, NothingToldIsLost, AddedLocksBegin, NextLocksBegin, HandedLocksBegin};
 
 /// Lines that the service answers are answered so, whether its segment is kept on or not, and no file changes; and lines that are
 /// answered in parts, one behind the other, are answered as a whole.
@@ -26,8 +27,18 @@ pub fn nothing_told_is_lost()
 {}
 
 /// Locks that were added one after the other show their holds, so they can begin a segment: a fresh ring shows none, and one that
-/// was recovered shows the hold that goes on as client 0's. So do locks that go on in their next segments.
+/// was recovered shows the hold that goes on as client 0's. So do locks that go on in their next segments, and locks whose open
+/// holds are handed over.
 pub fn locks_begin_segments()
     ensures added { AddedLocksBegin }
     ensures next { NextLocksBegin }
+    ensures handed { HandedLocksBegin }
+{}
+
+/// On strict terms equal lines give equal answers: two services in the same state, whatever memory each has, answer the same lines
+/// with the same text and the same notes, and are in the same state again. So are those of their next segments, which begin with
+/// the same text.
+pub fn equal_lines_give_equal_answers()
+    ensures answers { EqualLinesGiveEqualAnswers }
+    ensures segments { EqualSegmentsEndEqually }
 {}

@@ -1,9 +1,8 @@
 -- Locks that are short, and what an answer changes of them.
 use Rattle.std.proofs.Common.{◌≡◌, ℕ, zero, suc, Bool, true, false, ◌||◌, List, [], ◌∷◌, length, Option, None, Some, slice_get, refl, sym, ap, ◌∙◌, inl, inr}
-use Rattle.std.specs.Prelude.{◌≢◌, option_map}
+use Rattle.std.specs.Prelude.{◌≢◌}
 use Rattle.std.proofs.lemmas.Bool.{or_parts, or_from}
 use Rattle.std.proofs.lemmas.List.{length-map, length-set}
-use Rattle.std.proofs.lemmas.Option.{slice_get-map}
 use Rattle.ring_model.specs.declared.events.Event.{Event}
 use Rattle.ring_endless.specs.Endless.{IsSameEndless}
 use Rattle.ring_locks.specs.declared.answers.Waiter.{Waiter}
@@ -38,7 +37,7 @@ only (v ∷ vs) (suc i) f = ap (λ (b : Bool). b || has_short vs) (f 0 (λ e. cc
 
 -- ---- the locks beside the one that is asked
 
-short_like : (v w : LockView) → lock_of w ≡ lock_of v → IsSameEndless v.ring w.ring → is_short w ≡ is_short v
+pub short_like : (v w : LockView) → lock_of w ≡ lock_of v → IsSameEndless v.ring w.ring → is_short w ≡ is_short v
 short_like v w l s =
     let line : w.line ≡ v.line = ap (λ (x : Lock). x.line) l in
     let history : w.ring.ring.book.history ≡ v.ring.ring.book.history = ap (λ b. b.history) s.ring.book in
@@ -52,14 +51,7 @@ some_none : {X : Type 0} (x : X) → Some x ≡ None → ⊥
 some_none x e = cc
 
 want_still : (old new : List LockView) (i : ℕ) (ask : Ask) (r : Answers) → IsWant old new i ask r → (j : ℕ) → is_short_at (slice_get new j) ≡ is_short_at (slice_get old j)
-want_still old new i ask r w j =
-    go (slice_get old j) (slice_get new j) refl refl (sym (slice_get-map lock_of new j) ∙ ap (λ (x : List Lock). slice_get x j) w.locks ∙ slice_get-map lock_of old j)
-  where
-    go : (x y : Option LockView) → slice_get old j ≡ x → slice_get new j ≡ y → option_map lock_of y ≡ option_map lock_of x → is_short_at y ≡ is_short_at x
-    go None None p q e = refl
-    go None (Some y) p q e = absurd (some_none (lock_of y) e)
-    go (Some x) None p q e = absurd (some_none (lock_of x) (sym e))
-    go (Some x) (Some y) p q e = short_like x y (some_one (lock_of y) (lock_of x) e) (w.rings j x y p q)
+want_still old new i ask r w j = ap (λ (vs : List LockView). is_short_at (slice_get vs j)) w.same
 
 done_still : (old new : List LockView) (c i : ℕ) (ask : Ask) (r : Answers) → IsDone old new c i ask r → (j : ℕ) → j ≢ i → is_short_at (slice_get new j) ≡ is_short_at (slice_get old j)
 done_still old new c i ask r d j n = ap is_short_at (d.others j n)
@@ -105,7 +97,7 @@ views_long old new ls e n = sym (length-map new lock_of) ∙ ap (λ (x : List Lo
 
 answer_long : (old new : List LockView) (c i : ℕ) (ask : Ask) (r : Answers) → IsAnswer old new c i ask r → length new ≡ length old
 answer_long old new c i ask r (inl d) = views_long old new _ d.locks (step_long (locks_of old) (Asked c i ask))
-answer_long old new c i ask r (inr w) = views_long old new _ w.locks refl
+answer_long old new c i ask r (inr w) = ap (λ (vs : List LockView). length vs) w.same
 
 pub asked_long : (old new : List LockView) (c i : ℕ) (ask : Ask) (r : Answers) → IsAnswerTo old new c i ask r → length new ≡ length old
 asked_long old new c i ask r a = answer_long old new c i ask r (as_answer old new c i ask r a)

@@ -1,9 +1,12 @@
 -- What locks hear of a line's ask (this project's own).
-use Rattle.std.specs.Prelude.{ℕ, Bool, false, not, List, Option, None, Some}
+use Rattle.std.specs.Prelude.{ℕ, Bool, true, false, not, List, Option, None, Some}
 use Rattle.line_parts.specs.Numbers.{in_32_bits}
 use Rattle.ring_locks.specs.Locks.{Ask, Acquire, Try, Release, Cancel, Corrupt, Stats}
 use Rattle.ring_locks.specs.Kept.{LockView, IsDone, IsAnswer}
+use Rattle.ring_locks.specs.declared.answers.Answer.{Answer}
+use Rattle.ring_locks.specs.declared.answers.Answer.TheVariants as answer
 use Rattle.ring_locks.specs.declared.answers.Answers.{Answers}
+use Rattle.ring_locks.specs.declared.answers.Refusal.TheVariants as refusal
 use Rattle.lock_lines.specs.Asks as lines
 use Rattle.lock_serve.specs.declared.asking.OneAsk.{OneAsk}
 use Rattle.lock_serve.specs.declared.asking.OneAsk.TheVariants as one
@@ -42,3 +45,9 @@ asked (one.Release token) = Release token
 asked one.Cancel = Cancel
 asked (one.Corrupt machine value) = Corrupt machine value
 asked one.Stats = Stats
+
+-- whether the asker is refused for want of room or of memory
+abbrev pub is_want : Option Answer → Bool
+is_want (Some (answer.Refused refusal.Full)) = true
+is_want (Some (answer.Refused refusal.Memory)) = true
+is_want _ = false

@@ -8,3 +8,4 @@ pub mod Starts
 pub mod Segmented
 pub mod Goes
 pub mod Knows
+pub mod State

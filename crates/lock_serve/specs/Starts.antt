@@ -8,6 +8,7 @@ pub by_start : IsByStart (by_stand IsServed)
 unfolding cut
 by_start old new full said noted long a =
     let i = a.answered in record {
+      goes = a.goes;
       answered = (i.0, long_reads full i.0 long i.1, i.2);
       terms = a.terms;
       stage = a.stage;

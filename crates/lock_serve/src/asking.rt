@@ -4,10 +4,10 @@ ghost use Rattle.std.specs.Prelude.{◌≡◌};
 ghost use Rattle.std.specs.Option.{option_map};
 ghost use Rattle.line_parts.specs.Numbers.{in_32_bits};
 ghost use Rattle.lock_lines.specs.Asks.{seen};
-ghost use Rattle.lock_serve.specs.Asking.{one_ask, is_off, asked, IsAnswerTo};
+ghost use Rattle.lock_serve.specs.Asking.{one_ask, is_off, asked, IsAnswerTo, is_want};
 
 use lock_lines::Ask;
-use ring_locks::{Answers, Locks};
+use ring_locks::{Answer, Answers, Locks, Refusal};
 
 /// What is asked of one lock.
 #[derive(Clone, Copy)]
@@ -61,6 +61,16 @@ pub(crate) fn one_ask(ask: Ask) -> Option<(u32, OneAsk)>
             Some((narrow(lock), OneAsk::Corrupt { machine, value }))
         }
         Ask::Stats { lock } => Some((narrow(lock), OneAsk::Stats)),
+    }
+}
+
+/// Whether the asker is refused for want of room or of memory.
+pub(crate) fn is_want(own: Option<Answer>) -> bool
+    ensures { result ≡ is_want own }
+{
+    match own {
+        Some(Answer::Refused(Refusal::Full | Refusal::Memory)) => true,
+        _ => false,
     }
 }
 

@@ -10,6 +10,7 @@ mod noting;
 mod segment;
 mod segmented;
 mod service;
+mod stating;
 #[cfg(test)]
 mod tests;
 mod texts;

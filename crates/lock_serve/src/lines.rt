@@ -1,6 +1,6 @@
 //! Lines are answered by locks.
 
-ghost use Rattle.std.specs.Prelude.{◌≡◌, ◌++◌, ℕ, List, OnOk, OnErr};
+ghost use Rattle.std.specs.Prelude.{◌≡◌, ◌++◌, ◌⊎◌, ℕ, List, OnOk, OnErr};
 ghost use Rattle.lock_serve.specs.Serving.{IsServed};
 
 use crate::service::{LockService, Stage, answer};
@@ -20,7 +20,8 @@ impl AnswersLines for LockService {
 
     ghost by_start = { by_start };
 
-    /// The line is answered in any case: only to tell of it memory may be wanted. The disk is not used.
+    /// The line is answered, and memory may be wanted to tell of it; or on strict terms nothing has changed. The disk is not
+    /// used.
     fn answer<D: Disk>(
         &mut self,
         disk: &mut D,
@@ -32,10 +33,11 @@ impl AnswersLines for LockService {
             × IsServed self.old (D.holds disk.old) line.now said noted self.new (D.holds disk.new)
             × (pending.new.answers.items ≡ pending.old.answers.items ++ said)
             × (pending.new.notes.items ≡ pending.old.notes.items ++ noted)) }
-        ensures err { OnErr result ((said : List ℕ)
+        ensures err { OnErr result (((self.new ≡ self.old) × (D.holds disk.new ≡ D.holds disk.old))
+            ⊎ ((said : List ℕ)
             × (noted : List ℕ)
             × IsServed self.old (D.holds disk.old) line.now said noted self.new
-            (D.holds disk.new)) }
+            (D.holds disk.new))) }
     {
         let input = read_input(line);
         answer(self, input, pending)

@@ -1,10 +1,10 @@
 //! The locks of a segment, with what its journal has had.
 
-ghost use Rattle.std.specs.Prelude.{◌≡◌, ◌||◌, ◌⊎◌, false, IfOk, IfErr};
+ghost use Rattle.std.specs.Prelude.{◌≡◌, ◌||◌, ◌⊎◌, true, false, IfOk, IfErr};
 ghost use Rattle.ring_locks.specs.declared.answers.Refusal.{Refusal};
 ghost use Rattle.ring_locks.specs.Cuts.{AreNext};
 ghost use Rattle.ring_locks.specs.Kept.{IsLeft};
-ghost use Rattle.lock_serve.specs.Asking.{asked, IsAnswerTo};
+ghost use Rattle.lock_serve.specs.Asking.{asked, IsAnswerTo, is_want};
 ghost use Rattle.lock_serve.specs.Due.{is_due, has_short};
 ghost use Rattle.lock_serve.specs.Counting.{IsCounted, IsStart, count_about, count_of_all};
 
@@ -89,11 +89,12 @@ impl Segment {
         self.remaining == 0 || self.short
     }
 
-    /// Asks one lock. Only this lock is looked at.
+    /// Asks one lock. Only this lock is looked at, and nothing changes if the asker is refused for want of room or memory.
     pub(crate) fn ask(&mut self, client: u64, lock: u32, ask: OneAsk) -> Answers
         ensures answer { IsAnswerTo self.old.locks self.new.locks client lock (asked ask) result }
         ensures counted { IsCounted self.old self.new
             (count_about lock self.old.locks self.new.locks result.ended) }
+        ensures want { is_want result.own ≡ true → self.new ≡ self.old }
     {
         let place = events_at(&self.locks, lock);
         let answers = ask_lock(&mut self.locks, client, lock, ask);

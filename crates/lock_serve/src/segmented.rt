@@ -2,7 +2,7 @@
 
 ghost use Rattle.std.specs.Prelude.{◌≡◌};
 
-use crate::service::{LockService, Stage, end_fault, limit_of};
+use crate::service::{LockService, Stage, end_fault, is_to_end, limit_of};
 use crate::texts::segment_text;
 use ring_segments::DIGEST_DIGITS;
 use segment_loop::{EndFault, Segmented};
@@ -21,10 +21,7 @@ impl Segmented for LockService {
     ghost goes = { goes };
 
     fn is_due(&self) -> bool {
-        match self.stage {
-            Stage::Open => false,
-            Stage::Due | Stage::KeptOn => true,
-        }
+        is_to_end(self.stage)
     }
 
     fn next(&self, alloc: Global) -> Result<LockService, EndFault> {

@@ -1,23 +1,23 @@
 //! Locks that answer lines.
 
-ghost use Rattle.std.specs.Prelude.{◌≡◌, List, ℕ, OnOk, IfOk};
+ghost use Rattle.std.specs.Prelude.{◌≡◌, ◌⊎◌, ◌&&◌, List, ℕ, OnOk, OnErr, IfOk};
 ghost use Rattle.text_lines.specs.Writing.{Writes};
 ghost use Rattle.ring_journal.specs.Spelling.{head_text as journal_text};
 ghost use Rattle.ring_locks.specs.declared.answers.Refusal.{Refusal};
 ghost use Rattle.lock_lines.specs.Asks.{seen};
-ghost use Rattle.lock_serve.specs.Asking.{is_off, asked};
+ghost use Rattle.lock_serve.specs.Asking.{is_off, asked, is_want};
 ghost use Rattle.lock_serve.specs.Segments.{content_of};
 ghost use Rattle.lock_serve.specs.Counting.{IsStart};
-ghost use Rattle.lock_serve.specs.Segmented.{limit_of};
-ghost use Rattle.lock_serve.specs.Serving.{IsToldOf, IsToldOfLeave, IsAnsweredIf, denial_of, IsInputAnswered, IsAdded, is_past, stage_after};
+ghost use Rattle.lock_serve.specs.Segmented.{limit_of, is_to_end};
+ghost use Rattle.lock_serve.specs.Serving.{IsToldOf, IsToldOfLeave, IsAnsweredIf, denial_of, IsInputAnswered, AnswersInput, IsAdded, Leaves, put, is_past, stage_after};
 
-use crate::asking::{OneAsk, is_off, one_ask};
+use crate::asking::{OneAsk, is_off, is_want, one_ask};
 use crate::noting::{events_at, note_if, note_left_if, tell, tell_left};
 use crate::segment::Segment;
 use crate::texts::put_beginning;
 use line_loop::Pending;
 use lock_lines::{Ask, Denial, Fault, Input, put_denial};
-use ring_locks::{Locks, Refusal};
+use ring_locks::{Answer, Locks, Refusal};
 use segment_loop::EndFault;
 use std::alloc::{AllocError, Global};
 use std::io::Write;
@@ -33,6 +33,9 @@ pub struct Terms {
     /// A segment is due once its journal has so many lines, or before a lock's ring has no room for an ask. Without a limit none
     /// is.
     pub limit: Option<u64>,
+    /// Whether nobody is refused for want of memory or room, and no line is answered in a segment that is to end. Such a line
+    /// is out of memory, and nothing has changed.
+    pub strict: bool,
 }
 
 /// Whether lines are answered in a segment.
@@ -43,6 +46,15 @@ pub(crate) enum Stage {
     Due,
     /// It is to end, and goes on until it can be ended.
     KeptOn,
+}
+
+/// Why nothing is told of a line.
+#[derive(Clone, Copy)]
+pub(crate) enum Untold {
+    /// There is no memory for its text. It is answered.
+    Answered,
+    /// It would be a refusal for want, on strict terms. Nothing has changed.
+    Unanswered,
 }
 
 /// Locks that answer the lines of clients.
@@ -71,32 +83,51 @@ pub(crate) fn end_fault(why: Refusal) -> EndFault {
     }
 }
 
+/// What was put is told, if there was memory for it.
+fn put(told: Result<(), AllocError>) -> Result<(), Untold>
+    ensures { result ≡ put told }
+{
+    match told {
+        Ok(()) => Ok(()),
+        Err(_) => Err(Untold::Answered),
+    }
+}
+
+/// Whether it is a refusal for want, on strict terms.
+fn is_stop(strict: bool, own: Option<Answer>) -> bool
+    ensures { result ≡ (strict && is_want own) }
+{
+    strict && is_want(own)
+}
+
 /// Asks one lock, and tells the answers.
 fn answer_one(
     segment: &mut Segment,
-    noting: bool,
+    terms: Terms,
     client: u64,
     lock: u32,
     ask: OneAsk,
     pending: &mut Pending,
-) -> Result<(), AllocError>
-    ensures { (said : List ℕ)
-        × (noted : List ℕ)
-        × IsToldOf noting client lock (asked ask) segment.old said noted segment.new
-        × OnOk result (IsAdded pending.old pending.new said noted) }
+) -> Result<(), Untold>
+    ensures { Leaves result
+        (λ said noted. IsToldOf terms.strict terms.noting client lock (asked ask) segment.old said
+        noted segment.new) (segment.new ≡ segment.old) pending.old pending.new }
 {
     let place = events_at(segment.locks(), lock);
     let answers = segment.ask(client, lock, ask);
+    if is_stop(terms.strict, answers.own) {
+        return Err(Untold::Unanswered);
+    }
     match tell(&mut pending.answers, client, lock, answers) {
-        Ok(()) => note_if(
-            noting,
+        Ok(()) => put(note_if(
+            terms.noting,
             segment.locks(),
             lock,
             answers.ended,
             place,
             &mut pending.notes,
-        ),
-        Err(error) => Err(error),
+        )),
+        Err(_) => Err(Untold::Answered),
     }
 }
 
@@ -126,19 +157,17 @@ fn answer_ask(
     client: u64,
     ask: Ask,
     pending: &mut Pending,
-) -> Result<(), AllocError>
-    ensures { (said : List ℕ)
-        × (noted : List ℕ)
-        × IsAnsweredIf (is_off terms.faults (seen ask)) terms.noting client (seen ask)
-        segment.old said noted segment.new
-        × OnOk result (IsAdded pending.old pending.new said noted) }
+) -> Result<(), Untold>
+    ensures { Leaves result
+        (λ said noted. IsAnsweredIf (is_off terms.faults (seen ask)) terms client (seen ask)
+        segment.old said noted segment.new) (segment.new ≡ segment.old) pending.old pending.new }
 {
     if is_off(terms.faults, ask) {
-        return put_denial(&mut pending.answers, client, Denial::Off);
+        return put(put_denial(&mut pending.answers, client, Denial::Off));
     }
     match one_ask(ask) {
-        Some((lock, ask)) => answer_one(segment, terms.noting, client, lock, ask, pending),
-        None => leave(segment, terms.noting, client, pending),
+        Some((lock, ask)) => answer_one(segment, terms, client, lock, ask, pending),
+        None => put(leave(segment, terms.noting, client, pending)),
     }
 }
 
@@ -158,16 +187,15 @@ fn answer_input(
     terms: Terms,
     input: Input,
     pending: &mut Pending,
-) -> Result<(), AllocError>
-    ensures { (said : List ℕ)
-        × (noted : List ℕ)
-        × IsInputAnswered terms input segment.old said noted segment.new
-        × OnOk result (IsAdded pending.old pending.new said noted) }
+) -> Result<(), Untold>
+    ensures { Leaves result
+        (λ said noted. IsInputAnswered terms input segment.old said noted segment.new)
+        (segment.new ≡ segment.old) pending.old pending.new }
 {
     match input {
         Input::Asked { client, ask } => answer_ask(segment, terms, client, ask, pending),
         Input::Refused { client, why } => {
-            put_denial(&mut pending.answers, client, denial_of(why))
+            put(put_denial(&mut pending.answers, client, denial_of(why)))
         }
         Input::Nobody => Ok(()),
     }
@@ -190,25 +218,62 @@ fn stage_after(stage: Stage, past: bool) -> Stage
     }
 }
 
+/// Whether the segment is to end.
+pub(crate) fn is_to_end(stage: Stage) -> bool
+    ensures { result ≡ is_to_end stage }
+{
+    match stage {
+        Stage::Open => false,
+        Stage::Due | Stage::KeptOn => true,
+    }
+}
+
+/// Whether no line is answered since the segment is to end, on strict terms.
+fn is_stopped(strict: bool, stage: Stage) -> bool
+    ensures { result ≡ (strict && is_to_end stage) }
+{
+    strict && is_to_end(stage)
+}
+
+/// Sees whether the segment is due.
+fn see(service: &mut LockService)
+    ensures { service.new ≡ record service.old {
+      stage = stage_after service.old.stage (is_past service.old.terms service.old.segment);
+    } }
+{
+    service.stage = stage_after(service.stage, is_past(service.terms, &service.segment));
+}
+
 /// Answers what was read of a line, and sees whether the segment is due.
 pub(crate) fn answer(
     service: &mut LockService,
     input: Input,
     pending: &mut Pending,
 ) -> Result<(), AllocError>
-    ensures told { (said : List ℕ)
+    ensures ok { OnOk result ((said : List ℕ)
         × (noted : List ℕ)
-        × IsInputAnswered service.old.terms input service.old.segment said noted
-        service.new.segment
-        × OnOk result (IsAdded pending.old pending.new said noted) }
-    ensures terms { service.new.terms ≡ service.old.terms }
-    ensures stage { service.new.stage
-        ≡ stage_after service.old.stage (is_past service.old.terms service.new.segment) }
+        × AnswersInput service.old input said noted service.new
+        × IsAdded pending.old pending.new said noted) }
+    ensures err { OnErr result ((service.new ≡ service.old)
+        ⊎ ((said : List ℕ)
+        × (noted : List ℕ)
+        × AnswersInput service.old input said noted service.new)) }
 {
     let terms = service.terms;
-    let told = answer_input(&mut service.segment, terms, input, pending);
-    service.stage = stage_after(service.stage, is_past(terms, &service.segment));
-    told
+    if is_stopped(terms.strict, service.stage) {
+        return Err(AllocError);
+    }
+    match answer_input(&mut service.segment, terms, input, pending) {
+        Ok(()) => {
+            see(service);
+            Ok(())
+        }
+        Err(Untold::Answered) => {
+            see(service);
+            Err(AllocError)
+        }
+        Err(Untold::Unanswered) => Err(AllocError),
+    }
 }
 
 impl LockService {

@@ -5,6 +5,7 @@ ghost use Rattle.ring_locks.specs.Kept.{IsKeptRing};
 use crate::{LockService, Terms};
 use disks::MemoryDisk;
 use line_loop::{AnswersLines, Ending, Pending, Unread, serve_part};
+use line_replica::HasState;
 use ring_book::Till;
 use ring_chains::Base;
 use ring_desk::OneThreadRing;
@@ -27,14 +28,20 @@ fn opened(rt: &impl Abort, alloc: Global) -> EndlessRing
 
 /// Two locks that answer lines, in segments of so many notes.
 fn two_locks(rt: &impl Abort, alloc: Global, faults: bool, limit: Option<u64>) -> LockService {
-    let mut locks = Locks::none(alloc);
-    assert!(rt; locks.add(alloc, opened(rt, alloc)).is_ok());
-    assert!(rt; locks.add(alloc, opened(rt, alloc)).is_ok());
     let terms = Terms {
         faults,
         noting: true,
         limit,
+        strict: false,
     };
+    two_locks_on(rt, alloc, terms)
+}
+
+/// The same, on these terms.
+fn two_locks_on(rt: &impl Abort, alloc: Global, terms: Terms) -> LockService {
+    let mut locks = Locks::none(alloc);
+    assert!(rt; locks.add(alloc, opened(rt, alloc)).is_ok());
+    assert!(rt; locks.add(alloc, opened(rt, alloc)).is_ok());
     match LockService::new(alloc, locks, terms) {
         Ok(service) => service,
         Err(_) => panic!(rt; "there is memory"),
@@ -203,6 +210,76 @@ fn keeps_on(rt: HostRuntime) {
     assert!(rt; service.is_due() && !service.is_over());
     let next = next_of(&rt, alloc, &service);
     assert!(rt; !next.is_due() && next.locks().count() == 2);
+}
+
+// On strict terms lines are answered as ever until the segment is due. If it is kept on, no line is answered: nothing is pending,
+// and once it has ended the next segment begins as if the line had not been.
+#[test]
+fn stops_on_strict_terms(rt: HostRuntime) {
+    let alloc = rt.alloc();
+    let terms = Terms {
+        faults: false,
+        noting: true,
+        limit: Some(3),
+        strict: true,
+    };
+    let mut service = two_locks_on(&rt, alloc, terms);
+    let lines = b"1 acquire 0 77\n2 acquire 0 78\n3 acquire 0 79\n1 release 0 1\n";
+    let said = b"1 granted 0 1\n2 waiting 0 0\n3 waiting 0 1\n1 released 0\n2 granted 0 2\n";
+    let noted = b"0 p 0 0 77 g 1 77\n0 s 1 1 1 1 1 0\n0 p 0 1 78 g 2 155\n";
+    serves(
+        &rt,
+        alloc,
+        &mut service,
+        &mut Unread::none(),
+        lines,
+        Ending::Over,
+        said,
+        noted,
+    );
+    assert!(rt; service.is_due());
+    service.keep_on(EndFault::File);
+    let mut disk = no_files(alloc);
+    let mut pending = Pending {
+        answers: Vec::new(alloc),
+        notes: Vec::new(alloc),
+    };
+    assert!(rt; !service.is_over());
+    assert!(rt;
+        service
+            .answer(&mut disk, b"1 try 1 5\n", &mut pending)
+            .is_err()
+    );
+    assert!(rt; pending.answers.is_empty() && pending.notes.is_empty());
+    let next = next_of(&rt, alloc, &service);
+    assert!(rt; text_of(&rt, alloc, &next, 2).as_slice() == SECOND.as_bytes());
+}
+
+// Who holds the locks, and who waits for them in their order; nobody, at the start.
+#[test]
+fn tells_the_lines_that_bring_locks_back(rt: HostRuntime) {
+    let alloc = rt.alloc();
+    let mut service = two_locks(&rt, alloc, false, None);
+    let mut text = Vec::new(alloc);
+    assert!(rt; service.put_state(&mut text) == Ok(0) && text.is_empty());
+    let lines =
+        b"9 acquire 0 77\n3 acquire 0 78\n2 acquire 0 79\n9 release 0 1\n4 acquire 1 5\n9 acquire 0 6\n5 acquire 1 80\n";
+    let said =
+        b"9 granted 0 1\n3 waiting 0 0\n2 waiting 0 1\n9 released 0\n3 granted 0 2\n4 granted 1 1\n9 waiting 0 1\n5 waiting 1 0\n";
+    let noted = b"0 p 0 0 77 g 1 77\n0 s 1 1 1 1 1 0\n0 p 0 1 78 g 2 155\n1 p 0 0 5 g 1 5\n";
+    serves(
+        &rt,
+        alloc,
+        &mut service,
+        &mut Unread::none(),
+        lines,
+        Ending::End,
+        said,
+        noted,
+    );
+    assert!(rt; service.put_state(&mut text) == Ok(5));
+    let state = b"hold 0 2 3\nhold 1 1 4\n2 acquire 0 79\n9 acquire 0 6\n5 acquire 1 80\n";
+    assert!(rt; text.as_slice() == state.as_slice());
 }
 
 // The first segment and the beginning of a journal.

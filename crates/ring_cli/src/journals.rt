@@ -86,6 +86,10 @@ lines, or a ring of it is nearly full, the next one begins. So the journal has n
 rising over all of them. Where the next one cannot begin, for want of room or of memory, each line is answered `refused
 file` or `refused memory` until it can. `check FILE` checks the whole chain.
 
+With `--strict` no line is answered `refused memory`, and none is answered while the next segment cannot begin: the program
+ends with status 1, and nothing is told of this line, nor perhaps of the last ones before it. So equal rings and equal lines
+have equal answers, but those to `save`.
+
 Example:
   $ printf 'pass 0 0 0 5\\npass 0 0 2 4\\n' | ring_tool serve saved.txt --journal journal.txt
 
@@ -204,6 +208,14 @@ pub(crate) fn faults_word<'a>(alloc: Global) -> Arg<'a> {
         .help("Lets lines write values into machines, as `corrupt` does")
 }
 
+/// Whether want of memory ends the program.
+pub(crate) fn strict_word<'a>(alloc: Global) -> Arg<'a> {
+    Arg::new(alloc, "STRICT")
+        .long("strict")
+        .action(ArgAction::SetTrue)
+        .help("Ends with status 1 where memory is short, and tells nothing of those lines")
+}
+
 /// The folder that a line may save the rings in, which may be left out.
 fn saves_word<'a>(alloc: Global) -> Arg<'a> {
     Arg::new(alloc, "SAVES")
@@ -215,7 +227,8 @@ fn saves_word<'a>(alloc: Global) -> Arg<'a> {
 
 /// `serve` with what it permits.
 fn with_permits<'a>(alloc: Global, command: Command<'a>) -> Result<Command<'a>, Error> {
-    Ok(command.arg(faults_word(alloc))?.arg(saves_word(alloc))?)
+    let command = command.arg(faults_word(alloc))?.arg(saves_word(alloc))?;
+    Ok(command.arg(strict_word(alloc))?)
 }
 
 /// A command with what its journal survives.
@@ -250,5 +263,6 @@ pub(crate) fn serve_words<'a>(words: &ArgMatches<'a>) -> Option<Request<'a>> {
         synced: !words.get_flag("NO_SYNC"),
         faults: words.get_flag("FAULTS"),
         saves: words.get_str("SAVES"),
+        strict: words.get_flag("STRICT"),
     }))
 }

@@ -1,6 +1,6 @@
 //! The words of the command on locks.
 
-use crate::journals::{LINES, faults_word, segment_word, with_sync};
+use crate::journals::{LINES, faults_word, segment_word, strict_word, with_sync};
 use clap::{Arg, ArgMatches, Command, Error};
 use ring_requests::{LocksWords, Request};
 use std::alloc::Global;
@@ -22,13 +22,17 @@ LOCK is the number of a lock, from 0, and ORDER a label that the client chooses 
 lock rise. Any other line, and a call that cannot be done, changes nothing: it is answered `refused` and why, as
 `syntax`, `number`, `off`, `lock`, or `holds LOCK`, `waits LOCK`, `circle LOCK`, `holder LOCK`, `waiter LOCK`, `machine LOCK`,
 `value LOCK`, `full LOCK`, `memory LOCK`. A line in front of which stands no number is not answered.
+With `--strict` nobody is answered `full` or `memory`: where memory is short, or a segment that is full cannot be ended, the
+program ends with status 1, and nothing is told of this line, nor perhaps of the last ones before it. So equal locks and
+equal lines have equal answers.
 
 The answers leave before more is read. At the end of standard input the totals of all locks go to standard error.
 
 FOLDER, which has to be there, keeps the journal: a chain of segments, FOLDER/0000000001.ring and so on, which `check
 FOLDER` checks, and the file FOLDER/locks with the names and the sizes of the locks. Each grant, and each end of one, is in
 the journal before its answer leaves. What was held when the process ended is held by the client 0 at the next start, until
-`0 leave` or `0 release LOCK TOKEN`; who waited has to ask again. One process at a time keeps FOLDER.
+`0 leave` or `0 release LOCK TOKEN`; who waited has to ask again. One process at a time keeps FOLDER. A server that knows who
+held gives `--holders`: each line of FILE is `hold LOCK TOKEN CLIENT`, and that hold is then the client's, not client 0's.
 
 The first start needs `--locks`: names of 1 to 64 ASCII letters, digits, `.`, `_`, `-` and `/`, each with how many machines its
 ring has (2 to 1024) and how many values they can hold (N to 65536), if it is not 8. A later start may leave it out, or name
@@ -61,14 +65,23 @@ fn list_word<'a>(alloc: Global) -> Arg<'a> {
         .help("The locks: their names, with the size of each one's ring [default: 8, and K as N]")
 }
 
+/// The file of the holders, which may be left out.
+fn holders_word<'a>(alloc: Global) -> Arg<'a> {
+    Arg::new(alloc, "HOLDERS")
+        .long("holders")
+        .value_name("FILE")
+        .help("Hands the open holds of the last run to the clients that FILE names")
+}
+
 /// The words of `locks`.
 pub(crate) fn locks_command<'a>(alloc: Global) -> Result<Command<'a>, Error> {
     let command = Command::new(alloc, "locks")
         .about(LOCKS_ABOUT)
         .after_help(LOCKS_HELP);
     let command = command.arg(folder_word(alloc))?.arg(list_word(alloc))?;
+    let command = command.arg(holders_word(alloc))?;
     let command = with_sync(alloc, command.arg(segment_word(alloc))?)?;
-    Ok(command.arg(faults_word(alloc))?)
+    Ok(command.arg(faults_word(alloc))?.arg(strict_word(alloc))?)
 }
 
 /// `locks`, where the folder is there.
@@ -76,8 +89,10 @@ pub(crate) fn locks_words<'a>(words: &ArgMatches<'a>) -> Option<Request<'a>> {
     Some(Request::Locks(LocksWords {
         journal: words.get_str("JOURNAL")?,
         locks: words.get_str("LOCKS"),
+        holders: words.get_str("HOLDERS"),
         segment: words.get_one::<u32>("SEGMENT").unwrap_or(LINES),
         synced: !words.get_flag("NO_SYNC"),
         faults: words.get_flag("FAULTS"),
+        strict: words.get_flag("STRICT"),
     }))
 }

@@ -91,7 +91,7 @@ of_lock words folder before after (inl h) = h.1
 of_lock words folder before after (inr h) = h.1
 
 of_run : (s : SegmentRules) (start : Place) (before after : Option Held) (was is old new : Option (List ℕ)) → IsRunRefused s start before after was is old new tool.BadList → ⊥
-of_run s start before after was is old new (inl h) = h.1
+of_run s start before after was is old new (inl h) = h.2
 of_run s start before after was is old new (inr h) = h.0
 
 of_folder : (words : ServeWords) (folder : List ℕ) (saved : Option Saved) (before after : Option Held) (was is old new : Option (List ℕ)) → IsRefusedIn words folder saved before after was is old new tool.BadList → ⊥

@@ -4,7 +4,7 @@ use Rattle.std.specs.Option.{option_map}
 use Rattle.disks.specs.Held.{Held, IsOneFile, Creates}
 use Rattle.disks.specs.Folders.{Lists, is_among, names_of, path_in}
 use Rattle.disks.specs.declared.disk.FolderEntry.{FolderEntry}
-use Rattle.segment_folder.specs.Names.{segment_file}
+use Rattle.segment_folder.specs.Names.{list_name, segment_file}
 use Rattle.segment_folder.specs.Numbers.{IsRightNumbers, shown}
 use Rattle.segment_folder.specs.declared.errors.FolderError.{FolderError}
 use Rattle.segment_folder.specs.declared.errors.FolderError.TheVariants as names
@@ -19,7 +19,7 @@ use Rattle.ring_serve.specs.Standings.{Standing}
 use Rattle.ring_serve.specs.Starting.{AreResumed, AreResumedAfter}
 use Rattle.chain_serve.specs.declared.segments.SegmentRules.{SegmentRules}
 use Rattle.chain_serve.specs.Segments.{Moment}
-use Rattle.chain_serve.specs.Beginning.{HasBegun, IsSettled}
+use Rattle.chain_serve.specs.Beginning.{HasBegun, IsLeftUnbegun, IsSettled}
 use Rattle.chain_serve.specs.Service.{ServesSegments, ServesSomeSegments}
 use Rattle.chain_serve.specs.Recovered.{AnsweredCallsAreRecovered}
 use Rattle.ring_requests.specs.declared.requests.ServeWords.{ServeWords}
@@ -70,10 +70,6 @@ StandsAmong files folder entries saved p =
     ⊎ ((r : SegmentNumbers)
     × IsRightNumbers entries (Ok (Some r))
     × IsLast files folder r.last p)
-
--- the name of the file that a folder of locks has
-abbrev pub list_name : List ℕ
-list_name = codes "locks"
 
 -- the same, of the folder, which is none of locks
 pub record StandsIn (files : Option Held) (folder : List ℕ) (saved : Option Saved) (p : Place) :
@@ -210,12 +206,14 @@ pub record IsRunPart (s : SegmentRules) (start : Place) (before after : Option H
   pub served : ServesSomeSegments s first end after was is old new
       ⊎ ((last : Moment) × ServesSegments s first last was is old new × (after ≡ last.files))
 
--- The segment with which they began cannot be begun, and no line is read; or serving was broken
--- off.
+-- The segment with which they began cannot be begun, and no line is read: the files are as they
+-- were, or its whole file was put there. Or serving was broken off.
 abbrev pub IsRunRefused : SegmentRules → Place → Option Held → Option Held → Option (List ℕ)
     → Option (List ℕ) → Option (List ℕ) → Option (List ℕ) → ToolError → Type 0
 IsRunRefused s start before after was is old new e =
-    (IsUnserved was is old new × IsUnkeptFolder s.folder.now e)
+    (IsUnserved was is old new
+    × IsLeftUnbegun s start.rings start.number start.behind before after
+    × IsUnkeptFolder s.folder.now e)
     ⊎ (IsServingFault (Some s.folder.now) e × IsRunPart s start before after was is old new)
 
 -- The folder is not locked, and no line is read. Or it is, no line is read, and no other file has

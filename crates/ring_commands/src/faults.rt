@@ -116,6 +116,8 @@ pub enum ToolError<'a> {
     OtherLock(&'a str, usize),
     /// The ring at this place in a folder is not of the size of its lock, or there is no such lock.
     OtherRing(&'a str, usize),
+    /// The line of this number, from 1, of a file of holders is not that of an open hold.
+    NoOpenHold(&'a str, u64),
     /// The history of the lock of this number, in a file or a folder of segments, is not that of a lock after this many events.
     NoHold(&'a str, u64, u64),
 }
@@ -208,6 +210,7 @@ impl ToolError<'_> {
                     "ring {place} in {folder} is not of the size in {folder}/locks"
                 )
             }
+            ToolError::NoOpenHold(name, line) => write!(f, "{name}: line {line}: no open hold"),
             ToolError::NoHold(name, lock, at) => {
                 write!(f, "{name}: lock {lock}: not the history of a lock at {at}")
             }

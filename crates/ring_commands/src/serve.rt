@@ -66,6 +66,7 @@ pub(crate) fn permits_of<'a>(words: &ServeWords<'a>) -> Permits<'a>
     Permits {
         faults: words.faults,
         saves: words.saves,
+        strict: words.strict,
     }
 }
 

@@ -4,7 +4,7 @@ ghost use Rattle.std.specs.Prelude.{◌≡◌, ◌⊎◌, ◌≤◌, ◌<◌, �
 ghost use Rattle.std.specs.List.{All};
 ghost use Rattle.disks.specs.Folders.{path_in};
 ghost use Rattle.segment_folder.specs.declared.errors.FolderError.{FolderError};
-ghost use Rattle.segment_folder.specs.Numbers.{IsRightNumbers, shown};
+ghost use Rattle.segment_folder.specs.Numbers.{IsRightNumbers};
 ghost use Rattle.ring_segments.specs.Spelling.{DigestFits};
 ghost use Rattle.ring_segments.specs.Last.{IsRightLast};
 ghost use Rattle.ring_chains.specs.Bases.{IsBase};
@@ -12,7 +12,7 @@ ghost use Rattle.ring_serve.specs.Starting.{AreResumedAfter};
 ghost use Rattle.chain_serve.specs.Segments.{Moment};
 ghost use Rattle.ring_commands.specs.Chained.{IsFolderFault};
 ghost use Rattle.ring_commands.specs.Served.{IsFirstRefusal};
-ghost use Rattle.ring_commands.specs.ServedFolder.{list_name, place_of, IsFirst, IsLast, StandsAmong, StandsIn, IsServedIn, IsLastFault, IsLastRefusal, IsRun, IsRunRefused, IsUnknownAmong, IsUnknown, SavesApart, IsSavesRefusal, IsUnkeptFolder, IsLocked, IsLockLeft, IsRefusedIn};
+ghost use Rattle.ring_commands.specs.ServedFolder.{place_of, IsFirst, IsLast, StandsAmong, StandsIn, IsServedIn, IsLastFault, IsLastRefusal, IsRun, IsRunRefused, IsUnknownAmong, IsUnknown, SavesApart, IsSavesRefusal, IsUnkeptFolder, IsLocked, IsLockLeft, IsRefusedIn};
 
 use crate::beginning::open_journal;
 use crate::chain::{folder_numbers, segment_bytes};
@@ -26,7 +26,7 @@ use ring_requests::ServeWords;
 use ring_saved::Saved;
 use ring_segments::{DIGEST_DIGITS, LastSegment, SegmentError, read_last};
 use ring_serve::{Refusal, Served};
-use segment_folder::{EntryName, SegmentNumbers};
+use segment_folder::{SegmentNumbers, list_name};
 use segment_loop::{OpenSegment, settle};
 use std::alloc::{AllocError, Global};
 use std::io::{Read, Write};
@@ -198,19 +198,6 @@ fn place_among<'a, D: Disk>(
         },
         Err(fault) => Err(fault),
     }
-}
-
-/// The name of the file that a folder of locks has.
-fn list_name() -> EntryName
-    ensures { shown result ≡ list_name }
-{
-    let mut bytes = [0; 255];
-    bytes[0] = b'l';
-    bytes[1] = b'o';
-    bytes[2] = b'c';
-    bytes[3] = b'k';
-    bytes[4] = b's';
-    EntryName { bytes, length: 5 }
 }
 
 /// Where the rings stand: at the end of the last segment in the folder, or, if there is none, as the history has them.

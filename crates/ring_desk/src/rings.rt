@@ -325,6 +325,8 @@ impl<R: Resource + Drop> OneThreadRing<R> {
 
     /// A fault, for a seat: a value is written into a machine.
     ///
+    /// With room for an event, it is refused for want of neither.
+    ///
     /// # Errors
     ///
     /// The first that applies: `NoSeat`, `NoMachine`, `NoValue`; `HistoryFull`, `OutOfMemory`. Nothing has changed then.
@@ -337,6 +339,8 @@ impl<R: Resource + Drop> OneThreadRing<R> {
         ensures refused { IsDecided
             (corrupt_refusal (bounds_of self.old) seat machine value) result }
         ensures err { OnErr result (self.new ≡ self.old) }
+        ensures succeeds { 1 ≤ self.old.book.room
+            → corrupt_refusal (bounds_of self.old) seat machine value ≡ None → IsOk result }
         ensures room { OnOk result (self.old.book.room ≤ self.new.book.room + 1) }
     {
         if seat as usize >= self.clients.len() {

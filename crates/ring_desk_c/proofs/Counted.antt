@@ -34,7 +34,7 @@ pub done_long : (old new : List LockView) (c i : ℕ) (ask : Ask) (r : Answers) 
 done_long old new c i ask r done = as_many old new (step (locks_of old) (Asked c i ask)).locks done.locks (input_long (locks_of old) (Asked c i ask))
 
 pub answer_long : (old new : List LockView) (c i : ℕ) (ask : Ask) (r : Answers) → IsAnswer old new c i ask r → length new ≡ length old
-answer_long old new c i ask r a = elim a [ inl done ↦ done_long old new c i ask r done | inr want ↦ as_many old new (locks_of old) want.locks refl ]
+answer_long old new c i ask r a = elim a [ inl done ↦ done_long old new c i ask r done | inr want ↦ ap (λ (vs : List LockView). length vs) want.same ]
 
 pub left_long : (old new : List LockView) (c : ℕ) (said : List Left) → IsLeft old new c said → length new ≡ length old
 left_long old new c said left = as_many old new (locks_after (locks_of old) (leaves c (length old))) left.locks (inputs_long (locks_of old) (leaves c (length old)))

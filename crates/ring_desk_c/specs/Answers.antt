@@ -1,7 +1,6 @@
--- The answers of calls on the ring that C holds: the clauses of a ring that is called by numbers,
--- over either resource (this project's own).
-use Rattle.std.specs.Prelude.{◌≡◌, ℕ, List, [], ◌∷◌, length, drop, Option, Result, Ok, Err, IfOk, OnErr}
-use Rattle.ring_model.specs.Resources.{till}
+-- The answers of calls on the ring that C holds: the clauses of a ring without end, or of one on one
+-- thread over a resource that does no work (this project's own).
+use Rattle.std.specs.Prelude.{◌≡◌, ℕ, ◌+◌, List, [], ◌∷◌, length, drop, slice_get, Option, Result, Ok, Err, IfOk, OnErr}
 use Rattle.ring_model.specs.History.{Works, opening}
 use Rattle.ring_model.specs.HistoryLaws.{Settlement}
 use Rattle.ring_model.specs.Surveys.{survey_at}
@@ -22,6 +21,9 @@ use Rattle.ring_desk.specs.Texts.{saved_alone, IsTextOf}
 use Rattle.ring_desk.specs.declared.errors.CallError.{CallError}
 use Rattle.std_alloc.specs.declared.vec.Vec.{Vec}
 use Rattle.std.specs.declared.alloc.Global.{Global}
+use Rattle.ring_endless.specs.Endless.{survey_now}
+use Rattle.ring_files.specs.Calls as files
+use Rattle.ring_desk_c.specs.Reports.{grant_in}
 use Rattle.ring_desk_c.specs.declared.kept.Kept.{Kept}
 use Rattle.ring_desk_c.specs.declared.kept.Kept.TheVariants.{Till, Idle}
 use Rattle.ring_desk_c.specs.declared.kept.TextError.{TextError}
@@ -84,45 +86,60 @@ pub record IsSurveyed {C : Type 0} (w : Works C) (first : C) (d e : RingView C) 
 -- The same for what C holds: the resource stays.
 abbrev pub IsPassAnswer : Kept → Kept → ℕ → ℕ → ℕ → Result Receipt CallError → Type 0
 IsPassAnswer (Till d) (Till e) seat machine order answer =
-    IsPassed till 0 d e seat machine order answer
+    files.IsPassed d e seat machine order answer
 IsPassAnswer (Idle d) (Idle e) seat machine order answer =
     IsPassed idle (record {}) d e seat machine order answer
 IsPassAnswer _ _ seat machine order answer = ⊥
 
 abbrev pub IsTryAnswer : Kept → Kept → ℕ → ℕ → ℕ → Result (Option Receipt) CallError → Type 0
 IsTryAnswer (Till d) (Till e) seat machine order answer =
-    IsTriedBy till 0 d e seat machine order answer
+    files.IsTriedBy d e seat machine order answer
 IsTryAnswer (Idle d) (Idle e) seat machine order answer =
     IsTriedBy idle (record {}) d e seat machine order answer
 IsTryAnswer _ _ seat machine order answer = ⊥
 
 abbrev pub IsCorruptAnswer : Kept → Kept → ℕ → ℕ → ℕ → Result Receipt CallError → Type 0
 IsCorruptAnswer (Till d) (Till e) seat machine value answer =
-    IsCorrupted till 0 d e seat machine value answer
+    files.IsCorrupted d e seat machine value answer
 IsCorruptAnswer (Idle d) (Idle e) seat machine value answer =
     IsCorrupted idle (record {}) d e seat machine value answer
 IsCorruptAnswer _ _ seat machine value answer = ⊥
 
 abbrev pub IsGroupAnswer : Kept → Kept → ℕ → List ℕ → ℕ → Result GroupReceipt CallError → Type 0
 IsGroupAnswer (Till d) (Till e) seat machines order answer =
-    IsGrouped till 0 d e seat machines order answer
+    files.IsGroupedBy d e seat machines order answer
 IsGroupAnswer (Idle d) (Idle e) seat machines order answer =
     IsGrouped idle (record {}) d e seat machines order answer
 IsGroupAnswer _ _ seat machines order answer = ⊥
 
 abbrev pub IsSurveyAnswer : Kept → Kept → ℕ → Result Survey CallError → Type 0
-IsSurveyAnswer (Till d) (Till e) seat answer = IsSurveyed till 0 d e seat answer
+IsSurveyAnswer (Till d) (Till e) seat answer = files.IsSurveyedBy d e seat answer
 IsSurveyAnswer (Idle d) (Idle e) seat answer = IsSurveyed idle (record {}) d e seat answer
 IsSurveyAnswer _ _ seat answer = ⊥
 
 abbrev pub IsGlance : Kept → Survey → Type 0
-IsGlance (Till d) s = s ≡ survey_of till 0 d
+IsGlance (Till d) s = s ≡ survey_now d.ring
 IsGlance (Idle d) s = s ≡ survey_of idle (record {}) d
 
--- the history of the ring that C holds
-abbrev pub history_of : Kept → List Event
-history_of (Till d) = d.book.history
-history_of (Idle d) = d.book.history
+-- how many events there were, over all segments
+abbrev pub events_of : Kept → ℕ
+events_of (Till d) = d.ring.base.events + length d.ring.ring.book.history
+events_of (Idle d) = length d.book.history
+
+-- how many of them are before this one
+abbrev pub before_of : Kept → ℕ
+before_of (Till d) = d.ring.base.events
+before_of (Idle d) = 0
+
+-- the event of this number, over all segments, if it is in this one
+abbrev pub event_of : Kept → ℕ → Option Event
+event_of (Till d) number = files.event_at d number
+event_of (Idle d) number = slice_get d.book.history number
+
+-- the grant of the first member of a group that passed: its number, and the resource's answer
+abbrev pub first_grant : Kept → Result GroupReceipt CallError → ℕ × ℕ
+first_grant k (Ok r) = grant_in (event_of k r.first)
+first_grant k (Err e) = (0, 0)
 
 -- The bytes are the saved text of the ring, which is legal, and each number of it is one that a text
 -- may have.
@@ -130,9 +147,9 @@ pub record IsSavedText (d : RingView ℕ) (bytes : List ℕ) : Type 0 where
   pub text : IsTextOf d bytes
   pub fits : Fits (saved_alone d)
 
--- The saved text of a ring over a till; there is none of a ring that is over no till.
+-- The saved text of the segment of a ring over a till; there is none of a ring that is over no till.
 abbrev pub IsTextAnswer : Kept → Result (Vec ℕ Global) TextError → Type 0
-IsTextAnswer (Till d) (Ok bytes) = IsSavedText d bytes.items
+IsTextAnswer (Till d) (Ok bytes) = IsSavedText d.ring.ring bytes.items
 IsTextAnswer (Till d) (Err text.OutOfMemory) = Unit {0}
 IsTextAnswer (Idle d) (Err text.NoTill) = Unit {0}
 IsTextAnswer _ _ = ⊥

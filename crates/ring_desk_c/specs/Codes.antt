@@ -6,6 +6,8 @@ use Rattle.text_lines.specs.declared.answer.ReadError.{ReadError}
 use Rattle.text_lines.specs.declared.answer.ReadError.TheVariants as read
 use Rattle.ring_check.specs.declared.answers.Kind.{Kind}
 use Rattle.ring_check.specs.declared.answers.Kind.TheVariants as kind
+use Rattle.ring_segments.specs.declared.errors.SegmentError.{SegmentError}
+use Rattle.ring_segments.specs.declared.errors.SegmentError.TheVariants as segment
 use Rattle.ring_desk.specs.declared.errors.CallError.{CallError}
 use Rattle.ring_desk.specs.declared.errors.CallError.TheVariants as call
 use Rattle.ring_desk.specs.declared.errors.OpenError.{OpenError}
@@ -91,9 +93,34 @@ kind_code kind.Count = 67
 kind_code kind.Survey = 68
 kind_code kind.Group = 69
 
--- of a ring that has no saved text
+-- of bytes that are no file of a chain of this ring: it is none with which a chain ends, or it is not
+-- of one ring
+abbrev pub no_chain : ℕ
+no_chain = 52
+
+abbrev pub many_rings : ℕ
+many_rings = 53
+
+abbrev pub segment_code : SegmentError → ℕ
+segment_code segment.Truncated = 49
+segment_code (segment.Syntax line) = 48
+segment_code (segment.Bad line kind) = kind_code kind
+segment_code segment.Number = no_chain
+segment_code segment.Behind = no_chain
+segment_code segment.Base = no_chain
+segment_code segment.Start = no_chain
+segment_code segment.Full = 22
+segment_code segment.Unfinished = no_chain
+segment_code segment.OutOfMemory = no_memory
+
+-- of a ring that is over no till
+abbrev pub no_till : ℕ
+no_till = 80
+
+-- of a ring that has no such text
 abbrev pub text_code : TextError → ℕ
-text_code text.NoTill = 80
+text_code text.NoTill = no_till
+text_code text.NoJournal = 83
 text_code text.OutOfMemory = no_memory
 
 -- of a buffer that is too small

@@ -6,3 +6,4 @@ pub mod Opened
 pub mod Reports
 pub mod Resumed
 pub mod Trips
+pub mod Sealed

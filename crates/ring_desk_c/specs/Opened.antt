@@ -7,6 +7,8 @@ use Rattle.ring_book.specs.BookView.{IsFresh}
 use Rattle.ring_book.specs.IdleWorks.{idle}
 use Rattle.ring_desk.specs.Rings.{RingView, IsOneThreadRing, IsSeatCount, IsOpenFault, AreFresh}
 use Rattle.ring_desk.specs.declared.errors.OpenError.{OpenError}
+use Rattle.ring_chains.specs.Bases.{no_base}
+use Rattle.ring_files.specs.Files.{first_place, filed_at}
 use Rattle.ring_desk_c.specs.declared.kept.Kept.{Kept}
 use Rattle.ring_desk_c.specs.declared.kept.Kept.TheVariants.{Till, Idle}
 use Rattle.ring_desk_c.specs.Codes.{open_code}
@@ -22,8 +24,10 @@ pub record IsOpened {C : Type 0} (w : Works C) (first : C) (n k : ℕ) (start : 
   pub size : IsSize (record { n = n; k = k })
   pub values : length start ≡ n
 
+-- over a till its segment is the first file of a chain
 abbrev pub IsOpenedTill : ℕ → ℕ → List ℕ → ℕ → Kept → Type 0
-IsOpenedTill n k start seats (Till d) = IsOpened till 0 n k start seats d
+IsOpenedTill n k start seats (Till d) =
+    (d ≡ filed_at first_place no_base d.ring.ring) × IsOpened till 0 n k start seats d.ring.ring
 IsOpenedTill n k start seats (Idle d) = ⊥
 
 abbrev pub IsOpenedIdle : ℕ → ℕ → List ℕ → ℕ → Kept → Type 0

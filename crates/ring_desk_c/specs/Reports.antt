@@ -52,14 +52,32 @@ IsTryReport (Ok (Some r)) code old new = IsReplyReport r.position r.event.reply 
 IsTryReport (Ok None) code old new = (code ≡ 1) × (new ≡ old)
 IsTryReport (Err e) code old new = (code ≡ call_code e) × (new ≡ old)
 
--- of a group: its block's first place and how many members it has, or the least machine that is not
--- privileged
-abbrev pub IsGroupReport : Result GroupReceipt CallError → ℕ → Group → Group → Type 0
-IsGroupReport (Ok r) code old new =
-    (code ≡ 0) × (new ≡ record { first = r.first; count = r.count; machine = 0 })
-IsGroupReport (Err (call.NotPrivileged m)) code old new =
-    (code ≡ 21) × (new ≡ record { first = 0; count = 0; machine = m })
-IsGroupReport (Err e) code old new = (code ≡ call_code e) × (new ≡ old)
+-- the number of a grant and the resource's answer; 0 where there is no grant
+abbrev pub grant_of : Reply → ℕ × ℕ
+grant_of (Granted number result) = (number, result)
+grant_of _ = (0, 0)
+
+-- the same of an event, if there is one
+abbrev pub grant_in : Option Event → ℕ × ℕ
+grant_in (Some e) = grant_of e.reply
+grant_in None = (0, 0)
+
+-- of a group: its block's first place, how many members it has, and the grant of the first; or the
+-- least machine that is not privileged
+abbrev pub IsGroupReport : Result GroupReceipt CallError → ℕ × ℕ → ℕ → Group → Group → Type 0
+IsGroupReport (Ok r) grant code old new =
+    (code ≡ 0)
+    × (new ≡ record {
+      first = r.first;
+      number = grant.0;
+      result = grant.1;
+      count = r.count;
+      machine = 0;
+    })
+IsGroupReport (Err (call.NotPrivileged m)) grant code old new =
+    (code ≡ 21)
+    × (new ≡ record { first = 0; number = 0; result = 0; count = 0; machine = m })
+IsGroupReport (Err e) grant code old new = (code ≡ call_code e) × (new ≡ old)
 
 abbrev pub sight_of : Survey → Sight
 sight_of s = record {
@@ -74,11 +92,6 @@ sight_of s = record {
 abbrev pub IsSightReport : Result Survey CallError → ℕ → Sight → Sight → Type 0
 IsSightReport (Ok s) code old new = (code ≡ 0) × (new ≡ sight_of s)
 IsSightReport (Err e) code old new = (code ≡ call_code e) × (new ≡ old)
-
--- the number of a grant and the resource's answer; 0 where there is no grant
-abbrev pub grant_of : Reply → ℕ × ℕ
-grant_of (Granted number result) = (number, result)
-grant_of _ = (0, 0)
 
 -- the kind of a pass: 0 if it was granted, 1 if it did nothing
 abbrev pub pass_kind : Reply → ℕ

@@ -11,6 +11,8 @@ use Rattle.ring_saved.specs.Meaning.{IsRightRead}
 use Rattle.ring_check.specs.Table.{event_of}
 use Rattle.ring_desk.specs.Rings.{RingView, IsOneThreadRing, IsSeatCount}
 use Rattle.ring_desk.specs.Texts.{surveys_told}
+use Rattle.ring_chains.specs.Bases.{no_base}
+use Rattle.ring_files.specs.Files.{first_place, filed_at}
 use Rattle.ring_desk_c.specs.declared.answers.Sums.{Sums}
 use Rattle.ring_desk_c.specs.declared.kept.Kept.{Kept}
 use Rattle.ring_desk_c.specs.declared.kept.Kept.TheVariants.{Till, Idle}
@@ -73,8 +75,10 @@ pub record IsResumedFrom (bytes : List ℕ) (place seats : ℕ) (d : RingView �
   pub read : IsRightRead bytes (Ok saved)
   pub at : IsResumedAt saved place seats d
 
+-- its segment is the first file of a chain
 abbrev pub IsResumed : List ℕ → ℕ → ℕ → Kept → Type 0
-IsResumed bytes place seats (Till d) = IsResumedFrom bytes place seats d
+IsResumed bytes place seats (Till d) =
+    (d ≡ filed_at first_place no_base d.ring.ring) × IsResumedFrom bytes place seats d.ring.ring
 IsResumed bytes place seats (Idle d) = ⊥
 
 -- they are, and none is resumed

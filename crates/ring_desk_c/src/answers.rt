@@ -2,7 +2,7 @@
 
 ghost use Rattle.std.specs.Prelude.{◌≡◌};
 ghost use Rattle.ring_blocks.specs.SavedOf;
-ghost use Rattle.ring_desk_c.specs.Reports.{IsCallReport, IsTryReport, IsReplyReport, IsGroupReport, IsSightReport, IsEventReport, row_for, IsSaveReport, IsTextReport, IsCheckReport, line_of};
+ghost use Rattle.ring_desk_c.specs.Reports.{IsCallReport, IsTryReport, IsReplyReport, IsGroupReport, IsSightReport, IsEventReport, row_for, grant_in, IsSaveReport, IsTextReport, IsCheckReport, line_of};
 
 use crate::codes::{NO_EVENT, NO_MEMORY, TOO_SMALL, call_code, kind_code, text_code};
 use crate::kept::TextError;
@@ -22,12 +22,14 @@ pub struct Answer {
     pub result: u64,
 }
 
-/// The answer to a group: the place of its first member, how many it has, and the least machine that is not privileged
-/// where one kept it from moving.
+/// The answer to a group: the place of its first member, the number of that member's grant and the resource's answer to it,
+/// how many members it has, and the least machine that is not privileged where one kept it from moving.
 #[repr(C)]
 #[derive(Clone, Copy)]
 pub struct Group {
     pub first: u64,
+    pub number: u64,
+    pub result: u64,
     pub count: u32,
     pub machine: u32,
 }
@@ -121,14 +123,20 @@ pub(crate) fn report_try(answer: Result<Option<Receipt>, CallError>, out: &mut A
     }
 }
 
-/// The answer of a group.
-pub(crate) fn report_group(answer: Result<GroupReceipt, CallError>, out: &mut Group) -> u32
-    ensures { IsGroupReport answer result out.old out.new }
+/// The answer of a group, with the grant of its first member.
+pub(crate) fn report_group(
+    answer: Result<GroupReceipt, CallError>,
+    grant: (u64, u64),
+    out: &mut Group,
+) -> u32
+    ensures { IsGroupReport answer grant result out.old out.new }
 {
     match answer {
         Ok(receipt) => {
             *out = Group {
                 first: receipt.first,
+                number: grant.0,
+                result: grant.1,
                 count: receipt.count,
                 machine: 0,
             };
@@ -137,6 +145,8 @@ pub(crate) fn report_group(answer: Result<GroupReceipt, CallError>, out: &mut Gr
         Err(CallError::NotPrivileged(machine)) => {
             *out = Group {
                 first: 0,
+                number: 0,
+                result: 0,
                 count: 0,
                 machine,
             };
@@ -172,6 +182,16 @@ fn grant_of(reply: Reply) -> (u64, u64)
     match reply {
         Reply::Granted { number, result } => (number, result),
         Reply::NotPrivileged | Reply::Corrupted { .. } => (0, 0),
+    }
+}
+
+/// The same of an event, if there is one.
+pub(crate) fn grant_in(event: Option<Event>) -> (u64, u64)
+    ensures { result ≡ grant_in event }
+{
+    match event {
+        Some(event) => grant_of(event.reply),
+        None => (0, 0),
     }
 }
 
@@ -249,7 +269,7 @@ pub(crate) fn report_event(answer: Option<Event>, out: &mut EventRow) -> u32
 }
 
 /// A text's size, and its bytes if there is room for them.
-fn report_text(text: &[u8], out: &mut [u8], size: &mut u64) -> u32
+pub(crate) fn report_text(text: &[u8], out: &mut [u8], size: &mut u64) -> u32
     ensures { IsTextReport text.now result out.old out.new size.new }
 {
     *size = text.len() as u64;

@@ -1,11 +1,11 @@
 //! The calls of a ring that C holds.
 
-ghost use Rattle.std.specs.Prelude.{◌≡◌, true, false, length, slice_get, Ok, Option, Result};
+ghost use Rattle.std.specs.Prelude.{◌≡◌, true, false, Ok, Option, Result};
 ghost use Rattle.ring_model.specs.declared.events.Receipt.{Receipt};
 ghost use Rattle.ring_model.specs.declared.events.Survey.{Survey};
 ghost use Rattle.ring_book.specs.declared.books.groups.GroupReceipt.{GroupReceipt};
 ghost use Rattle.ring_desk.specs.declared.errors.CallError.{CallError};
-ghost use Rattle.ring_desk_c.specs.Answers.{IsPassAnswer, IsTryAnswer, IsCorruptAnswer, IsGroupAnswer, IsSurveyAnswer, IsGlance, history_of};
+ghost use Rattle.ring_desk_c.specs.Answers.{IsPassAnswer, IsTryAnswer, IsCorruptAnswer, IsGroupAnswer, IsSurveyAnswer, IsGlance, events_of, before_of, event_of, first_grant};
 ghost use Rattle.ring_desk_c.specs.Codes.{closed};
 ghost use Rattle.ring_desk_c.specs.Reports.{IsCallReport, IsTryReport, IsGroupReport, IsSightReport, IsEventReport, sight_of};
 
@@ -132,20 +132,30 @@ pub extern "C" fn wozgirt_corrupt(
     report_call(answer, out)
 }
 
+/// The answer to a group, with the grant of its first member.
+#[derive(Clone, Copy)]
+struct GroupAnswer {
+    answer: Result<GroupReceipt, CallError>,
+    grant: (u64, u64),
+}
+
 /// A group pass of a ring that C holds.
 fn pass_group_by_handle(
     handle: Handle,
     seat: u32,
     machines: &[u32],
     order: u64,
-) -> (Handle, Result<GroupReceipt, CallError>)
+) -> (Handle, GroupAnswer)
     requires { handle.full ≡ true }
     ensures full { result.0.full ≡ true }
-    ensures is { IsGroupAnswer handle.value result.0.value seat machines.now order result.1 }
+    ensures is { IsGroupAnswer handle.value result.0.value seat machines.now order
+        result.1.answer }
+    ensures grant { result.1.grant ≡ first_grant result.0.value result.1.answer }
 {
     let mut kept = loosen(handle).into_box();
     let answer = kept::pass_group(&mut kept, seat, machines, order);
-    (hold(Loose::of(kept)), answer)
+    let grant = kept::first_grant(&kept, answer);
+    (hold(Loose::of(kept)), GroupAnswer { answer, grant })
 }
 
 /// A pass by machines whose numbers rise, all at once, for a seat.
@@ -163,7 +173,7 @@ pub extern "C" fn wozgirt_pass_group(
     ensures reported { ring.old.full ≡ true
         → (answer : Result GroupReceipt CallError)
         × IsGroupAnswer ring.old.value ring.new.value seat machines.now order answer
-        × IsGroupReport answer result out.old out.new }
+        × IsGroupReport answer (first_grant ring.new.value answer) result out.old out.new }
 {
     if is_closed(ring) {
         return CLOSED;
@@ -171,7 +181,7 @@ pub extern "C" fn wozgirt_pass_group(
     let answer = replace_with(ring, (), |handle, _call| {
         pass_group_by_handle(handle, seat, machines, order)
     });
-    report_group(answer, out)
+    report_group(answer.answer, answer.grant, out)
 }
 
 /// A survey of a ring that C holds.
@@ -235,19 +245,19 @@ pub extern "C" fn wozgirt_glance(ring: &mut Handle, out: &mut Sight) -> u32
     report_sight(Ok(survey), out)
 }
 
-/// How long the history of a ring that C holds is.
+/// How many events a ring that C holds had.
 fn length_by_handle(handle: Handle, _call: ()) -> (Handle, u64)
     requires { handle.full ≡ true }
     ensures full { result.0.full ≡ true }
     ensures same { result.0.value ≡ handle.value }
-    ensures is { result.1 ≡ length (history_of handle.value) }
+    ensures is { result.1 ≡ events_of handle.value }
 {
     let kept = loosen(handle).into_box();
     let length = kept::history_length(&kept);
     (hold(Loose::of(kept)), length)
 }
 
-/// How many events the history has.
+/// How many events there were, over all segments.
 #[unsafe(no_mangle)]
 pub extern "C" fn wozgirt_history_length(ring: &mut Handle, out: &mut u64) -> u32
     ensures closed { ring.old.full ≡ false
@@ -255,7 +265,7 @@ pub extern "C" fn wozgirt_history_length(ring: &mut Handle, out: &mut u64) -> u3
     ensures full { ring.new.full ≡ ring.old.full }
     ensures same { ring.old.full ≡ true → ring.new.value ≡ ring.old.value }
     ensures reported { ring.old.full ≡ true
-        → (result ≡ 0) × (out.new ≡ length (history_of ring.old.value)) }
+        → (result ≡ 0) × (out.new ≡ events_of ring.old.value) }
 {
     if is_closed(ring) {
         return CLOSED;
@@ -264,19 +274,48 @@ pub extern "C" fn wozgirt_history_length(ring: &mut Handle, out: &mut u64) -> u3
     0
 }
 
+/// How many events are before the segment of a ring that C holds.
+fn before_by_handle(handle: Handle, _call: ()) -> (Handle, u64)
+    requires { handle.full ≡ true }
+    ensures full { result.0.full ≡ true }
+    ensures same { result.0.value ≡ handle.value }
+    ensures is { result.1 ≡ before_of handle.value }
+{
+    let kept = loosen(handle).into_box();
+    let count = kept::events_before(&kept);
+    (hold(Loose::of(kept)), count)
+}
+
+/// How many of the events are before the segment.
+#[unsafe(no_mangle)]
+pub extern "C" fn wozgirt_events_before(ring: &mut Handle, out: &mut u64) -> u32
+    ensures closed { ring.old.full ≡ false
+        → (result ≡ closed) × (ring.new ≡ ring.old) × (out.new ≡ out.old) }
+    ensures full { ring.new.full ≡ ring.old.full }
+    ensures same { ring.old.full ≡ true → ring.new.value ≡ ring.old.value }
+    ensures reported { ring.old.full ≡ true
+        → (result ≡ 0) × (out.new ≡ before_of ring.old.value) }
+{
+    if is_closed(ring) {
+        return CLOSED;
+    }
+    *out = replace_with(ring, (), before_by_handle);
+    0
+}
+
 /// The event of this number of a ring that C holds.
 fn event_by_handle(handle: Handle, number: u64) -> (Handle, Option<Event>)
     requires { handle.full ≡ true }
     ensures full { result.0.full ≡ true }
     ensures same { result.0.value ≡ handle.value }
-    ensures is { result.1 ≡ slice_get (history_of handle.value) number }
+    ensures is { result.1 ≡ event_of handle.value number }
 {
     let kept = loosen(handle).into_box();
     let event = kept::event(&kept, number);
     (hold(Loose::of(kept)), event)
 }
 
-/// The event of this number, from 0, of the history.
+/// The event of this number, from 0 over all segments, if this one has it.
 #[unsafe(no_mangle)]
 pub extern "C" fn wozgirt_event_at(ring: &mut Handle, number: u64, out: &mut EventRow) -> u32
     ensures closed { ring.old.full ≡ false
@@ -284,7 +323,7 @@ pub extern "C" fn wozgirt_event_at(ring: &mut Handle, number: u64, out: &mut Eve
     ensures full { ring.new.full ≡ ring.old.full }
     ensures same { ring.old.full ≡ true → ring.new.value ≡ ring.old.value }
     ensures reported { ring.old.full ≡ true
-        → IsEventReport (slice_get (history_of ring.old.value) number) result out.old out.new }
+        → IsEventReport (event_of ring.old.value number) result out.old out.new }
 {
     if is_closed(ring) {
         return CLOSED;

@@ -8,6 +8,7 @@ use ring_check::Kind;
 use ring_desk::{CallError, OpenError, ResumeError};
 use ring_locks::Refusal;
 use ring_saved::ReadError;
+use ring_segments::SegmentError;
 use ring_state::ParamsError;
 
 /// Out of memory, whoever asks for it.
@@ -30,6 +31,14 @@ pub(crate) const HISTORY_FULL: u32 = 22;
 
 /// A saved text has no ring at this place.
 pub(crate) const NO_RING: u32 = 50;
+
+/// A ring is over no till.
+pub(crate) const NO_TILL: u32 = 80;
+
+/// No chain ends with a file; a file is not of one ring.
+const NO_CHAIN: u32 = 52;
+
+pub(crate) const MANY_RINGS: u32 = 53;
 
 /// A buffer is too small.
 pub(crate) const TOO_SMALL: u32 = 81;
@@ -125,12 +134,31 @@ pub(crate) fn kind_code(kind: Kind) -> u32
     }
 }
 
-/// Of a ring that has no saved text.
+/// Of bytes that are no file with which a chain ends.
+pub(crate) fn segment_code(error: SegmentError) -> u32
+    ensures { result ≡ Codes.segment_code error }
+{
+    match error {
+        SegmentError::Truncated => 49,
+        SegmentError::Syntax(_) => 48,
+        SegmentError::Bad { kind, .. } => kind_code(kind),
+        SegmentError::Number => NO_CHAIN,
+        SegmentError::Behind => NO_CHAIN,
+        SegmentError::Base => NO_CHAIN,
+        SegmentError::Start => NO_CHAIN,
+        SegmentError::Full => HISTORY_FULL,
+        SegmentError::Unfinished => NO_CHAIN,
+        SegmentError::OutOfMemory => NO_MEMORY,
+    }
+}
+
+/// Of a ring that has no such text.
 pub(crate) fn text_code(error: TextError) -> u32
     ensures { result ≡ Codes.text_code error }
 {
     match error {
-        TextError::NoTill => 80,
+        TextError::NoTill => NO_TILL,
+        TextError::NoJournal => 83,
         TextError::OutOfMemory => NO_MEMORY,
     }
 }

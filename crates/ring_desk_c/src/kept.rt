@@ -1,25 +1,30 @@
 //! The ring that C holds, over one of the two resources.
 
-ghost use Rattle.ring_desk_c.specs.Answers.{IsPassAnswer, IsTryAnswer, IsCorruptAnswer, IsGroupAnswer, IsSurveyAnswer, IsGlance, IsTextAnswer, history_of};
-ghost use Rattle.std.specs.Prelude.{◌≡◌, length, slice_get};
+ghost use Rattle.ring_desk_c.specs.Answers.{IsPassAnswer, IsTryAnswer, IsCorruptAnswer, IsGroupAnswer, IsSurveyAnswer, IsGlance, IsTextAnswer, events_of, before_of, event_of, first_grant};
+ghost use Rattle.ring_desk_c.specs.Sealed.{IsFileAnswer, IsLinesAnswer, kept_after};
+ghost use Rattle.std.specs.Prelude.{◌≡◌};
 
-use ring_book::{GroupReceipt, Idle, Till};
+use crate::answers::grant_in;
+use ring_book::{GroupReceipt, Idle};
 use ring_desk::{CallError, OneThreadRing};
+use ring_files::FileRing;
 use ring_model::{Event, Receipt, Survey};
 use std::alloc::Global;
 
-/// A ring over a till, which adds up the orders of granted passes, or over a resource that does no work.
+/// A ring over a till, which adds up the orders of granted passes, without end; or one over a resource that does no work.
 #[derive(Drop)]
 pub enum Kept {
-    Till(OneThreadRing<Till>),
+    Till(FileRing),
     Idle(OneThreadRing<Idle>),
 }
 
-/// The reason why a saved text is missing.
+/// The reason why a text of a ring is missing.
 #[derive(Clone, Copy, Drop)]
 pub enum TextError {
-    /// The ring is not over a till, and a saved text is of tills.
+    /// The ring is not over a till, and texts are of tills.
     NoTill,
+    /// No journal is kept of the ring.
+    NoJournal,
     OutOfMemory,
 }
 
@@ -83,6 +88,16 @@ pub(crate) fn pass_group(
     }
 }
 
+/// The grant of the first member of a group that passed.
+pub(crate) fn first_grant(kept: &Kept, answer: Result<GroupReceipt, CallError>) -> (u64, u64)
+    ensures { result ≡ first_grant kept.now answer }
+{
+    match answer {
+        Ok(receipt) => grant_in(event(kept, receipt.first)),
+        Err(_) => (0, 0),
+    }
+}
+
 /// A survey, which the seat's log keeps.
 pub(crate) fn survey(kept: &mut Kept, seat: u32) -> Result<Survey, CallError>
     ensures { IsSurveyAnswer kept.old kept.new seat result }
@@ -103,38 +118,91 @@ pub(crate) fn glance(kept: &Kept) -> Survey
     }
 }
 
-/// How many events the history has.
+/// How many events there were, over all segments.
 pub(crate) fn history_length(kept: &Kept) -> u64
-    ensures { result ≡ length (history_of kept.now) }
+    ensures { result ≡ events_of kept.now }
 {
     match kept {
-        Kept::Till(ring) => ring.history_length(),
+        Kept::Till(ring) => ring.events(),
         Kept::Idle(ring) => ring.history_length(),
     }
 }
 
-/// The event of this number, if the history has one.
-pub(crate) fn event(kept: &Kept, number: u64) -> Option<Event>
-    ensures { result ≡ slice_get (history_of kept.now) number }
+/// How many of them are before the segment.
+pub(crate) fn events_before(kept: &Kept) -> u64
+    ensures { result ≡ before_of kept.now }
 {
     match kept {
-        Kept::Till(ring) => ring.history().get(number as usize).copied(),
+        Kept::Till(ring) => ring.ring().base().events,
+        Kept::Idle(_) => 0,
+    }
+}
+
+/// The event of this number over all segments, if this one has it.
+pub(crate) fn event(kept: &Kept, number: u64) -> Option<Event>
+    ensures { result ≡ event_of kept.now number }
+{
+    match kept {
+        Kept::Till(ring) => ring.event(number),
         Kept::Idle(ring) => ring.history().get(number as usize).copied(),
     }
 }
 
-/// The saved text of the ring as it is, if it is one over a till.
+/// The saved text of the ring's segment as it is, if it is a ring over a till.
 pub(crate) fn text(kept: &Kept, alloc: Global) -> Result<Vec<u8>, TextError>
     ensures { IsTextAnswer kept.now result }
 {
     match kept {
-        Kept::Till(ring) => {
-            let mut text = Vec::new(alloc);
-            match ring.save(&mut text) {
-                Ok(()) => Ok(text),
-                Err(_) => Err(TextError::OutOfMemory),
-            }
-        }
+        Kept::Till(ring) => match ring.text(alloc) {
+            Ok(text) => Ok(text),
+            Err(_) => Err(TextError::OutOfMemory),
+        },
         Kept::Idle(_) => Err(TextError::NoTill),
+    }
+}
+
+/// The text of the file of the ring's segment as it is, if it is a ring over a till.
+pub(crate) fn file_text(kept: &Kept, alloc: Global) -> Result<Vec<u8>, TextError>
+    ensures { IsFileAnswer kept.now result }
+{
+    match kept {
+        Kept::Till(ring) => match ring.file_text(alloc) {
+            Ok(text) => Ok(text),
+            Err(_) => Err(TextError::OutOfMemory),
+        },
+        Kept::Idle(_) => Err(TextError::NoTill),
+    }
+}
+
+/// The lines of a ring without end that its journal does not have, if one is kept.
+fn ring_lines(ring: &FileRing, alloc: Global) -> Result<Vec<u8>, TextError>
+    ensures { IsLinesAnswer (Kept.Till ring.now) result }
+{
+    if !ring.is_kept() {
+        return Err(TextError::NoJournal);
+    }
+    match ring.lines(alloc) {
+        Ok(text) => Ok(text),
+        Err(_) => Err(TextError::OutOfMemory),
+    }
+}
+
+/// The same of what C holds.
+pub(crate) fn lines(kept: &Kept, alloc: Global) -> Result<Vec<u8>, TextError>
+    ensures { IsLinesAnswer kept.now result }
+{
+    match kept {
+        Kept::Till(ring) => ring_lines(ring, alloc),
+        Kept::Idle(_) => Err(TextError::NoTill),
+    }
+}
+
+/// From now on a journal is kept, which has all of the segment so far.
+pub(crate) fn keep(kept: &mut Kept)
+    ensures { kept.new ≡ kept_after kept.old }
+{
+    match kept {
+        Kept::Till(ring) => ring.keep(),
+        Kept::Idle(_) => {}
     }
 }

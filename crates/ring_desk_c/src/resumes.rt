@@ -14,8 +14,7 @@ use crate::answers::Sums;
 use crate::checks::legal_text;
 use crate::codes::{BAD_SEATS, HISTORY_FULL, NO_RING, NO_SEAT, STILL_OPEN, resume_code};
 use crate::handle::{Handle, is_closed};
-use crate::kept::Kept;
-use crate::opens::fill_handle;
+use crate::opens::fill_first;
 use core::mem::replace_with;
 use ring_book::Till;
 use ring_desk::{OneThreadRing, from_saved};
@@ -78,7 +77,11 @@ fn seats_fault(ring: &SavedRing, seats: u32) -> Option<u32>
 }
 
 /// A ring that resumes a saved one of a legal text, or the code of why there is none.
-fn resume(alloc: Global, ring: &SavedRing, seats: u32) -> Result<OneThreadRing<Till>, u32>
+pub(crate) fn resume(
+    alloc: Global,
+    ring: &SavedRing,
+    seats: u32,
+) -> Result<OneThreadRing<Till>, u32>
     requires { (version : ℕ) × (place : ℕ) × IsRightBlock version place (block_of ring.now) }
     ensures ok { IfOk result (λ d. IsResumedAs ring.now seats d) }
     ensures err { IfErr result (λ code. IsRingRefused ring.now seats code) }
@@ -150,7 +153,7 @@ pub extern "C" fn wozgirt_open_saved(
         return STILL_OPEN;
     }
     match resume_text(alloc, bytes, place, seats, out) {
-        Ok(opened) => replace_with(ring, (Kept::Till(opened), alloc), fill_handle),
+        Ok(opened) => replace_with(ring, (opened, alloc), fill_first),
         Err(code) => code,
     }
 }

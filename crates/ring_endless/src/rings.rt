@@ -153,6 +153,8 @@ impl EndlessRing {
 
     /// A fault, for a seat: a value is written into a machine; its receipt is shifted.
     ///
+    /// With room for an event, it is refused for want of neither room nor memory.
+    ///
     /// # Errors
     ///
     /// Those of [`OneThreadRing::corrupt`]. Nothing has changed then.
@@ -163,6 +165,9 @@ impl EndlessRing {
         ensures err { OnErr result (self.new ≡ self.old) }
         ensures refused { IsDecided
             (corrupt_refusal (bounds_of self.old.ring) seat machine value) result }
+        ensures succeeds { 1 ≤ self.old.ring.book.room
+            → corrupt_refusal (bounds_of self.old.ring) seat machine value ≡ None
+            → IsOk result }
         ensures room { OnOk result (self.old.ring.book.room ≤ self.new.ring.book.room + 1) }
     {
         let receipt = match self.ring.corrupt(seat, machine, value) {

@@ -18,3 +18,4 @@ pub mod AllLeft
 pub mod OpenHolds
 pub mod NextSegments
 pub mod Foreseen
+pub mod HandedOver

@@ -4,7 +4,6 @@ use Rattle.std.specs.Prelude.{◌||◌, ◌==◌, slice_get, slice_set, option_m
 use Rattle.std.proofs.lemmas.Bool.{cases_Bool, cases_eq, eqb-true, eq-eqb, ne_eqb, or_cases, or_right, or_parts, both_ways, cond-true, cond-false, false≢true}
 use Rattle.std.proofs.lemmas.List.{map-set, length-map, length-set}
 use Rattle.std.proofs.lemmas.Option.{slice_get-map, slice_get_past, slice_get_read}
-use Rattle.ring_endless.specs.Endless.{IsSameEndless}
 use Rattle.ring_locks.specs.declared.answers.Waiter.{Waiter}
 use Rattle.ring_locks.specs.declared.answers.Holder.{Holder}
 use Rattle.ring_locks.specs.declared.answers.Answer.TheVariants as answer
@@ -19,7 +18,6 @@ use Rattle.ring_locks.specs.Kept.{LockView, lock_of, locks_of, lock_limit, IsKep
 use Rattle.ring_locks.specs.Parts.{view_of, views_of, IsEntryOf, WaitsChange, Unchanged, Begun, Passed, Dropped, IsTurnedIn, IsWantingIn}
 use Rattle.ring_locks.proofs.Standing.{Once, get_set, get_set_same, get_set_other, stands_append, stands_without, stands_without_other, stood_before}
 use Rattle.ring_locks.proofs.Right.{right_asked}
-use Rattle.ring_locks.proofs.Calls.{same_itself}
 use Rattle.ring_locks.proofs.Answered.{not_in_own_line}
 
 -- ---- who waits
@@ -189,20 +187,20 @@ module _ (vs : List LockView) (es : List (ℕ × ℕ)) (c i : ℕ) (ask : Ask) (
       one : (x y : LockView) → ◌≡◌ {A = Option LockView} (Some x) (Some y) → x ≡ y
       one x y e = cc
 
-  still : lock_of w ≡ lock_of v → locks_of (slice_set vs i w) ≡ locks_of vs
-  still e = locks_behind (lock_of v) e ∙ set_there (locks_of vs) i (lock_of v) (lock_there vs i v at)
+  still : w ≡ v → slice_set vs i w ≡ vs
+  still e = ap (λ (x : LockView). slice_set vs i x) e ∙ set_there vs i v at
     where
-      set_there : (ls : List Lock) (i : ℕ) (l : Lock) → slice_get ls i ≡ Some l → slice_set ls i l ≡ ls
-      set_there [] i l e = refl
-      set_there (x ∷ ls) zero l e = let p : ◌≡◌ {A = Option Lock} (Some x) (Some l) = e in ap (λ (y : Lock). y ∷ ls) (sym (one x l p))
+      set_there : (xs : List LockView) (i : ℕ) (x : LockView) → slice_get xs i ≡ Some x → slice_set xs i x ≡ xs
+      set_there [] i x e = refl
+      set_there (y ∷ xs) zero x e = let p : ◌≡◌ {A = Option LockView} (Some y) (Some x) = e in ap (λ (z : LockView). z ∷ xs) (sym (one y x p))
         where
-          one : (x y : Lock) → ◌≡◌ {A = Option Lock} (Some x) (Some y) → x ≡ y
+          one : (x y : LockView) → ◌≡◌ {A = Option LockView} (Some x) (Some y) → x ≡ y
           one x y e = cc
-      set_there (x ∷ ls) (suc i) l e = ap (λ (y : List Lock). x ∷ y) (set_there ls i l e)
+      set_there (y ∷ xs) (suc i) x e = ap (λ (z : List LockView). y ∷ z) (set_there xs i x e)
 
   want : (fs : List (ℕ × ℕ)) (r : Answers) → IsWantingIn v w es fs (need v ask) r → IsWant vs (slice_set vs i w) i ask r × AreKept (slice_set vs i w) fs
   want fs r d =
-      let ls : locks_of (slice_set vs i w) ≡ locks_of vs = still d.wanting.lock in
+      let same : slice_set vs i w ≡ vs = still d.wanting.same in
       let own : r.own ≡ Some (answer.Refused d.wanting.why) = ap (λ (x : Answers). x.own) d.wanting.refused in (
         record {
           why = elim d.wanting.want [
@@ -210,24 +208,18 @@ module _ (vs : List LockView) (es : List (ℕ × ℕ)) (c i : ℕ) (ask : Ask) (
             | inr p ↦ inr (own ∙ ap (λ x. Some (answer.Refused x)) p)
           ];
           none = (ap (λ (x : Answers). x.ended) d.wanting.refused, ap (λ (x : Answers). x.granted) d.wanting.refused);
-          locks = ls;
-          rings = λ j x y f g. elim (get_set vs i j w v y at g) [
-            | inl p ↦
-                let q : x ≡ v = one x v (sym f ∙ ap (λ (n : ℕ). slice_get vs n) p.0 ∙ at) in
-                subst (λ (z : LockView). IsSameEndless z.ring y.ring) (sym q) (subst (λ (z : LockView). IsSameEndless v.ring z.ring) (sym p.1) d.wanting.same)
-            | inr p ↦ subst (λ (z : LockView). IsSameEndless x.ring z.ring) (one x y (sym f ∙ p.1)) (same_itself x.ring)
-          ];
+          same = same;
         },
-        record {
-          right = subst (λ (x : List Lock). AreRight x) (sym ls) k.right;
-          few = few_behind;
-          each = each_behind d.wanting.kept;
-          waits = subst (λ (x : List Lock). AreWaits x fs) (sym ls) (subst (λ (x : List (ℕ × ℕ)). AreWaits (locks_of vs) x) (sym d.waits) k.waits);
-        },
+        subst (λ (x : List LockView). AreKept x fs) (sym same) (record {
+          right = k.right;
+          few = k.few;
+          each = k.each;
+          waits = record {
+            there = λ c j e. k.waits.there c j (sym (d.waits c) ∙ e);
+            known = λ c j l f g. d.waits c ∙ k.waits.known c j l f g;
+          };
+        }),
       )
-    where
-      one : (x y : LockView) → ◌≡◌ {A = Option LockView} (Some x) (Some y) → x ≡ y
-      one x y e = cc
 
   pub lifted : (fs : List (ℕ × ℕ)) (u : Turn) (n : ℕ) (r : Answers) → u ≡ turn (locks_of vs) (lock_of v) c ask → n ≡ need v ask → IsTurnedIn i v w es fs c u r ⊎ IsWantingIn v w es fs n r →
       IsAnswer vs (slice_set vs i w) c i ask r × AreKept (slice_set vs i w) fs

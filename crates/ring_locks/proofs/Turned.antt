@@ -108,7 +108,7 @@ pub grant_in : (number : ℕ) (v w : LockView) (es : List (ℕ × ℕ)) (x : Wai
     IsTurnedIn number v w es es x.client (granted (state_of v.ring) v.line x) r ⊎ IsWantingIn v w es es (length v.line + 1) r
 grant_in number v w es x r d = elim d [
   | inl p ↦ inl (line_same number v w es x.client (granted (state_of v.ring) v.line x) r refl p)
-  | inr p ↦ inr (record { wanting = p; waits = refl })
+  | inr p ↦ inr (record { wanting = p; waits = λ c. refl })
 ]
 
 -- by whether the lock is free

@@ -127,9 +127,7 @@ pub record IsWant (old new : List LockView) (i : ℕ) (ask : Ask) (r : Answers) 
   pub why : ((r.own ≡ Some (answer.Refused refusal.Full)) × IsFull old i ask)
       ⊎ (r.own ≡ Some (answer.Refused refusal.Memory))
   pub none : (r.ended ≡ None) × (r.granted ≡ None)
-  pub locks : locks_of new ≡ locks_of old
-  pub rings : (j : ℕ) (v w : LockView) → slice_get old j ≡ Some v → slice_get new j ≡ Some w
-      → IsSameEndless v.ring w.ring
+  pub same : new ≡ old
 
 -- an input is answered as the machine says, or refused for want
 abbrev pub IsAnswer : List LockView → List LockView → ℕ → ℕ → Ask → Answers → Type 0

@@ -9,3 +9,4 @@ pub mod Kept
 pub mod Opened
 pub mod Cuts
 pub mod Parts
+pub mod Handed

@@ -2,7 +2,7 @@
 use Rattle.std.specs.Prelude.{◌≡◌, ℕ, ◌+◌, ◌<◌, List, [], ◌∷◌, ◌++◌, ◌==◌, cond, length, map, true, Option, Some, None, ◌⊎◌}
 use Rattle.ring_model.specs.Limits.{event_limit}
 use Rattle.ring_model.specs.declared.events.Op.{Op}
-use Rattle.ring_endless.specs.Endless.{EndlessView, IsSameEndless}
+use Rattle.ring_endless.specs.Endless.{EndlessView}
 use Rattle.ring_locks.specs.declared.answers.Waiter.{Waiter}
 use Rattle.ring_locks.specs.declared.answers.Answer.TheVariants as answer
 use Rattle.ring_locks.specs.declared.answers.Answers.{Answers}
@@ -39,14 +39,12 @@ pub record IsTurned (old new : LockView) (c : ℕ) (t : Turn) (r : Answers) : Ty
   pub ended : r.ended ≡ ended_in old.ring t.marks
   pub kept : IsKeptLock new
 
--- or refused for want of so many events or of memory
+-- or refused for want of so many events or of memory; nothing has changed
 pub record IsWanting (old new : LockView) (need : ℕ) (r : Answers) : Type 0 where
   pub why : Refusal
   pub want : IsWantOf old.ring need why
   pub refused : r ≡ record { own = Some (answer.Refused why); ended = None; granted = None }
-  pub lock : lock_of new ≡ lock_of old
-  pub same : IsSameEndless old.ring new.ring
-  pub kept : IsKeptLock new
+  pub same : new ≡ old
 
 -- the entries of who waits, when the line of the lock of this number changes so
 abbrev pub IsEntryOf : ℕ → Option ℕ → List (ℕ × ℕ) → List (ℕ × ℕ) → Type 0
@@ -72,4 +70,4 @@ pub record IsTurnedIn (lock : ℕ) (old new : LockView) (entries later : List (�
 pub record IsWantingIn (old new : LockView) (entries later : List (ℕ × ℕ)) (need : ℕ)
     (r : Answers) : Type 0 where
   pub wanting : IsWanting old new need r
-  pub waits : later ≡ entries
+  pub waits : (c : ℕ) → lock_in later c ≡ lock_in entries c

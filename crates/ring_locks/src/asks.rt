@@ -5,6 +5,7 @@ ghost use Rattle.std.specs.Prelude.{false, length, IsTrue};
 ghost use Rattle.ring_locks.specs.Lines.{stands, is_held_by, is_held_with};
 ghost use Rattle.ring_locks.specs.Locks.{Release, Cancel, Leave, Corrupt, Stats as Asks_stats, acquired, joined, tried, turn};
 ghost use Rattle.ring_locks.specs.Kept.{lock_of, need, IsKeptLock};
+ghost use Rattle.ring_locks.specs.Waiting.{lock_in};
 ghost use Rattle.ring_locks.specs.Parts.{view_of, IsTurnedIn, IsWantingIn};
 
 use crate::answers::{Answer, Answers, Holder, Refusal, Stats, Waiter};
@@ -22,7 +23,7 @@ pub(crate) fn is_held_by(client: u64, holder: Option<Holder>) -> bool
 }
 
 /// Whether the client is this holder, with this token.
-fn is_held_with(client: u64, token: u64, holder: Option<Holder>) -> bool
+pub(crate) fn is_held_with(client: u64, token: u64, holder: Option<Holder>) -> bool
     ensures { result ≡ is_held_with client token holder }
 {
     match holder {
@@ -33,7 +34,8 @@ fn is_held_with(client: u64, token: u64, holder: Option<Holder>) -> bool
 
 /// A client that may wait acquires the lock.
 fn join(lock: &mut LockParts, waits: &mut Waits, number: u32, waiter: Waiter) -> Answers
-    requires { IsKeptLock (view_of lock.old) }
+    requires kept { IsKeptLock (view_of lock.old) }
+    requires free { lock_in waits.old waiter.client ≡ None }
     ensures { IsTurnedIn number (view_of lock.old) (view_of lock.new) waits.old waits.new
         waiter.client (joined (lock_of (view_of lock.old)) waiter lock.old.holder) result
         ⊎ IsWantingIn (view_of lock.old) (view_of lock.new) waits.old waits.new
@@ -53,7 +55,8 @@ pub(crate) fn acquire(
     waiter: Waiter,
     why: Option<Refusal>,
 ) -> Answers
-    requires { IsKeptLock (view_of lock.old) }
+    requires kept { IsKeptLock (view_of lock.old) }
+    requires free { why ≡ None → lock_in waits.old waiter.client ≡ None }
     ensures { IsTurnedIn number (view_of lock.old) (view_of lock.new) waits.old waits.new
         waiter.client (acquired (lock_of (view_of lock.old)) waiter why) result
         ⊎ IsWantingIn (view_of lock.old) (view_of lock.new) waits.old waits.new

@@ -1,6 +1,7 @@
 //! What locks promise, over every list of inputs. Each law is the contract of a function that does nothing; the statements are
 //! in `specs/Promises.antt`, of the machine in `specs/Locks.antt`.
 
+ghost use Rattle.ring_locks.specs.Handed.{HoldsAreHandedBack};
 ghost use Rattle.ring_locks.specs.Opened.{HoldsAreFound, RestartsAreRight};
 ghost use Rattle.ring_locks.specs.Worked.{WorkedAnswers, WorkedMarks};
 ghost use Rattle.ring_locks.specs.Promises.{EmptyLinesAreRight, RightStays, Exclusion, LeaversAreGone, TokensRise, TokensAreCounted, TokensAreForeseen, NobodyWaitsForNothing, FirstComeFirstServed, NoCircle, CirclesAreReal, OneEventEach, HistoryShowsHolds, RestartsRecover, SegmentsShowHolds, SegmentsRecover, CarriedChangesNothing, OneAnswerEach};
@@ -68,6 +69,11 @@ pub fn segments_show_holds()
 pub fn restarts_are_right()
     ensures found { HoldsAreFound }
     ensures right { RestartsAreRight }
+{}
+
+/// A hold that was open at a restart can be handed back to who held it: the lock is then the one that was, but for who waited.
+pub fn holds_are_handed_back()
+    ensures { HoldsAreHandedBack }
 {}
 
 /// A client that leaves all locks, one after the other, holds none of them any more and waits for none.

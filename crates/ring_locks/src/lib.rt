@@ -5,6 +5,7 @@
 mod answers;
 mod asks;
 mod cuts;
+mod handing;
 pub mod laws;
 mod leaving;
 mod line;
@@ -15,4 +16,5 @@ mod parts;
 mod waits;
 
 pub use answers::{Answer, Answers, HoldEnd, Holder, Left, Refusal, Stats, Waiter};
+pub use handing::Handover;
 pub use locks::{LOCK_LIMIT, Locks};

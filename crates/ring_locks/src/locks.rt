@@ -1,17 +1,20 @@
 //! Locks that are called by their numbers.
 
-ghost use Rattle.std.specs.Prelude.{◌≡◌, ℕ, ◌+◌, ◌<◌, ◌≤◌, ◌⊎◌, ◌++◌, ◌∷◌, [], List, length, slice_get, Some, IfOk, IfErr, OnOk, OnErr, vec_len, vec_capacity};
+ghost use Rattle.std.specs.Prelude.{◌≡◌, ℕ, ◌+◌, ◌<◌, ◌≤◌, ◌⊎◌, ◌++◌, ◌∷◌, [], List, true, false, length, slice_get, None, Some, IfOk, IfErr, OnOk, OnErr, vec_len, vec_capacity};
 ghost use Rattle.ring_locks.specs.Lines.{stands, waits_for, client_of, holder_of, comes_to};
 ghost use Rattle.ring_locks.specs.Locks.{Acquire, Try, Release, Cancel, Corrupt, Stats, acquire_refusal, try_refusal};
 ghost use Rattle.ring_locks.specs.Cuts.{AreNext, HaveNoNext};
+ghost use Rattle.ring_locks.specs.Handed.{IsHanded, CannotBeHanded};
 ghost use Rattle.ring_locks.specs.Kept.{LockView, lock_of, locks_of, lock_limit, IsKeptRing, IsKeptLock, AreKept, IsDone, IsAnswer, IsLeft};
 ghost use Rattle.ring_locks.specs.Opened.{holder_behind, IsAdded};
+ghost use Rattle.ring_locks.specs.Waiting.{lock_in};
 ghost use Rattle.ring_locks.specs.Parts.{view_of, views_of};
 ghost use Rattle.ring_locks.specs.declared.answers.Left.{Left};
 ghost use Rattle.ring_locks.specs.declared.parts.LockParts.{LockParts};
 
 use crate::answers::{Answers, Holder, Left, Refusal, Waiter};
 use crate::cuts::next_locks;
+use crate::handing::{Handover, hand_among};
 use crate::leaving::leave_all;
 use crate::opened::open_hold;
 use crate::parts::{LockParts, refused};
@@ -90,8 +93,9 @@ fn comes_back(locks: &[LockParts], waits: &Waits, asker: u64, from: Option<u64>)
 fn acquire_refusal(locks: &[LockParts], waits: &Waits, client: u64, lock: usize) -> Option<Refusal>
     requires kept { AreKept (views_of locks.now) waits.now }
     requires lock { lock < length locks.now }
-    ensures { (p : LockParts) → slice_get locks.now lock ≡ Some p
+    ensures is { (p : LockParts) → slice_get locks.now lock ≡ Some p
         → result ≡ acquire_refusal (locks_of (views_of locks.now)) (lock_of (view_of p)) client }
+    ensures free { result ≡ None → lock_in waits.now client ≡ None }
 {
     let holder = locks[lock].holder;
     if asks::is_held_by(client, holder) {
@@ -299,6 +303,15 @@ impl Locks {
         add_to(&mut self.locks, alloc, ring, zeroth(held))
     }
 
+    /// Hands an open hold of client 0 to another client, with the same token. It is no input: a start does it, before any. False if
+    /// client 0 does not hold the lock with this token, or somebody waits for it; nothing has changed then.
+    pub fn hand(&mut self, handover: Handover) -> bool
+        ensures yes { result ≡ true → IsHanded self.old self.new handover }
+        ensures no { result ≡ false → CannotBeHanded self.old handover × (self.new ≡ self.old) }
+    {
+        hand_among(&mut self.locks, handover)
+    }
+
     /// How many locks there are.
     pub fn count(&self) -> u32
         ensures { result ≡ length self.now }
@@ -320,6 +333,23 @@ impl Locks {
         ensures { (v : LockView) → slice_get self.now lock ≡ Some v → result ≡ length v.line }
     {
         self.locks[lock as usize].line.len()
+    }
+
+    /// Who holds a lock, if anybody does.
+    pub fn holder(&self, lock: u32) -> Option<Holder>
+        requires { lock < length self.now }
+        ensures { (v : LockView) → slice_get self.now lock ≡ Some v → result ≡ v.holder }
+    {
+        self.locks[lock as usize].holder
+    }
+
+    /// The client that stands at this place of a lock's line, which begins with place 0.
+    pub fn waiter(&self, lock: u32, place: usize) -> Waiter
+        requires { (v : LockView) × (slice_get self.now lock ≡ Some v) × (place < length v.line) }
+        ensures { (v : LockView) → slice_get self.now lock ≡ Some v
+            → slice_get v.line place ≡ Some result }
+    {
+        self.locks[lock as usize].line[place]
     }
 
     /// The locks as they go on in the next segments of their rings: nothing of them changes. The history of such a segment has no
@@ -346,7 +376,7 @@ impl Locks {
     /// Acquires a lock for a client, with an order that the client chooses: it is granted at once if nobody holds the lock, or
     /// else the client waits, and is granted once, later, unless it cancels or leaves.
     ///
-    /// Refused, the first that applies: `Lock`, `Holds`, `Waits`, `Circle`; `Full`, `Memory`. Nothing has changed then.
+    /// Refused, the first that applies: `Lock`, `Holds`, `Waits`, `Circle`; `Full` or `Memory`. Nothing has changed then.
     pub fn acquire(&mut self, client: u64, lock: u32, order: u64) -> Answers
         ensures { IsAnswer self.old self.new client lock (Acquire order) result }
     {

@@ -274,7 +274,7 @@ pub(crate) fn settle(ring: &mut EndlessRing) -> Result<(), Refusal>
 ///
 /// # Errors
 ///
-/// `Full`, `Memory`. Nothing has changed then, room aside.
+/// `Full`, `Memory`. Nothing has changed then.
 pub(crate) fn fault(
     ring: &mut EndlessRing,
     waiting: usize,
@@ -290,7 +290,7 @@ pub(crate) fn fault(
     ensures made { OnOk result (AreMade ring.old
         (map Call (fault (state_of ring.old) machine value)) ring.new) }
     ensures kept { IsKeptRing ring.new }
-    ensures err { OnErr result (IsSameEndless ring.old ring.new) }
+    ensures err { OnErr result (ring.new ≡ ring.old) }
     ensures why { IfErr result (λ e. IsWantOf ring.old
         (waiting + (1 + most_passes (length (state_of ring.old).ring.values))) e) }
     ensures room { waiting ≤ ring.new.ring.book.room }
@@ -305,6 +305,6 @@ pub(crate) fn fault(
             repair(ring, most);
             Ok(old_of(receipt.event.reply))
         }
-        Err(error) => Err(want(error)),
+        Err(_) => unreachable!(),
     }
 }

@@ -4,6 +4,7 @@ ghost use Rattle.std.specs.Prelude.{◌≡◌, ◌+◌, ◌<◌, ◌⊎◌, List
 ghost use Rattle.ring_model.specs.Ring.{first_privileged};
 ghost use Rattle.ring_endless.specs.Endless.{local_survey};
 ghost use Rattle.ring_locks.specs.Lines.{without};
+ghost use Rattle.ring_locks.specs.Waiting.{lock_in};
 ghost use Rattle.ring_locks.specs.Locks.{Corrupt, ended, faulted, granted, joined};
 ghost use Rattle.ring_locks.specs.declared.answers.Waiter.{Waiter};
 ghost use Rattle.ring_locks.specs.Kept.{state_of, lock_of, need, IsKeptLock, own_answer};
@@ -61,26 +62,31 @@ pub(crate) fn grant(lock: &mut LockParts, waiter: Waiter) -> Answers
     }
 }
 
-/// Lets a client stand in the line of a lock that somebody holds, once there is room for its grant.
+/// Lets a client that does not wait stand in the line of a lock that somebody holds, once there is room for its grant. The ring
+/// takes memory last, so that of a refusal nothing is seen.
 pub(crate) fn wait(lock: &mut LockParts, waits: &mut Waits, number: u32, waiter: Waiter) -> Answers
     requires kept { IsKeptLock (view_of lock.old) }
     requires held { IsSome lock.old.holder }
+    requires free { lock_in waits.old waiter.client ≡ None }
     ensures { IsTurnedIn number (view_of lock.old) (view_of lock.new) waits.old waits.new
         waiter.client (joined (lock_of (view_of lock.old)) waiter lock.old.holder) result
         ⊎ IsWantingIn (view_of lock.old) (view_of lock.new) waits.old waits.new
         (length lock.old.line.items + 1) result }
 {
     let before = lock.line.len();
-    match marks::reserve(&mut lock.ring, before, 1) {
-        Ok(()) => {}
-        Err(why) => return refused(why),
-    }
     let Ok(()) = lock.line.reserve(1) else {
         return refused(Refusal::Memory);
     };
     let Ok(()) = waits.begin(waiter.client, number) else {
         return refused(Refusal::Memory);
     };
+    match marks::reserve(&mut lock.ring, before, 1) {
+        Ok(()) => {}
+        Err(why) => {
+            waits.end(waiter.client);
+            return refused(why);
+        }
+    }
     lock.line.push_back_reserved(waiter);
     told(Answer::Waiting(before as u64))
 }

@@ -108,6 +108,8 @@ pub struct ServeWords<'a> {
     pub faults: bool,
     /// The name of the folder that a line may save the rings in, if there is one.
     pub saves: Option<&'a str>,
+    /// Whether want of memory ends the program, instead of being told.
+    pub strict: bool,
 }
 
 /// The words of `locks`.
@@ -117,12 +119,16 @@ pub struct LocksWords<'a> {
     pub journal: &'a str,
     /// The list of locks, as it was given.
     pub locks: Option<&'a str>,
+    /// The name of the file that says who gets the holds that are open at the start, if there is one.
+    pub holders: Option<&'a str>,
     /// How many lines a segment has before the next one begins.
     pub segment: u32,
     /// Whether each answer waits until the journal is on the disk.
     pub synced: bool,
     /// Whether a line may be a fault.
     pub faults: bool,
+    /// Whether want of memory ends the program, instead of being told.
+    pub strict: bool,
 }
 
 /// The words of `holds`.

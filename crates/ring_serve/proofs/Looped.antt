@@ -1,11 +1,10 @@
 -- What the loop says of a service that answers as rings do, said of the rings.
-use Rattle.std.proofs.Common.{◌≡◌, ℕ, false, not, ◌&&◌, List, [], ◌∷◌, ◌++◌, Option, None, Result, Ok, Err, refl, sym, ap, subst, ◌∙◌, inr, ◌⊎◌}
-use Rattle.std.specs.Prelude.{is_some, OnOk, OnErr}
+use Rattle.std.proofs.Common.{◌≡◌, ℕ, false, not, ◌&&◌, List, [], ◌∷◌, ◌++◌, Option, None, refl, sym, ap, subst, ◌∙◌}
+use Rattle.std.specs.Prelude.{is_some}
 use Rattle.std.specs.Io.KnownBytes.{Appends}
 use Rattle.std.proofs.lemmas.Bool.{false≢true}
 use Rattle.std.proofs.lemmas.List.{append-nil}
 use Rattle.disks.specs.Held.{Held}
-use Rattle.line_loop.specs.declared.pending.Pending.{Pending}
 use Rattle.line_loop.specs.declared.faults.Ending.{Ending}
 use Rattle.line_loop.specs.declared.faults.Ending.TheVariants as ending
 use Rattle.line_loop.specs.Answering as lined
@@ -126,15 +125,6 @@ pub served_by : (v : ServiceView) (old new : List Standing) (terms : Terms) (was
 served_by v old new terms was is line said noted e a =
     let one : IsServed (service_of old terms) was line said noted (service_of new terms) is = record { answered = a; same = refl } in
     subst (λ (x : ServiceView). IsServed x was line said noted (service_of new terms) is) e one
-
-pub told_ok : {E : Type 0} (r : Result (Unit {0}) E) (old new : Pending) (A : List ℕ → List ℕ → Type 0) (said noted : List ℕ) → A said noted → OnOk r ((new.answers.items ≡ old.answers.items ++ said) × (new.notes.items ≡ old.notes.items ++ noted)) →
-    OnOk r ((say : List ℕ) × (note : List ℕ) × A say note × (new.answers.items ≡ old.answers.items ++ say) × (new.notes.items ≡ old.notes.items ++ note))
-told_ok (Ok u) old new A said noted a h = (said, noted, a, h.0, h.1)
-told_ok (Err e) old new A said noted a h = tt
-
-pub told_err : {E : Type 0} (r : Result (Unit {0}) E) (B : Type 0) (A : List ℕ → List ℕ → Type 0) (said noted : List ℕ) → A said noted → OnErr r (B ⊎ ((say : List ℕ) × (note : List ℕ) × A say note))
-told_err (Ok u) B A said noted a = tt
-told_err (Err e) B A said noted a = inr (said, noted, a)
 
 -- all that was answered was told
 pub told_stops : {terms : Terms} {old new : List Standing} {was is : Option Held} {before after : Written} {bytes rest : List ℕ} → AreTold terms old was before after bytes rest new is → Stops terms old was before after bytes new is

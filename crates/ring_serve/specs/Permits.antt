@@ -10,13 +10,14 @@ use Rattle.ring_serve.specs.Standings.{Standing}
 use Rattle.ring_serve.specs.Due.{is_due}
 
 -- the terms on which lines are served: the name of the journal's file, if one is kept; whether a
--- line may be a fault, and the folder that one may save all rings in, if there is one; how many
--- lines the journal of a segment gets until it is due, if segments end; and the refusal of every
--- line while a segment that is due cannot be ended
+-- line may be a fault, and the folder that one may save all rings in, if there is one; whether
+-- memory that is short is never told; how many lines the journal of a segment gets until it is due,
+-- if segments end; and the refusal of every line while a segment that is due cannot be ended
 pub record Terms : Type 0 where
   pub journal : Option (List ℕ)
   pub faults : Bool
   pub saves : Option (List ℕ)
+  pub strict : Bool
   pub limit : Option ℕ
   pub refusing : Option Refusal
 
@@ -26,6 +27,7 @@ terms_of journal permits = record {
   journal = journal;
   faults = permits.faults;
   saves = option_map (λ folder. folder.now) permits.saves;
+  strict = permits.strict;
   limit = None;
   refusing = None;
 }
@@ -37,6 +39,7 @@ terms_in journal permits (Some ends) = record {
   journal = journal;
   faults = permits.faults;
   saves = option_map (λ folder. folder.now) permits.saves;
+  strict = permits.strict;
   limit = Some ends.limit;
   refusing = ends.refusing;
 }
@@ -47,6 +50,7 @@ terms_by rules = record {
   journal = option_map (λ name. name.now) rules.journal;
   faults = rules.permits.faults;
   saves = option_map (λ folder. folder.now) rules.permits.saves;
+  strict = rules.permits.strict;
   limit = rules.limit;
   refusing = rules.refusing;
 }

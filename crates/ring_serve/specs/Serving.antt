@@ -1,5 +1,5 @@
 -- Lines that are served one after the other (this project's own).
-use Rattle.std.specs.Prelude.{◌≡◌, ℕ, ◌-◌, Bool, true, false, cond, List, [], ◌∷◌, ◌++◌, length, take, drop, Option, None, Some, IfSome, ◌⊎◌}
+use Rattle.std.specs.Prelude.{◌≡◌, ℕ, ◌-◌, Bool, true, false, ◌&&◌, ◌||◌, cond, List, [], ◌∷◌, ◌++◌, length, take, drop, Option, None, Some, IfSome, Result, Ok, Err, ◌⊎◌}
 use Rattle.std.specs.List.{AllByRecursion}
 use Rattle.std.specs.Option.{option_map, is_some}
 use Rattle.std.specs.Io.KnownBytes.{Appends, Consumes, IsAtEnd}
@@ -7,6 +7,7 @@ use Rattle.text_lines.specs.Writing.{Wrote}
 use Rattle.disks.specs.Held.{Held, IsOneFile, Replaces}
 use Rattle.line_loop.specs.Answering.{IsLine, HasNoEnd, joined_lines}
 use Rattle.line_loop.specs.Loop.{Written}
+use Rattle.line_loop.specs.declared.pending.Pending.{Pending}
 use Rattle.ring_saved.specs.Spelling.{text}
 use Rattle.ring_check.specs.Legal.{IsLegalText}
 use Rattle.ring_serve.specs.Answers.{answer_line}
@@ -66,6 +67,15 @@ abbrev pub IsTurnOn : Option Refusal → Bool → List Standing → List ℕ →
 IsTurnOn None faults rings line turn = IsTurnOfLine faults rings line turn
 IsTurnOn (Some why) faults rings line turn = turn ≡ refused rings why
 
+-- whether a line is refused since memory is short
+abbrev pub is_memory : Answer → Bool
+is_memory (answer.Refused refusal.OutOfMemory) = true
+is_memory _ = false
+
+-- on strict terms a line is not answered so, nor while every line is refused
+abbrev pub is_stop : Terms → Answer → Bool
+is_stop terms asked = terms.strict && (is_some terms.refusing || is_memory asked)
+
 -- One line answered, from the rings and the files as they are to those after it: by its turn.
 -- It says the answer's line, and notes, if a journal is kept, the lines of the records of
 -- the turn.
@@ -75,10 +85,24 @@ pub record IsAnswered (terms : Terms) (old : List Standing) (was : Option Held)
   pub given : Answer
   pub goes : IsOpen terms old
   pub of_line : IsTurnOn terms.refusing terms.faults old line turn
+  pub heeded : is_stop terms turn.answer ≡ false
   pub gives : IsGiven terms.journal terms.saves was is (name_in line) new turn.answer given
   pub says : said ≡ answer_line given
   pub notes : noted ≡ cond (is_some terms.journal) (notes_of turn.recorded) []
   pub leaves : turn.leaves ≡ new
+
+-- what an answer leaves that is so: it is pending; or it is not told of, where nothing has changed or
+-- the line is answered
+abbrev pub IsMade : {E : Type 0} → Result (Unit {0}) E → Type 0 → (List ℕ → List ℕ → Type 0)
+    → Pending → Pending → Type 0
+IsMade (Ok _) same IsSo old new =
+    (said : List ℕ)
+    × (noted : List ℕ)
+    × IsSo said noted
+    × (new.answers.items ≡ old.answers.items ++ said)
+    × (new.notes.items ≡ old.notes.items ++ noted)
+IsMade (Err _) same IsSo old new =
+    same ⊎ ((said : List ℕ) × (noted : List ℕ) × IsSo said noted)
 
 -- The rings answer these lines, one after the other, with this text, and these are the notes.
 abbrev pub Answers : Terms → List Standing → Option Held → List (List ℕ) → List ℕ → List ℕ

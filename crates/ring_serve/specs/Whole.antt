@@ -60,6 +60,7 @@ whole_answer {terms} {old} {new} {was} {is} full l a =
       given = a.given;
       goes = a.goes;
       of_line = whole_on terms.refusing terms.faults old full a.turn l a.of_line;
+      heeded = a.heeded;
       gives = any_name terms.journal terms.saves was is (name_in (cut full)) (name_in full) new a.turn.answer a.given why.0 why.1 a.gives;
       says = a.says;
       notes = a.notes;

@@ -1,6 +1,7 @@
 //! The laws of turns and of the journal: functions with empty bodies, whose contracts are the laws.
 
 ghost use Rattle.ring_serve.specs.Due.{NeverFull};
+ghost use Rattle.ring_serve.specs.Equal.{EqualLinesGiveEqualAnswers};
 ghost use Rattle.ring_serve.specs.Recording.{JournalsAreRight};
 ghost use Rattle.ring_serve.specs.Segments.{ChainsGrow, AnswersAreOfChains, BlocksAreOfChains, SurveysAreOfChains};
 ghost use Rattle.ring_serve.specs.Turns.{OneTurnIsRight};
@@ -28,4 +29,10 @@ pub fn answers_are_of_chains()
     ensures calls { AnswersAreOfChains }
     ensures blocks { BlocksAreOfChains }
     ensures surveys { SurveysAreOfChains }
+{}
+
+/// On strict terms equal lines give equal answers: equal rings answer the same lines with the same text and the same notes, whatever
+/// memory there is, and are equal again. Where lines may save, what they are answered depends on files too.
+pub fn equal_lines_give_equal_answers()
+    ensures { EqualLinesGiveEqualAnswers }
 {}

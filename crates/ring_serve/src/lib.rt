@@ -18,7 +18,8 @@ mod turns;
 pub use answers::{Answer, Refusal};
 pub use commands::{Command, read_command};
 pub use laws::{
-    answers_are_of_chains, journals_are_right, no_line_is_refused_full, one_turn_is_right,
+    answers_are_of_chains, equal_lines_give_equal_answers, journals_are_right,
+    no_line_is_refused_full, one_turn_is_right,
 };
 pub use permits::Permits;
 pub use recovered::{answered_calls_are_in_chains, answered_calls_are_recovered};

@@ -6,13 +6,17 @@ ghost use Rattle.ring_serve.specs.Permits.{is_plain_byte, is_plain, file_in};
 
 use std::alloc::{AllocError, Global};
 
-/// What a line may do beside calling the rings. Nothing of it is permitted by default.
+/// What a line may do beside calling the rings, of which nothing is permitted by default; and what becomes of one for which memory
+/// is short.
 #[derive(Clone, Copy)]
 pub struct Permits<'n> {
     /// Whether it may write a value into a machine, as a fault would.
     pub faults: bool,
     /// The folder that it may save all rings in, if there is one.
     pub saves: Option<&'n str>,
+    /// Whether no line is refused since memory is short, and none is answered while all are refused. Such a line is out of
+    /// memory, and nothing has changed.
+    pub strict: bool,
 }
 
 /// An ASCII letter or digit, `.`, `_` or `-`.

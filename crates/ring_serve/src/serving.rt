@@ -14,7 +14,7 @@ ghost use Rattle.ring_serve.specs.Permits.{terms_of, terms_in, terms_by, IsOpen,
 ghost use Rattle.ring_serve.specs.Turns.{recorded_among, turn_seen_among};
 ghost use Rattle.ring_serve.specs.Notes.{notes_of};
 ghost use Rattle.ring_serve.specs.Recovered.{AnsweredCallsAreRecovered};
-ghost use Rattle.ring_serve.specs.Serving.{name_in, IsSaved, IsSaveGiven, IsGiven, IsTurnOn, IsAnswered, IsNoJournal, is_over_at, held_by, named_by, ServesAll, ServesSome};
+ghost use Rattle.ring_serve.specs.Serving.{name_in, IsSaved, IsSaveGiven, IsGiven, IsTurnOn, is_stop, IsAnswered, IsMade, IsNoJournal, is_over_at, held_by, named_by, ServesAll, ServesSome};
 
 use crate::answers::{Answer, Refusal};
 use crate::permits::{Permits, file_in, is_plain};
@@ -214,12 +214,21 @@ fn is_over(served: &Served, rules: Rules<'_, '_>, ring: u32) -> bool
     }
 }
 
+/// Whether the line is refused since memory is short, or all are refused, on strict terms.
+fn is_stop(rules: Rules<'_, '_>, asked: Answer) -> bool
+    ensures { result ≡ is_stop (terms_by rules.entry) asked }
+{
+    let short = matches!(asked, Answer::Refused(Refusal::OutOfMemory));
+    rules.permits.strict && (rules.refusing.is_some() || short)
+}
+
 /// Answers a line, which has its LF, by these rules: its answer and its notes are pending then, and `shut` says whether no line is
 /// answered by them any more.
 ///
 /// # Errors
 ///
-/// Out of memory, where there was none for the answer or the notes: the line is answered.
+/// Out of memory, where there was none for the answer or the notes: the line is answered. On strict terms also where the line would
+/// be refused for it, or all lines are refused: nothing has changed then.
 pub fn answer_by<D: Disk>(
     alloc: Global,
     served: &mut Served,
@@ -231,14 +240,15 @@ pub fn answer_by<D: Disk>(
 ) -> Result<(), AllocError>
     requires { IsOpen (terms_by rules) served.old }
     ensures tied { IsTied (terms_by rules.entry) served.new shut.new }
-    ensures answered { (said : List ℕ)
-        × (noted : List ℕ)
-        × IsAnswered (terms_by rules.entry) served.old (D.holds disk.old) line.now said noted
-        served.new (D.holds disk.new)
-        × OnOk result ((pending.new.answers.items ≡ pending.old.answers.items ++ said)
-        × (pending.new.notes.items ≡ pending.old.notes.items ++ noted)) }
+    ensures answered { IsMade result ((served.new ≡ served.old) × (D.holds disk.new ≡ D.holds disk.old))
+        (λ said noted. IsAnswered (terms_by rules.entry) served.old (D.holds disk.old) line.now said
+        noted served.new (D.holds disk.new)) pending.old pending.new }
 {
     let turn = turn_on(alloc, served, rules, line);
+    if is_stop(rules, turn.call.answer) {
+        *shut = false;
+        return Err(AllocError);
+    }
     let given = give(alloc, served, disk, rules, line, turn.call.answer);
     *shut = is_over(served, rules, turn.ring);
     add_pending(served, turn, given, rules.journal.is_some(), pending)

@@ -90,6 +90,7 @@ bad_list (tool.BadLocks a) h = absurd (false≢true h)
 bad_list (tool.OtherLock a b) h = absurd (false≢true h)
 bad_list (tool.OtherRing a b) h = absurd (false≢true h)
 bad_list (tool.NoHold a b d) h = absurd (false≢true h)
+bad_list (tool.NoOpenHold a b) h = absurd (false≢true h)
 
 -- a request that is refused for a list has changed no file, also if it serves lines
 files_kept : (request : Request) (was is : World) → IsRefusal request was is tool.BadList → ((IsOfLines request → ⊥) → is.files ≡ was.files) → is.files ≡ was.files

@@ -1,3 +1,3 @@
+pub mod Asked
 pub mod CutTexts
 pub mod Endings
-pub mod WithoutInput

@@ -1,8 +1,8 @@
 //! Does the command that the program was asked for.
 
-ghost use Rattle.std.specs.Prelude.{◌≡◌, ◌≢◌, ◌≤◌, OnOk, IfErr};
+ghost use Rattle.std.specs.Prelude.{◌≤◌};
 ghost use Rattle.std.specs.Io.Buffered.{writer_contents};
-ghost use Rattle.ring_shell.specs.Answered.{IsAnswer, IsRefusal, IsOfLines, IsOfFile, MakesNoFile, IsSilent};
+ghost use Rattle.ring_shell.specs.Answered.{HasAnswered};
 ghost use Rattle.ring_shell.specs.Ended.{HasEnded};
 ghost use Rattle.ring_commands.specs.Worlds.{world};
 
@@ -33,19 +33,10 @@ pub fn answer<'a, R: AllocGlobal + Threads + Wait + Sync, D: Disk, I: Read, O: W
     out: &mut O,
     err: &mut E,
 ) -> Result<(), ToolError<'a>>
-    ensures ok { OnOk result (IsAnswer request.now
+    ensures { HasAnswered request.now result
         (world (D.holds disk.old) (I.remaining input.old) (O.contents out.old) (E.contents err.old))
-        (world (D.holds disk.new) (I.remaining input.new) (O.contents out.new)
-        (E.contents err.new))) }
-    ensures err { IfErr result (λ e. IsRefusal request.now
-        (world (D.holds disk.old) (I.remaining input.old) (O.contents out.old) (E.contents err.old))
-        (world (D.holds disk.new) (I.remaining input.new) (O.contents out.new)
-        (E.contents err.new)) e) }
-    ensures kept { (IsOfLines request.now → ⊥)
-        → IfErr result (λ e. e ≢ ToolError.Write → D.holds disk.new ≡ D.holds disk.old) }
-    ensures made { MakesNoFile request.now → D.holds disk.new ≡ D.holds disk.old }
-    ensures silent { IsSilent request.now → err.new ≡ err.old }
-    ensures unread { IsOfFile request.now → input.new ≡ input.old }
+        (world (D.holds disk.new) (I.remaining input.new) (O.contents out.new) (E.contents err.new))
+        input.old input.new err.old err.new }
 {
     match request {
         Request::Step(words) => step::run(rt.alloc(), words, out),

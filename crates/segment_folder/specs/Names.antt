@@ -34,7 +34,11 @@ pub record IsPartName (name : List ℕ) : Type 0 where
   pub all : AllByRecursion (λ d. IsTrue (is_digit d)) digits
   pub spelled : name ≡ front ++ (codes ".part" ++ digits)
 
--- a name that may stand beside the segments: that of the lock of the folder or of the place of
--- locks, or of a file that is being made
+-- the name of the file that a folder of locks has: their list
+abbrev pub list_name : List ℕ
+list_name = codes "locks"
+
+-- a name that may stand beside the segments: that of the lock of the folder, of the list of locks, or
+-- of a file that is being made
 abbrev pub IsOtherName : List ℕ → Type 0
-IsOtherName name = (name ≡ codes "lock") ⊎ ((name ≡ codes "locks") ⊎ IsPartName name)
+IsOtherName name = (name ≡ codes "lock") ⊎ ((name ≡ list_name) ⊎ IsPartName name)

@@ -3,8 +3,10 @@
 ghost use Rattle.std.specs.Prelude.{◌≡◌, ◌≢◌, ◌-◌, ◌+◌, ◌≤◌, ◌<◌, ◌++◌, ◌↔◌, ℕ, List, length, drop, take, replicate, codes, IfOk, OnOk, IsTrue, MatchOption, string_bytes, slice_index};
 ghost use Rattle.text_lines.specs.Reading.{is_digit};
 ghost use Rattle.segment_folder.specs.Reading.{IsPadded};
-ghost use Rattle.segment_folder.specs.Names.{segment_file, IsSegmentName, IsPartName, IsOtherName};
+ghost use Rattle.segment_folder.specs.Names.{segment_file, list_name, IsSegmentName, IsPartName, IsOtherName};
+ghost use Rattle.segment_folder.specs.Numbers.{shown};
 
+use crate::errors::EntryName;
 use itoa::Buffer;
 use std::alloc::{AllocError, Global};
 use text_lines::{Stop, number64};
@@ -96,6 +98,19 @@ fn is_part(name: &[u8]) -> bool
 {
     let end = before_digits(name);
     end >= 5 && &name[end - 5..end] == b".part".as_slice()
+}
+
+/// The name of the list of locks, which a folder of locks has.
+pub fn list_name() -> EntryName
+    ensures { shown result ≡ list_name }
+{
+    let mut bytes = [0; 255];
+    bytes[0] = b'l';
+    bytes[1] = b'o';
+    bytes[2] = b'c';
+    bytes[3] = b'k';
+    bytes[4] = b's';
+    EntryName { bytes, length: 5 }
 }
 
 /// Whether a file of this name may stand beside the segments.

@@ -30,23 +30,26 @@ moment_of service files number journal = record {
 abbrev pub stand_of : {S : Type 0} → Moment S → Stand S
 stand_of m = stand m.service m.files
 
--- The file of the segment of this number was put into the folder: it has the text with which the
--- service begins it after a file of this digest, and is being written from there on.
+-- The file of the segment of this number was put into the folder with this text, and is being
+-- written from there on: its writer has the text.
+pub record IsBegun (folder : List ℕ) (number : ℕ) (text : List ℕ) (was is : Option Held)
+    (writer : Option (List ℕ)) : Type 0 where
+  pub put : Replaces was is (segment_file folder number) (Some text)
+  pub journal : IfSome was (λ _. writer ≡ Some text)
+
+-- What the disk has where it could not be begun: the files as they were; or its file was put there,
+-- with all of the text.
+abbrev pub IsLeftUnbegun : List ℕ → ℕ → List ℕ → Option Held → Option Held → Type 0
+IsLeftUnbegun folder number text was is =
+    (is ≡ was) ⊎ Replaces was is (segment_file folder number) (Some text)
+
+-- The segment of this number has begun, with the text with which the service begins it after a file
+-- of this digest.
 pub record HasBegun {S : Type 0} (G : Segmenting S) (folder : List ℕ) (service : S) (number : ℕ)
     (behind : List ℕ) (was : Option Held) (m : Moment S) : Type 0 where
   pub service_is : m.service ≡ service
   pub number_is : m.number ≡ number
-  pub put : Replaces was m.files (segment_file folder number)
-      (Some (G.text service number behind))
-  pub journal : IfSome was (λ _. m.journal ≡ Some (G.text service number behind))
-
--- What the disk has where it could not be begun: the files as they were; or its file was put there,
--- with all of that text.
-abbrev pub IsLeftUnbegun : {S : Type 0} → Segmenting S → List ℕ → S → ℕ → List ℕ → Option Held
-    → Option Held → Type 0
-IsLeftUnbegun G folder service number behind was is =
-    (is ≡ was)
-    ⊎ Replaces was is (segment_file folder number) (Some (G.text service number behind))
+  pub file : IsBegun folder number (G.text service number behind) was m.files m.journal
 
 -- The whole file of the segment was settled; then the file of the next one was put there, with the
 -- digest of the file before and the next service's text.

@@ -1,9 +1,9 @@
 //! The first segment that is written.
 
-ghost use Rattle.std.specs.Prelude.{◌<◌, IfOk, OnErr};
+ghost use Rattle.std.specs.Prelude.{◌≡◌, ◌<◌, IfOk, OnErr};
 ghost use Rattle.ring_segments.specs.Spelling.{DigestFits};
 ghost use Rattle.segment_loop.specs.Digested.{hashed};
-ghost use Rattle.segment_loop.specs.Segments.{HasBegun, IsLeftUnbegun, IsNamed, moment_of};
+ghost use Rattle.segment_loop.specs.Segments.{HasBegun, IsBegun, IsLeftUnbegun, IsNamed, moment_of};
 
 use crate::ending::{Beginning, cause_of, open_segment};
 use crate::segmented::{EndFault, Segmented};
@@ -14,13 +14,47 @@ use segment_folder::segment_file;
 use sha2::{Digest, Sha256};
 use std::alloc::Global;
 
-/// Puts the file of the segment of this number into the folder, with the text of the service as it stands and after a file of this
-/// digest, and opens it.
+/// Puts the file of the segment of this number into the folder, with this text, and opens it.
 ///
 /// # Errors
 ///
-/// `OutOfMemory`; `File` if the file cannot be made, written, put there or opened; or why the service has no such text. No file has
-/// changed, unless the file was put there and cannot be opened: it has the whole text then.
+/// `OutOfMemory`, and `File` if the file cannot be made, written, put there or opened. No file has changed, unless the file was put
+/// there and cannot be opened: it has the whole text then.
+pub fn begin_file<D: Disk>(
+    alloc: Global,
+    disk: &mut D,
+    number: u64,
+    text: &[u8],
+    rules: SegmentRules<'_>,
+) -> Result<OpenSegment<D::Grown>, EndFault>
+    ensures begun { IfOk result (λ segment. IsBegun rules.entry.folder.now number text.now
+        (D.holds disk.old) (D.holds disk.new)
+        (hashed (D.Grown.contents segment.writer.inner) segment.writer.hasher)) }
+    ensures number { IfOk result (λ segment. segment.number ≡ number) }
+    ensures named { IfOk result (λ segment. IsNamed rules.entry.folder.now segment) }
+    ensures left { OnErr result (IsLeftUnbegun rules.entry.folder.now number text.now
+        (D.holds disk.old) (D.holds disk.new)) }
+{
+    let Ok(name) = segment_file(alloc, rules.folder, number) else {
+        return Err(EndFault::OutOfMemory);
+    };
+    let beginning = Beginning { text };
+    match replace(alloc, disk, name.as_str(), &beginning) {
+        Ok(()) => {}
+        Err(fault) => return Err(cause_of(fault)),
+    }
+    let hasher = Sha256::new_with_prefix(text);
+    match open_segment(disk, number, name, hasher, rules.synced) {
+        Ok(segment) => Ok(segment),
+        Err(_) => Err(EndFault::File),
+    }
+}
+
+/// Begins the segment of this number with the text of the service as it stands, after a file of this digest, as [`begin_file`] does.
+///
+/// # Errors
+///
+/// Those of [`begin_file`], or why the service has no such text: no file has changed then.
 pub fn begin_segment<S: Segmented, D: Disk>(
     alloc: Global,
     disk: &mut D,
@@ -36,26 +70,15 @@ pub fn begin_segment<S: Segmented, D: Disk>(
         (moment_of service.now (D.holds disk.new) segment.number
         (hashed (D.Grown.contents segment.writer.inner) segment.writer.hasher))) }
     ensures named { IfOk result (λ segment. IsNamed rules.entry.folder.now segment) }
-    ensures left { OnErr result (IsLeftUnbegun S.segmenting rules.entry.folder.now service.now
-        number behind (D.holds disk.old) (D.holds disk.new)) }
+    ensures left { OnErr result (IsLeftUnbegun rules.entry.folder.now number
+        (S.segmenting.text service.now number behind) (D.holds disk.old) (D.holds disk.new)) }
 {
-    let Ok(name) = segment_file(alloc, rules.folder, number) else {
-        return Err(EndFault::OutOfMemory);
-    };
     let text = match service.text(alloc, number, behind) {
         Ok(text) => text,
         Err(why) => return Err(why),
     };
-    let beginning = Beginning {
-        text: text.as_slice(),
-    };
-    match replace(alloc, disk, name.as_str(), &beginning) {
-        Ok(()) => {}
-        Err(fault) => return Err(cause_of(fault)),
-    }
-    let hasher = Sha256::new_with_prefix(text.as_slice());
-    match open_segment(disk, number, name, hasher, rules.synced) {
+    match begin_file(alloc, disk, number, text.as_slice(), rules) {
         Ok(segment) => Ok(segment),
-        Err(_) => Err(EndFault::File),
+        Err(why) => Err(why),
     }
 }

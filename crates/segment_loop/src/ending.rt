@@ -76,8 +76,8 @@ fn prepare<S: Segmented, W: Write>(
 
 /// The text with which the file of a segment begins, which it is to hold.
 #[derive(Drop)]
-pub struct Beginning<'a> {
-    pub text: &'a [u8],
+pub(crate) struct Beginning<'a> {
+    pub(crate) text: &'a [u8],
 }
 
 impl Contents for Beginning<'_> {
@@ -128,12 +128,13 @@ pub(crate) fn cause_of(fault: ReplaceFault) -> EndFault {
 ///
 /// # Errors
 ///
-/// `Journal` if it is not known to be on the disk.
+/// `Journal` if it is not known to be on the disk. No file has changed.
 pub fn close_segment<D: Disk>(disk: &mut D, segment: OpenSegment<D::Grown>) -> Result<(), LoopFault>
     ensures ok { OnOk result (Replaces (D.holds disk.old) (D.holds disk.new)
         (string_bytes segment.name)
         (hashed (D.Grown.contents segment.writer.inner) segment.writer.hasher)) }
     ensures err { IfErr result (λ e. e ≡ fault.Journal) }
+    ensures kept { OnErr result (D.holds disk.new ≡ D.holds disk.old) }
 {
     let OpenSegment { name, writer, .. } = segment;
     match settle(disk, writer, name.as_str()) {

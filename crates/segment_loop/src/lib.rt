@@ -10,9 +10,9 @@ mod service;
 #[cfg(test)]
 mod tests;
 
-pub use beginning::begin_segment;
+pub use beginning::{begin_file, begin_segment};
 pub use digested::Digested;
-pub use ending::{Beginning, close_segment, open_segment, settle};
+pub use ending::{close_segment, open_segment, settle};
 pub use segmented::{EndFault, Segmented};
 pub use segments::{OpenSegment, SegmentRules};
 pub use service::serve_segments;

@@ -206,16 +206,18 @@ pub record IsCut (rings : List Standing) (bytes : List ℕ) (b : Moment) : Type 
 
 cut_at : (s : SegmentRules) (a from b : Moment) (rings : List Standing) (number : ℕ) (bytes : List ℕ) → IsAt rings number bytes a → HasEnded s a from → ((journal : List ℕ) → IsAt from.rings from.number journal from → IsAt from.rings from.number journal b) → IsCut rings bytes b
 cut_at s a from b rings number bytes at e rest =
-    let between = known_after a.files e.between (file_of s a.number) a.journal at.held bytes at.files_are at.journal_is e.settled in
-    let text : List ℕ = segment_text from.number e.behind from.rings in
-    let after = known_after e.between from.files (file_of s from.number) (Some text) between.0 text between.1 refl e.begun in
-    let put = if_some e.between between.0 (λ _. from.journal ≡ Some text) between.1 e.journal in
+    let f = e.file in
+    let between = known_after a.files f.between (file_of s a.number) a.journal at.held bytes at.files_are at.journal_is f.settled in
+    let text : List ℕ = segment_text from.number f.behind from.rings in
+    let begun = subst (λ (n : ℕ). Replaces f.between from.files (file_of s n) (Some (segment_text n f.behind from.rings))) (sym e.number) f.put in
+    let after = known_after f.between from.files (file_of s from.number) (Some text) between.0 text between.1 refl begun in
+    let put = if_some f.between between.0 (λ _. from.journal ≡ Some text) between.1 e.journal in
     let end = rest text (record { held = after.0; rings_are = refl; number_is = refl; files_are = after.1; journal_is = put }) in
     record {
-      behind = e.behind;
-      next = subst (λ (x : List Standing). AreNext rings x) (sym end.rings_are) (subst (λ (x : List Standing). AreNext x from.rings) at.rings_are e.rings);
-      digest = if_some a.journal bytes (λ (x : List ℕ). e.behind ≡ digest_of x) at.journal_is e.digest;
-      journal = end.journal_is ∙ (ap (λ (n : ℕ). Some (segment_text n e.behind from.rings)) (sym end.number_is) ∙ ap (λ (x : List Standing). Some (segment_text b.number e.behind x)) (sym end.rings_are));
+      behind = f.behind;
+      next = subst (λ (x : List Standing). AreNext rings x) (sym end.rings_are) (subst (λ (x : List Standing). AreNext x from.rings) at.rings_are f.rings);
+      digest = if_some a.journal bytes (λ (x : List ℕ). f.behind ≡ digest_of x) at.journal_is f.digest;
+      journal = end.journal_is ∙ (ap (λ (n : ℕ). Some (segment_text n f.behind from.rings)) (sym end.number_is) ∙ ap (λ (x : List Standing). Some (segment_text b.number f.behind x)) (sym end.rings_are));
     }
 
 by_ready : (s : SegmentRules) (a b : Moment) (p : Part) (ps : List Part) (rings : List Standing) (number : ℕ) (bytes : List ℕ) → is_due (Some s.limit) rings ≡ true → IsAt rings number bytes a → b.number ≡ number + 1 → all_lines (p ∷ ps) ≡ [] → AreParts s a (p ∷ ps) b

@@ -17,6 +17,11 @@ pub only_left : {A : Type 0} (word : List ℕ) (files mid : Option Held) (from l
 only_left word files mid from left same none (inl a) = a
 only_left word files mid from left same none (inr h) = absurd (none h.0 h.1 h.2 (subst (λ (d : Option Held). IsNamed word d from left h.0) same h.3) h.4)
 
+-- of one of two cases that is none, the other
+pub other_case : {A B : Type 0} → (B → ⊥) → A ⊎ B → A
+other_case none (inl a) = a
+other_case none (inr b) = absurd (none b)
+
 -- a file that was replaced holds its bytes
 pub held_there : (was is : Option Held) (name bytes : List ℕ) → IsSome was → Replaces was is name (Some bytes) → IsHeld is name bytes
 held_there None is name bytes known h = absurd (false≢true known)

@@ -1,5 +1,5 @@
 -- What is there in the end, if a journal was kept in a file or in segments.
-use Rattle.std.proofs.Common.{◌≡◌, ◌++◌, ℕ, List, [], ◌∷◌, Bool, true, false, Option, None, Some, refl, sym, ap, subst, ◌∙◌, inl, inr}
+use Rattle.std.proofs.Common.{◌≡◌, ◌+◌, ◌++◌, ℕ, List, [], ◌∷◌, Bool, true, false, Option, None, Some, refl, sym, ap, subst, ◌∙◌, inl, inr}
 use Rattle.std.specs.Prelude.{IsSome, IfSome, ◌⊎◌}
 use Rattle.std.specs.Option.{is_some}
 use Rattle.std.specs.Io.KnownBytes.{Appends}
@@ -106,11 +106,11 @@ record IsKnown (m : Moment) : Type 0 where
 ready_known : (s : SegmentRules) (r : Option Refusal) (a b : Moment) → IsKnown a → IsReady s r a b → IsKnown b
 ready_known s None a b k (inl h) = subst IsKnown (sym h.1) k
 ready_known s None a b k (inr h) =
-    let e = h.1 in
+    let e = h.1.file in
     let between = known_after a.files e.between (file_of s a.number) a.journal k.files.0 k.journal.0 k.files.1 k.journal.1 e.settled in
     record {
-      files = replaced_known e.between b.files (file_of s b.number) _ between e.begun;
-      journal = (segment_text b.number e.behind b.rings, if_some e.between between.0 (λ _. b.journal ≡ Some (segment_text b.number e.behind b.rings)) between.1 e.journal);
+      files = replaced_known e.between b.files (file_of s (a.number + 1)) _ between e.put;
+      journal = (segment_text b.number e.behind b.rings, if_some e.between between.0 (λ _. b.journal ≡ Some (segment_text b.number e.behind b.rings)) between.1 h.1.journal);
     }
 ready_known s (Some why) a b k h = kept h.2.file
   where
@@ -134,8 +134,8 @@ parts_known s a b (p ∷ ps) k h = parts_known s p.to b ps (part_known s p (read
 run_there : (s : SegmentRules) (start : Place) (first last : Moment) (end : List Standing) (before after : Option Held) (was is old new : Option (List ℕ)) → Known before → IsRun s start first last end before after was is old new → Holds after (file_of s last.number)
 run_there s start first last end before after was is old new k h =
     let begun : IsKnown first = record {
-      files = replaced_known before first.files (file_of s start.number) _ k h.begun.put;
-      journal = (segment_text start.number start.behind start.rings, if_some before k.0 (λ _. first.journal ≡ Some (segment_text start.number start.behind start.rings)) k.1 h.begun.journal);
+      files = replaced_known before first.files (file_of s start.number) _ k h.begun.file.put;
+      journal = (segment_text start.number start.behind start.rings, if_some before k.0 (λ _. first.journal ≡ Some (segment_text start.number start.behind start.rings)) k.1 h.begun.file.journal);
     } in
     let ended = parts_known s first last h.served.parts begun h.served.served in
     put_holds last.files after (file_of s last.number) last.journal ended.files ended.journal h.settled
@@ -212,10 +212,10 @@ pub begun_and_closed : (s : SegmentRules) (rings : List Standing) (behind : List
     → (h : Held) → after ≡ Some h → bytes_of h s.folder.now ≡ None
 begun_and_closed s rings behind held before after m name files b named r nothing apart h is =
     let text = segment_text 1 behind rings in
-    let there = subst (λ (x : Option Held). Replaces x m.files (file_of s 1) (Some text)) files b.put in
+    let there = subst (λ (x : Option Held). Replaces x m.files (file_of s 1) (Some text)) files b.file.put in
     let mid = replaced_known (Some held) m.files (file_of s 1) text (held, refl) there in
     let put : IsReplaced held mid.0 (file_of s 1) text = subst (λ (x : Option Held). Replaces (Some held) x (file_of s 1) (Some text)) mid.1 there in
-    let journal = if_some before held (λ _. m.journal ≡ Some text) files b.journal in
+    let journal = if_some before held (λ _. m.journal ≡ Some text) files b.file.journal in
     let closed = subst (λ (x : Option Held). Replaces x after (file_of s 1) (Some text)) mid.1
     (subst (λ (j : Option (List ℕ)). Replaces m.files after (file_of s 1) j) journal
     (subst (λ (n : List ℕ). Replaces m.files after n m.journal) (named ∙ ap (λ (n : ℕ). file_of s n) b.number_is) r)) in

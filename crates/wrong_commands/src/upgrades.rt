@@ -1,15 +1,16 @@
-//! Upgrades, each broken.
+//! Upgrades and joins, each broken.
 
 ghost use Rattle.std.specs.Prelude.{◌≡◌, ◌≢◌, ◌⊎◌, ℕ, List, [], IsSome, IfSome};
 ghost use Rattle.ring_check.specs.declared.answers.Summary.{Summary};
 ghost use Rattle.ring_saved.specs.Content.{Content};
 ghost use Rattle.ring_commands.specs.Named.{IsHeld, IsNamed};
+ghost use Rattle.ring_commands.specs.JoinedFolder.{IsJoinable};
 ghost use Rattle.ring_commands.specs.Upgraded.{IsUpgradeOf};
 
 use disks::Disk;
 use ring_commands::faults::ToolError;
-use ring_commands::upgrade;
-use ring_requests::UpgradeWords;
+use ring_commands::{join, upgrade};
+use ring_requests::{JoinWords, UpgradeWords};
 use std::alloc::Global;
 use std::io::{self, Read, Write};
 
@@ -73,4 +74,19 @@ pub fn file_that_is_emptied_before_the_check<'a, D: Disk, I: Read, W: Write, E: 
         Ok(()) | Err(ToolError::Write) => None,
         Err(fault) => Some(fault),
     }
+}
+
+/// The new file is made only where the folder holds a chain: it is made before the folder is listed.
+pub fn file_that_is_made_before_the_join<'a, D: CountedDisk, W: Write, E: Write>(
+    alloc: Global,
+    disk: &mut D,
+    words: &JoinWords<'a>,
+    out: &mut W,
+    err: &mut E,
+) -> Result<(), ToolError<'a>>
+    ensures wrong { (IsJoinable words.now (D.holds disk.old) → ⊥)
+        → (disk.new ≡ disk.old) ⊎ IsJoinable words.now (D.holds disk.old) → ⊥ }
+{
+    let _early = disk.make_counted(words.new);
+    join::run(alloc, disk, words, out, err)
 }

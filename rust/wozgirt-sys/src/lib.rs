@@ -31,6 +31,10 @@ pub struct wozgirt_answer {
 pub struct wozgirt_group {
     /// How many events are before its first member.
     pub first: u64,
+    /// Which grant that member's is; those of the others follow.
+    pub number: u64,
+    /// The resource's answer to that member.
+    pub result: u64,
     /// How many members it has.
     pub count: u32,
     /// With [`WOZGIRT_NOT_PRIVILEGED`]: the least machine that is not privileged.
@@ -168,6 +172,8 @@ codes! {
     WOZGIRT_SYNTAX = 48, "a line cannot stand in a saved text";
     WOZGIRT_TRUNCATED = 49, "the saved text is cut short";
     WOZGIRT_NO_RING = 50, "the saved text has no ring at this place";
+    WOZGIRT_NO_CHAIN = 52, "no chain of files ends with this one";
+    WOZGIRT_MANY_RINGS = 53, "the file is not of one ring";
     WOZGIRT_PARAMETER = 64, "parameter";
     WOZGIRT_RANGE = 65, "range";
     WOZGIRT_REPLY = 66, "reply";
@@ -177,6 +183,7 @@ codes! {
     WOZGIRT_NO_TILL = 80, "the ring is over no till, so it has no saved text";
     WOZGIRT_TOO_SMALL = 81, "the buffer is too small";
     WOZGIRT_NO_EVENT = 82, "there is no such event";
+    WOZGIRT_NO_JOURNAL = 83, "no journal is kept";
     WOZGIRT_NO_LOCK = 96, "there is no such lock";
     WOZGIRT_HOLDS = 97, "the client holds the lock already";
     WOZGIRT_STANDS = 98, "the client waits already";
@@ -254,12 +261,28 @@ extern "C" {
     pub fn wozgirt_survey(ring: *mut wozgirt_ring, seat: u32, sight: *mut wozgirt_sight) -> u32;
     /// A survey that nothing keeps.
     pub fn wozgirt_glance(ring: *const wozgirt_ring, sight: *mut wozgirt_sight) -> u32;
-    /// How many events the history has.
+    /// How many events there were.
     pub fn wozgirt_history_length(ring: *const wozgirt_ring, length: *mut u64) -> u32;
-    /// The event of this number, from 0, of the history.
+    /// How many of them are before the segment.
+    pub fn wozgirt_events_before(ring: *const wozgirt_ring, count: *mut u64) -> u32;
+    /// The event of this number, from 0.
     pub fn wozgirt_event_at(ring: *const wozgirt_ring, number: u64, event: *mut wozgirt_event) -> u32;
     /// Copies the saved text into the buffer, if it has room, and returns its size.
     pub fn wozgirt_save(ring: *const wozgirt_ring, buffer: *mut u8, length: usize, size: *mut u64) -> u32;
+    /// The beginning of the journal of the segment, which is kept from then on.
+    pub fn wozgirt_open_journal(ring: *mut wozgirt_ring, buffer: *mut u8, length: usize, size: *mut u64) -> u32;
+    /// What was recorded since.
+    pub fn wozgirt_take_journal(ring: *mut wozgirt_ring, buffer: *mut u8, length: usize, size: *mut u64) -> u32;
+    /// Seals the segment: its whole file. The ring goes on in the next one.
+    pub fn wozgirt_cut(ring: *mut wozgirt_ring, buffer: *mut u8, length: usize, size: *mut u64) -> u32;
+    /// Opens a ring that goes on where the last file of a chain ends.
+    pub fn wozgirt_open_segment(
+        ring: *mut wozgirt_ring,
+        file: *const u8,
+        length: usize,
+        seats: u32,
+        line: *mut u64,
+    ) -> u32;
     /// Closes the ring, if it is open.
     pub fn wozgirt_close(ring: *mut wozgirt_ring);
     /// The separate checker.

@@ -54,7 +54,7 @@ kinds! {
         WholeRing = WOZGIRT_WHOLE_RING,
         /// A machine of the group is not privileged; [`Refused::machine`] is the least such one.
         NotPrivileged = WOZGIRT_NOT_PRIVILEGED,
-        /// A history has at most 4,000,000 events.
+        /// A segment of a history has at most 4,000,000 events: [`Ring::cut`](crate::Ring::cut) begins the next.
         HistoryFull = WOZGIRT_HISTORY_FULL,
         /// Out of memory.
         NoMemory = WOZGIRT_NO_MEMORY,
@@ -74,6 +74,12 @@ kinds! {
         NoRing = WOZGIRT_NO_RING,
         /// The ring is over a resource that does no work, and a saved text is of tills.
         NoTill = WOZGIRT_NO_TILL,
+        /// No journal is kept of the segment.
+        NoJournal = WOZGIRT_NO_JOURNAL,
+        /// No chain of files ends with this one: what it says of those before it cannot be.
+        NoChain = WOZGIRT_NO_CHAIN,
+        /// The file is not of one ring.
+        ManyRings = WOZGIRT_MANY_RINGS,
         /// There is no such lock.
         NoLock = WOZGIRT_NO_LOCK,
         /// The client holds the lock already.
@@ -162,8 +168,8 @@ impl fmt::Display for NotLegal {
 impl core::error::Error for NotLegal {}
 
 impl NotLegal {
-    pub(crate) fn by(code: u32, sums: &sys::wozgirt_sums) -> NotLegal {
-        NotLegal { fault: Fault::of(code), line: (sums.line > 0).then_some(sums.line) }
+    pub(crate) fn by(code: u32, line: u64) -> NotLegal {
+        NotLegal { fault: Fault::of(code), line: (line > 0).then_some(line) }
     }
 }
 
@@ -178,10 +184,10 @@ pub enum NotResumed {
 }
 
 impl NotResumed {
-    pub(crate) fn by(code: u32, sums: &sys::wozgirt_sums) -> NotResumed {
+    pub(crate) fn by(code: u32, line: u64) -> NotResumed {
         match Fault::of(code) {
             Fault::Other(_) | Fault::NoMemory => NotResumed::Refused(Refused::by(code)),
-            _ => NotResumed::NotLegal(NotLegal::by(code, sums)),
+            _ => NotResumed::NotLegal(NotLegal::by(code, line)),
         }
     }
 }

@@ -41,7 +41,7 @@ pub fn check(text: &[u8]) -> Result<Sums, NotLegal> {
             let sys::wozgirt_sums { events, granted, corrupted, surveys, rings, .. } = sums;
             Ok(Sums { rings, events, granted, corrupted, surveys })
         }
-        code => Err(NotLegal::by(code, &sums)),
+        code => Err(NotLegal::by(code, sums.line)),
     }
 }
 

@@ -9,7 +9,7 @@ use wozgirt_sys as sys;
 /// A pass that was granted.
 #[derive(Clone, Copy, Debug, PartialEq, Eq, Hash)]
 pub struct Grant {
-    /// How many events of the history are before it.
+    /// How many events are before it, over all segments of the history, as all numbers are counted.
     pub position: u64,
     /// Which grant of the ring it is, from 1 and without a gap: a fencing token.
     pub number: u64,
@@ -22,6 +22,10 @@ pub struct Grant {
 pub struct Group {
     /// How many events are before its first member.
     pub first: u64,
+    /// Which grant that member's is; those of the others follow.
+    pub number: u64,
+    /// The resource's answer to that member; over a till each further one is more by the order.
+    pub result: u64,
     /// How many members it has.
     pub count: u32,
 }
@@ -29,7 +33,7 @@ pub struct Group {
 /// A survey of a ring.
 #[derive(Clone, Copy, Debug, PartialEq, Eq, Hash)]
 pub struct Survey {
-    /// How many events the history has.
+    /// How many events there were.
     pub position: u64,
     /// How many passes were granted since the last fault.
     pub calm: u64,
@@ -126,6 +130,22 @@ fn granted(code: u32, answer: sys::wozgirt_answer) -> Result<Option<Grant>, Refu
     }
 }
 
+/// The text that a call writes into a buffer, which is as large as is needed.
+fn text(call: impl Fn(*mut u8, usize, *mut u64) -> u32) -> Result<Vec<u8>, Refused> {
+    let (mut text, mut size) = (Vec::new(), 0);
+    loop {
+        match call(text.as_mut_ptr(), text.len(), &mut size) {
+            sys::WOZGIRT_DONE => return Ok(text),
+            sys::WOZGIRT_TOO_SMALL => {
+                let size = size as usize;
+                text.try_reserve_exact(size).map_err(|_| Refused::by(sys::WOZGIRT_NO_MEMORY))?;
+                text.resize(size, 0);
+            }
+            code => return Err(Refused::by(code)),
+        }
+    }
+}
+
 fn surveyed(sight: sys::wozgirt_sight) -> Survey {
     let sys::wozgirt_sight { position, calm, rest, privileged, first } = sight;
     Survey { position, calm, rest, privileged, first }
@@ -184,7 +204,23 @@ impl Ring {
         // SAFETY: the struct is empty, and the text has this length
         match unsafe { sys::wozgirt_open_saved(&mut raw, text.as_ptr(), text.len(), place, seats, &mut sums) } {
             sys::WOZGIRT_DONE => Ok(Ring { raw: UnsafeCell::new(raw) }),
-            code => Err(NotResumed::by(code, &sums)),
+            code => Err(NotResumed::by(code, sums.line)),
+        }
+    }
+
+    /// Opens a ring that goes on where the last file of a chain ends, whatever was cut off of it.
+    ///
+    /// # Errors
+    ///
+    /// [`NotResumed::NotLegal`] with the first bad line; else [`NotResumed::Refused`] with [`Reason::NoChain`],
+    /// [`Reason::HistoryFull`], [`Reason::ManyRings`], [`Reason::BadSeats`], [`Reason::NoSeat`] where the file names a seat that
+    /// the ring would not have, [`Reason::NoMemory`].
+    pub fn from_segment(file: &[u8], seats: u32) -> Result<Ring, NotResumed> {
+        let (mut raw, mut line) = (NONE, 0);
+        // SAFETY: the struct is empty, and the file has this length
+        match unsafe { sys::wozgirt_open_segment(&mut raw, file.as_ptr(), file.len(), seats, &mut line) } {
+            sys::WOZGIRT_DONE => Ok(Ring { raw: UnsafeCell::new(raw) }),
+            code => Err(NotResumed::by(code, line)),
         }
     }
 
@@ -222,7 +258,10 @@ impl Ring {
         match unsafe {
             sys::wozgirt_pass_group(self.raw.get_mut(), seat, machines.as_ptr(), machines.len(), order, &mut group)
         } {
-            sys::WOZGIRT_DONE => Ok(Group { first: group.first, count: group.count }),
+            sys::WOZGIRT_DONE => {
+                let sys::wozgirt_group { first, number, result, count, .. } = group;
+                Ok(Group { first, number, result, count })
+            }
             sys::WOZGIRT_NOT_PRIVILEGED => Err(Refused { reason: Reason::NotPrivileged, machine: Some(group.machine) }),
             code => Err(Refused::by(code)),
         }
@@ -260,7 +299,7 @@ impl Ring {
         surveyed(sight)
     }
 
-    /// How many events the history has.
+    /// How many events there were, over all segments of the history.
     pub fn history_length(&self) -> u64 {
         let mut length = 0;
         // SAFETY: as in `glance`
@@ -268,7 +307,15 @@ impl Ring {
         length
     }
 
-    /// The event of this number, from 0, of the history.
+    /// How many of them are before the segment.
+    fn events_before(&self) -> u64 {
+        let mut count = 0;
+        // SAFETY: as in `glance`
+        unsafe { sys::wozgirt_events_before(self.raw.get(), &mut count) };
+        count
+    }
+
+    /// The event of this number, from 0; none of those before the segment.
     pub fn event(&self, number: u64) -> Option<Event> {
         let mut event = Default::default();
         // SAFETY: as in `glance`
@@ -276,30 +323,54 @@ impl Ring {
         (code == sys::WOZGIRT_DONE).then(|| told(event))
     }
 
-    /// The events of the history, from the first.
+    /// The events of the segment, from its first.
     pub fn events(&self) -> impl Iterator<Item = Event> + '_ {
-        (0..self.history_length()).map_while(|number| self.event(number))
+        (self.events_before()..self.history_length()).map_while(|number| self.event(number))
     }
 
-    /// The saved text of the ring as it is now.
+    /// The saved text of the ring's segment as it is now.
     ///
     /// # Errors
     ///
     /// [`Reason::NoTill`] for a ring over a resource that does no work, [`Reason::NoMemory`].
     pub fn save(&self) -> Result<Vec<u8>, Refused> {
-        let (mut text, mut size) = (Vec::new(), 0);
-        loop {
-            // SAFETY: as in `glance`, and the buffer has this length
-            match unsafe { sys::wozgirt_save(self.raw.get(), text.as_mut_ptr(), text.len(), &mut size) } {
-                sys::WOZGIRT_DONE => return Ok(text),
-                sys::WOZGIRT_TOO_SMALL => {
-                    let size = size as usize;
-                    text.try_reserve_exact(size).map_err(|_| Refused::by(sys::WOZGIRT_NO_MEMORY))?;
-                    text.resize(size, 0);
-                }
-                code => return Err(Refused::by(code)),
-            }
-        }
+        // SAFETY: as in `glance`, and the buffer has this length
+        text(|buffer, length, size| unsafe { sys::wozgirt_save(self.raw.get(), buffer, length, size) })
+    }
+
+    /// The beginning of a journal: the file of the ring's segment, with all of it so far. The journal is kept from then on.
+    ///
+    /// # Errors
+    ///
+    /// Those of [`Ring::save`].
+    pub fn open_journal(&mut self) -> Result<Vec<u8>, Refused> {
+        let ring = self.raw.get();
+        // SAFETY: nobody else has the ring, and the buffer has this length
+        text(|buffer, length, size| unsafe { sys::wozgirt_open_journal(ring, buffer, length, size) })
+    }
+
+    /// What was recorded since the journal was opened or taken from, each line once: to be appended to the file, and synced, before
+    /// anybody acts on the answers.
+    ///
+    /// # Errors
+    ///
+    /// [`Reason::NoJournal`], and those of [`Ring::save`].
+    pub fn take_journal(&mut self) -> Result<Vec<u8>, Refused> {
+        let ring = self.raw.get();
+        // SAFETY: as in `open_journal`
+        text(|buffer, length, size| unsafe { sys::wozgirt_take_journal(ring, buffer, length, size) })
+    }
+
+    /// Seals the segment: the whole file of it, to be put in the place of the file. The ring goes on in the next segment, with its
+    /// numbers, and no journal of that is kept yet.
+    ///
+    /// # Errors
+    ///
+    /// [`Reason::HistoryFull`] where the numbers of a further segment would not have 64 bits, and those of [`Ring::save`].
+    pub fn cut(&mut self) -> Result<Vec<u8>, Refused> {
+        let ring = self.raw.get();
+        // SAFETY: as in `open_journal`
+        text(|buffer, length, size| unsafe { sys::wozgirt_cut(ring, buffer, length, size) })
     }
 }
 

@@ -48,7 +48,7 @@ fn refuses() -> Result<(), Refused> {
     let first = ring.glance().first;
     let other = (0..3).find(|machine| *machine != first).expect("one machine of three is privileged");
     assert_eq!(ring.pass_group(0, &[other], 1), Err(Refused { reason: Reason::NotPrivileged, machine: Some(other) }));
-    assert_eq!(ring.pass_group(0, &[first], 1), Ok(Group { first: 3, count: 1 }));
+    assert_eq!(ring.pass_group(0, &[first], 1), Ok(Group { first: 3, number: 3, result: 10, count: 1 }));
     for (n, k, start, seats, reason) in [
         (3, 3, &[0, 0, 0][..], 11, Reason::BadSeats),
         (1, 3, &[0][..], 1, Reason::BadMachines),
@@ -90,6 +90,47 @@ fn shows_its_events() -> Result<(), Refused> {
     assert_eq!(ring.events().collect::<Vec<_>>(), events);
     assert_eq!((ring.event(3), ring.event(4)), (Some(events[3]), None));
     Ok(())
+}
+
+const BEGUN: &str = "ringsegment 1 1 1\nbehind 0000000000000000000000000000000000000000000000000000000000000000\n\
+                     base 0 0 0 0\nringjournal 1\nringfarm 2\nring 0 3 3\nstart 0 2 0\n";
+
+#[test]
+fn keeps_a_journal() -> Result<(), Box<dyn Error>> {
+    let mut ring = Ring::open(3, 3, &[0, 2, 0], 1)?;
+    assert_eq!(ring.take_journal(), refused(Reason::NoJournal));
+    let first = ring.open_journal()?;
+    assert_eq!(String::from_utf8(first.clone())?, format!("{BEGUN}end 0\ndone 1\n"));
+    assert_eq!(ring.take_journal()?, b"");
+    assert_eq!(ring.pass(0, 0, 5)?, Some(Grant { position: 0, number: 1, result: 5 }));
+    ring.survey(0)?;
+    assert_eq!(ring.pass(0, 2, 4)?, Some(Grant { position: 1, number: 2, result: 9 }));
+    let lines = ring.take_journal()?;
+    assert_eq!(String::from_utf8(lines.clone())?, "0 p 0 0 5 g 1 5\n0 p 0 2 4 g 2 9\n0 s 0 1 2 1 1 3\n");
+    assert_eq!(ring.take_journal()?, b"");
+    let sealed = String::from_utf8(ring.cut()?)?;
+    assert_eq!(sealed, format!("{BEGUN}p 0 0 5 g 1 5\np 0 2 4 g 2 9\nend 2\ns 0 1 2 1 1 3\ndone 1\n"));
+    assert_eq!((ring.history_length(), ring.events().next(), ring.event(1)), (2, None, None));
+    assert_eq!(ring.pass(0, 1, 1)?, Some(Grant { position: 2, number: 3, result: 10 }));
+    let second = ring.open_journal()?;
+    assert!(String::from_utf8(second.clone())?.starts_with("ringsegment 1 2 1\nbehind "));
+    assert_eq!(Ring::from_segment(&second, 1)?.open_journal()?, second);
+    let cut = [&first[..], &lines[..lines.len() - 3]].concat();
+    assert_eq!(Ring::from_segment(&cut, 1)?.pass(0, 1, 1)?, Some(Grant { position: 2, number: 3, result: 10 }));
+    Ok(())
+}
+
+#[test]
+fn goes_on_only_in_files_of_a_chain() {
+    let first = format!("{BEGUN}end 0\ndone 1\n");
+    for (file, wanted) in [
+        (first[..40].to_owned(), NotResumed::NotLegal(NotLegal { fault: Fault::Truncated, line: None })),
+        (format!("{first}0 p 0 0 5 g 2 5\n"), NotResumed::NotLegal(NotLegal { fault: Fault::Reply, line: Some(10) })),
+        (first.replace("base 0", "base 1"), NotResumed::Refused(Refused { reason: Reason::NoChain, machine: None })),
+        (format!("{first}0 p 1 0 5 g 1 5\n"), NotResumed::Refused(Refused { reason: Reason::NoSeat, machine: None })),
+    ] {
+        assert_eq!(Ring::from_segment(file.as_bytes(), 1).map(|_| ()), Err(wanted));
+    }
 }
 
 #[test]

@@ -81,13 +81,12 @@ impl fmt::Display for Asked {
     }
 }
 
-impl FromStr for Asked {
+impl FromStr for Input {
     type Err = NotALine;
 
-    fn from_str(line: &str) -> Result<Asked, NotALine> {
-        let mut words = Words::of(line);
-        let client = decimal(words.word()?)?;
-        let input = match words.word()? {
+    fn from_str(text: &str) -> Result<Input, NotALine> {
+        let mut words = Words::of(text);
+        Ok(match words.word()? {
             "acquire" => {
                 let [l, label] = words.numbers()?;
                 Input::Acquire { lock: lock(l)?, label }
@@ -117,8 +116,16 @@ impl FromStr for Asked {
                 Input::Stats { lock: lock(l)? }
             }
             _ => return Err(NotALine::Syntax),
-        };
-        Ok(Asked { client, input })
+        })
+    }
+}
+
+impl FromStr for Asked {
+    type Err = NotALine;
+
+    fn from_str(line: &str) -> Result<Asked, NotALine> {
+        let (client, input) = line.split_once(' ').ok_or(NotALine::Syntax)?;
+        Ok(Asked { client: decimal(client)?, input: input.parse()? })
     }
 }
 

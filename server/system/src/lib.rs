@@ -9,6 +9,7 @@
 //! | `sigemptyset`, `sigaddset`, `pthread_sigmask`, `signalfd` | signals as a file that is read ([`Signals`]) |
 //! | `kill` | the end of a command, asked for ([`send_signal`]) |
 //! | `getrlimit`, `setrlimit` | how many files may be open ([`permit_files`]) |
+//! | `flock` | a folder that only one server has ([`try_lock`]) |
 //! | `fcntl` | a file that a command inherits ([`inherit`]), a pipe that is not waited for ([`never_wait`]) |
 //!
 //! Every file is an `OwnedFd` or a `BorrowedFd`, so none is used after it was closed. Linux only.
@@ -22,7 +23,7 @@ mod signals;
 pub use limits::permit_files;
 pub use peers::{peer_of, Peer};
 pub use polling::{Event, Interest, Poller};
-pub use processes::{inherit, never_wait, send_signal};
+pub use processes::{inherit, never_wait, send_signal, try_lock};
 pub use signals::{Signal, Signals};
 
 use std::io;

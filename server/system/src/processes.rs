@@ -11,7 +11,11 @@ const F_SETFL: i32 = 4;
 const O_NONBLOCK: i32 = 0o4_000;
 const FD_CLOEXEC: i32 = 1;
 
+const LOCK_EX: i32 = 2;
+const LOCK_NB: i32 = 4;
+
 extern "C" {
+    fn flock(file: i32, operation: i32) -> i32;
     fn kill(process: i32, signal: i32) -> i32;
     fn fcntl(file: i32, command: i32, argument: i32) -> i32;
 }
@@ -31,6 +35,15 @@ pub fn inherit(file: impl AsFd) -> io::Result<()> {
     let flags = checked(unsafe { fcntl(file, F_GETFD, 0) })?;
     // SAFETY: as above.
     checked(unsafe { fcntl(file, F_SETFD, flags & !FD_CLOEXEC) }).map(drop)
+}
+
+/// Locks the file, as long as it is open here or in a program that inherited it: whether nobody else has it.
+pub fn try_lock(file: impl AsFd) -> io::Result<bool> {
+    // SAFETY: no memory is passed, and the file is open.
+    match checked(unsafe { flock(file.as_fd().as_raw_fd(), LOCK_EX | LOCK_NB) }) {
+        Err(fault) if fault.kind() == io::ErrorKind::WouldBlock => Ok(false),
+        other => other.map(|_| true),
+    }
 }
 
 /// From now on nobody waits who reads or writes this end of a pipe. The other end stays as it is.
@@ -63,6 +76,22 @@ mod tests {
         assert!(!is_there());
         inherit(&one).unwrap();
         assert!(is_there());
+    }
+
+    #[test]
+    fn one_has_a_lock() {
+        let path = std::env::temp_dir().join(format!("wozgirt-lock-{}", std::process::id()));
+        let open = || std::fs::File::create(&path).unwrap();
+        let one = open();
+        assert!(try_lock(&one).unwrap() && !try_lock(open()).unwrap());
+        inherit(&one).unwrap();
+        let mut child = Command::new("sleep").arg("60").spawn().unwrap();
+        drop(one);
+        assert!(!try_lock(open()).unwrap()); // the child has it
+        child.kill().unwrap();
+        child.wait().unwrap();
+        assert!(try_lock(open()).unwrap());
+        std::fs::remove_file(path).unwrap();
     }
 
     #[test]

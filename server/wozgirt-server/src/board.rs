@@ -48,6 +48,8 @@ pub struct Fault {
 pub struct Sight {
     /// How many machines its ring has, or 0 as long as the engine did not say.
     pub machines: u64,
+    /// How many passes were granted, as far as the engine said.
+    pub passes: u64,
     /// Who holds it.
     pub holder: Option<Holder>,
     /// Who waits, in the order of the line.
@@ -136,10 +138,16 @@ impl Board {
             let waiter = sight.take_waiter(client);
             let waited = waiter.map_or(Duration::ZERO, |waiter| now.saturating_duration_since(waiter.since));
             sight.holder = Some(Holder { client, token, label: label.or(waiter.map(|it| it.label)), since: now });
+            sight.passes = sight.passes.max(token);
             sight.grants += 1;
             sight.waited += waited;
             sight.longest_wait = sight.longest_wait.max(waited);
         });
+    }
+
+    /// The client holds the lock since before this server started.
+    pub fn holds(&mut self, lock: Lock, client: Client, token: Token, now: Instant) {
+        self.with(lock, |sight| sight.holder = Some(Holder { client, token, label: None, since: now }));
     }
 
     /// The client's hold ended.
@@ -171,11 +179,20 @@ impl Board {
         }
     }
 
+    /// What the engine says of a lock's ring.
+    pub fn note_stats(&mut self, stats: &Stats) {
+        self.with(stats.lock, |sight| {
+            sight.machines = stats.machines;
+            sight.passes = stats.passes;
+        });
+    }
+
     /// What the engine says of a lock when it starts: whether it is held from before.
     pub fn begin(&mut self, stats: &Stats, now: Instant) -> bool {
         let is_held = stats.lock < self.locks.len() && stats.token > 0 && stats.holder == NOBODY;
         self.with(stats.lock, |sight| {
             sight.machines = stats.machines;
+            sight.passes = stats.passes;
             if is_held {
                 sight.holder = Some(Holder { client: NOBODY, token: stats.token, label: None, since: now });
             }

@@ -38,8 +38,26 @@ pub enum Pending {
     Asked(Input),
     /// A leave, which the engine does not answer; another input behind it shows when it is done.
     Left,
+    /// The same, with their numbers, where the log says what the engine is asked.
+    Numbered(u64, Input),
+    Leaving(u64),
+    /// Its session begins when the log says so.
+    Opening,
     /// The server has answered it, and that is told when all before it is answered.
     Told(Vec<u8>),
+}
+
+/// The session of a connection, where several servers have one log.
+#[derive(Debug)]
+pub struct Seat {
+    /// The word by which the log knows the client.
+    pub key: u64,
+    /// Whether the client gave a key, and gives numbers.
+    pub is_keyed: bool,
+    /// The last number that the server gave.
+    pub last: u64,
+    /// Whether the client has left, and said nothing since.
+    pub has_left: bool,
 }
 
 /// What came of reading.
@@ -64,6 +82,8 @@ pub struct Connection {
     pub who: String,
     /// Lines without an answer, the oldest first.
     pub pending: VecDeque<Pending>,
+    /// Its session, if it has one.
+    pub seat: Option<Seat>,
     /// The lock for which it waits, as far as the engine told.
     pub waits_for: Option<Lock>,
     /// The locks that it holds, as far as the engine told.
@@ -102,6 +122,7 @@ impl Connection {
             peer,
             who,
             pending: VecDeque::new(),
+            seat: None,
             waits_for: None,
             holds: Vec::new(),
             lease: None,
@@ -157,6 +178,14 @@ impl Connection {
         self.input = input;
     }
 
+    /// The next number for an input of a client that gives none.
+    pub fn next_number(&mut self) -> u64 {
+        self.seat.as_mut().map_or(1, |seat| {
+            seat.last += 1;
+            seat.last
+        })
+    }
+
     /// Whether a line is there that may be taken now.
     pub fn has_line(&self) -> bool {
         self.takes_more() && self.input.contains(&b'\n')
@@ -182,6 +211,15 @@ impl Connection {
                 put_line(&mut lines, line);
                 self.pending.push_back(Pending::Told(lines));
             }
+        }
+    }
+
+    /// Tells it the answer to an input, with the number if the client gave that.
+    pub fn tell_numbered(&mut self, number: u64, line: impl std::fmt::Display) {
+        if self.seat.as_ref().is_some_and(|seat| seat.is_keyed) {
+            self.tell(format_args!("{number} {line}"));
+        } else {
+            self.tell(line);
         }
     }
 

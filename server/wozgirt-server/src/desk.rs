@@ -1,17 +1,19 @@
 //! Between the connections and the engine: lines of a connection become inputs, and answers become lines.
 
 use crate::board::Board;
+use crate::cluster::Cluster;
 use crate::connection::{Connection, Door, Pending};
 use crate::engine::Engine;
 use crate::log::{End, Event, Log};
 use crate::names::Names;
-use crate::requests::{parse, BadRequest, Request, Verb, LONGEST_LINE};
+use crate::requests::{numbered, parse, BadRequest, Request, Verb, LONGEST_LINE};
 use crate::rules::Rules;
 use crate::settings::Settings;
 use crate::status::Status;
 use crate::sums::Sums;
+use std::fmt;
 use std::time::{Duration, Instant};
-use wozgirt_engine::{Answer, Asked, Input, Lock, NotALine};
+use wozgirt_engine::{Answer, Asked, Client, Input, Lock, NotALine, Stats};
 
 /// What is left to do after some lines.
 #[derive(Debug, PartialEq, Eq)]
@@ -22,6 +24,8 @@ pub enum Then {
     End(End),
     /// To tell an operator who is connected.
     Clients,
+    /// To end this other connection, whose session has come here.
+    Moved(Client),
     /// To end the server.
     Stop,
 }
@@ -46,8 +50,38 @@ pub struct Desk {
     pub sums: Sums,
     /// The log.
     pub log: Log,
+    /// The log that this server has with others, if it has one.
+    pub cluster: Option<Box<Cluster>>,
     /// The time of this round.
     pub now: Instant,
+}
+
+/// An answer with the names of locks.
+pub struct AnswerLine<'a> {
+    answer: &'a Answer,
+    names: &'a Names,
+}
+
+impl fmt::Display for AnswerLine<'_> {
+    fn fmt(&self, f: &mut fmt::Formatter<'_>) -> fmt::Result {
+        let name = |lock: &Lock| self.names.name(*lock);
+        match self.answer {
+            Answer::Granted { lock, token } => write!(f, "granted {} {token}", name(lock)),
+            Answer::Waiting { lock, before } => write!(f, "waiting {} {before}", name(lock)),
+            Answer::Busy { lock } => write!(f, "busy {}", name(lock)),
+            Answer::Released { lock } => write!(f, "released {}", name(lock)),
+            Answer::Cancelled { lock } => write!(f, "cancelled {}", name(lock)),
+            Answer::Corrupted { lock, old } => write!(f, "corrupted {} {old}", name(lock)),
+            Answer::Stats(it) => {
+                let Stats { lock, machines, waiters, passes, holder, token } = it;
+                write!(f, "stats {} {machines} {waiters} {passes} {holder} {token}", name(lock))
+            }
+            // here it is no lock, but the last number of the session
+            Answer::Refused { why, lock: Some(last) } if why.word() == "past" => write!(f, "refused {why} {last}"),
+            Answer::Refused { why, lock: None } => write!(f, "refused {why}"),
+            Answer::Refused { why, lock: Some(lock) } => write!(f, "refused {why} {}", name(lock)),
+        }
+    }
 }
 
 impl Desk {
@@ -72,9 +106,20 @@ impl Desk {
     }
 
     fn take(&mut self, connection: &mut Connection, line: &str) -> Then {
+        let is_keyed = connection.seat.as_ref().is_some_and(|seat| seat.is_keyed);
+        let (number, line) = match if is_keyed { numbered(line) } else { Ok((None, line)) } {
+            Ok(found) => found,
+            Err(fault) => return self.refuse(connection, &fault),
+        };
         match parse(line, connection.door == Door::Operators) {
-            Ok(Request::Of(name, verb)) => self.ask(connection, name, verb),
+            Ok(request) if is_keyed && request.is_input() != number.is_some() => {
+                return self.refuse(connection, &BadRequest::Rest(NotALine::Syntax));
+            }
+            Ok(Request::Of(name, verb)) => self.ask(connection, number, name, verb),
+            Ok(Request::Leave) if self.cluster.is_some() => self.put_leave(connection, number),
             Ok(Request::Leave) => self.ask_to_leave(connection),
+            Ok(Request::Session(key)) => return self.open_session(connection, key),
+            Ok(Request::Cluster) => self.tell_cluster(connection),
             Ok(Request::Ping) => connection.tell_in_order("pong"),
             Ok(Request::Lease(asked)) => {
                 let longest = self.settings.longest_lease;
@@ -109,12 +154,15 @@ impl Desk {
         }
     }
 
-    fn ask(&mut self, connection: &mut Connection, name: &str, verb: Verb) {
+    fn ask(&mut self, connection: &mut Connection, number: Option<u64>, name: &str, verb: Verb) {
         let input = match self.input(connection, name, verb) {
             Ok(input) => input,
             Err(why) => {
                 self.sums.refused(why);
-                connection.tell_in_order(format_args!("refused {why} {name}"));
+                match number {
+                    None => connection.tell_in_order(format_args!("refused {why} {name}")),
+                    Some(number) => connection.tell_in_order(format_args!("{number} refused {why} {name}")),
+                }
                 return;
             }
         };
@@ -122,6 +170,9 @@ impl Desk {
             self.board.asked(lock);
         }
         self.sums.inputs += 1;
+        if self.cluster.is_some() {
+            return self.put_input(connection, number, input);
+        }
         self.engine.ask(Asked { client: connection.client, input });
         connection.pending.push_back(Pending::Asked(input));
     }
@@ -135,7 +186,7 @@ impl Desk {
         match verb {
             Verb::Acquire(label) => {
                 let is_full = self.board.lock(lock).is_some_and(|sight| sight.is_full(self.settings.waiters));
-                if is_full && !connection.holds.contains(&lock) {
+                if is_full && !self.holds(connection, lock) {
                     return Err("waiters");
                 }
                 Ok(Input::Acquire { lock, label })
@@ -224,27 +275,13 @@ impl Desk {
         Ok(())
     }
 
-    fn tell(&self, connection: &mut Connection, answer: &Answer) {
-        let name = |lock: &Lock| self.names.name(*lock);
-        match answer {
-            Answer::Granted { lock, token } => connection.tell(format_args!("granted {} {token}", name(lock))),
-            Answer::Waiting { lock, before } => connection.tell(format_args!("waiting {} {before}", name(lock))),
-            Answer::Busy { lock } => connection.tell(format_args!("busy {}", name(lock))),
-            Answer::Released { lock } => connection.tell(format_args!("released {}", name(lock))),
-            Answer::Cancelled { lock } => connection.tell(format_args!("cancelled {}", name(lock))),
-            Answer::Corrupted { lock, old } => connection.tell(format_args!("corrupted {} {old}", name(lock))),
-            Answer::Stats(s) => connection.tell(format_args!(
-                "stats {} {} {} {} {} {}",
-                name(&s.lock),
-                s.machines,
-                s.waiters,
-                s.passes,
-                s.holder,
-                s.token
-            )),
-            Answer::Refused { why, lock: None } => connection.tell(format_args!("refused {why}")),
-            Answer::Refused { why, lock: Some(lock) } => connection.tell(format_args!("refused {why} {}", name(lock))),
-        }
+    pub(crate) fn tell(&self, connection: &mut Connection, answer: &Answer) {
+        connection.tell(self.line(answer));
+    }
+
+    /// An answer as a client knows it.
+    pub(crate) fn line<'a>(&'a self, answer: &'a Answer) -> AnswerLine<'a> {
+        AnswerLine { answer, names: &self.names }
     }
 
     /// The client holds nothing and waits for nothing. Returns what it held, as a list of names.
@@ -262,12 +299,14 @@ impl Desk {
     /// The connection is gone: the engine hears it, and the log.
     pub fn part(&mut self, connection: &mut Connection, end: End) {
         for pending in std::mem::take(&mut connection.pending) {
-            if let Pending::Asked(Input::Acquire { lock, .. }) = pending {
+            if let Pending::Asked(Input::Acquire { lock, .. }) | Pending::Numbered(_, Input::Acquire { lock, .. }) =
+                pending
+            {
                 self.board.asked_no_longer(lock);
             }
         }
-        let held = self.forget(connection);
-        if !matches!(end, End::Engine | End::Stop) {
+        let held = if self.cluster.is_some() { self.end_seat(connection, end) } else { self.forget(connection) };
+        if !matches!(end, End::Engine | End::Stop) && self.cluster.is_none() {
             self.engine.ask(Asked { client: connection.client, input: Input::Leave });
         }
         self.sums.ended(end);

@@ -1,4 +1,4 @@
-//! The engine's process: started, asked, heard, and started again when it ended.
+//! The engine's process, or another that speaks lines: started, asked, heard, and started again when it ended.
 
 use crate::outbox::Outbox;
 use std::fmt;
@@ -8,8 +8,8 @@ use std::time::{Duration, Instant};
 use wozgirt_engine::{Answered, Asked, NotALine};
 use wozgirt_system::{never_wait, Interest, Signals};
 
-/// How much is read of its answers at once. No answer is longer.
-const ROOM: usize = 64 << 10;
+/// How much is read of its lines at once, at first. No answer of the engine is longer.
+pub const ROOM: usize = 64 << 10;
 /// An engine that ends before it is ready, so many times in a row, is not started again.
 const MOST_FAILURES: u32 = 6;
 /// How long the next start waits after one that did not last; twice as long after each other one in a row, up to 32 times.
@@ -28,8 +28,9 @@ pub struct Engine {
     words: Vec<String>,
     state: State,
     inputs: Outbox,
-    /// Room for answers, and how much of it was read.
-    answers: Box<[u8]>,
+    /// Room for answers, which grows up to a size, and how much of it was read.
+    answers: Vec<u8>,
+    most_room: usize,
     have: usize,
     /// Whether it is waited for that it takes more.
     is_awaited: bool,
@@ -93,14 +94,15 @@ impl fmt::Display for CannotStart {
 impl std::error::Error for CannotStart {}
 
 impl Engine {
-    /// An engine that is to be started now.
-    pub fn new(program: String, words: Vec<String>, now: Instant) -> Engine {
+    /// An engine that is to be started now. Its lines are shorter than `most_room`.
+    pub fn new(program: String, words: Vec<String>, most_room: usize, now: Instant) -> Engine {
         Engine {
             program,
             words,
             state: State::Away(now),
             inputs: Outbox::default(),
-            answers: vec![0; ROOM].into(),
+            answers: vec![0; ROOM],
+            most_room,
             have: 0,
             is_awaited: false,
             failures: 0,
@@ -183,10 +185,20 @@ impl Engine {
 
     /// Puts an input among those that are written at the end of the round.
     pub fn ask(&mut self, asked: Asked) {
+        self.ask_line(asked);
+    }
+
+    /// The same for any line.
+    pub fn ask_line(&mut self, line: impl fmt::Display) {
         use io::Write;
         if self.is_running() {
-            let _ = writeln!(self.inputs.bytes(), "{asked}"); // a list takes whatever is written
+            let _ = writeln!(self.inputs.bytes(), "{line}"); // a list takes whatever is written
         }
+    }
+
+    /// How many bytes wait to be written.
+    pub fn waiting(&self) -> usize {
+        self.inputs.len()
     }
 
     /// Writes what it takes. That it is gone shows where it is read.
@@ -200,26 +212,46 @@ impl Engine {
 
     /// Reads answers that are there, in their order.
     pub fn read(&mut self, answered: &mut Vec<Answered>) -> Result<(), Unheard> {
+        self.read_each(|line| line.parse().map(|answer| answered.push(answer)))
+    }
+
+    /// Reads lines that are there, in their order.
+    pub fn read_lines(&mut self, lines: &mut Vec<String>) -> Result<(), Unheard> {
+        self.read_each(|line| {
+            lines.push(line.into());
+            Ok(())
+        })
+    }
+
+    fn read_each(&mut self, mut take: impl FnMut(&str) -> Result<(), NotALine>) -> Result<(), Unheard> {
         let State::Running(_, _, output) = &mut self.state else { return Ok(()) };
-        match output.read(&mut self.answers[self.have..]) {
-            Ok(0) if self.have == ROOM => {
-                return Err(Unheard::Unreadable("a line without an end".into(), NotALine::Syntax))
+        if self.have == self.answers.len() {
+            if self.have >= self.most_room {
+                return Err(Unheard::Unreadable("a line without an end".into(), NotALine::Syntax));
             }
+            self.answers.resize(2 * self.have, 0);
+        }
+        match output.read(&mut self.answers[self.have..]) {
             Ok(0) => return Err(Unheard::Ended),
             Ok(count) => self.have += count,
             Err(fault) if matches!(fault.kind(), ErrorKind::WouldBlock | ErrorKind::Interrupted) => return Ok(()),
             Err(_) => return Err(Unheard::Ended),
         }
         let end = self.answers[..self.have].iter().rposition(|&b| b == b'\n').map_or(0, |i| i + 1);
-        let text = String::from_utf8_lossy(&self.answers[..end]);
-        for line in text.lines() {
-            let answer =
-                line.parse().map_err(|fault| Unheard::Unreadable(line.escape_debug().take(100).collect(), fault))?;
-            answered.push(answer);
+        for line in String::from_utf8_lossy(&self.answers[..end]).lines() {
+            take(line).map_err(|fault| Unheard::Unreadable(line.escape_debug().take(100).collect(), fault))?;
         }
         self.answers.copy_within(end..self.have, 0);
         self.have -= end;
         Ok(())
+    }
+
+    /// Starts it without a pause, if it is to be started at all: it ended because it was told to.
+    pub fn start_at_once(&mut self, now: Instant) {
+        if let State::Away(start) = &mut self.state {
+            *start = now;
+            self.short_starts = 0;
+        }
     }
 
     /// Ends its input when all is written: it answers what it was asked, and ends. One that does not run stays so.

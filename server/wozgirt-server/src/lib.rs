@@ -6,6 +6,7 @@
 
 pub mod accounts;
 pub mod board;
+mod cluster;
 mod connection;
 mod desk;
 mod doors;

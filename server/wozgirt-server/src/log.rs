@@ -27,11 +27,16 @@ pub enum End {
     Engine,
     /// The server ends.
     Stop,
+    /// This server is cut off from the log.
+    Log,
+    /// The session goes on at another connection.
+    Moved,
 }
 
 impl End {
     /// Each of them.
-    pub const ALL: [End; 7] = [End::Closed, End::Lease, End::Deaf, End::Syntax, End::Line, End::Engine, End::Stop];
+    pub const ALL: [End; 9] =
+        [End::Closed, End::Lease, End::Deaf, End::Syntax, End::Line, End::Engine, End::Stop, End::Log, End::Moved];
 
     /// One word for it.
     pub fn word(self) -> &'static str {
@@ -43,6 +48,8 @@ impl End {
             End::Line => "line",
             End::Engine => "engine",
             End::Stop => "stop",
+            End::Log => "log",
+            End::Moved => "moved",
         }
     }
 }
@@ -65,6 +72,16 @@ pub enum Event<'a> {
     Stopping { why: &'a str },
     CannotAccept { fault: &'a std::io::Error },
     Stopped,
+    LogStarted { process: u32 },
+    LogEnded { status: String },
+    LogUnreadable { line: &'a str },
+    LogLeft { why: &'a str },
+    LogJoined { identity: &'a str, server: &'a dyn fmt::Display, position: u64 },
+    ServerOver { server: &'a dyn fmt::Display, position: u64 },
+    SessionOver { session: Client, held: &'a str },
+    Contradiction { name: &'a str, position: u64 },
+    HostAway { name: &'a str, seconds: u64 },
+    Checkpoint { position: u64, segment: u64 },
 }
 
 impl fmt::Display for Event<'_> {
@@ -99,6 +116,26 @@ impl fmt::Display for Event<'_> {
             Event::Stopping { why } => write!(f, "stopping: {why}"),
             Event::CannotAccept { fault } => write!(f, "cannot accept a connection: {fault}"),
             Event::Stopped => f.write_str("stopped"),
+            Event::LogStarted { process } => write!(f, "wozgirt-log started, process {process}"),
+            Event::LogEnded { status } => write!(f, "wozgirt-log ended: {status}"),
+            Event::LogUnreadable { line } => write!(f, "wozgirt-log said what it should not: {line}"),
+            Event::LogLeft { why } => write!(f, "out of the log ({why}): all connections end"),
+            Event::LogJoined { identity, server, position } => {
+                write!(f, "in the log {identity} as {server}, behind position {position}")
+            }
+            Event::ServerOver { server, position } => {
+                write!(f, "server {server} is over at position {position}, with all its sessions")
+            }
+            Event::SessionOver { session, held } => write!(f, "session {session} did not come back; it held {held}"),
+            Event::Contradiction { name, position } => {
+                write!(f, "CONTRADICTION: server {name} had other answers up to position {position}")
+            }
+            Event::HostAway { name, seconds } => {
+                write!(f, "host {name} is away for {seconds} s, and keeps the log from being compacted")
+            }
+            Event::Checkpoint { position, segment } => {
+                write!(f, "checkpoint at position {position}, behind segment {segment}")
+            }
         }
     }
 }

@@ -1,5 +1,7 @@
 //! The server's program: see `--help`.
 
+use std::fmt;
+use std::io::Write;
 use std::process::ExitCode;
 use wozgirt_server::settings::{parse, Words, USAGE};
 use wozgirt_server::Server;
@@ -19,15 +21,20 @@ fn main() -> ExitCode {
             return ExitCode::SUCCESS;
         }
         Err(fault) => {
-            eprintln!("wozgirt-server: {fault}\nTry --help.");
+            complain(format_args!("{fault}\nTry --help."));
             return ExitCode::from(USAGE_STATUS);
         }
     };
     match Server::open(settings).and_then(Server::run) {
         Ok(()) => ExitCode::SUCCESS,
         Err(fault) => {
-            eprintln!("wozgirt-server: {fault}");
-            ExitCode::FAILURE
+            complain(format_args!("{fault}"));
+            ExitCode::from(fault.status())
         }
     }
+}
+
+/// Says why on standard error, in one write: the engine and `wozgirt-log` write there too, and nothing gets between its words.
+fn complain(why: fmt::Arguments<'_>) {
+    let _ = std::io::stderr().write_all(format!("wozgirt-server: {why}\n").as_bytes()); // nobody can be told
 }

@@ -11,6 +11,7 @@ pub const LONGEST_NAME: usize = 64;
 #[derive(Debug)]
 pub struct Names {
     names: Vec<String>,
+    sizes: Vec<(u32, u32)>,
     numbers: HashMap<String, Lock>,
 }
 
@@ -43,19 +44,24 @@ impl std::error::Error for BadNames {}
 impl Names {
     /// The names in a list `NAME[:N[:K]],..`, or in a text with such a lock, or `NAME N K`, in each line.
     pub fn parse(list: &str) -> Result<Names, BadNames> {
-        let mut names = Names { names: Vec::new(), numbers: HashMap::new() };
+        let mut names = Names { names: Vec::new(), sizes: Vec::new(), numbers: HashMap::new() };
         for lock in list.split([',', '\n']).map(str::trim).filter(|lock| !lock.is_empty()) {
             let mut parts = lock.split([':', ' ']);
             let name = parts.next().unwrap_or("");
-            let sizes: Vec<&str> = parts.collect();
-            let are_sizes = sizes.len() <= 2 && sizes.iter().all(|size| size.parse::<u32>().is_ok());
-            if !is_name(name) || !are_sizes {
-                return Err(BadNames::Lock(lock.chars().take(2 * LONGEST_NAME).collect()));
-            }
+            let sizes: Option<Vec<u32>> = parts.map(|size| size.parse().ok()).collect();
+            let size = match sizes.as_deref() {
+                _ if !is_name(name) => None,
+                Some([]) => Some((8, 8)),
+                Some([n]) => Some((*n, *n)),
+                Some([n, k]) => Some((*n, *k)),
+                _ => None,
+            };
+            let Some(size) = size else { return Err(BadNames::Lock(lock.chars().take(2 * LONGEST_NAME).collect())) };
             if names.numbers.insert(name.into(), names.names.len()).is_some() {
                 return Err(BadNames::Twice(name.into()));
             }
             names.names.push(name.into());
+            names.sizes.push(size);
         }
         if names.names.is_empty() {
             return Err(BadNames::None);
@@ -71,6 +77,12 @@ impl Names {
     /// The name of a lock; of one that is not there, a question mark.
     pub fn name(&self, lock: Lock) -> &str {
         self.names.get(lock).map_or("?", String::as_str)
+    }
+
+    /// The list with all sizes.
+    pub fn list(&self) -> String {
+        let lock = |(name, (n, k)): (&String, &(u32, u32))| format!("{name}:{n}:{k}");
+        self.names.iter().zip(&self.sizes).map(lock).collect::<Vec<_>>().join(",")
     }
 
     /// How many locks there are.
@@ -94,6 +106,7 @@ mod tests {
             let names = Names::parse(text).unwrap();
             assert_eq!((names.count(), names.number("gpu/0"), names.number("x")), (3, Some(1), None));
             assert_eq!((names.name(2), names.name(3)), ("db", "?"));
+            assert_eq!(names.list(), "deploy:8:8,gpu/0:3:3,db:3:5");
         }
     }
 

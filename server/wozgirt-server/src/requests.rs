@@ -20,6 +20,10 @@ pub enum Request<'a> {
     Lease(Duration),
     /// How all locks are.
     Status,
+    /// To go on with the session that has this key.
+    Session(u64),
+    /// Of an operator: where this server is in the log.
+    Cluster,
     /// Of an operator: who is connected.
     Clients,
     /// Of an operator: that the server ends.
@@ -84,7 +88,9 @@ pub fn parse(line: &str, is_operator: bool) -> Result<Request<'_>, BadRequest> {
         "leave" => alone(rest, Request::Leave),
         "ping" => alone(rest, Request::Ping),
         "status" => alone(rest, Request::Status),
+        "session" => Ok(Request::Session(decimal(rest.unwrap_or(""))?)),
         "lease" => Ok(Request::Lease(Duration::from_millis(decimal(rest.unwrap_or(""))?))),
+        "cluster" if is_operator => alone(rest, Request::Cluster),
         "clients" if is_operator => alone(rest, Request::Clients),
         "stop" if is_operator => alone(rest, Request::Stop),
         "corrupt" if is_operator => {
@@ -93,6 +99,21 @@ pub fn parse(line: &str, is_operator: bool) -> Result<Request<'_>, BadRequest> {
             Ok(Request::Of(name, Verb::Corrupt { machine: decimal(machine)?, value: decimal(value)? }))
         }
         _ => Err(BadRequest::Word),
+    }
+}
+
+/// The number in front of a line, if there is one, and the rest.
+pub fn numbered(line: &str) -> Result<(Option<u64>, &str), BadRequest> {
+    match line.split_once(' ') {
+        Some((word, rest)) if word.starts_with(|c: char| c.is_ascii_digit()) => Ok((Some(decimal(word)?), rest)),
+        _ => Ok((None, line)),
+    }
+}
+
+impl Request<'_> {
+    /// Whether it is one that the history has.
+    pub fn is_input(&self) -> bool {
+        matches!(self, Request::Leave) || matches!(self, Request::Of(_, verb) if *verb != Verb::Stats)
     }
 }
 
@@ -125,6 +146,8 @@ mod tests {
             ("ping", Request::Ping),
             ("status", Request::Status),
             ("lease 1500", Request::Lease(Duration::from_millis(1500))),
+            ("session 18446744073709551615", Request::Session(u64::MAX)),
+            ("cluster", Request::Cluster),
             ("clients", Request::Clients),
             ("stop", Request::Stop),
             ("corrupt deploy 1 2", Request::Of("deploy", Verb::Corrupt { machine: 1, value: 2 })),
@@ -135,8 +158,22 @@ mod tests {
     }
 
     #[test]
+    fn numbers_in_front() {
+        assert_eq!(numbered("12 cancel a"), Ok((Some(12), "cancel a")));
+        assert_eq!(numbered("cancel a"), Ok((None, "cancel a")));
+        assert_eq!(numbered("12"), Ok((None, "12")));
+        assert_eq!(numbered("01 leave"), Err(BadRequest::Rest(NotALine::Syntax)));
+        assert_eq!(numbered("18446744073709551616 leave"), Err(BadRequest::Rest(NotALine::Number)));
+        let is_input = |line| parse(line, true).unwrap().is_input();
+        assert!(["acquire a 1", "try a 1", "release a 1", "cancel a", "corrupt a 1 1", "leave"]
+            .into_iter()
+            .all(is_input));
+        assert!(!["stats a", "ping", "status", "lease 1", "session 1", "stop"].into_iter().any(is_input));
+    }
+
+    #[test]
     fn what_only_operators_say() {
-        for line in ["corrupt deploy 1 2", "clients", "stop"] {
+        for line in ["corrupt deploy 1 2", "clients", "cluster", "stop"] {
             assert_eq!(parse(line, false), Err(BadRequest::Word));
         }
     }
@@ -155,6 +192,8 @@ mod tests {
             "ping 1",
             "lease",
             "lease -1",
+            "session",
+            "session x",
         ] {
             assert_eq!(parse(line, false), rest(NotALine::Syntax), "{line:?}");
         }

@@ -1,5 +1,6 @@
 //! The words of the command line.
 
+use crate::cluster::{OverEtcd, ReadingOverEtcd};
 use std::fmt;
 use std::net::SocketAddr;
 use std::path::PathBuf;
@@ -30,11 +31,22 @@ Sockets:
   --page ADDRESS:PORT      `GET /` is a page, `GET /metrics` is for Prometheus
   --listen-anywhere        the last two may be other addresses than this machine's own
 
+Several servers, with one log in etcd (FOLDER is then one of this server, with its checkpoint and journal):
+  --etcd URL,..            the members of etcd
+  --name NAME              this server's name, which no other has
+  --prefix KEY             what its keys in etcd begin with, the same for all servers [wozgirt]
+  --cacert FILE            who signs the certificates of etcd
+  --cert FILE              this server's own certificate
+  --key FILE               its key
+  --host-lease SECONDS     how long etcd takes a silent server for alive [10]
+  --checkpoint LINES       how many lines of the log lie between checkpoints, the same for all servers [100000]
+  --log-program PROGRAM    what speaks to etcd [wozgirt-log]
+
 Limits:
   --rules FILE             who may use which lock
   --longest-lease SECONDS  the longest lease of a client, and of each over TCP that asks for none [30]
   --lease-for-all          clients on the Unix socket who ask for none have it too
-  --grace SECONDS          how long what was held when the engine ended stays held [the longest lease]
+  --grace SECONDS          how long what was held when the engine, or another server, ended stays held [the longest lease]
   --connections COUNT      how many clients at once [1000]
   --waiters COUNT          how many wait for one lock at once [10000]
   --deaf SECONDS           how long a client may leave its answers unread [30]
@@ -93,6 +105,8 @@ pub struct Settings {
     pub deaf: Duration,
     /// Whether connections are logged.
     pub logs_connections: bool,
+    /// The log that this server has with others.
+    pub cluster: Option<OverEtcd>,
 }
 
 /// What the words are, if they are not wrong.
@@ -121,6 +135,8 @@ pub enum BadWords {
     Anywhere(SocketAddr),
     /// The grace is shorter than the longest lease.
     Grace,
+    /// This word says nothing without `--etcd`.
+    Alone(&'static str),
 }
 
 impl fmt::Display for BadWords {
@@ -134,6 +150,7 @@ impl fmt::Display for BadWords {
                 write!(f, "{address} can be reached from other machines, and nobody is asked who it is: see --listen-anywhere")
             }
             BadWords::Grace => f.write_str("--grace is shorter than --longest-lease"),
+            BadWords::Alone(word) => write!(f, "{word} is for several servers: see --etcd"),
         }
     }
 }
@@ -179,6 +196,7 @@ struct Reading {
     waiters: Option<usize>,
     deaf: Option<Duration>,
     logs_connections: bool,
+    cluster: ReadingOverEtcd,
 }
 
 impl Reading {
@@ -224,12 +242,13 @@ impl Reading {
             "--connections" => self.connections = Some(value.parse().ok().filter(|&count| count > 0)?),
             "--waiters" => self.waiters = Some(value.parse().ok()?),
             "--deaf" => self.deaf = Some(seconds(value).filter(|time| !time.is_zero())?),
-            _ => return None,
+            _ => return self.cluster.put(word, value),
         }
         Some(())
     }
 
     fn settings(self) -> Result<Settings, BadWords> {
+        let cluster = self.cluster.settings()?;
         let longest_lease = self.longest_lease.unwrap_or(Duration::from_secs(30));
         let grace = self.grace.unwrap_or(longest_lease);
         if grace < longest_lease {
@@ -261,12 +280,13 @@ impl Reading {
             waiters: self.waiters.unwrap_or(10_000),
             deaf: self.deaf.unwrap_or(Duration::from_secs(30)),
             logs_connections: self.logs_connections,
+            cluster,
         })
     }
 }
 
 /// The options that have a value.
-const VALUED: [&str; 18] = [
+const VALUED: [&str; 27] = [
     "--engine",
     "--journal",
     "--locks",
@@ -285,6 +305,15 @@ const VALUED: [&str; 18] = [
     "--connections",
     "--waiters",
     "--deaf",
+    "--etcd",
+    "--name",
+    "--prefix",
+    "--cacert",
+    "--cert",
+    "--key",
+    "--host-lease",
+    "--checkpoint",
+    "--log-program",
 ];
 
 fn mode(value: &str) -> Option<u32> {
@@ -292,24 +321,40 @@ fn mode(value: &str) -> Option<u32> {
 }
 
 /// A time of at most a year.
-fn seconds(value: &str) -> Option<Duration> {
+pub fn seconds(value: &str) -> Option<Duration> {
     let seconds: f64 = value.parse().ok()?;
     (0.0..=31_536_000.0).contains(&seconds).then(|| Duration::from_secs_f64(seconds))
 }
 
 impl Settings {
-    /// The words with which the engine is run.
+    /// The folder of the engine's journal.
+    pub fn engine_journal(&self) -> PathBuf {
+        match self.cluster {
+            None => self.journal.clone(),
+            Some(_) => self.journal.join("journal"),
+        }
+    }
+
+    /// The file with the open holds, which an engine that begins at a checkpoint reads.
+    pub fn holders(&self) -> PathBuf {
+        self.journal.join("holders")
+    }
+
+    /// The words with which the engine is run. Where there is a log, that is on disks already.
     pub fn engine_words(&self) -> Vec<String> {
-        let mut words = vec!["locks".into(), "--journal".into(), self.journal.to_string_lossy().into_owned()];
+        let mut words = vec!["locks".into(), "--journal".into(), self.engine_journal().to_string_lossy().into_owned()];
         if let Some(locks) = &self.locks {
             words.extend(["--locks".into(), locks.clone()]);
         }
         if let Some(segment) = self.segment {
             words.extend(["--segment".into(), segment.to_string()]);
         }
-        words.push(if self.is_synced { "--sync".into() } else { "--no-sync".into() });
+        words.push(if self.is_synced && self.cluster.is_none() { "--sync".into() } else { "--no-sync".into() });
         if self.permits_faults {
             words.push("--faults".into());
+        }
+        if self.cluster.is_some() {
+            words.extend(["--strict".into(), "--holders".into(), self.holders().to_string_lossy().into_owned()]);
         }
         words
     }
@@ -356,6 +401,25 @@ mod tests {
     }
 
     #[test]
+    fn one_of_several() {
+        let settings = read("--journal /j --etcd http://a,http://b --name x").unwrap();
+        let words = ["locks", "--journal", "/j/journal", "--no-sync", "--strict", "--holders", "/j/holders"];
+        assert_eq!(settings.engine_words(), words);
+        let cluster = settings.cluster.unwrap();
+        assert_eq!((cluster.checkpoint, &*cluster.program), (100_000, "wozgirt-log"));
+        let words = "--endpoints http://a,http://b --prefix wozgirt --name x --lease 10";
+        assert_eq!(cluster.words().join(" "), words);
+        let settings = read(
+            "--journal j --etcd e --name x.1 --prefix p/q --cacert c --cert d --key f --host-lease 1.5 --checkpoint 9 \
+             --log-program g",
+        );
+        let cluster = settings.unwrap().cluster.unwrap();
+        let words = "--endpoints e --prefix p/q --name x.1 --lease 2 --cacert c --cert d --key f";
+        assert_eq!(cluster.words().join(" "), words);
+        assert_eq!((cluster.checkpoint, &*cluster.program), (9, "g"));
+    }
+
+    #[test]
     fn refusals() {
         let texts = [
             ("", "--journal is missing"),
@@ -366,6 +430,11 @@ mod tests {
             ("--journal j --grace -1", "--grace: bad value `-1`"),
             ("--journal j --grace inf", "--grace: bad value `inf`"),
             ("--journal j --deaf 0", "--deaf: bad value `0`"),
+            ("--journal j --etcd e", "--name is missing"),
+            ("--journal j --etcd e --name a:b", "--name: bad value `a:b`"),
+            ("--journal j --etcd e --name a --host-lease 0.5", "--host-lease: bad value `0.5`"),
+            ("--journal j --name a", "--name is for several servers: see --etcd"),
+            ("--journal j --key f", "--key is for several servers: see --etcd"),
             ("--journal j --tcp localhost:1", "--tcp: bad value `localhost:1`"),
             ("--journal j --longest-lease 10 --grace 9", "--grace is shorter than --longest-lease"),
         ];

@@ -204,6 +204,30 @@ fn lines_are_refused_while_no_file_can_be_made(rt: HostRuntime) {
     assert!(rt; disk.open("d/0000000002.ring").is_err());
 }
 
+// On strict terms no line is answered while no file can be made: the answers of the block before have left.
+#[test]
+fn no_line_is_answered_then_on_strict_terms(rt: HostRuntime) {
+    let alloc = rt.alloc();
+    let mut disk = disk_of(&rt, alloc, 2);
+    let mut served = served(&rt, alloc);
+    let mut rules = rules(FOLDER);
+    rules.permits.strict = true;
+    let first = first_segment(&rt, alloc, &mut disk, rules.folder);
+    let mut input: &[u8] = LINES;
+    let mut out = Vec::new(alloc);
+    let ended = serve_segments(
+        alloc,
+        &mut served,
+        &mut disk,
+        first,
+        rules,
+        &mut input,
+        &mut out,
+    );
+    assert!(rt; matches!(ended, Err(LoopFault::OutOfMemory)));
+    assert!(rt; out.as_slice() == b"granted 1 5\nwaits\n".as_slice());
+}
+
 #[test]
 fn the_segment_ends_when_a_file_can_be_made_again(rt: HostRuntime) {
     let alloc = rt.alloc();

@@ -71,6 +71,7 @@ fn a_file_that_cannot_be_finished_is_a_refusal(rt: HostRuntime) {
     let permits = Permits {
         faults: false,
         saves: Some("folder"),
+        strict: false,
     };
     let ended = serve(
         alloc,
@@ -128,6 +129,7 @@ fn a_line_saves_in_its_folder_by_a_plain_name(rt: HostRuntime) {
     let permits = Permits {
         faults: false,
         saves: Some("folder"),
+        strict: false,
     };
     let lines = b"save a/b\nsave ..\nsave .a\nsave a b\nsave a\xc3\xa9\nsave /a\nsave -aZ9_.\n";
     let told =

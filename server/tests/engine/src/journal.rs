@@ -1,17 +1,19 @@
-//! The folder with the journal: `locks`, names and sizes, and one segment that never ends, `0000000001.ring`.
+//! The folder with the journal: `locks`, names and sizes, and segments. An engine goes on in the last one, or, with `--strict`, begins
+//! a new one. Grants are counted over all of them, so their bases are 0.
 
+use crate::keys::digest;
 use crate::locks::{Holder, Locks};
 use crate::ring::{HOLD, LEFT, RELEASED};
 use std::fmt::Write as _;
 use std::fs::{self, File, OpenOptions};
-use std::io::{self, Read, Seek, SeekFrom, Write};
-use std::path::Path;
+use std::io::{self, Write};
+use std::path::{Path, PathBuf};
 use wozgirt_engine::{decimal, NOBODY};
 
 /// The sizes in a list of locks, `NAME[:N[:K]],..`: eight machines, and as many values, if there is nothing else.
 pub fn sizes(list: &str) -> Option<Vec<(usize, u64)>> {
     let size = |lock: &str| {
-        let mut parts = lock.split(':').skip(1);
+        let mut parts = lock.split([':', ' ']).skip(1);
         let n = parts.next().map_or(Some(8), |n| n.parse().ok())?;
         let k = parts.next().map_or(Some(n as u64), |k| k.parse().ok())?;
         (n >= 2 && k >= n as u64 && parts.next().is_none()).then_some((n, k))
@@ -23,16 +25,94 @@ fn wrong(what: String) -> io::Error {
     io::Error::new(io::ErrorKind::InvalidData, what)
 }
 
-fn head(locks: &Locks) -> String {
-    let mut head = format!("ringsegment 1 1 {}\nbehind {}\n", locks.locks.len(), "0".repeat(64));
-    head.push_str(&"base 0 0 0 0\n".repeat(locks.locks.len()));
+/// The segment that is written.
+pub struct Journal {
+    folder: PathBuf,
+    number: u64,
+    file: File,
+    lines: u64,
+    most_lines: u64,
+    is_synced: bool,
+    /// Whether there was a segment.
+    pub was_there: bool,
+}
+
+impl Journal {
+    /// Opens the folder, and does again what stands there, without what stands after the last end of a line.
+    pub fn open(folder: &Path, list: &str, locks: &mut Locks, most_lines: u64, is_synced: bool) -> io::Result<Journal> {
+        claim(folder)?;
+        let names: Vec<&str> = list.split(',').map(|lock| lock.split([':', ' ']).next().unwrap_or(lock)).collect();
+        fs::write(folder.join("locks"), names.join("\n") + "\n")?;
+        let (mut number, mut whole, mut lines) = (0, 0, 0);
+        while let Ok(text) = fs::read_to_string(path(folder, number + 1)) {
+            number += 1;
+            whole = text.rfind('\n').map_or(0, |i| i + 1);
+            let calls = text[..whole].split_once("\ndone ").ok_or_else(|| wrong("a segment has no head".into()))?.1;
+            lines = 0;
+            for line in calls.lines().skip(1) {
+                replay(locks, line).ok_or_else(|| wrong(format!("call {lines} of segment {number} is wrong")))?;
+                lines += 1;
+            }
+        }
+        let folder = folder.to_owned();
+        if number == 0 {
+            let file = begin(&folder, 1, locks)?;
+            return Ok(Journal { folder, number: 1, file, lines: 0, most_lines, is_synced, was_there: false });
+        }
+        let file = OpenOptions::new().append(true).open(path(&folder, number))?;
+        file.set_len(whole as u64)?;
+        Ok(Journal { folder, number, file, lines, most_lines, is_synced, was_there: true })
+    }
+
+    /// Begins the next segment.
+    pub fn turn(&mut self, locks: &Locks) -> io::Result<()> {
+        self.number += 1;
+        self.file = begin(&self.folder, self.number, locks)?;
+        self.lines = 0;
+        Ok(())
+    }
+
+    /// Writes the calls that are there.
+    pub fn write(&mut self, locks: &mut Locks) -> io::Result<()> {
+        if !locks.journal.is_empty() {
+            self.file.write_all(locks.journal.as_bytes())?;
+            self.lines += locks.journal.lines().count() as u64;
+            locks.journal.clear();
+            if self.is_synced {
+                self.file.sync_data()?;
+            }
+        }
+        Ok(())
+    }
+
+    /// Writes the calls if the segment is full with them, and begins the next one.
+    pub fn turn_if_full(&mut self, locks: &mut Locks) -> io::Result<()> {
+        if self.lines + locks.journal.lines().count() as u64 >= self.most_lines {
+            self.write(locks)?;
+            self.turn(locks)?;
+        }
+        Ok(())
+    }
+}
+
+fn path(folder: &Path, number: u64) -> PathBuf {
+    folder.join(format!("{number:010}.ring"))
+}
+
+fn begin(folder: &Path, number: u64, locks: &Locks) -> io::Result<File> {
+    let before = fs::read(path(folder, number - 1)).map_or("0".repeat(64), |bytes| digest(&bytes));
+    let count = locks.locks.len();
+    let mut head = format!("ringsegment 1 {number} {count}\nbehind {before}\n");
+    head.push_str(&"base 0 0 0 0\n".repeat(count));
     head.push_str("ringjournal 1\nringfarm 2\n");
     for lock in &locks.locks {
-        let (number, n, k) = (lock.ring.number, lock.ring.n(), lock.ring.k);
-        let _ = writeln!(head, "ring {number} {n} {k}\nstart{}\nend 0", " 0".repeat(n));
+        let (ring, n, k) = (&lock.ring, lock.ring.n(), lock.ring.k);
+        let _ = writeln!(head, "ring {} {n} {k}\nstart{}\nend 0", ring.number, ring.values_text());
     }
-    let _ = writeln!(head, "done {}", locks.locks.len());
-    head
+    let _ = writeln!(head, "done {count}");
+    let mut file = File::create(path(folder, number))?;
+    file.write_all(head.as_bytes())?;
+    Ok(file)
 }
 
 /// One line of the journal, done again. Nothing if it is not this ring's.
@@ -79,28 +159,4 @@ fn claim(folder: &Path) -> io::Result<()> {
         return Err(wrong("journal is in use".into()));
     }
     fs::write(path, std::process::id().to_string())
-}
-
-/// Opens the journal, goes on from it, and drops what stands after its last end of a line.
-pub fn open(folder: &Path, list: &str, locks: &mut Locks) -> io::Result<File> {
-    claim(folder)?;
-    let names: Vec<&str> = list.split(',').map(|lock| lock.split(':').next().unwrap_or(lock)).collect();
-    fs::write(folder.join("locks"), names.join("\n") + "\n")?;
-    let path = folder.join("0000000001.ring");
-    let mut file = OpenOptions::new().read(true).write(true).create(true).truncate(false).open(path)?;
-    let mut text = String::new();
-    file.read_to_string(&mut text)?;
-    let head = head(locks);
-    if text.is_empty() {
-        file.write_all(head.as_bytes())?;
-        return Ok(file);
-    }
-    let whole = &text[..text.rfind('\n').map_or(0, |i| i + 1)];
-    let calls = whole.strip_prefix(&head).ok_or_else(|| wrong("the journal is of other locks".into()))?;
-    for (i, line) in calls.lines().enumerate() {
-        replay(locks, line).ok_or_else(|| wrong(format!("call {i} of the journal is wrong")))?;
-    }
-    file.set_len(whole.len() as u64)?;
-    file.seek(SeekFrom::End(0))?;
-    Ok(file)
 }

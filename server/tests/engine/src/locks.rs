@@ -5,9 +5,9 @@ use std::collections::{BTreeSet, HashMap, VecDeque};
 use std::fmt::Write as _;
 use wozgirt_engine::{Answer, Answered, Asked, Client, Input, Label, Refusal, Stats, Token, NOBODY};
 
-struct Waiter {
-    client: Client,
-    label: Label,
+pub struct Waiter {
+    pub client: Client,
+    pub label: Label,
 }
 
 #[derive(Clone, Copy)]
@@ -19,7 +19,7 @@ pub struct Holder {
 pub struct Lock {
     pub ring: Ring,
     pub holder: Option<Holder>,
-    line: VecDeque<Waiter>,
+    pub line: VecDeque<Waiter>,
 }
 
 impl Lock {
@@ -64,6 +64,18 @@ impl Locks {
         }
         let held = (0..self.locks.len()).filter(|&l| self.locks[l].holder.is_some()).collect();
         self.touched.insert(NOBODY, held);
+    }
+
+    /// Gives an open hold of nobody to a client: whether there was one with this token.
+    pub fn give(&mut self, l: usize, token: Token, client: Client) -> bool {
+        let Some(holder) = self.locks.get_mut(l).and_then(|lock| lock.holder.as_mut()) else { return false };
+        let is_open = holder.client == NOBODY && holder.token == token;
+        if is_open {
+            holder.client = client;
+            self.touched.entry(NOBODY).or_default().remove(&l);
+            self.touched.entry(client).or_default().insert(l);
+        }
+        is_open
     }
 
     fn answer(&mut self, client: Client, answer: Answer) {

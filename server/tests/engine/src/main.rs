@@ -1,24 +1,31 @@
 //! A test double of the lock engine, never shipped: it speaks the lines of `ring_tool locks`, takes the same words, and
-//! writes a true journal in one segment, so that the server can be tried without the proved engine. Nothing of it is proved.
+//! writes a true journal, so that the server can be tried without the proved engine. Nothing of it is proved.
 //!
 //!     engine-double locks --journal FOLDER --locks NAME[:N[:K]],.. [--segment LINES] [--faults] [--sync | --no-sync]
+//!                         [--strict] [--holders FILE]
 
 #![allow(missing_docs)]
 
 mod journal;
+mod keys;
 mod locks;
 mod ring;
 
+use journal::Journal;
+use keys::Keyed;
 use locks::Locks;
-use std::fs::File;
 use std::io::{self, Read, Write};
 use std::path::PathBuf;
+use wozgirt_engine::decimal;
 
 struct Settings {
     folder: PathBuf,
     list: String,
+    most_lines: u64,
     permits_faults: bool,
     is_synced: bool,
+    is_strict: bool,
+    holders: Option<PathBuf>,
 }
 
 fn settings(mut words: impl Iterator<Item = String>) -> Option<Settings> {
@@ -26,43 +33,70 @@ fn settings(mut words: impl Iterator<Item = String>) -> Option<Settings> {
         return None;
     }
     let (mut folder, mut list, mut permits_faults, mut is_synced) = (None, None, false, true);
+    let (mut most_lines, mut is_strict, mut holders) = (u64::MAX, false, None);
     while let Some(word) = words.next() {
         match word.as_str() {
             "--journal" => folder = words.next(),
             "--locks" => list = words.next(),
-            "--segment" => drop(words.next()?), // its one segment has no end
+            "--segment" => most_lines = words.next()?.parse().ok()?,
             "--faults" => permits_faults = true,
             "--sync" => is_synced = true,
             "--no-sync" => is_synced = false,
+            "--strict" => is_strict = true,
+            "--holders" => holders = Some(words.next()?.into()),
             _ => return None,
         }
     }
     let folder = PathBuf::from(folder?);
     let list =
         list.or_else(|| std::fs::read_to_string(folder.join("locks")).ok().map(|text| text.trim().replace('\n', ",")))?;
-    Some(Settings { folder, list, permits_faults, is_synced })
+    Some(Settings { folder, list, most_lines, permits_faults, is_synced, is_strict, holders })
+}
+
+/// Gives open holds to those who are named in a file.
+fn give_holds(locks: &mut Locks, text: &str) -> io::Result<()> {
+    for (i, line) in text.lines().enumerate() {
+        let words: Vec<&str> = line.split(' ').collect();
+        let is_given = match words[..] {
+            ["hold", lock, token, client] => match (decimal(lock), decimal(token), decimal(client)) {
+                (Ok(lock), Ok(token), Ok(client)) => locks.give(lock as usize, token, client),
+                _ => false,
+            },
+            _ => false,
+        };
+        if !is_given {
+            return Err(io::Error::other(format!("holders: line {}", i + 1)));
+        }
+    }
+    Ok(())
 }
 
 /// The journal first, the answers afterwards.
-fn write(locks: &mut Locks, file: &mut File, is_synced: bool) -> io::Result<()> {
-    if !locks.journal.is_empty() {
-        file.write_all(locks.journal.as_bytes())?;
-        if is_synced {
-            file.sync_data()?;
-        }
-        locks.journal.clear();
-    }
-    io::stdout().lock().write_all(locks.answers.as_bytes())?;
-    locks.answers.clear();
+fn write(keyed: &mut Keyed, journal: &mut Journal) -> io::Result<()> {
+    journal.write(&mut keyed.locks)?;
+    io::stdout().lock().write_all(keyed.output.as_bytes())?;
+    keyed.output.clear();
     io::stdout().lock().flush()
 }
 
-fn run(settings: &Settings) -> io::Result<()> {
+fn open(settings: &Settings) -> io::Result<(Keyed, Journal)> {
     let sizes = journal::sizes(&settings.list).ok_or_else(|| io::Error::other("bad list of locks"))?;
     let mut locks = Locks::new(&sizes, settings.permits_faults);
-    let mut file = journal::open(&settings.folder, &settings.list, &mut locks)?;
+    let mut journal =
+        Journal::open(&settings.folder, &settings.list, &mut locks, settings.most_lines, settings.is_synced)?;
     locks.begin();
-    write(&mut locks, &mut file, settings.is_synced)?;
+    journal.write(&mut locks)?;
+    if let Some(path) = &settings.holders {
+        give_holds(&mut locks, &std::fs::read_to_string(path)?)?;
+    }
+    if settings.is_strict && journal.was_there {
+        journal.turn(&locks)?;
+    }
+    Ok((Keyed::new(locks), journal))
+}
+
+fn run(settings: &Settings) -> io::Result<()> {
+    let (mut keyed, mut journal) = open(settings)?;
     let (mut bytes, mut have) = (vec![0; 1 << 16], 0);
     loop {
         let count = io::stdin().lock().read(&mut bytes[have..])?;
@@ -75,17 +109,21 @@ fn run(settings: &Settings) -> io::Result<()> {
             return Err(io::Error::other("a line is too long"));
         }
         for line in String::from_utf8_lossy(&bytes[..end]).lines() {
-            locks.line(line);
+            keyed.line(line);
+            journal.turn_if_full(&mut keyed.locks)?;
         }
         bytes.copy_within(end..have, 0);
         have -= end;
-        write(&mut locks, &mut file, settings.is_synced)?;
+        write(&mut keyed, &mut journal)?;
     }
 }
 
 fn main() {
     let Some(settings) = settings(std::env::args().skip(1)) else {
-        eprintln!("engine-double locks --journal FOLDER --locks NAME[:N[:K]],.. [--segment LINES] [--faults] [--sync | --no-sync]");
+        eprintln!(
+            "engine-double locks --journal FOLDER --locks NAME[:N[:K]],.. [--segment LINES] [--faults] [--sync | --no-sync] \
+             [--strict] [--holders FILE]"
+        );
         std::process::exit(2);
     };
     if let Err(fault) = run(&settings) {

@@ -32,6 +32,11 @@ impl Ring {
         self.values.len()
     }
 
+    /// The values as the journal has them, each with a space in front.
+    pub fn values_text(&self) -> String {
+        self.values.iter().map(|value| format!(" {value}")).collect()
+    }
+
     fn is_privileged(&self, i: usize) -> bool {
         let left = self.values[if i == 0 { self.n() - 1 } else { i - 1 }];
         (left == self.values[i]) == (i == 0)

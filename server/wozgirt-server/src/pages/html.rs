@@ -1,6 +1,6 @@
 //! `GET /`: one page without a script, which a browser asks for again every other second.
 
-use super::View;
+use super::{InLog, View};
 use crate::board::{Holder, Sight};
 use std::fmt::Write;
 use std::time::{Duration, Instant};
@@ -27,6 +27,7 @@ const NAMED: usize = 5;
 pub fn page(view: &View<'_>) -> String {
     let mut text = String::from(HEAD);
     summary(&mut text, view);
+    view.in_log.iter().for_each(|it| log(&mut text, it));
     text.push_str(
         "<table><thead><tr><th>Lock</th><th>Held by</th><th class=\"n\">Label</th><th class=\"n\">Token</th>\
          <th class=\"n\">For</th><th>Line</th><th class=\"n\">Hand-overs</th><th class=\"n\">Longest wait</th>\
@@ -55,6 +56,19 @@ fn summary(text: &mut String, view: &View<'_>) {
         view.journal.segments,
         if view.journal.last.is_empty() { "none" } else { escaped(&view.journal.last) },
     );
+}
+
+fn log(text: &mut String, it: &InLog) {
+    let log = if it.is_in_log { "is in the log" } else { "<span class=\"down\">is not in the log</span>" };
+    let _ = write!(
+        text,
+        "<p>This server {log} of all servers, of which {} are alive. Position: {}, last checkpoint: {}.",
+        it.alive, it.position, it.checkpoint
+    );
+    if it.contradictions > 0 {
+        let _ = write!(text, " <span class=\"down\">Another had other answers {} times.</span>", it.contradictions);
+    }
+    text.push_str("</p>\n");
 }
 
 /// A file's name, if it is one of a segment.
@@ -140,6 +154,7 @@ mod tests {
             connected: 2,
             engine_starts: 1,
             is_engine_ready: true,
+            in_log: Some(InLog { is_in_log: true, position: 40, checkpoint: 30, alive: 3, contradictions: 1 }),
             journal: JournalSize { bytes: 99, segments: 1, last: "0000000001.ring".into() },
             started,
             now: started + Duration::from_secs(3),
@@ -155,6 +170,8 @@ mod tests {
             "machine 2, 1 over 0; repaired",
             "<td>gpu</td><td class=\"free\">free</td>",
             "99 bytes, segments: 1, the last is 0000000001.ring",
+            "is in the log of all servers, of which 3 are alive. Position: 40, last checkpoint: 30.",
+            "Another had other answers 1 times.",
         ] {
             assert!(page.contains(part), "{part} in {page}");
         }
@@ -167,6 +184,11 @@ mod tests {
         for line in [
             "wozgirt_engine_up 1",
             "wozgirt_refusals_total{reason=\"circle\"} 1",
+            "wozgirt_in_log 1",
+            "wozgirt_log_position 40",
+            "wozgirt_checkpoint_position 30",
+            "wozgirt_servers_alive 3",
+            "wozgirt_contradictions_total 1",
             "wozgirt_held{lock=\"deploy\"} 1",
             "wozgirt_held{lock=\"gpu\"} 0",
             "wozgirt_held_seconds{lock=\"deploy\"} 3",

@@ -1,6 +1,6 @@
 //! `GET /metrics`: the text format of Prometheus.
 
-use super::View;
+use super::{InLog, View};
 use crate::board::Sight;
 use crate::log::End;
 use std::fmt::{Display, Write};
@@ -31,6 +31,7 @@ impl<'a> Family<'a> {
 pub fn text(view: &View<'_>) -> String {
     let mut text = String::new();
     server(&mut text, view);
+    view.in_log.iter().for_each(|it| log(&mut text, it));
     each_lock(&mut text, view);
     text
 }
@@ -59,6 +60,19 @@ fn server(text: &mut String, view: &View<'_>) {
         Family::new(text, "wozgirt_connections_ended_total", "counter", "Ends of connections by their reason.");
     for end in End::ALL {
         ends.labelled("reason", end.word(), view.sums.ends(end));
+    }
+}
+
+fn log(text: &mut String, it: &InLog) {
+    let values: [(&str, &str, &str, &dyn Display); 5] = [
+        ("wozgirt_in_log", "gauge", "1 if this server is in the log of all servers.", &u8::from(it.is_in_log)),
+        ("wozgirt_log_position", "gauge", "The last entry of the log that the engine has done.", &it.position),
+        ("wozgirt_checkpoint_position", "gauge", "The entry of the last checkpoint.", &it.checkpoint),
+        ("wozgirt_servers_alive", "gauge", "Servers whose lease in etcd lives.", &it.alive),
+        ("wozgirt_contradictions_total", "counter", "How often another server had other answers.", &it.contradictions),
+    ];
+    for (name, kind, help, value) in values {
+        Family::new(text, name, kind, help).value(value);
     }
 }
 

@@ -13,6 +13,20 @@ use crate::names::Names;
 use crate::sums::Sums;
 use std::time::Instant;
 
+/// What there is to show of a server that is one of several.
+pub struct InLog {
+    /// Whether it is in the log now.
+    pub is_in_log: bool,
+    /// The last entry that its engine has done.
+    pub position: u64,
+    /// The entry of the last checkpoint.
+    pub checkpoint: u64,
+    /// How many servers are alive.
+    pub alive: usize,
+    /// How often another one had other answers.
+    pub contradictions: u64,
+}
+
 /// What there is to show.
 pub struct View<'a> {
     /// The locks' names.
@@ -27,6 +41,8 @@ pub struct View<'a> {
     pub engine_starts: u64,
     /// Whether it answers.
     pub is_engine_ready: bool,
+    /// The log that it has with others, if it has one.
+    pub in_log: Option<InLog>,
     /// Its journal.
     pub journal: JournalSize,
     /// When the server started.

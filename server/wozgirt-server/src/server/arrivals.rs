@@ -174,7 +174,8 @@ impl Server {
             connected: self.connections.len(),
             engine_starts: self.desk.engine.starts,
             is_engine_ready: self.is_engine_ready(),
-            journal: JournalSize::of(&self.desk.settings.journal),
+            in_log: self.desk.cluster.as_ref().map(|cluster| cluster.view()),
+            journal: JournalSize::of(&self.desk.settings.engine_journal()),
             started: self.started,
             now: self.desk.now,
         }

@@ -72,6 +72,10 @@ impl Server {
 
     /// The engine ended, or has to: all that was held is its past, and every connection hears that by its end.
     pub(super) fn lose_engine(&mut self, is_ended: bool) {
+        if self.desk.cluster.is_some() {
+            self.lose_log("it ends", false);
+            return self.lose_engine_of_cluster(is_ended);
+        }
         self.desk.engine.give_up(is_ended, self.desk.now);
         self.part_all(if self.stopping.is_some() { End::Stop } else { End::Engine });
         self.desk.board.forget();
@@ -81,6 +85,9 @@ impl Server {
     }
 
     pub(super) fn look_at_engine(&mut self) -> Result<(), CannotServe> {
+        if self.desk.cluster.is_some() {
+            return self.look_at_cluster();
+        }
         let now = self.desk.now;
         match self.desk.engine.look(self.stopping.is_some(), now)? {
             Outcome::NotYet => {}

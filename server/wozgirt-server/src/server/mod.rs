@@ -1,7 +1,9 @@
 //! The loop: rounds of what happened, and what time brings.
 
 mod arrivals;
+mod cluster_side;
 mod engine_side;
+mod log_side;
 mod opening;
 mod talks;
 
@@ -9,9 +11,10 @@ pub use opening::CannotServe;
 
 use crate::accounts::Accounts;
 use crate::board::Board;
+use crate::cluster::Cluster;
 use crate::connection::{Connection, SHARE};
 use crate::desk::Desk;
-use crate::engine::Engine;
+use crate::engine::{Engine, ROOM};
 use crate::log::{End, Event, Log};
 use crate::pages::Visitor;
 use crate::settings::Settings;
@@ -27,6 +30,8 @@ use wozgirt_system::{Event as Ready, Interest, Poller, Signal, Signals};
 const SIGNALS: u64 = 0;
 const ENGINE: u64 = 1;
 const ENGINE_INPUT: u64 = 6;
+const LOG: u64 = 7;
+const LOG_INPUT: u64 = 8;
 const CLIENTS: u64 = 2;
 const OPERATORS: u64 = 3;
 const NETWORK: u64 = 4;
@@ -72,6 +77,8 @@ pub struct Server {
     next_sweep: Instant,
     /// Until when doors are shut, since the system has no place.
     shut_until: Option<Instant>,
+    /// Whether more is read of the log that this server has with others.
+    reads_log: bool,
     /// Until when an end in good order has to be done.
     stopping: Option<Instant>,
     started: Instant,
@@ -91,9 +98,12 @@ impl Server {
         let poller = Poller::new()?;
         poller.add(&signals, SIGNALS, Interest::READS)?;
         let doors = Doors::open(&settings, &poller, &mut log)?;
-        let engine = Engine::new(settings.engine.clone(), settings.engine_words(), now);
+        let engine = Engine::new(settings.engine.clone(), settings.engine_words(), ROOM, now);
+        let cluster = Cluster::new(&settings, &names, now)
+            .map_err(|fault| CannotServe::Folder(settings.journal.clone(), fault))?
+            .map(Box::new);
         let board = Board::new(names.count());
-        let desk = Desk { settings, names, rules, engine, board, sums: Sums::default(), log, now };
+        let desk = Desk { settings, names, rules, engine, board, sums: Sums::default(), log, cluster, now };
         Ok(Server {
             desk,
             poller,
@@ -111,6 +121,7 @@ impl Server {
             grace_until: None,
             next_sweep: now,
             shut_until: None,
+            reads_log: true,
             stopping: None,
             started: now,
         })
@@ -120,11 +131,13 @@ impl Server {
     pub fn run(mut self) -> Result<(), CannotServe> {
         let mut events = Vec::new();
         let mut buffer = [0; SHARE];
+        self.begin_cluster()?;
         self.look_at_engine()?;
-        while !self.desk.engine.is_over() {
+        while !self.is_over() {
             let before = Instant::now();
             let is_all = self.poller.wait(Some(self.next_time()), &mut events)?;
             self.desk.now = Instant::now();
+            self.check_lease();
             for event in &events {
                 self.happened(event, &mut buffer)?;
             }
@@ -143,8 +156,10 @@ impl Server {
                     self.hear(signal);
                 }
             }
+            ENGINE if self.desk.cluster.is_some() => self.hear_engine_of_cluster()?,
             ENGINE => self.hear_engine(),
-            ENGINE_INPUT => {} // what it takes is written at the end of each round
+            LOG => self.hear_log()?,
+            ENGINE_INPUT | LOG_INPUT => {} // what they take is written at the end of each round
             CLIENTS | OPERATORS | NETWORK => self.let_in(event.key),
             PAGE => self.let_visitors_in(),
             key if key >= VISITORS => self.visit(key),
@@ -153,9 +168,17 @@ impl Server {
         Ok(())
     }
 
-    /// Whether the engine has answered how all locks are.
+    /// Whether all processes have ended, and are not started any more.
+    fn is_over(&self) -> bool {
+        self.desk.engine.is_over() && self.desk.cluster.as_ref().map_or(true, |cluster| cluster.log.is_over())
+    }
+
+    /// Whether the engine has answered how all locks are, or this server is in the log that it has with others.
     fn is_engine_ready(&self) -> bool {
-        self.desk.engine.is_running() && self.own.is_empty()
+        match &self.desk.cluster {
+            None => self.desk.engine.is_running() && self.own.is_empty(),
+            Some(cluster) => cluster.is_ready(),
+        }
     }
 
     fn touch(&mut self, client: Client) {
@@ -178,7 +201,10 @@ impl Server {
         }
         let now = self.desk.now;
         let grace = self.grace_until.filter(|_| self.is_engine_ready());
-        let times = [self.desk.engine.next_look(now), grace, self.shut_until, self.stopping];
+        let log = self.desk.cluster.as_ref().and_then(|cluster| cluster.log.next_look(now));
+        let log = log.filter(|_| self.desk.cluster.as_ref().is_some_and(|cluster| cluster.is_restored));
+        let entry = self.desk.cluster.as_ref().and_then(|cluster| cluster.gathers_until());
+        let times = [self.desk.engine.next_look(now), log, entry, grace, self.shut_until, self.stopping];
         let next = times.into_iter().flatten().fold(self.next_sweep, Instant::min);
         next.saturating_duration_since(now)
     }
@@ -188,6 +214,7 @@ impl Server {
     fn pass_time(&mut self, seen: Option<Instant>) -> Result<(), CannotServe> {
         let now = self.desk.now;
         self.look_at_engine()?;
+        self.pump()?;
         if self.is_engine_ready() && self.grace_until.is_some_and(|until| until <= now) {
             self.end_grace();
         }
@@ -218,8 +245,10 @@ impl Server {
         for (client, end) in gone {
             self.part(client, end);
         }
+        self.sweep_cluster();
         self.visitors.retain(|_, visitor| !visitor.is_late(now));
-        let shortest = self.desk.settings.longest_lease.min(deaf);
+        let host_lease = self.desk.settings.cluster.as_ref().map_or(deaf, |words| words.host_lease);
+        let shortest = self.desk.settings.longest_lease.min(deaf).min(host_lease);
         self.next_sweep = now + (shortest / 20).clamp(Duration::from_millis(5), Duration::from_millis(250));
     }
 
@@ -241,7 +270,7 @@ impl Server {
         self.doors = Doors::default();
         self.backlog.clear();
         self.touch_all();
-        if !self.desk.engine.is_running() {
+        if !self.desk.engine.is_running() && self.desk.cluster.is_none() {
             self.part_all(End::Stop);
         }
     }
@@ -251,6 +280,9 @@ impl Server {
         if until <= self.desk.now {
             self.lose_engine(false);
         }
-        self.desk.engine.end();
+        match self.desk.cluster {
+            None => self.desk.engine.end(),
+            Some(_) => self.stop_cluster(),
+        }
     }
 }

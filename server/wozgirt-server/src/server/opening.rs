@@ -2,6 +2,7 @@
 
 use super::{MOST_VISITORS, OTHER_FILES, PLACES_OF_OPERATORS};
 use crate::accounts::Accounts;
+use crate::cluster::{NoFolder, LONGEST_LIST};
 use crate::doors::CannotListen;
 use crate::engine::CannotStart;
 use crate::names::{BadNames, Names};
@@ -38,6 +39,29 @@ pub enum CannotServe {
     Engine(CannotStart),
     /// The engine keeps ending before it is ready.
     EngineEnds(ExitStatus),
+    /// The folder cannot be had.
+    Folder(PathBuf, NoFolder),
+    /// There is no process that speaks to etcd.
+    Log(CannotStart),
+    /// It keeps ending before it has found the log.
+    LogEnds(ExitStatus),
+    /// The checkpoint is wrong in this line.
+    Checkpoint(PathBuf, usize),
+    /// The log was begun with other settings.
+    Settings {
+        /// Those of the log.
+        log: String,
+        /// Those of this server.
+        own: String,
+    },
+    /// The checkpoint is not of this log.
+    OtherLog(String),
+    /// The log is not there as far as it is needed.
+    LogLost,
+    /// The engine has not come back to the state of the checkpoint.
+    Restored,
+    /// Two other servers had other answers.
+    Contradicted(u64),
     /// The system refused something else.
     System(io::Error),
 }
@@ -57,6 +81,37 @@ impl fmt::Display for CannotServe {
             }
             CannotServe::Listen(fault) => fault.fmt(f),
             CannotServe::Engine(fault) => fault.fmt(f),
+            CannotServe::Folder(path, NoFolder::InUse) => write!(f, "{}: another server has this folder", path.display()),
+            CannotServe::Folder(path, NoFolder::Alone) => write!(
+                f,
+                "{}: this folder has the journal of a server that was alone; one of several needs a folder of its own, and its tokens begin at 1",
+                path.display()
+            ),
+            CannotServe::Folder(_, NoFolder::Locks) => {
+                write!(f, "--locks: of several servers the list has at most {LONGEST_LIST} bytes")
+            }
+            CannotServe::Folder(path, NoFolder::System(fault)) => write!(f, "{}: {fault}", path.display()),
+            CannotServe::Log(fault) => write!(f, "--log-program: {fault}"),
+            CannotServe::LogEnds(status) => write!(f, "wozgirt-log keeps ending before it has found the log: {status}"),
+            CannotServe::Checkpoint(path, line) => write!(f, "{}: line {line} is wrong", path.display()),
+            CannotServe::Settings { log, own } => write!(
+                f,
+                "--checkpoint, --segment, --faults and --locks are the same for all servers; in the log they are `{log}`, here `{own}`"
+            ),
+            CannotServe::OtherLog(identity) => write!(
+                f,
+                "the checkpoint is of another log than {identity}: was etcd replaced? Begin again with the folder of a server of this log"
+            ),
+            CannotServe::LogLost => f.write_str(
+                "the log is another one, or does not reach back to the checkpoint: begin again with another server's folder",
+            ),
+            CannotServe::Restored => f.write_str(
+                "the engine does not come back to the state of the checkpoint: keep the folder for an inquiry, and begin again with another server's",
+            ),
+            CannotServe::Contradicted(position) => write!(
+                f,
+                "two other servers had other answers up to position {position}: keep the folder for an inquiry, and begin again with one of theirs"
+            ),
             CannotServe::EngineEnds(status) => write!(f, "the engine keeps ending before it is ready: {status}"),
             CannotServe::System(fault) => fault.fmt(f),
         }
@@ -64,6 +119,17 @@ impl fmt::Display for CannotServe {
 }
 
 impl std::error::Error for CannotServe {}
+
+impl CannotServe {
+    /// The status of the process: 3 if this server's answers are wrong, 4 if the log is not the one that it needs, else 1.
+    pub fn status(&self) -> u8 {
+        match self {
+            CannotServe::Restored | CannotServe::Contradicted(_) => 3,
+            CannotServe::OtherLog(_) | CannotServe::LogLost => 4,
+            _ => 1,
+        }
+    }
+}
 
 impl From<io::Error> for CannotServe {
     fn from(fault: io::Error) -> CannotServe {
@@ -81,7 +147,7 @@ pub(super) fn read_names(settings: &Settings) -> Result<Names, CannotServe> {
     let list = match &settings.locks {
         Some(list) => list.clone(),
         None => {
-            let path = settings.journal.join("locks");
+            let path = settings.engine_journal().join("locks");
             fs::read_to_string(&path).map_err(|fault| CannotServe::Locks(path, fault))?
         }
     };

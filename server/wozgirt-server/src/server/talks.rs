@@ -5,7 +5,7 @@ use crate::connection::{Connection, Reading, SHARE};
 use crate::desk::Then;
 use crate::log::End;
 use crate::CannotServe;
-use wozgirt_engine::Client;
+use wozgirt_engine::{Client, Lock};
 use wozgirt_system::Event as Ready;
 
 impl Server {
@@ -40,6 +40,7 @@ impl Server {
                     connection.tell_in_order(list);
                 }
             }
+            Then::Moved(before) => self.part(before, End::Moved),
             Then::Stop => self.stop("an operator said so"),
         }
         let has_more = self.connections.get(&client).is_some_and(Connection::has_line);
@@ -61,13 +62,34 @@ impl Server {
         clients.sort_unstable_by_key(|connection| connection.client);
         let mut text = format!("clients {}", clients.len());
         for it in clients {
-            let names: Vec<&str> = it.holds.iter().map(|lock| self.desk.names.name(*lock)).collect();
+            let (holds, waits_for) = self.standing(it);
+            let names: Vec<&str> = holds.iter().map(|lock| self.desk.names.name(*lock)).collect();
             let holds = if names.is_empty() { "-".into() } else { names.join(",") };
-            let waits = it.waits_for.map_or("-", |lock| self.desk.names.name(lock));
+            let waits = waits_for.map_or("-", |lock| self.desk.names.name(lock));
             let lease = it.lease.map_or(0, |lease| lease.as_millis());
-            text.push_str(&format!("\nclient {} {lease} {holds} {waits} {}", it.client, it.who));
+            let client = self.number(it);
+            text.push_str(&format!("\nclient {client} {lease} {holds} {waits} {}", it.who));
         }
         text
+    }
+
+    /// The number by which a client is shown: that of its session, where the log gives numbers.
+    fn number(&self, connection: &Connection) -> Client {
+        match &self.desk.cluster {
+            None => connection.client,
+            Some(cluster) => connection.seat.as_ref().and_then(|seat| cluster.owns.session(seat.key)).unwrap_or(0),
+        }
+    }
+
+    /// What a client holds and waits for.
+    fn standing(&self, connection: &Connection) -> (Vec<Lock>, Option<Lock>) {
+        match (&self.desk.cluster, &connection.seat) {
+            (Some(cluster), Some(seat)) => {
+                let standing = cluster.standing(seat.key);
+                (standing.holds.into_iter().map(|(lock, _)| lock).collect(), standing.waits)
+            }
+            _ => (connection.holds.clone(), connection.waits_for),
+        }
     }
 
     pub(super) fn part(&mut self, client: Client, end: End) {
@@ -110,6 +132,6 @@ impl Server {
         if let Some((input, interest)) = self.desk.engine.awaited_input() {
             self.poller.change(input, ENGINE_INPUT, interest)?;
         }
-        Ok(())
+        self.write_log()
     }
 }

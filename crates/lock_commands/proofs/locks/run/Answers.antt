@@ -1,16 +1,33 @@
-use Rattle.std.proofs.Common.{List, subst, inr}
+use Rattle.std.proofs.Common.{List, subst, refl, inl, inr, ap, ◌∙◌}
 use Rattle.std.specs.Io.KnownBytes.{Appends}
+use Rattle.ring_locks.specs.declared.handing.Handover.{Handover}
+use Rattle.line_replica.specs.declared.replica.Replica.{Replica}
+use Rattle.lock_serve.specs.declared.service.LockService.{LockService}
 use Rattle.ring_locks.specs.Kept.{LockView}
+use Rattle.lock_commands.specs.Locks.{IsServedIn, IsRefusedIn}
 use Rattle.lock_commands.specs.Totals.{total_line, IsUntold}
 use Rattle.lock_commands.proofs.locks.run.Goals as goal
 
 pub returns-in-Ok-tell_totals-clause-ok : goal.returns-in-Ok-tell_totals-clause-ok
 returns-in-Ok-tell_totals-clause-ok g c = record {
+  holders = c.in-Ok-holders_of.holders.items;
+  given = c.in-Ok-holders_of.ensures.ok;
   end = c.in-Ok-run_in_folder.end;
-  served = c.in-Ok-run_in_folder.ensures.ok;
-  told = subst (λ (vs : List LockView). Appends (g.E.Write.contents c.args.err.now) (g.E.Write.contents c.tell_totals.new.err) (total_line vs)) c.locks.ensures c.in-Ok-tell_totals.ensures.ok;
+  served = rw c.as_slice.ensures.value at c.in-Ok-run_in_folder.ensures.ok;
+  told = subst (λ (vs : List LockView). Appends (g.E.Write.contents c.args.err.now) (g.E.Write.contents c.tell_totals.new.err) (total_line vs)) (c.locks.ensures ∙ ap (λ (s : LockService). s.segment.locks) (c.inner-2.ensures ∙ ap (λ (r : Replica LockService). r.numbered.inner) c.inner.ensures)) c.in-Ok-tell_totals.ensures.ok;
 }
+
+pub returns-in-Err-run_in_folder-clause-err : goal.returns-in-Err-run_in_folder-clause-err
+returns-in-Err-run_in_folder-clause-err g c =
+    inr (c.in-Ok.ensures.ok, inr (c.in-Ok-holders_of.holders.items, c.in-Ok-holders_of.ensures.ok, inl (refl, rw c.as_slice.ensures.value at c.in-Err-run_in_folder.ensures.err)))
 
 pub returns-clause-err : goal.returns-clause-err
 returns-clause-err g c =
-    inr (c.in-Ok.ensures.ok, inr (c.in-Ok-run_in_folder.end, c.in-Ok-run_in_folder.ensures.ok, subst (λ (vs : List LockView). IsUntold vs (g.E.Write.contents c.args.err.now) (g.E.Write.contents c.tell_totals.new.err) c.in-Err-tell_totals.fault) c.locks.ensures c.in-Err-tell_totals.ensures.err))
+    inr (
+      c.in-Ok.ensures.ok,
+      inr (
+        c.in-Ok-holders_of.holders.items,
+        c.in-Ok-holders_of.ensures.ok,
+        inr (c.in-Ok-run_in_folder.end, rw c.as_slice.ensures.value at c.in-Ok-run_in_folder.ensures.ok, subst (λ (vs : List LockView). IsUntold vs (g.E.Write.contents c.args.err.now) (g.E.Write.contents c.tell_totals.new.err) c.in-Err-tell_totals.fault) (c.locks.ensures ∙ ap (λ (s : LockService). s.segment.locks) (c.inner-2.ensures ∙ ap (λ (r : Replica LockService). r.numbered.inner) c.inner.ensures)) c.in-Err-tell_totals.ensures.err),
+      ),
+    )

@@ -19,4 +19,4 @@ returns-in-Err-serve_segments-clause-err g c =
 
 pub returns-clause-err : goal.returns-clause-err
 returns-clause-err g c =
-    inr (_, record { service = c.in-Ok.service; begins = c.in-Ok.ensures.ok; begun = c.in-Ok-begin_segment.ensures.ok }, inr (_, c.in-Ok-serve_segments.ensures.ok, refl))
+    inr (_, record { service = c.in-Ok.service; begins = c.in-Ok.ensures.ok; begun = c.in-Ok-begin_segment.ensures.ok }, inr (_, c.in-Ok-serve_segments.ensures.ok, c.in-Err-close_segment.ensures.kept, refl))

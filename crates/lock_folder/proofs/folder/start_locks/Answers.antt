@@ -13,7 +13,7 @@ returns-in-Ok-start_in-clause-ok g c = record {
   range = c.in-Ok-numbers_among.range;
   right = subst (λ (es : List FolderEntry). IsRightNumbers es (Ok c.in-Ok-numbers_among.range)) c.deref.ensures.value c.in-Ok-numbers_among.ensures;
   started =
-      subst (λ (b : Bool). AreStartedIn c.args.folder.now b c.in-Ok-numbers_among.range (option_map (λ w. w.now) c.args.word) (g.D.Disk.holds c.args.disk.now) (g.D.Disk.holds c.start_in.new.disk) (place_of c.in-Ok-start_in.start))
+      subst (λ (b : Bool). AreStartedIn c.args.folder.now b c.in-Ok-numbers_among.range (option_map (λ w. w.now) c.args.word) c.args.holders.now (g.D.Disk.holds c.args.disk.now) (g.D.Disk.holds c.start_in.new.disk) (place_of c.in-Ok-start_in.start))
       (c.has_list-has.ensures ∙ ap (λ (es : List FolderEntry). is_among (names_of es) (codes "locks")) c.deref-2.ensures.value) c.in-Ok-start_in.ensures.ok;
 }
 
@@ -25,7 +25,7 @@ returns-clause-err g c =
       inr (
         c.in-Ok-numbers_among.range,
         subst (λ (es : List FolderEntry). IsRightNumbers es (Ok c.in-Ok-numbers_among.range)) c.deref.ensures.value c.in-Ok-numbers_among.ensures,
-        subst (λ (b : Bool). IsStartRefusal (g.D.Disk.holds c.args.disk.now) c.args.folder.now b c.in-Ok-numbers_among.range (option_map (λ w. w.now) c.args.word) c.in-Err-start_in.fault)
+        subst (λ (b : Bool). IsStartRefusal (g.D.Disk.holds c.args.disk.now) c.args.folder.now b c.in-Ok-numbers_among.range (option_map (λ w. w.now) c.args.word) c.args.holders.now c.in-Err-start_in.fault)
             (c.has_list-has.ensures ∙ ap (λ (es : List FolderEntry). is_among (names_of es) (codes "locks")) c.deref-2.ensures.value) c.in-Err-start_in.ensures.err,
       ),
     )

@@ -6,16 +6,16 @@ use Rattle.ring_locks.specs.Parts.{view_of, views_of}
 use Rattle.ring_locks.proofs.Finding.{part_is, waits_is, refused_waits, refused_circle, refused_not, many_locks}
 use Rattle.ring_locks.proofs.locks.acquire_refusal.Goals as goal
 
-pub returns-then-is_some : goal.returns-then-is_some
-returns-then-is_some c = λ p at.
+pub returns-then-is_some-clause-is : goal.returns-then-is_some-clause-is
+returns-then-is_some-clause-is c = λ p at.
     let e = sym c.index-locks-lock.is ∙ part_is c.args.locks.now c.args.lock p c.index-locks-lock.result at c.requires.lock c.index-locks-lock.is in
     let h : is_held_by c.args.client p.holder ≡ false = ap (λ (x : LockParts). is_held_by c.args.client x.holder) (sym e) ∙ sym c.is_held_by.ensures ∙ c.if-is_held_by.false in
     let w : is_some (waits_for (locks_of (views_of c.args.locks.now)) c.args.client) ≡ true =
     sym (waits_is (locks_of (views_of c.args.locks.now)) c.args.waits.now c.args.client c.get.result c.requires.kept.right c.requires.kept.waits c.get.ensures) ∙ sym c.is_some.ensures ∙ c.if-is_some.true in
     refused_waits (locks_of (views_of c.args.locks.now)) (lock_of (view_of p)) c.args.client h w
 
-pub returns-then-comes_back : goal.returns-then-comes_back
-returns-then-comes_back c = λ p at.
+pub returns-then-comes_back-clause-is : goal.returns-then-comes_back-clause-is
+returns-then-comes_back-clause-is c = λ p at.
     let e = sym c.index-locks-lock.is ∙ part_is c.args.locks.now c.args.lock p c.index-locks-lock.result at c.requires.lock c.index-locks-lock.is in
     let h : is_held_by c.args.client p.holder ≡ false = ap (λ (x : LockParts). is_held_by c.args.client x.holder) (sym e) ∙ sym c.is_held_by.ensures ∙ c.if-is_held_by.false in
     let w : is_some (waits_for (locks_of (views_of c.args.locks.now)) c.args.client) ≡ false =
@@ -26,8 +26,8 @@ returns-then-comes_back c = λ p at.
     ∙ sym c.comes_back.ensures ∙ c.if-comes_back.true in
     refused_circle (locks_of (views_of c.args.locks.now)) (lock_of (view_of p)) c.args.client h w b
 
-pub returns : goal.returns
-returns c = λ p at.
+pub returns-clause-is : goal.returns-clause-is
+returns-clause-is c = λ p at.
     let e = sym c.index-locks-lock.is ∙ part_is c.args.locks.now c.args.lock p c.index-locks-lock.result at c.requires.lock c.index-locks-lock.is in
     let h : is_held_by c.args.client p.holder ≡ false = ap (λ (x : LockParts). is_held_by c.args.client x.holder) (sym e) ∙ sym c.is_held_by.ensures ∙ c.if-is_held_by.false in
     let w : is_some (waits_for (locks_of (views_of c.args.locks.now)) c.args.client) ≡ false =

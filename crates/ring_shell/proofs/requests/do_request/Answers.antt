@@ -13,7 +13,7 @@ returns-in-Ok-clause-ended g c =
     ended_answered c.args.request.now was c.done.result.status c.done.result.told (g.D.Disk.holds c.answer.new.disk) (g.I.Read.remaining c.answer.new.input) (writer_contents g.O.Write.contents c.answer.new.out)
     (g.O.Write.contents c.done.result.out) (g.E.Write.contents c.answer.new.err) (g.E.Write.contents c.done.new.err)
     (of_ok (IsAnswer c.args.request.now was (world (g.D.Disk.holds c.answer.new.disk) (g.I.Read.remaining c.answer.new.input) (writer_contents g.O.Write.contents c.answer.new.out) (g.E.Write.contents c.answer.new.err)))
-    c.answer.result c.in-Ok.field-0 c.in-Ok.is c.answer.ensures.ok)
+    c.answer.result c.in-Ok.field-0 c.in-Ok.is c.answer.ensures.answered)
     (λ q. ap g.E.Write.contents (c.answer.ensures.silent q))
     (λ q. ap g.I.Read.remaining (c.answer.ensures.unread q))
     c.answer.ensures.made
@@ -26,7 +26,7 @@ returns-in-Err-clause-ended g c =
     (g.O.Write.contents c.fail.result.out) (g.E.Write.contents c.answer.new.err) (g.E.Write.contents c.fail.new.err)
     c.fail.ensures.status
     (of_err (λ (e : ToolError). IsRefusal c.args.request.now was (world (g.D.Disk.holds c.answer.new.disk) (g.I.Read.remaining c.answer.new.input) (writer_contents g.O.Write.contents c.answer.new.out) (g.E.Write.contents c.answer.new.err)) e)
-    c.answer.result c.in-Err.fault c.in-Err.is c.answer.ensures.err)
+    c.answer.result c.in-Err.fault c.in-Err.is c.answer.ensures.refused)
     (λ q. ap g.E.Write.contents (c.answer.ensures.silent q))
     (λ q. ap g.I.Read.remaining (c.answer.ensures.unread q))
     c.answer.ensures.made

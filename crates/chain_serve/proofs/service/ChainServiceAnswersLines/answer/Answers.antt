@@ -1,7 +1,9 @@
-use Rattle.std.proofs.Common.{◌≡◌, ℕ, List}
+use Rattle.std.proofs.Common.{◌≡◌, ℕ, List, ap, ◌∙◌}
 use Rattle.std.specs.Prelude.{string_bytes}
 use Rattle.ring_serve.specs.Permits.{Terms, terms_by}
-use Rattle.ring_serve.proofs.Looped.{told_ok, told_err}
+use Rattle.ring_serve.specs.Standings.{Standing}
+use Rattle.ring_serve.specs.Serving.{IsAnswered}
+use Rattle.ring_serve.proofs.Heeding.{made_ok, made_err}
 use Rattle.chain_serve.specs.Services.{ServiceView, service_of, IsServed}
 use Rattle.chain_serve.proofs.Known.{terms_known, open_known, known_after, served_known}
 use Rattle.chain_serve.proofs.service.ChainServiceAnswersLines.answer.Goals as goal
@@ -25,21 +27,21 @@ returns-clause-ok g c =
     let s = c.self.inside in
     let terms : Terms = terms_by c.rules_in-rules.result in
     let known = terms_known s.rules s.number s.refusing c.as_str.result.now (string_bytes s.name) terms c.rules_in-rules.ensures c.as_str.ensures.value c.self.invariant.named in
-    let a = c.answer_by-told.ensures.answered in
     let was = g.D.Disk.holds c.args.disk.now in
     let is = g.D.Disk.holds c.answer_by-told.new.disk in
-    let new : ServiceView = service_of s.rules c.answer_by-told.new.served s.number s.refusing in
-    let one : IsServed c.args.self.now was c.args.line.now a.0 a.1 new is = served_known s.rules s.served c.answer_by-told.new.served s.number s.refusing c.answer_by-told.new.shut terms c.args.self.now was is c.args.line.now a.0 a.1 known c.self.view_is a.2 c.answer_by-told.ensures.tied c.are_right.ensures in
-    told_ok c.answer_by-told.result c.args.pending.now c.answer_by-told.new.pending (λ (say note : List ℕ). IsServed c.args.self.now was c.args.line.now say note new is) a.0 a.1 one a.3
+    let rings = c.answer_by-told.new.served in
+    let new : ServiceView = service_of s.rules rings s.number s.refusing in
+    made_ok c.answer_by-told.result ((rings ≡ s.served) × (is ≡ was)) (λ say note. IsAnswered terms s.served was c.args.line.now say note rings is) (λ (say note : List ℕ). IsServed c.args.self.now was c.args.line.now say note new is)
+    c.args.pending.now c.answer_by-told.new.pending (λ say note a. served_known s.rules s.served rings s.number s.refusing c.answer_by-told.new.shut terms c.args.self.now was is c.args.line.now say note known c.self.view_is a c.answer_by-told.ensures.tied c.are_right.ensures) c.answer_by-told.ensures.answered
 
 pub returns-clause-err : goal.returns-clause-err
 returns-clause-err g c =
     let s = c.self.inside in
     let terms : Terms = terms_by c.rules_in-rules.result in
     let known = terms_known s.rules s.number s.refusing c.as_str.result.now (string_bytes s.name) terms c.rules_in-rules.ensures c.as_str.ensures.value c.self.invariant.named in
-    let a = c.answer_by-told.ensures.answered in
     let was = g.D.Disk.holds c.args.disk.now in
     let is = g.D.Disk.holds c.answer_by-told.new.disk in
-    let new : ServiceView = service_of s.rules c.answer_by-told.new.served s.number s.refusing in
-    let one : IsServed c.args.self.now was c.args.line.now a.0 a.1 new is = served_known s.rules s.served c.answer_by-told.new.served s.number s.refusing c.answer_by-told.new.shut terms c.args.self.now was is c.args.line.now a.0 a.1 known c.self.view_is a.2 c.answer_by-told.ensures.tied c.are_right.ensures in
-    told_err c.answer_by-told.result ((new ≡ c.args.self.now) × (is ≡ was)) (λ (say note : List ℕ). IsServed c.args.self.now was c.args.line.now say note new is) a.0 a.1 one
+    let rings = c.answer_by-told.new.served in
+    let new : ServiceView = service_of s.rules rings s.number s.refusing in
+    made_err c.answer_by-told.result ((rings ≡ s.served) × (is ≡ was)) ((new ≡ c.args.self.now) × (is ≡ was)) (λ say note. IsAnswered terms s.served was c.args.line.now say note rings is) (λ (say note : List ℕ). IsServed c.args.self.now was c.args.line.now say note new is)
+    c.args.pending.now c.answer_by-told.new.pending (λ e. (ap (λ (x : List Standing). service_of s.rules x s.number s.refusing) e.0 ∙ c.self.view_is, e.1)) (λ say note a. served_known s.rules s.served rings s.number s.refusing c.answer_by-told.new.shut terms c.args.self.now was is c.args.line.now say note known c.self.view_is a c.answer_by-told.ensures.tied c.are_right.ensures) c.answer_by-told.ensures.answered

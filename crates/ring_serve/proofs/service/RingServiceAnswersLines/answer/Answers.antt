@@ -1,8 +1,11 @@
-use Rattle.std.proofs.Common.{◌≡◌, ℕ, List, false, sym, subst}
+use Rattle.std.proofs.Common.{◌≡◌, ℕ, List, false, sym, ap, ◌∙◌, subst}
 use Rattle.ring_serve.specs.Permits.{terms_by, is_shut}
+use Rattle.ring_serve.specs.Standings.{Standing}
+use Rattle.ring_serve.specs.Serving.{IsAnswered}
 use Rattle.ring_serve.specs.Services.{ServiceView, IsServed, service_of}
 use Rattle.ring_serve.proofs.Shutting.{tied_open}
-use Rattle.ring_serve.proofs.Looped.{served_by, told_ok, told_err}
+use Rattle.ring_serve.proofs.Looped.{served_by}
+use Rattle.ring_serve.proofs.Heeding.{made_ok, made_err}
 use Rattle.ring_serve.proofs.service.RingServiceAnswersLines.answer.Goals as goal
 
 pub answer_by-requires : goal.answer_by-requires
@@ -13,17 +16,17 @@ answer_by-requires g c =
 pub returns-clause-ok : goal.returns-clause-ok
 returns-clause-ok g c =
     let s = c.self.inside in
-    let a = c.answer_by.ensures.answered in
     let new : ServiceView = service_of c.answer_by.new.served (terms_by s.rules) in
     let was = g.D.Disk.holds c.args.disk.now in
     let is = g.D.Disk.holds c.answer_by.new.disk in
-    told_ok c.answer_by.result c.args.pending.now c.answer_by.new.pending (λ (say note : List ℕ). IsServed c.args.self.now was c.args.line.now say note new is) a.0 a.1 (served_by c.args.self.now s.served c.answer_by.new.served (terms_by s.rules) was is c.args.line.now a.0 a.1 c.self.view_is a.2) a.3
+    made_ok c.answer_by.result ((c.answer_by.new.served ≡ s.served) × (is ≡ was)) (λ say note. IsAnswered (terms_by s.rules) s.served was c.args.line.now say note c.answer_by.new.served is) (λ (say note : List ℕ). IsServed c.args.self.now was c.args.line.now say note new is)
+    c.args.pending.now c.answer_by.new.pending (λ say note a. served_by c.args.self.now s.served c.answer_by.new.served (terms_by s.rules) was is c.args.line.now say note c.self.view_is a) c.answer_by.ensures.answered
 
 pub returns-clause-err : goal.returns-clause-err
 returns-clause-err g c =
     let s = c.self.inside in
-    let a = c.answer_by.ensures.answered in
     let new : ServiceView = service_of c.answer_by.new.served (terms_by s.rules) in
     let was = g.D.Disk.holds c.args.disk.now in
     let is = g.D.Disk.holds c.answer_by.new.disk in
-    told_err c.answer_by.result ((new ≡ c.args.self.now) × (is ≡ was)) (λ (say note : List ℕ). IsServed c.args.self.now was c.args.line.now say note new is) a.0 a.1 (served_by c.args.self.now s.served c.answer_by.new.served (terms_by s.rules) was is c.args.line.now a.0 a.1 c.self.view_is a.2)
+    made_err c.answer_by.result ((c.answer_by.new.served ≡ s.served) × (is ≡ was)) ((new ≡ c.args.self.now) × (is ≡ was)) (λ say note. IsAnswered (terms_by s.rules) s.served was c.args.line.now say note c.answer_by.new.served is) (λ (say note : List ℕ). IsServed c.args.self.now was c.args.line.now say note new is)
+    c.args.pending.now c.answer_by.new.pending (λ e. (ap (λ (x : List Standing). service_of x (terms_by s.rules)) e.0 ∙ c.self.view_is, e.1)) (λ say note a. served_by c.args.self.now s.served c.answer_by.new.served (terms_by s.rules) was is c.args.line.now say note c.self.view_is a) c.answer_by.ensures.answered

@@ -1,0 +1,11 @@
+pub mod Keys
+pub mod Reading
+pub mod Running
+pub mod Replies
+pub mod Starts
+pub mod Segmented
+pub mod Knows
+pub mod Log
+pub mod Laws
+pub mod State
+pub mod Restoring

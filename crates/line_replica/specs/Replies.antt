@@ -1,0 +1,132 @@
+-- How a replica answers each line (this project's own).
+use Rattle.std.specs.Prelude.{◌≡◌, ℕ, true, false, List, [], ◌++◌, Option, None, Some, ◌⊎◌, codes, cond}
+use Rattle.text_lines.specs.Spelling.{spaced, ended}
+use Rattle.disks.specs.Held.{Held}
+use Rattle.line_loop.specs.declared.pending.Pending.{Pending}
+use Rattle.line_loop.specs.Stands.{AnsweringWith}
+use Rattle.line_replica.specs.declared.keys.Turn.{Turn}
+use Rattle.line_replica.specs.declared.keys.Turn.TheVariants as turn
+use Rattle.line_replica.specs.declared.reading.Tag.{Tag}
+use Rattle.line_replica.specs.declared.numbered.Numbered.{Numbered}
+use Rattle.line_replica.specs.declared.replica.Replica.{Replica}
+use Rattle.line_replica.specs.Keys.{Table, told_of, last_of, with_told, turn_after, first_of, first_line, forgotten_if}
+use Rattle.line_replica.specs.Reading.{Heard, Tagged, Place, Digest, Plain, heard, did_at, is_forget, kept_text}
+use Rattle.line_replica.specs.Running.{RunningView, with_said, next_of, at_place, place_line}
+
+-- nothing happens but that this is told, and this is kept of keys
+pub record IsTold {S : Type 0} (text : List ℕ) (keys : Table) (old : Numbered S)
+    (was : Option Held) (said noted : List ℕ) (new : Numbered S) (is : Option Held) : Type 0 where
+  pub says : said ≡ text
+  pub notes : noted ≡ []
+  pub inner : new.inner ≡ old.inner
+  pub keys_are : new.keys ≡ keys
+  pub files : is ≡ was
+
+-- the service inside answers, and its answer is told; this is kept of keys then
+pub record IsPassedOn {S : Type 0} (A : AnsweringWith S) (keys : List ℕ → Table)
+    (old : Numbered S) (was : Option Held) (line said noted : List ℕ) (new : Numbered S)
+    (is : Option Held) : Type 0 where
+  pub answered : A old.inner was line said noted new.inner is
+  pub keys_are : new.keys ≡ keys said
+
+-- the last number of a key is above this one
+abbrev pub past_line : ℕ → ℕ → List ℕ
+past_line key last = spaced key ++ (codes "refused past " ++ ended last)
+
+-- A line whose number is new is answered inside, and the first line of its answer is kept. That
+-- line is told again where the number is the last. One before it is refused.
+abbrev pub IsAnsweredOnce : {S : Type 0} → AnsweringWith S → Turn → Tag → Numbered S
+    → Option Held → List ℕ → List ℕ → List ℕ → Numbered S → Option Held → Type 0
+IsAnsweredOnce A turn.Fresh tag old was input said noted new is =
+    IsPassedOn A (λ s. with_told old.keys tag.key tag.number (first_line s)) old was input said
+    noted new is
+IsAnsweredOnce A turn.Again tag old was input said noted new is =
+    IsTold (first_of (told_of old.keys tag.key)) old.keys old was said noted new is
+IsAnsweredOnce A (turn.Past last) tag old was input said noted new is =
+    IsTold (past_line tag.key last) old.keys old was said noted new is
+
+abbrev pub turn_of : Table → Tag → Turn
+turn_of keys tag = turn_after (last_of keys tag.key) tag.number
+
+-- what is kept of keys, with no answer, after a line that says it
+abbrev pub IsTagTaken : {S : Type 0} → AnsweringWith S → Option (List ℕ) → Tag → Numbered S
+    → Option Held → List ℕ → List ℕ → List ℕ → Numbered S → Option Held → Type 0
+IsTagTaken A (Some text) tag old was rest said noted new is =
+    IsTold [] (with_told old.keys tag.key tag.number (kept_text text)) old was said noted new is
+IsTagTaken A None tag old was rest said noted new is =
+    cond (is_forget rest)
+    (IsTold [] (forgotten_if (turn_of old.keys tag) old.keys tag.key) old was said noted new is)
+    (IsAnsweredOnce A (turn_of old.keys tag) tag old was rest said noted new is)
+
+-- ---- the replica
+
+-- what was answered is taken into the running digest
+pub record IsTakenIn {S : Type 0} (answered : Numbered S → Numbered S → Type 0) (said : List ℕ)
+    (old new : Replica S) : Type 0 where
+  pub numbered : answered old.numbered new.numbered
+  pub running : new.running ≡ with_said old.running said
+
+-- a place in the log has this digest
+pub record IsPlaced {S : Type 0} (place : ℕ) (digest text : List ℕ) (old : Replica S)
+    (was : Option Held) (said noted : List ℕ) (new : Replica S) (is : Option Held) : Type 0 where
+  pub says : said ≡ text
+  pub notes : noted ≡ []
+  pub numbered : new.numbered ≡ old.numbered
+  pub running : new.running ≡ at_place place digest
+  pub files : is ≡ was
+
+-- By what is heard of a line: a plain one is answered inside; a place is answered with the digest
+-- of all that was told since the last, or takes the digest that is given.
+abbrev pub IsHeard : {S : Type 0} → AnsweringWith S → Heard → Replica S → Option Held → List ℕ
+    → List ℕ → List ℕ → Replica S → Option Held → Type 0
+IsHeard A (Tagged tag rest) old was line said noted new is =
+    IsTakenIn
+    (λ (a b : Numbered _). IsTagTaken A (did_at rest) tag a was rest said noted b is)
+    said old new
+IsHeard A (Place place) old was line said noted new is =
+    IsPlaced place (next_of old.running.since) (place_line place (next_of old.running.since)) old
+    was said noted new is
+IsHeard A (Digest place digest) old was line said noted new is =
+    IsPlaced place digest [] old was said noted new is
+IsHeard A Plain old was line said noted new is =
+    IsTakenIn
+    (λ (a b : Numbered _). IsPassedOn A (λ _. a.keys) a was line said noted b is)
+    said old new
+
+-- what the service inside may be given of a line
+abbrev pub input_of : Heard → List ℕ → List ℕ
+input_of (Tagged tag rest) line = rest
+input_of _ line = line
+
+-- the service inside has answered, or nothing happened
+abbrev pub IsAnsweredOrNot : {S : Type 0} → AnsweringWith S → S → Option Held → List ℕ → List ℕ
+    → S → Option Held → Type 0
+IsAnsweredOrNot A old was line noted new is =
+    ((noted ≡ []) × (new ≡ old) × (is ≡ was))
+    ⊎ ((said : List ℕ) × A old was line said noted new is)
+
+-- There was no memory for an answer, or to keep it: nothing is told, and no line is answered any
+-- more.
+pub record IsLost {S : Type 0} (A : AnsweringWith S) (old : Replica S) (was : Option Held)
+    (line said noted : List ℕ) (new : Replica S) (is : Option Held) : Type 0 where
+  pub answered : IsAnsweredOrNot A old.numbered.inner was line noted new.numbered.inner is
+  pub says : said ≡ []
+  pub lost : new.lost ≡ true
+
+-- a line is answered as one hears it, and nothing is lost
+pub record IsWhole {S : Type 0} (A : AnsweringWith S) (old : Replica S) (was : Option Held)
+    (line said noted : List ℕ) (new : Replica S) (is : Option Held) : Type 0 where
+  pub heard_as : IsHeard A (heard line) old was line said noted new is
+  pub whole : new.lost ≡ false
+
+-- A line is answered, or its answer is lost, as long as none was lost before.
+pub record IsReplied {S : Type 0} (A : AnsweringWith S) (old : Replica S) (was : Option Held)
+    (line said noted : List ℕ) (new : Replica S) (is : Option Held) : Type 0 where
+  pub before : old.lost ≡ false
+  pub answered : IsWhole A old was line said noted new is
+      ⊎ IsLost A old was (input_of (heard line) line) said noted new is
+
+-- what is pending has grown by an answer and its notes
+abbrev pub IsAdded : Pending → Pending → List ℕ → List ℕ → Type 0
+IsAdded old new said noted =
+    (new.answers.items ≡ old.answers.items ++ said) × (new.notes.items ≡ old.notes.items ++ noted)

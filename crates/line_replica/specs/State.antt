@@ -1,0 +1,64 @@
+-- The lines that bring a replica back (this project's own).
+use Rattle.std.specs.Prelude.{◌≡◌, ℕ, Bool, true, false, cond, nat_lt, List, [], ◌∷◌, ◌++◌, length, map, take, Option, codes}
+use Rattle.text_lines.specs.Spelling.{spaced, ended}
+use Rattle.text_lines.specs.Reading.{word_at}
+use Rattle.disks.specs.Held.{Held}
+use Rattle.line_parts.specs.Limits.{line_limit}
+use Rattle.line_loop.specs.Answering.{joined_lines}
+use Rattle.line_loop.specs.Stands.{AnsweringWith}
+use Rattle.ring_segments.specs.Spelling.{digest_digits}
+use Rattle.line_replica.specs.declared.replica.Replica.{Replica}
+use Rattle.line_replica.specs.declared.restorable.Restorable.{Restorable}
+use Rattle.line_replica.specs.Keys.{ToldView, Table}
+use Rattle.line_replica.specs.Reading.{on_read, is_none_left}
+use Rattle.line_replica.specs.Running.{RunningView, place_line}
+
+-- the line of a key: its last number, and the first line of its answer
+abbrev pub did_text : List ℕ → List ℕ
+did_text [] = codes "\n"
+did_text (b ∷ bs) = b ∷ bs
+
+abbrev pub key_line : ℕ × ToldView → List ℕ
+key_line e = spaced e.0 ++ (spaced e.1.number ++ (codes "did " ++ did_text e.1.first))
+
+abbrev pub key_lines : Table → List (List ℕ)
+key_lines keys = map key_line keys
+
+-- the line of the last place, with its digest: none before the first
+abbrev pub lines_at : ℕ → List ℕ → List (List ℕ)
+lines_at place [] = []
+lines_at place (b ∷ bs) = place_line place (take digest_digits (b ∷ bs)) ∷ []
+
+-- the lines of the service inside, and those of the keys, rising, and of the last place
+abbrev pub lines_of : {S : Type 0} → (S → List (List ℕ)) → Replica S → List (List ℕ)
+lines_of inner r =
+    inner r.numbered.inner
+    ++ (key_lines r.numbered.keys ++ lines_at r.running.place r.running.since)
+
+-- ---- how the state is told
+
+-- the line is the word state
+unfoldable pub is_state : List ℕ → Bool
+is_state line =
+    cond (nat_lt line_limit (length line)) false
+    (on_read (word_at (codes "state\n") line) false is_none_left)
+
+-- these lines, and how many they are
+abbrev pub state_text : List (List ℕ) → List ℕ
+state_text lines = joined_lines lines ++ (codes "state " ++ ended (length lines))
+
+-- the state is told, and nothing changes
+pub record IsStateTold {S : Type 0} (lines : List (List ℕ)) (old : Restorable S)
+    (was : Option Held) (said noted : List ℕ) (new : Restorable S) (is : Option Held) : Type 0
+  where
+    pub says : said ≡ state_text lines
+    pub notes : noted ≡ []
+    pub same : new ≡ old
+    pub files : is ≡ was
+
+-- the state is told where it is asked, and any other line is answered inside
+abbrev pub IsRestorable : {S : Type 0} → AnsweringWith S → (S → List (List ℕ))
+    → AnsweringWith (Restorable S)
+IsRestorable A lines old was line said noted new is =
+    cond (is_state line) (IsStateTold (lines old.inner) old was said noted new is)
+    (A old.inner was line said noted new.inner is)

@@ -1,0 +1,135 @@
+//! A service with what is kept of keys: what has a number is answered once.
+
+ghost use Rattle.std.specs.Prelude.{◌≡◌, ◌++◌, ◌≤◌, List, ℕ, [], false, length, codes, OnOk, OnErr};
+ghost use Rattle.line_replica.specs.Keys.{with_told, first_line};
+ghost use Rattle.line_replica.specs.Reading.{did_at};
+ghost use Rattle.line_replica.specs.Replies.{IsPassedOn, IsAnsweredOnce, IsTagTaken, IsAnsweredOrNot, IsAdded, past_line, turn_of};
+
+use crate::keys::{Keys, Turn, first_line};
+use crate::reading::{Tag, did, is_forget, kept_text};
+use disks::Disk;
+use line_loop::{AnswersLines, Pending};
+use line_parts::put_word;
+use std::alloc::AllocError;
+use text_lines::Line;
+
+/// A service that answers lines, with the last number of each key and the first line of its answer.
+#[derive(Drop)]
+pub struct Numbered<S> {
+    pub(crate) inner: S,
+    pub(crate) keys: Keys,
+}
+
+/// Adds the line that the last number of a key is above the one that was sent.
+fn tell_past(key: u64, last: u64, text: &mut Vec<u8>) -> Result<(), AllocError>
+    ensures { OnOk result (text.new.items ≡ text.old.items ++ past_line key last) }
+{
+    let mut line = Line::new();
+    line.byte(b'\n');
+    line.number(last);
+    put_word(&mut line, b"refused past ");
+    line.byte(b' ');
+    line.number(key);
+    text.extend_from_slice(line.as_bytes())
+}
+
+/// The service inside answers a line.
+pub(crate) fn answer_inside<S: AnswersLines, D: Disk>(
+    numbered: &mut Numbered<S>,
+    disk: &mut D,
+    line: &[u8],
+    pending: &mut Pending,
+) -> Result<(), AllocError>
+    requires { S.is_over numbered.old.inner ≡ false }
+    ensures ok { OnOk result ((said : List ℕ)
+        × (noted : List ℕ)
+        × IsPassedOn S.is_answered (λ _. numbered.old.keys) numbered.old (D.holds disk.old)
+        line.now said noted numbered.new (D.holds disk.new)
+        × IsAdded pending.old pending.new said noted) }
+    ensures err { OnErr result ((noted : List ℕ)
+        × IsAnsweredOrNot S.is_answered numbered.old.inner (D.holds disk.old) line.now noted
+        numbered.new.inner (D.holds disk.new)) }
+{
+    numbered.inner.answer(disk, line, pending)
+}
+
+/// The service inside answers a line whose number is new, and the first line of its answer is kept.
+fn answer_fresh<S: AnswersLines, D: Disk>(
+    numbered: &mut Numbered<S>,
+    disk: &mut D,
+    tag: Tag,
+    input: &[u8],
+    pending: &mut Pending,
+) -> Result<(), AllocError>
+    requires { S.is_over numbered.old.inner ≡ false }
+    ensures ok { OnOk result ((said : List ℕ)
+        × (noted : List ℕ)
+        × IsPassedOn S.is_answered
+        (λ s. with_told numbered.old.keys tag.key tag.number (first_line s)) numbered.old
+        (D.holds disk.old) input.now said noted numbered.new (D.holds disk.new)
+        × IsAdded pending.old pending.new said noted) }
+    ensures err { OnErr result ((noted : List ℕ)
+        × IsAnsweredOrNot S.is_answered numbered.old.inner (D.holds disk.old) input.now noted
+        numbered.new.inner (D.holds disk.new)) }
+{
+    let place = pending.answers.len();
+    match answer_inside(numbered, disk, input, pending) {
+        Ok(()) => {}
+        Err(AllocError) => return Err(AllocError),
+    }
+    let first = first_line(&pending.answers[place..]);
+    numbered.keys.keep(tag, first)
+}
+
+/// Answers what has a number: the service inside does, once.
+fn answer_once<S: AnswersLines, D: Disk>(
+    numbered: &mut Numbered<S>,
+    disk: &mut D,
+    tag: Tag,
+    input: &[u8],
+    pending: &mut Pending,
+) -> Result<(), AllocError>
+    requires { S.is_over numbered.old.inner ≡ false }
+    ensures ok { OnOk result ((said : List ℕ)
+        × (noted : List ℕ)
+        × IsAnsweredOnce S.is_answered (turn_of numbered.old.keys tag) tag numbered.old
+        (D.holds disk.old) input.now said noted numbered.new (D.holds disk.new)
+        × IsAdded pending.old pending.new said noted) }
+    ensures err { OnErr result ((noted : List ℕ)
+        × IsAnsweredOrNot S.is_answered numbered.old.inner (D.holds disk.old) input.now noted
+        numbered.new.inner (D.holds disk.new)) }
+{
+    match numbered.keys.turn(tag) {
+        Turn::Fresh => answer_fresh(numbered, disk, tag, input, pending),
+        Turn::Again => numbered.keys.tell_again(tag.key, &mut pending.answers),
+        Turn::Past { last } => tell_past(tag.key, last, &mut pending.answers),
+    }
+}
+
+/// Answers a line by what is behind its key and its number.
+pub(crate) fn answer_tagged<S: AnswersLines, D: Disk>(
+    numbered: &mut Numbered<S>,
+    disk: &mut D,
+    tag: Tag,
+    rest: &[u8],
+    pending: &mut Pending,
+) -> Result<(), AllocError>
+    requires { S.is_over numbered.old.inner ≡ false }
+    ensures ok { OnOk result ((said : List ℕ)
+        × (noted : List ℕ)
+        × IsTagTaken S.is_answered (did_at rest.now) tag numbered.old (D.holds disk.old) rest.now
+        said noted numbered.new (D.holds disk.new)
+        × IsAdded pending.old pending.new said noted) }
+    ensures err { OnErr result ((noted : List ℕ)
+        × IsAnsweredOrNot S.is_answered numbered.old.inner (D.holds disk.old) rest.now noted
+        numbered.new.inner (D.holds disk.new)) }
+{
+    if let Some(text) = did(rest) {
+        return numbered.keys.keep(tag, kept_text(text));
+    }
+    if is_forget(rest) {
+        numbered.keys.forget(tag);
+        return Ok(());
+    }
+    answer_once(numbered, disk, tag, rest, pending)
+}

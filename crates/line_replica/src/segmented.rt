@@ -1,0 +1,58 @@
+//! A replica lives in segments as the service inside does, and goes on with its keys.
+
+ghost use Rattle.std.specs.Prelude.{◌≡◌};
+
+use crate::numbered::Numbered;
+use crate::replica::Replica;
+use ring_segments::DIGEST_DIGITS;
+use segment_loop::{EndFault, Segmented};
+use std::alloc::{AllocError, Global};
+
+impl<S: Segmented> Segmented for Replica<S> {
+    ghost use Rattle.std.specs.Prelude.{◌≡◌, false};
+    ghost use Rattle.line_replica.specs.Segmented.{segmenting};
+    ghost use Rattle.line_replica.specs.Knows.{knows};
+
+    ghost segmenting = { segmenting S.segmenting };
+
+    ghost knows = { knows S.is_answered S.knows };
+
+    ghost goes = { λ r e. S.goes r.numbered.inner e };
+
+    fn is_due(&self) -> bool {
+        self.numbered.inner.is_due()
+    }
+
+    fn next(&self, alloc: Global) -> Result<Replica<S>, EndFault> {
+        let inner = match self.numbered.inner.next(alloc) {
+            Ok(inner) => inner,
+            Err(why) => return Err(why),
+        };
+        let keys = match self.numbered.keys.same() {
+            Ok(keys) => keys,
+            Err(AllocError) => return Err(EndFault::OutOfMemory),
+        };
+        let running = match self.running.same() {
+            Ok(running) => running,
+            Err(AllocError) => return Err(EndFault::OutOfMemory),
+        };
+        Ok(Replica {
+            numbered: Numbered { inner, keys },
+            running,
+            lost: self.lost,
+        })
+    }
+
+    fn text(
+        &self,
+        alloc: Global,
+        number: u64,
+        behind: [u8; DIGEST_DIGITS],
+    ) -> Result<Vec<u8>, EndFault> {
+        self.numbered.inner.text(alloc, number, behind)
+    }
+
+    fn keep_on(&mut self, why: EndFault) {
+        self.numbered.inner.keep_on(why);
+    }
+}

@@ -1,0 +1,202 @@
+//! A replica of a service that counts the lines that it answers.
+
+ghost use Rattle.std.specs.Prelude.{◌≡◌, false};
+
+use crate::{HasState, Replica, Restorable};
+use disks::{Disk, MemoryDisk};
+use line_loop::{AnswersLines, Ending, Pending, Unread, serve_part};
+use ring_segments::DIGEST_DIGITS;
+use segment_loop::{EndFault, Segmented};
+use std::alloc::{AllocError, Global};
+use std::process::Abort;
+
+/// How many lines were answered. A line is answered with their number and, on a line of its own, the line.
+#[derive(Drop)]
+struct Count {
+    lines: u64,
+}
+
+impl AnswersLines for Count {
+    ghost use Rattle.std.specs.Prelude.{◌≡◌, false};
+
+    ghost is_answered = { λ old was line said noted new is. is ≡ was };
+
+    ghost is_over = { λ s. false };
+
+    ghost by_start = { λ old new full said noted long a. a };
+
+    fn answer<D: Disk>(
+        &mut self,
+        _disk: &mut D,
+        line: &[u8],
+        pending: &mut Pending,
+    ) -> Result<(), AllocError> {
+        self.lines = self.lines.saturating_add(1);
+        pending.answers.push(b'0' + (self.lines % 10) as u8)?;
+        pending.answers.push(b'\n')?;
+        pending.answers.extend_from_slice(line)?;
+        pending.notes.extend_from_slice(b"!\n")
+    }
+
+    fn is_over(&self) -> bool {
+        false
+    }
+}
+
+impl Segmented for Count {
+    ghost use Rattle.std.specs.Prelude.{◌≡◌, Bool, [], false, Option, IsSome};
+    ghost use Rattle.std.proofs.Common.{subst, sym};
+    ghost use Rattle.disks.specs.Held.{Held};
+
+    ghost segmenting = { record {
+      text = λ s number behind. [];
+      is_due = λ s. false;
+      IsNext = λ old new. new.lines ≡ old.lines;
+      IsKept = λ old why new. new.lines ≡ old.lines;
+    } };
+
+    fn is_due(&self) -> bool {
+        false
+    }
+
+    fn next(&self, _alloc: Global) -> Result<Count, EndFault> {
+        Ok(Count { lines: self.lines })
+    }
+
+    fn text(
+        &self,
+        alloc: Global,
+        _number: u64,
+        _behind: [u8; DIGEST_DIGITS],
+    ) -> Result<Vec<u8>, EndFault> {
+        Ok(Vec::new(alloc))
+    }
+
+    fn keep_on(&mut self, _why: EndFault) {}
+
+    ghost knows = { λ old new was is line said noted a some.
+        subst (λ (f : Option Held). IsSome f) (sym a) some };
+
+    ghost goes = { λ s e. e };
+}
+
+impl HasState for Count {
+    ghost use Rattle.std.specs.Prelude.{◌∷◌, []};
+
+    ghost state_lines = { λ s. (99 ∷ 10 ∷ []) ∷ [] };
+
+    fn put_state(&self, text: &mut Vec<u8>) -> Result<u64, AllocError> {
+        match text.extend_from_slice(b"c\n") {
+            Ok(()) => Ok(1),
+            Err(AllocError) => Err(AllocError),
+        }
+    }
+}
+
+/// What is told of these lines, and the notes; nothing where they are not served to the end.
+fn told<S: AnswersLines>(alloc: Global, replica: &mut S, lines: &[u8]) -> (Vec<u8>, Vec<u8>)
+    requires { S.is_over replica.old ≡ false }
+{
+    let mut disk = MemoryDisk {
+        alloc,
+        entries: Vec::new(alloc),
+    };
+    let mut journal = Some(Vec::new(alloc));
+    let mut line = Vec::new(alloc);
+    let mut unread = Unread::none();
+    let mut input: &[u8] = lines;
+    let mut out = Vec::new(alloc);
+    let ended = serve_part(
+        alloc,
+        replica,
+        &mut disk,
+        &mut journal,
+        false,
+        &mut line,
+        &mut unread,
+        &mut input,
+        &mut out,
+    );
+    match (ended, journal) {
+        (Ok(Ending::End), Some(notes)) => (out, notes),
+        _ => (Vec::new(alloc), Vec::new(alloc)),
+    }
+}
+
+// What has a number is answered once, and then told again: the first line of the first answer.
+#[test]
+fn answers_each_number_once(rt: HostRuntime) {
+    let alloc = rt.alloc();
+    let mut replica = Replica::new(alloc, Count { lines: 0 });
+    let (out, notes) = told(alloc, &mut replica, b"7 1 a\n7 1 a\n");
+    assert!(rt; out.as_slice() == b"1\na\n1\n".as_slice());
+    assert!(rt; replica.inner().lines == 1 && notes.as_slice() == b"!\n".as_slice());
+    let lines = b"7 5 b\n7 4 c\n8 4 d\n7 e\n7 5 b\n";
+    let (out, _) = told(alloc, &mut replica, lines.as_slice());
+    let text = b"2\nb\n7 refused past 5\n3\nd\n4\n7 e\n2\n";
+    assert!(rt; out.as_slice() == text.as_slice());
+    assert!(rt; replica.inner().lines == 4);
+}
+
+// Keys are brought back by lines, and forgotten; the next segment has them.
+#[test]
+fn keeps_what_it_is_told_of_keys(rt: HostRuntime) {
+    let alloc = rt.alloc();
+    let mut replica = Replica::new(alloc, Count { lines: 0 });
+    let lines = b"7 5 did 7 granted 0 1\n9 2 did \n";
+    let (out, notes) = told(alloc, &mut replica, lines.as_slice());
+    assert!(rt; out.is_empty() && notes.is_empty() && replica.inner().lines == 0);
+    let Ok(mut next) = replica.next(alloc) else {
+        panic!(rt; "memory suffices");
+    };
+    let (out, _) = told(alloc, &mut next, b"7 5 a\n9 2 a\n");
+    assert!(rt; out.as_slice() == b"7 granted 0 1\n".as_slice());
+    let lines = b"7 4 forget\n7 4 a\n7 5 forget\n7 4 a\n";
+    let (out, _) = told(alloc, &mut next, lines.as_slice());
+    assert!(rt; out.as_slice() == b"7 refused past 5\n1\na\n".as_slice());
+}
+
+// A place is told with the digest of all that was told since the last; what a place tells is not in it. It goes on from a digest that
+// is given, and in the next segment.
+#[test]
+fn tells_the_digest_at_a_place(rt: HostRuntime) {
+    let alloc = rt.alloc();
+    let mut replica = Replica::new(alloc, Count { lines: 0 });
+    let (out, notes) = told(alloc, &mut replica, b"at 5\n7 x\nat 6\n");
+    let first = b"at 5 0000000000000000000000000000000000000000000000000000000000000000\n";
+    let second = b"at 6 5b9f57d5c443c4829358f798b86dde0f8b245d66f0c0db2b6296119d86bc5f89\n";
+    assert!(rt; out.starts_with(first.as_slice()) && out.ends_with(second.as_slice()));
+    assert!(rt; out.len() == first.len() + 6 + second.len());
+    assert!(rt; replica.inner().lines == 1 && notes.as_slice() == b"!\n".as_slice());
+    let Ok(mut next) = replica.next(alloc) else {
+        panic!(rt; "memory suffices");
+    };
+    let third = b"2\na\n2\nat 9 7aef4da0b19b34cbdf75c741a849d83ea051701ddeee91a2f09d1dce94a9dabd\n";
+    let (out, _) = told(alloc, &mut next, b"3 1 a\n3 1 a\nat 9\n");
+    assert!(rt; out.as_slice() == third.as_slice());
+    let mut other = Replica::new(alloc, Count { lines: 1 });
+    let line = b"at 6 5b9f57d5c443c4829358f798b86dde0f8b245d66f0c0db2b6296119d86bc5f89\n";
+    let (out, _) = told(alloc, &mut other, line.as_slice());
+    assert!(rt; out.is_empty() && other.inner().lines == 1);
+    let (out, _) = told(alloc, &mut other, b"3 1 a\n3 1 a\nat 9\n");
+    assert!(rt; out.as_slice() == third.as_slice());
+}
+
+// The state is told as the lines that bring it back, and how many they are; it is not in the digest.
+#[test]
+fn tells_the_lines_that_bring_it_back(rt: HostRuntime) {
+    let alloc = rt.alloc();
+    let mut replica = Restorable::new(Replica::new(alloc, Count { lines: 0 }));
+    let (out, notes) = told(alloc, &mut replica, b"state\n");
+    assert!(rt; out.as_slice() == b"c\nstate 1\n".as_slice() && notes.is_empty());
+    let lines = b"9 1 a\n7 12 did 7 granted 0 1\n8 3 did \nat 5\nstate\nstatement\n";
+    let (out, _) = told(alloc, &mut replica, lines.as_slice());
+    let place = b"at 5 0000000000000000000000000000000000000000000000000000000000000000\n";
+    let told =
+        b"1\na\nat 5 0000000000000000000000000000000000000000000000000000000000000000\nc\n7 12 did 7 granted 0 1\n8 3 did \n9 1 did 1\n";
+    let last = b"state 5\n2\nstatement\n";
+    assert!(rt; out.starts_with(told.as_slice()) && out.ends_with(last.as_slice()));
+    assert!(rt; out.len() == told.len() + place.len() + last.len());
+    assert!(rt; out[told.len()..].starts_with(place.as_slice()));
+    assert!(rt; replica.inner().inner().lines == 2);
+}

@@ -1,0 +1,38 @@
+-- The file that says who gets the open holds (this project's own).
+use Rattle.std.specs.Prelude.{◌≡◌, ℕ, List, [], Option, None, Some, ◌⊎◌}
+use Rattle.std.specs.Option.{option_map}
+use Rattle.disks.specs.Held.{Held}
+use Rattle.ring_locks.specs.declared.handing.Handover.{Handover}
+use Rattle.lock_holders.specs.Holders.{AreHolders, IsBadLine}
+use Rattle.ring_requests.specs.declared.requests.LocksWords.{LocksWords}
+use Rattle.ring_commands.specs.Named.{IsHeld, IsFileRefusal}
+use Rattle.ring_commands.specs.declared.faults.ToolError.{ToolError}
+use Rattle.ring_commands.specs.declared.faults.ToolError.TheVariants as tool
+
+-- its name, by the words
+abbrev pub holders_word : LocksWords → Option (List ℕ)
+holders_word words = option_map (λ file. file.now) words.holders
+
+-- the name that a refusal tells; it has no byte if no file is named
+abbrev pub name_of : Option (List ℕ) → List ℕ
+name_of None = []
+name_of (Some name) = name
+
+-- the holds that are handed over are those of its lines; there are none if no file is named
+abbrev pub AreHoldersOf : Option Held → Option (List ℕ) → List Handover → Type 0
+AreHoldersOf files None holders = holders ≡ []
+AreHoldersOf files (Some file) holders =
+    (bytes : List ℕ) × IsHeld files file bytes × AreHolders bytes holders
+
+-- its bytes are not the lines of holds
+abbrev pub IsNoHolders : List ℕ → List ℕ → ToolError → Type 0
+IsNoHolders file bytes (tool.NoOpenHold named line) = (named.now ≡ file) × IsBadLine bytes line
+IsNoHolders file bytes tool.OutOfMemory = Unit {0}
+IsNoHolders file bytes _ = ⊥
+
+-- it cannot be read, or its bytes are not the lines of holds
+abbrev pub HasNoHolders : Option Held → Option (List ℕ) → ToolError → Type 0
+HasNoHolders files None e = ⊥
+HasNoHolders files (Some file) e =
+    IsFileRefusal files file e
+    ⊎ ((bytes : List ℕ) × IsHeld files file bytes × IsNoHolders file bytes e)

@@ -1,0 +1,196 @@
+//! The file of a ring's segment, its journal, and the next segment, for C.
+
+ghost use Rattle.std.specs.Prelude.{◌≡◌, ◌≢◌, ℕ, true, false, Result};
+ghost use Rattle.std_alloc.specs.declared.vec.Vec.{Vec};
+ghost use Rattle.std.specs.declared.alloc.Global.{Global};
+ghost use Rattle.ring_desk_c.specs.Codes.{closed};
+ghost use Rattle.ring_desk_c.specs.Reports.{IsSaveReport};
+ghost use Rattle.ring_desk_c.specs.Sealed.{IsFileOf, IsFileAnswer, IsLinesAnswer, IsStepReport, IsCutReport, kept_after};
+ghost use Rattle.ring_desk_c.specs.declared.kept.TextError.{TextError};
+
+use crate::answers::{report_save, report_text};
+use crate::codes::{CLOSED, HISTORY_FULL, NO_MEMORY, NO_TILL, TOO_SMALL, text_code};
+use crate::handle::{Handle, hold, is_closed, loosen};
+use crate::kept::{Kept, TextError, file_text, keep, lines};
+use crate::loose::Loose;
+use core::mem::replace_with;
+use ring_endless::NextError;
+use std::alloc::Global;
+
+/// The file of a ring that C holds.
+fn file_by_handle(handle: Handle, alloc: Global) -> (Handle, Result<Vec<u8>, TextError>)
+    requires { handle.full ≡ true }
+    ensures full { result.0.full ≡ true }
+    ensures same { result.0.value ≡ handle.value }
+    ensures file { IsFileAnswer handle.value result.1 }
+{
+    let kept = loosen(handle).into_box();
+    let answer = file_text(&kept, alloc);
+    (hold(Loose::of(kept)), answer)
+}
+
+/// The lines that the journal of a ring that C holds does not have.
+fn lines_by_handle(handle: Handle, alloc: Global) -> (Handle, Result<Vec<u8>, TextError>)
+    requires { handle.full ≡ true }
+    ensures full { result.0.full ≡ true }
+    ensures same { result.0.value ≡ handle.value }
+    ensures lines { IsLinesAnswer handle.value result.1 }
+{
+    let kept = loosen(handle).into_box();
+    let answer = lines(&kept, alloc);
+    (hold(Loose::of(kept)), answer)
+}
+
+/// The journal of a ring that C holds has all of its segment.
+fn keep_by_handle(handle: Handle, _call: ()) -> (Handle, ())
+    requires { handle.full ≡ true }
+    ensures full { result.0.full ≡ true }
+    ensures kept { result.0.value ≡ kept_after handle.value }
+{
+    let mut kept = loosen(handle).into_box();
+    keep(&mut kept);
+    (hold(Loose::of(kept)), ())
+}
+
+/// Copies the beginning of the journal of the ring's segment, all of the segment so far, to the front of the caller's bytes, if
+/// there is room, and returns its size. From now on a journal is kept.
+#[unsafe(no_mangle)]
+pub extern "C" fn wozgirt_open_journal(
+    alloc: Global,
+    ring: &mut Handle,
+    out: &mut [u8],
+    size: &mut u64,
+) -> u32
+    ensures closed { ring.old.full ≡ false → (result ≡ closed)
+        × (ring.new ≡ ring.old)
+        × (out.new ≡ out.old)
+        × (size.new ≡ size.old) }
+    ensures full { ring.new.full ≡ ring.old.full }
+    ensures kept { ring.old.full ≡ true
+        → result ≡ 0
+        → ring.new.value ≡ kept_after ring.old.value }
+    ensures same { ring.old.full ≡ true → result ≢ 0 → ring.new.value ≡ ring.old.value }
+    ensures reported { ring.old.full ≡ true
+        → (answer : Result (Vec ℕ Global) TextError)
+        × IsFileAnswer ring.old.value answer
+        × IsSaveReport answer result out.old out.new size.old size.new }
+{
+    if is_closed(ring) {
+        return CLOSED;
+    }
+    let answer = replace_with(ring, alloc, file_by_handle);
+    let code = report_save(answer, out, size);
+    if code == 0 {
+        replace_with(ring, (), keep_by_handle);
+    }
+    code
+}
+
+/// Copies the lines that the journal does not have to the front of the caller's bytes, if there is room, and returns their size.
+/// The journal has them then.
+#[unsafe(no_mangle)]
+pub extern "C" fn wozgirt_take_journal(
+    alloc: Global,
+    ring: &mut Handle,
+    out: &mut [u8],
+    size: &mut u64,
+) -> u32
+    ensures closed { ring.old.full ≡ false → (result ≡ closed)
+        × (ring.new ≡ ring.old)
+        × (out.new ≡ out.old)
+        × (size.new ≡ size.old) }
+    ensures full { ring.new.full ≡ ring.old.full }
+    ensures kept { ring.old.full ≡ true
+        → result ≡ 0
+        → ring.new.value ≡ kept_after ring.old.value }
+    ensures same { ring.old.full ≡ true → result ≢ 0 → ring.new.value ≡ ring.old.value }
+    ensures reported { ring.old.full ≡ true
+        → (answer : Result (Vec ℕ Global) TextError)
+        × IsLinesAnswer ring.old.value answer
+        × IsSaveReport answer result out.old out.new size.old size.new }
+{
+    if is_closed(ring) {
+        return CLOSED;
+    }
+    let answer = replace_with(ring, alloc, lines_by_handle);
+    let code = report_save(answer, out, size);
+    if code == 0 {
+        replace_with(ring, (), keep_by_handle);
+    }
+    code
+}
+
+/// The next segment of what C holds, where the file of this one has these bytes: the code.
+fn step(kept: &mut Kept, alloc: Global, sealed: &[u8]) -> u32
+    ensures { IsStepReport kept.old kept.new sealed.now result }
+{
+    match kept {
+        Kept::Till(ring) => match ring.next(alloc, sealed) {
+            Ok(next) => {
+                *ring = next;
+                0
+            }
+            Err(NextError::Full) => HISTORY_FULL,
+            Err(NextError::OutOfMemory) => NO_MEMORY,
+        },
+        Kept::Idle(_) => NO_TILL,
+    }
+}
+
+/// The same of a ring by its handle.
+fn step_by_handle(handle: Handle, alloc: Global, sealed: &[u8]) -> (Handle, u32)
+    requires { handle.full ≡ true }
+    ensures full { result.0.full ≡ true }
+    ensures is { IsStepReport handle.value result.0.value sealed.now result.1 }
+{
+    let mut kept = loosen(handle).into_box();
+    let code = step(&mut kept, alloc, sealed);
+    (hold(Loose::of(kept)), code)
+}
+
+/// Seals a segment whose file has this text.
+fn seal(alloc: Global, ring: &mut Handle, text: &[u8], out: &mut [u8], size: &mut u64) -> u32
+    requires full { ring.old.full ≡ true }
+    requires text { IsFileOf ring.old.value text.now }
+    ensures full { ring.new.full ≡ true }
+    ensures cut { IsCutReport ring.old.value ring.new.value result out.old out.new size.old size.new }
+{
+    if text.len() > out.len() {
+        *size = text.len() as u64;
+        return TOO_SMALL;
+    }
+    let code = replace_with(ring, (), |handle, _call| {
+        step_by_handle(handle, alloc, text)
+    });
+    if code == 0 {
+        report_text(text, out, size)
+    } else {
+        code
+    }
+}
+
+/// Seals the segment: copies the text of its file to the front of the caller's bytes, if there is room, and returns its size. The
+/// ring goes on in the next segment, with its numbers. No journal of that is kept.
+#[unsafe(no_mangle)]
+pub extern "C" fn wozgirt_cut(
+    alloc: Global,
+    ring: &mut Handle,
+    out: &mut [u8],
+    size: &mut u64,
+) -> u32
+    ensures closed { ring.old.full ≡ false → (result ≡ closed)
+        × (ring.new ≡ ring.old)
+        × (out.new ≡ out.old)
+        × (size.new ≡ size.old) }
+    ensures full { ring.new.full ≡ ring.old.full }
+    ensures reported { ring.old.full ≡ true
+        → IsCutReport ring.old.value ring.new.value result out.old out.new size.old size.new }
+{
+    if is_closed(ring) {
+        return CLOSED;
+    }
+    match replace_with(ring, alloc, file_by_handle) {
+        Ok(text) => seal(alloc, ring, text.as_slice(), out, size),
+        Err(error) => text_code(error),
+    }
+}

@@ -1,0 +1,11 @@
+//! A ring over a till without end, with the file of a chain that its segment is, and with a journal: for a caller who
+//! keeps the files itself. Nothing here opens a file: texts are handed out.
+#![tactic(auto)]
+
+mod files;
+pub mod laws;
+mod places;
+mod texts;
+
+pub use files::{FileRing, Looked};
+pub use places::FilePlace;

@@ -1,0 +1,145 @@
+"""Members of etcd, asked through their JSON gateways, on the standard library alone."""
+
+from __future__ import annotations
+
+import base64
+import http.client
+import json
+import socket
+import ssl
+from typing import Any, Dict, Iterator, List, Optional, Tuple, Union
+from urllib.parse import urlsplit
+
+Answer = Dict[str, Any]
+#: Where a member is: whether by TLS, its host, and its port.
+Place = Tuple[bool, str, int]
+
+#: How long a member may be silent, in seconds.
+PATIENCE = 2.0
+
+
+class NoAnswer(OSError):
+    """A member did not answer, or not with what was asked. What was asked may be done all the same, or later."""
+
+
+class Silent(NoAnswer):
+    """A stream is open, and nothing came for a while."""
+
+
+class Denied(NoAnswer):
+    """A member answered that it will not."""
+
+
+def coded(text: Union[str, bytes]) -> str:
+    """As keys and values are written in JSON."""
+    return base64.b64encode(text.encode() if isinstance(text, str) else text).decode()
+
+
+def decoded(text: str) -> str:
+    """The text of a key or value."""
+    return base64.b64decode(text).decode("utf-8", "replace")
+
+
+def below(prefix: str) -> Dict[str, str]:
+    """The range of the keys that begin so."""
+    return {"key": coded(prefix), "range_end": coded(prefix[:-1] + chr(ord(prefix[-1]) + 1))}
+
+
+def place(url: str) -> Place:
+    """The place that a URL names, or HOST:PORT."""
+    parts = urlsplit(url if "//" in url else f"http://{url}")
+    if parts.scheme not in ("http", "https") or not parts.hostname or parts.path not in ("", "/"):
+        raise ValueError(f"no URL of a member: {url!r}")
+    return parts.scheme == "https", parts.hostname, parts.port or 2379
+
+
+def reason(text: str) -> str:
+    """Why etcd did not do something: `{"error": TEXT}` or `{"error": {"message": TEXT}}`, or else what it sent."""
+    try:
+        fault = json.loads(text)["error"]
+        return str(fault["message"] if isinstance(fault, dict) else fault)
+    except (ValueError, KeyError, TypeError):
+        return text[:200]
+
+
+def revision_of(answer: Answer) -> int:
+    """The revision of etcd at which it was answered."""
+    return int(answer["header"]["revision"])
+
+
+def context(cacert: Optional[str], cert: Optional[str], key: Optional[str]) -> ssl.SSLContext:
+    """What TLS needs: who signs the members' certificates, and our own certificate."""
+    made = ssl.create_default_context(cafile=cacert)
+    if cert is not None:
+        made.load_cert_chain(cert, key)
+    return made
+
+
+class Member:
+    """A connection that is kept, to one member at a time of those at `places`, and to the next one when that fails. It is for
+    one thread."""
+
+    def __init__(self, places: List[Place], tls: Optional[ssl.SSLContext] = None, patience: float = PATIENCE):
+        self._places, self._tls, self._patience, self._at = places, tls, patience, 0
+        self._line: Optional[http.client.HTTPConnection] = None
+
+    @property
+    def name(self) -> str:
+        """The member's HOST:PORT."""
+        return "%s:%d" % self._places[self._at][1:]
+
+    def turn(self) -> bool:
+        """Leaves the member for the next one; whether all have been tried."""
+        self._drop()
+        self._at = (self._at + 1) % len(self._places)
+        return self._at == 0
+
+    def ask(self, path: str, body: Answer) -> Answer:
+        """What the member answers."""
+        try:
+            response = self._send(path, [body])
+            return self._known(json.loads(response.read()))
+        except NoAnswer:
+            raise
+        except (OSError, http.client.HTTPException, ValueError) as fault:
+            self._drop()
+            raise NoAnswer(f"{self.name}: {fault or type(fault).__name__}") from fault
+
+    def stream(self, path: str, bodies: List[Answer]) -> Iterator[Answer]:
+        """The results that the member sends, one after the other. It ends with `NoAnswer`, which is `Silent` if the member may
+        well be there; the connection is closed then."""
+        try:
+            for text in self._send(path, bodies):
+                yield self._known(json.loads(text))
+            raise NoAnswer(f"{self.name}: it ended the stream")
+        except NoAnswer:
+            raise
+        except socket.timeout as fault:
+            raise Silent(f"{self.name}: {fault}") from fault
+        except (OSError, http.client.HTTPException, ValueError) as fault:
+            raise NoAnswer(f"{self.name}: {fault or type(fault).__name__}") from fault
+        finally:
+            self._drop()
+
+    def _send(self, path: str, bodies: List[Answer]) -> http.client.HTTPResponse:
+        if self._line is None:
+            safe, host, port = self._places[self._at]
+            self._line = (http.client.HTTPSConnection(host, port, timeout=self._patience, context=self._tls) if safe
+                          else http.client.HTTPConnection(host, port, timeout=self._patience))
+        # a member that has lost the others ends a stream with this word, and is not just silent
+        self._line.request("POST", f"/v3/{path}", "".join(map(json.dumps, bodies)), {"Grpc-Metadata-hasleader": "true"})
+        response = self._line.getresponse()
+        if response.status != 200:
+            raise Denied(f"{self.name}: {reason(response.read().decode('utf-8', 'replace'))}")
+        return response
+
+    @staticmethod
+    def _known(answer: Any) -> Answer:
+        if not isinstance(answer, dict) or "error" in answer:
+            raise NoAnswer(f"etcd says: {reason(json.dumps(answer))}")
+        return answer.get("result", answer)
+
+    def _drop(self) -> None:
+        line, self._line = self._line, None
+        if line is not None:
+            line.close()

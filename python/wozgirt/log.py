@@ -1,0 +1,460 @@
+"""`wozgirt-log`: keeps the log of a lock service in etcd. A `wozgirt-server` runs it, and speaks with it by lines.
+
+The log is the key PREFIX/log: each entry is put over the one before, an entry's position is the key's version, and etcd gives
+all versions, in order, to whoever watches the key. Beside it there are PREFIX/identity, drawn when the log began; PREFIX/servers,
+whose version is the last incarnation; PREFIX/servers/NAME/INCARNATION, each with a lease; and PREFIX/hosts/NAME, with the position
+and the revision up to which this host needs the log no more.
+
+In:   follow POSITION REVISION, append TEXT, checkpoint POSITION REVISION, here NUMBER
+Out:  log IDENTITY INCARNATION, alive NAME:INCARNATION .., entry POSITION REVISION TEXT, kept NUMBER, away NAME SECONDS
+
+TEXT is the rest of the line, of printable ASCII, spaces and tabs, and may be empty.
+
+Status 0: the end of the input. 1: it cannot go on. 2: wrong words. 4: the log is another one, or shorter than it was, or what
+is wanted of it is gone."""
+
+from __future__ import annotations
+
+import argparse
+import base64
+import os
+import queue
+import re
+import sys
+import threading
+import time
+import traceback
+from typing import Any, Callable, Dict, List, NoReturn, Optional, Sequence, Set, Tuple, TypeVar
+
+from .etcd import Answer, Denied, Member, NoAnswer, Silent, below, coded, context, decoded, place, revision_of
+
+T = TypeVar("T")
+#: Seconds until all members are tried again, if none of them answers.
+PAUSE = 0.1
+#: Seconds in which the same is not written to standard error again.
+QUIET = 60.0
+#: The lines of the input.
+LINE = re.compile(rb"(?:(append) ([\t -~]*)|(follow|checkpoint) ([0-9]+) ([0-9]+)|(here) ([0-9]+))\n")
+#: What cannot be in an entry's line: another than a server put that into the log.
+STRANGE = re.compile(rb"[^\t -~]")
+
+
+class Lost(Exception):
+    """The log is another one, or does not have what is wanted."""
+
+
+class Program:
+    """What the threads share: what is told, and how it ends."""
+
+    def __init__(self, words: argparse.Namespace):
+        self.prefix, self.name, self.lease, self.away = words.prefix, words.name, words.lease, words.away
+        self._places = [place(url) for url in words.endpoints.split(",")]
+        is_safe = any(safe for safe, _, _ in self._places)
+        self._tls = context(words.cacert, words.cert, words.key) if is_safe else None
+        self._telling = threading.Lock()
+        self._noted: Dict[str, float] = {}
+        self.appends: "queue.SimpleQueue[bytes]" = queue.SimpleQueue()
+        self.heres: "queue.SimpleQueue[int]" = queue.SimpleQueue()
+        self.needs: "queue.SimpleQueue[Tuple[int, int]]" = queue.SimpleQueue()
+        self.crowd: Optional[Crowd] = None
+
+    def key(self, *words: object) -> str:
+        """A key of the log."""
+        return "/".join(map(str, (self.prefix, *words)))
+
+    def member(self) -> Member:
+        """A new connection."""
+        return Member(self._places, self._tls)
+
+    def tell(self, *lines: str) -> None:
+        """Lines for the server, at once."""
+        with self._telling:
+            sys.stdout.write("".join(f"{line}\n" for line in lines))
+            sys.stdout.flush()
+
+    def note(self, text: object) -> None:
+        """A line for the operator, if it was not written for a while."""
+        now = time.monotonic()
+        if now > self._noted.get(str(text), 0.0):
+            self._noted[str(text)] = now + QUIET
+            print(f"wozgirt-log: {text}", file=sys.stderr, flush=True)
+
+    def end(self, status: int, why: str = "") -> NoReturn:
+        """Ends the process. Nothing is undone in etcd: the lease ends by itself."""
+        if why:
+            self.note(why)
+        os._exit(status)
+
+    def start(self, work: Callable[[], None]) -> None:
+        """Does the work in a thread; the process ends with it."""
+        def run() -> None:
+            try:
+                work()
+            except Lost as lost:
+                self.end(4, str(lost))
+            except BrokenPipeError:
+                self.end(1, "the server is gone")
+            except BaseException:
+                traceback.print_exc()
+                self.end(1)
+        threading.Thread(target=run, daemon=True).start()
+
+    def done(self, member: Member, work: Callable[[Member], T]) -> T:
+        """Does the work with one member or another, until it is done. It may have been done more than once."""
+        while True:
+            try:
+                return work(member)
+            except NoAnswer as fault:
+                self.note(fault)
+                if member.turn():
+                    time.sleep(PAUSE)
+
+
+def drawn(program: Program, member: Member) -> str:
+    """The identity of the log, which is drawn if there is none."""
+    key, mine = coded(program.key("identity")), os.urandom(16).hex()
+    said = member.ask("kv/txn", {"compare": [{"key": key, "target": "CREATE", "create_revision": "0"}],
+                                 "success": [{"request_put": {"key": key, "value": coded(mine)}}],
+                                 "failure": [{"request_range": {"key": key}}]})
+    return mine if said.get("succeeded") else decoded(said["responses"][0]["response_range"]["kvs"][0]["value"])
+
+
+class Keeper:
+    """This start's number, and its lease, which is renewed for as long as the server says that it is here."""
+
+    def __init__(self, program: Program):
+        self._program, self._member = program, program.member()
+        self.identity, self.incarnation, self._id, self._kept = program.done(self._member, self._begun)
+
+    def _begun(self, member: Member) -> Tuple[str, int, str, float]:
+        program = self._program
+        identity = drawn(program, member)
+        last = member.ask("kv/put", {"key": coded(program.key("servers")), "value": coded(program.name), "prev_kv": True})
+        incarnation = int(last.get("prev_kv", {}).get("version", 0)) + 1
+        asked = time.monotonic()
+        lease = member.ask("lease/grant", {"TTL": str(program.lease)})["ID"]
+        member.ask("kv/put", {"key": coded(program.key("servers", program.name, incarnation)), "lease": lease})
+        return identity, incarnation, lease, asked
+
+    def run(self) -> None:
+        """Renews the lease, and says so, until it is over, by etcd or by the own clock."""
+        while True:
+            try:
+                number = self._program.heres.get(timeout=max(0.0, self._end() - time.monotonic()))
+                while not self._program.heres.empty():
+                    number = self._program.heres.get()
+            except queue.Empty:
+                break
+            if not self._renewed():
+                break
+            self._program.tell(f"kept {number}")
+        self._program.note("the lease is over")
+        if self._program.crowd is not None:
+            self._program.crowd.leave()
+
+    def _end(self) -> float:
+        return self._kept + self._program.lease
+
+    def _renewed(self) -> bool:
+        while (asked := time.monotonic()) < self._end():
+            try:
+                said = self._member.ask("lease/keepalive", {"ID": self._id})
+            except NoAnswer as fault:
+                self._program.note(fault)
+                if self._member.turn():
+                    time.sleep(PAUSE)
+                continue
+            self._kept = asked
+            return int(said.get("TTL", 0)) > 0
+        return False
+
+
+class Crowd:
+    """Which servers are alive, and since when others are not."""
+
+    def __init__(self, program: Program, own: str):
+        self._program, self._own, self._mutex = program, own, threading.Lock()
+        self._alive: Set[str] = set()
+        self._told: Optional[Set[str]] = None
+        self._has_left, self._begun = False, time.monotonic()
+        self._seen: Dict[str, float] = {}
+
+    def leave(self) -> None:
+        """This server is not alive any more."""
+        with self._mutex:
+            self._has_left = True
+        self.tell()
+
+    def set(self, alive: Set[str]) -> None:
+        """These are alive."""
+        now = time.monotonic()
+        with self._mutex:
+            self._seen.update((who.split(":")[0], now) for who in self._alive | alive)
+            self._alive = set(alive)
+        self.tell()
+
+    def change(self, who: str, is_there: bool) -> None:
+        """This one is alive, or no longer."""
+        self.set(self._alive | {who} if is_there else self._alive - {who})
+
+    def tell(self) -> None:
+        """Tells who is alive, if it is not who was told last."""
+        with self._mutex:
+            alive = self._alive - ({self._own} if self._has_left else set())
+            if alive == self._told:
+                return
+            self._told = alive
+            self._program.tell(" ".join(["alive", *sorted(alive, key=by_number)]))
+
+    def away(self, name: str) -> float:
+        """For how many seconds this host has no server that is alive."""
+        with self._mutex:
+            if any(who.split(":")[0] == name for who in self._alive):
+                return 0.0
+            return time.monotonic() - self._seen.get(name, self._begun)
+
+
+def by_number(who: str) -> Tuple[str, int]:
+    """How NAME:INCARNATION are sorted."""
+    name, _, incarnation = who.partition(":")
+    return name, int(incarnation)
+
+
+class Reader:
+    """Reads the log behind a place, and who is alive, from one member or another."""
+
+    def __init__(self, program: Program, crowd: Crowd, identity: str, last: Tuple[int, int]):
+        self._program, self._crowd, self._identity, self._member = program, crowd, identity, program.member()
+        self._position, self._revision = last
+        self._log, self._servers = program.key("log"), program.key("servers", "")
+
+    def run(self) -> None:
+        """Reads without an end."""
+        self._program.done(self._member, self._compare)
+        while True:
+            try:
+                self._read()
+            except Silent:
+                pass  # then its answer to the next question shows whether it is there
+            except NoAnswer as fault:
+                self._program.note(fault)
+                if self._member.turn():
+                    time.sleep(PAUSE)
+
+    def _compare(self, member: Member) -> None:
+        """The entry that was read last has to stand where it stood."""
+        if self._position == 0:
+            return
+        try:
+            said = member.ask("kv/range", {"key": coded(self._log), "revision": str(self._revision), "keys_only": True})
+        except Denied as denied:
+            if "compacted" in str(denied) or "future" in str(denied):
+                raise Lost(f"entry {self._position} is gone: {denied}") from denied
+            raise
+        found = [(int(it["version"]), int(it["mod_revision"])) for it in said.get("kvs", [])]
+        if found != [(self._position, self._revision)]:
+            raise Lost(f"the log has another entry than {self._position} at revision {self._revision}")
+
+    def _look(self) -> Tuple[int, int]:
+        """Looks at the log and the servers as they are now; the revisions to watch them from."""
+        ranges: List[Answer] = [{"key": coded(self._program.key("identity"))}, {"key": coded(self._log), "keys_only": True},
+                                {**below(self._servers), "keys_only": True}]
+        said = self._member.ask("kv/txn", {"success": [{"request_range": it} for it in ranges]})
+        identity, last, servers = (it["response_range"].get("kvs", []) for it in said["responses"])
+        if not identity or decoded(identity[0]["value"]) != self._identity:
+            raise Lost("the log is another one")
+        revision, version = revision_of(said), int(last[0]["version"]) if last else 0
+        if revision < self._revision or version < self._position:
+            raise Lost(f"the log is shorter than it was: {version} entries, {self._position} were read")
+        self._crowd.set({self._who(it) for it in servers})
+        if version == self._position:
+            self._revision = max(self._revision, revision)
+        return max(self._revision + 1, int(identity[0]["create_revision"])), revision + 1
+
+    def _who(self, it: Answer) -> str:
+        return decoded(it["key"])[len(self._servers):].replace("/", ":")
+
+    def _read(self) -> None:
+        """Reads one stream to its end."""
+        start, now = self._look()
+        asked: List[Answer] = [{"create_request": {"key": coded(self._log), "start_revision": str(start)}},
+                               {"create_request": {**below(self._servers), "start_revision": str(now)}}]
+        for told in self._member.stream("watch", asked):
+            if "compact_revision" in told:
+                raise Lost(f"the log is gone up to revision {told['compact_revision']}, and {start} is wanted")
+            if told.get("canceled"):
+                raise NoAnswer(f"the watch is cancelled: {told.get('cancel_reason', '')}")
+            self._take(told.get("events", []))
+
+    def _take(self, events: List[Answer]) -> None:
+        lines = []
+        for event in events:
+            it, is_there = event["kv"], event.get("type") != "DELETE"
+            if decoded(it["key"]) == self._log:
+                self._follows(int(it["version"]) if is_there else 0, int(it["mod_revision"]))
+                text = STRANGE.sub(b"?", base64.b64decode(it.get("value", ""))).decode("ascii")
+                lines.append(f"entry {self._position} {self._revision} {text}")
+            else:
+                self._crowd.change(self._who(it), is_there)
+        if lines:
+            self._program.tell(*lines)
+
+    def _follows(self, position: int, revision: int) -> None:
+        """The next entry has to be the next one."""
+        if position != self._position + 1 or revision <= self._revision:
+            raise Lost(f"entry {position}, revision {revision}, follows entry {self._position}, revision {self._revision}")
+        self._position, self._revision = position, revision
+
+
+def place_of(value: str) -> Tuple[int, int]:
+    """The position and the revision in a host's key; the log's beginning if there are none."""
+    words = decoded(value).split(" ")
+    return (int(words[0]), int(words[1])) if len(words) == 2 and all(map(str.isdigit, words)) else (0, 0)
+
+
+class Shortener:
+    """Tells the others what this host needs, and has etcd drop what no host needs."""
+
+    def __init__(self, program: Program, crowd: Crowd, begin: Tuple[int, int]):
+        self._program, self._crowd, self._member = program, crowd, program.member()
+        self._need = begin
+
+    def run(self) -> None:
+        """Looks at the list of hosts behind each checkpoint, and now and then."""
+        self._program.done(self._member, self._begin)
+        while True:
+            try:
+                self._need = self._program.needs.get(timeout=self._program.away)
+                self._program.done(self._member, self._list)
+                least = self._least()
+                if least > 0:
+                    self._program.done(self._member, lambda member: self._compact(member, least))
+            except queue.Empty:
+                self._least()
+
+    def _begin(self, member: Member) -> None:
+        """A host needs the log from where it reads, or from its last checkpoint, which may lie before that."""
+        key = coded(self._program.key("hosts", self._program.name))
+        found = member.ask("kv/range", {"key": key}).get("kvs", [])
+        listed = [place_of(it["value"]) for it in found]
+        self._need = min([self._need, *listed], key=lambda it: it[1])
+        if listed != [self._need]:
+            self._list(member)
+
+    def _list(self, member: Member) -> None:
+        value = "%d %d" % self._need
+        member.ask("kv/put", {"key": coded(self._program.key("hosts", self._program.name)), "value": coded(value)})
+
+    def _least(self) -> int:
+        """The revision up to which no host needs the log. Names those that are away and need more of it than this one."""
+        hosts = self._program.key("hosts", "")
+        found = self._program.done(self._member, lambda member: member.ask("kv/range", below(hosts))).get("kvs", [])
+        needs = {decoded(it["key"])[len(hosts):]: place_of(it["value"])[1] for it in found}
+        for name, revision in sorted(needs.items()):
+            away = self._crowd.away(name)
+            if revision < self._need[1] and away > self._program.lease:
+                self._program.tell(f"away {name} {int(away)}")
+        return min(needs.values(), default=0)
+
+    @staticmethod
+    def _compact(member: Member, revision: int) -> None:
+        try:
+            member.ask("kv/compaction", {"revision": str(revision)})
+        except Denied as denied:
+            if "compacted" not in str(denied):  # else another host was quicker
+                raise
+
+
+def append_all(program: Program) -> None:
+    """Puts one entry after the other: the next one is begun only when this one is there, else it might come first."""
+    member = program.member()
+    key = coded(program.key("log"))
+
+    def put(member: Member, value: bytes) -> None:
+        try:
+            member.ask("kv/put", {"key": key, "value": coded(value)})
+        except Denied as denied:
+            if "too large" in str(denied):
+                program.end(1, str(denied))
+            raise
+    while True:
+        value = program.appends.get()
+        program.done(member, lambda it: put(it, value))
+
+
+def obey(program: Program, keeper: Keeper, crowd: Crowd) -> None:
+    """Does what the lines of the input say."""
+    follows = False
+    for line in sys.stdin.buffer:
+        match = LINE.fullmatch(line)
+        verb, *words = [it for it in match.groups() if it is not None] if match else [b""]
+        if not verb or verb == b"follow" and follows:
+            program.end(2, f"wrong line: {line[:80]!r}")
+        if verb == b"append":
+            program.appends.put(words[0])
+        elif verb == b"here":
+            program.heres.put(int(words[0]))
+        elif verb == b"checkpoint":
+            program.needs.put((int(words[0]), int(words[1])))
+        else:
+            follows, last = True, (int(words[0]), int(words[1]))
+            program.start(Reader(program, crowd, keeper.identity, last).run)
+            program.start(Shortener(program, crowd, last).run)
+
+
+def name(text: str) -> str:
+    """The name of a server."""
+    if not re.fullmatch(r"[A-Za-z0-9._-]{1,64}", text):
+        raise argparse.ArgumentTypeError(f"letters, digits, dots, dashes and lines below: {text!r}")
+    return text
+
+
+def prefix(text: str) -> str:
+    """What the names of the log's keys begin with."""
+    if not re.fullmatch(r"[!-~]{1,200}", text) or text.endswith("/"):
+        raise argparse.ArgumentTypeError(f"ASCII without spaces, and no / at its end: {text!r}")
+    return text
+
+
+def seconds(text: str) -> int:
+    """A time above none."""
+    if not text.isdigit() or not 0 < int(text) < 10**6:
+        raise argparse.ArgumentTypeError(f"whole seconds: {text!r}")
+    return int(text)
+
+
+def parsed(words: Optional[Sequence[str]]) -> argparse.Namespace:
+    """The words of the command line."""
+    parser = argparse.ArgumentParser("wozgirt-log", description="Keeps the log of a lock service in etcd. A wozgirt-server runs it.")
+    more: Dict[str, Any]
+    for word, more in {
+            "--endpoints": {"required": True, "metavar": "URL,..", "help": "the members of etcd, the nearest first"},
+            "--prefix": {"required": True, "type": prefix, "metavar": "KEY", "help": "what the keys of the log begin with"},
+            "--name": {"required": True, "type": name, "help": "this host's name, another one on each host"},
+            "--lease": {"type": seconds, "default": 10, "metavar": "SECONDS", "help": "how long a silent server is not taken for dead (10)"},
+            "--away": {"type": seconds, "default": 60, "metavar": "SECONDS", "help": "how often hosts are named that are away (60)"},
+            "--cacert": {"metavar": "FILE", "help": "who signs the members' certificates"},
+            "--cert": {"metavar": "FILE", "help": "the certificate that is shown to members"},
+            "--key": {"metavar": "FILE", "help": "its key"}}.items():
+        parser.add_argument(word, **more)
+    return parser.parse_args(words)
+
+
+def main(words: Optional[Sequence[str]] = None) -> int:
+    """The command."""
+    try:
+        program = Program(parsed(words))
+    except (OSError, ValueError) as fault:
+        print(f"wozgirt-log: {fault}", file=sys.stderr)
+        return 2
+    keeper = Keeper(program)
+    program.crowd = crowd = Crowd(program, f"{program.name}:{keeper.incarnation}")
+    program.tell(f"log {keeper.identity} {keeper.incarnation}")
+    program.start(keeper.run)
+    program.start(lambda: append_all(program))
+    obey(program, keeper, crowd)
+    program.end(0)
+
+
+if __name__ == "__main__":
+    sys.exit(main())

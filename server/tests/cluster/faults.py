@@ -1,0 +1,242 @@
+#!/usr/bin/env python3
+"""faults.py [SECONDS [SEED [CLIENTS [FOLDER]]]]: three hosts with twelve clients, or more, a lock for each three of them, and a fault
+each few seconds, in an order that is drawn; then verify.py judges. What there is no time for is left out. The last line is `N passed, M
+failed`; where no hosts can be made it says why it is skipped. 120 seconds by ./test, 1200 before a release."""
+
+import collections
+import os
+import random
+import shutil
+import signal
+import subprocess
+import sys
+import tempfile
+import time
+
+from bed import NAMES, Bed, why_not
+from recorder import Recorder
+from verify import verify
+
+HERE = os.path.dirname(os.path.abspath(__file__))
+# seconds for all to be as it was, behind the last fault
+CALM = 20
+
+
+def send(number, what):
+    """A signal to a process that was there just now, and may have ended."""
+    try:
+        if number is not None:
+            os.kill(number, what)
+    except ProcessLookupError:
+        pass
+
+
+class Faults:
+    """The faults, each of which is healed when its function returns."""
+
+    def __init__(self, bed, chance):
+        self.bed, self.chance, self.done, self.begun = bed, chance, collections.Counter(), time.monotonic()
+        self.all = [self.kill_server, self.kill_engine, self.kill_log, self.kill_member, self.kill_leader, self.kill_host, self.kill_servers,
+                    self.kill_members, self.kill_all, self.stop_engine, self.stop_server, self.stop_log, self.stop_member, self.stop_leader,
+                    self.cut_follower, self.cut_leader, self.cut_one_link, self.cut_all, self.pull_cable, self.lose_folder]
+
+    def note(self, *words):
+        """Says what is done."""
+        print(f"{time.monotonic() - self.begun:7.1f}", *words, flush=True)
+
+    def one(self, fault):
+        """Does it, and counts it."""
+        name = self.chance.choice(NAMES)
+        self.note(fault.__name__, name)
+        fault(name, 0.5 + self.chance.random() * 4)
+        self.done[fault.__name__] += 1
+
+    def leader(self):
+        """Who leads the members, or one of them, where nobody does."""
+        for _ in range(20):
+            if (name := self.bed.members.leader()) is not None:
+                return name
+            time.sleep(0.1)
+        return self.chance.choice(NAMES)
+
+    def follower(self):
+        """One that does not lead."""
+        lead = self.leader()
+        return self.chance.choice([name for name in NAMES if name != lead])
+
+    def kill(self, name, what):
+        """As kill -9 does; the server starts its children again, and the bed the server."""
+        send(self.bed.children(name).get(what), signal.SIGKILL)
+
+    def kill_server(self, name, _):
+        self.kill(name, "server")
+
+    def kill_engine(self, name, _):
+        self.kill(name, "engine")
+
+    def kill_log(self, name, _):
+        self.kill(name, "log")
+
+    def away(self, names, seconds, members=True, servers=True):
+        """These are killed, and started again after a while."""
+        for name in names:
+            if members:
+                self.bed.members.kill(name)
+            if servers:
+                self.bed.end_server(name)
+        time.sleep(seconds)
+        for name in names:
+            if members:
+                self.bed.members.start(name)
+            if servers:
+                self.bed.start_server(name)
+
+    def kill_member(self, _, seconds):
+        self.away([self.follower()], seconds, servers=False)
+
+    def kill_leader(self, _, seconds):
+        self.away([self.leader()], seconds, servers=False)
+
+    def kill_host(self, name, seconds):
+        self.away([name], seconds)
+
+    def kill_servers(self, _, seconds):
+        self.away(NAMES, seconds / 4, members=False)
+
+    def kill_members(self, _, seconds):
+        self.away(NAMES, seconds / 4, servers=False)
+
+    def kill_all(self, _, seconds):
+        self.away(NAMES, seconds / 4)
+
+    def pause(self, number, seconds):
+        """As SIGSTOP does, for a while."""
+        send(number, signal.SIGSTOP)
+        time.sleep(seconds)
+        send(number, signal.SIGCONT)
+
+    def stop_engine(self, name, seconds):
+        self.pause(self.bed.children(name).get("engine"), 2 * seconds)
+
+    def stop_server(self, name, seconds):
+        self.pause(self.bed.children(name).get("server"), 2 * seconds)
+
+    def stop_log(self, name, seconds):
+        self.pause(self.bed.children(name).get("log"), 2 * seconds)
+
+    def stop_member(self, _, seconds):
+        self.pause(self.bed.members.processes[self.follower()].pid, seconds)
+
+    def stop_leader(self, _, seconds):
+        self.pause(self.bed.members.processes[self.leader()].pid, seconds)
+
+    def part(self, pairs, seconds):
+        """These cannot reach each other for a while; clients reach all."""
+        for one, other in pairs:
+            self.bed.cut(one, other, True)
+        time.sleep(2 * seconds)
+        for one, other in pairs:
+            self.bed.cut(one, other, False)
+
+    def cut_follower(self, _, seconds):
+        it = self.follower()
+        self.part([(it, name) for name in NAMES if name != it], seconds)
+
+    def cut_leader(self, _, seconds):
+        it = self.leader()
+        self.part([(it, name) for name in NAMES if name != it], seconds)
+
+    def cut_one_link(self, _, seconds):
+        self.part([(self.leader(), self.follower())], seconds)
+
+    def cut_all(self, _, seconds):
+        self.part([("a", "b"), ("b", "c"), ("a", "c")], seconds)
+
+    def pull_cable(self, name, seconds):
+        self.bed.cable(name, False)
+        time.sleep(2 * seconds)
+        self.bed.cable(name, True)
+
+    def lose_folder(self, name, seconds):
+        """A server's folder is gone; it begins with another's, its checkpoint first."""
+        home, other = self.bed.home(name), self.bed.home(next(it for it in NAMES if it != name))
+        self.bed.end_server(name)
+        shutil.rmtree(home)
+        time.sleep(seconds)
+        if os.path.exists(os.path.join(other, "CHECKPOINT")):
+            journal = os.path.join(home, "journal")
+            os.makedirs(journal)
+            shutil.copy(os.path.join(other, "CHECKPOINT"), home)
+            for it in os.listdir(other):
+                if it.startswith("SEGMENT-"):
+                    shutil.copy(os.path.join(other, it), home)
+            for it in os.listdir(os.path.join(other, "journal")):
+                if it.endswith(".ring") or it == "locks":
+                    shutil.copy(os.path.join(other, "journal", it), journal)
+        self.bed.start_server(name)
+
+
+def disturb(bed, workers, seconds, chance):
+    """Does faults in rounds, each of which has all of them once, in an order that is drawn."""
+    faults, end, left = Faults(bed, chance), time.monotonic() + seconds, []
+    time.sleep(2)
+    while time.monotonic() < end and any(it.poll() is None for it in workers):
+        left = left or chance.sample(faults.all, len(faults.all))
+        faults.one(left.pop())
+        time.sleep(chance.random() * 2.5)
+    return faults
+
+
+def run(folder, seconds, seed, clients, locks):
+    """What happened, in the folder."""
+    chance = random.Random(seed)
+    with Bed(folder, checkpoint=250 * clients, locks=",".join(locks)) as bed:
+        bed.start()
+        recorder = Recorder(bed.members.urls(), os.path.join(folder, "log.txt"))
+        servers = ",".join("tcp:%s:%d" % it for it in bed.places())
+        words = [sys.executable, os.path.join(HERE, "worker.py")]
+        workers = [subprocess.Popen([*words, str(i), servers, ",".join(locks), str(seconds), folder, str(seed)]) for i in range(clients)]
+        faults = disturb(bed, workers, seconds - CALM, chance)
+        faults.note("no more faults")
+        late = [it for it in workers if wait(it, seconds) is None]
+        time.sleep(2)
+        ends = {name: bed.servers[name].poll() for name in NAMES}
+        faults.note("servers ended and started again:", collections.Counter(bed.statuses), "at the end:", ends)
+        recorder.end()
+        for it in late:
+            it.kill()
+    print("faults:", ", ".join(f"{name} {count}" for name, count in sorted(faults.done.items())))
+    return [f"{len(late)} clients do not end"] * bool(late) + [f"server {name} ended with {end}" for name, end in ends.items() if end is not None]
+
+
+def wait(worker, seconds):
+    """Its status, or None if it does not end in time."""
+    try:
+        return worker.wait(CALM + seconds)
+    except subprocess.TimeoutExpired:
+        return None
+
+
+def main():
+    reason = why_not()
+    if reason is not None:
+        print(f"skipped: cluster: {reason}\n0 passed, 0 failed")
+        return 0
+    seconds = float(sys.argv[1]) if len(sys.argv) > 1 else 120
+    seed = int(sys.argv[2]) if len(sys.argv) > 2 else random.randrange(1 << 32)
+    clients = int(sys.argv[3]) if len(sys.argv) > 3 else 12
+    folder = sys.argv[4] if len(sys.argv) > 4 else tempfile.mkdtemp(prefix="wozgirt-cluster-")
+    print(f"seed {seed}, {seconds:.0f} seconds, {clients} clients, folder {folder}", flush=True)
+    locks = [f"l{i}" for i in range(max(1, clients // 3))]
+    bad = run(folder, seconds, seed, clients, locks)
+    passed, failed = verify(folder, locks)
+    for it in bad:
+        print("WRONG:", it)
+    if not (bad or failed) and len(sys.argv) <= 4:
+        shutil.rmtree(folder, ignore_errors=True)
+    print(f"{passed + (not bad)} passed, {failed + bool(bad)} failed")
+    return 1 if bad or failed else 0
+
+
+if __name__ == "__main__":
+    sys.exit(main())

@@ -1,0 +1,143 @@
+"""A second reading of the log: what its entries mean, and a machine of locks, with no code of the programs.
+
+An entry is `by NAME INCARNATION SERIAL POSITION DIGEST`, and lines `with SETTINGS`, `here KEY`, `KEY NUMBER INPUT`, `gone KEY`,
+`server NAME INCARNATION`, with tabs between them. KEY is a session's; sessions count from 1, in the order in which they come."""
+
+import collections
+
+
+class Locks:
+    """Locks with holders, lines of those who wait, and tokens that rise by one."""
+
+    def __init__(self, count):
+        self.holders, self.waiting, self.tokens = [None] * count, [collections.deque() for _ in range(count)], [0] * count
+        self.grants = []  # (lock, token, client, label)
+
+    def _give(self, lock, client, label):
+        self.tokens[lock] += 1
+        self.holders[lock] = client, self.tokens[lock]
+        self.grants.append((lock, self.tokens[lock], client, label))
+        return f"granted {lock} {self.tokens[lock]}"
+
+    def _next(self, lock):
+        self.holders[lock] = None
+        if self.waiting[lock]:
+            self._give(lock, *self.waiting[lock].popleft())
+
+    def _is_in_a_circle(self, client, lock):
+        while self.holders[lock] is not None:
+            holder = self.holders[lock][0]
+            if holder == client:
+                return True
+            lock = next((i for i, line in enumerate(self.waiting) if any(it[0] == holder for it in line)), None)
+            if lock is None:
+                return False
+        return False
+
+    def do(self, client, verb, lock, number=0):
+        """The first line of the answer."""
+        holder = self.holders[lock]
+        if verb == "release":
+            if holder != (client, number):
+                return f"refused holder {lock}"
+            self._next(lock)
+            return f"released {lock}"
+        if verb == "cancel":
+            found = [it for it in self.waiting[lock] if it[0] == client]
+            if not found:
+                return f"refused waiter {lock}"
+            self.waiting[lock].remove(found[0])
+            return f"cancelled {lock}"
+        if holder is not None and holder[0] == client:
+            return f"refused holds {lock}"
+        lines = self.waiting if verb == "acquire" else [self.waiting[lock]]
+        if any(it[0] == client for line in lines for it in line):
+            return f"refused waits {lock}"
+        if holder is None:
+            return self._give(lock, client, number)
+        if verb == "try":
+            return f"busy {lock}"
+        if self._is_in_a_circle(client, lock):
+            return f"refused circle {lock}"
+        self.waiting[lock].append((client, number))
+        return f"waiting {lock} {len(self.waiting[lock]) - 1}"
+
+    def leave(self, client):
+        """The client waits for nothing and holds nothing."""
+        for line in self.waiting:
+            for it in [it for it in line if it[0] == client]:
+                line.remove(it)
+        for lock, holder in enumerate(self.holders):
+            if holder is not None and holder[0] == client:
+                self._next(lock)
+
+
+class Reading:
+    """The log from its first entry on."""
+
+    def __init__(self, count):
+        self.locks, self.settings, self.servers, self.over, self.sessions = Locks(count), None, {}, {}, {}
+        self.answers = collections.defaultdict(list)  # by key and number: place, input, answer
+        self.done = self.again = self.entries = self.ignored = self.last_session = 0
+
+    def read(self, text):
+        """The next entry."""
+        head, *lines = text.split("\t")
+        _, name, incarnation, serial = head.split(" ")[:4]
+        writer = name, int(incarnation)
+        self.entries += 1
+        if not self._is_taken(writer, int(serial), lines):
+            self.ignored += 1
+            return
+        for line in lines:
+            self._line(writer, line.split(" "))
+
+    def _is_taken(self, writer, serial, lines):
+        if writer[1] <= self.over.get(writer[0], 0):
+            return False
+        if writer not in self.servers:
+            if not lines or not lines[0].startswith("with ") or self.settings not in (None, lines[0]):
+                return False
+            self.settings, self.servers[writer] = lines[0], serial
+            return True
+        is_later = serial > self.servers[writer]
+        self.servers[writer] = max(serial, self.servers[writer])
+        return is_later
+
+    def _line(self, writer, words):
+        if words[0] == "here":
+            self._home(int(words[1]), writer)
+        elif words[0] == "gone":
+            if self.sessions.get(int(words[1]), (None,))[0] == writer:
+                self._go(int(words[1]))
+        elif words[0] == "server":
+            name, incarnation = words[1], int(words[2])
+            if incarnation > self.over.get(name, 0):
+                self.over[name] = incarnation
+                is_over = lambda home: home[0] == name and home[1] <= incarnation  # noqa: E731
+                for _, key in sorted((session, key) for key, (home, _, session) in self.sessions.items() if is_over(home)):
+                    self._go(key)
+        elif words[0] != "with":
+            self._do(writer, int(words[0]), int(words[1]), words[2:])
+
+    def _home(self, key, writer):
+        if key not in self.sessions:
+            self.last_session += 1
+            self.sessions[key] = writer, 0, self.last_session
+        self.sessions[key] = writer, *self.sessions[key][1:]
+
+    def _go(self, key):
+        del self.sessions[key]
+        self.locks.leave(key)
+
+    def _do(self, writer, key, number, words):
+        if self.sessions.get(key, (None,))[0] != writer:
+            self.again += 1
+            return
+        if number <= self.sessions[key][1]:
+            self.again += 1
+            return
+        self.sessions[key] = writer, number, self.sessions[key][2]
+        answer = self.locks.do(key, words[0], *map(int, words[1:]))
+        self.answers[key, number].append((self.done, words, answer))
+        self.done += 1

@@ -1,0 +1,114 @@
+#!/usr/bin/env python3
+"""worker.py NUMBER SERVERS LOCKS SECONDS FOLDER SEED: a client that takes locks and gives them back, and notes what it was answered.
+
+`client.N.txt` has a line for each, with its session's key: `did KEY NUMBER SENT GOT INPUT | ANSWER`, `granted KEY LOCK TOKEN`, `inside LOCK TOKEN FROM TO`
+(the client knew that it held the lock, by one clock of the machine), `lost KEY WHY`. What is shared is written to `store.LOCK`, which
+refuses a token that is lower than one it has seen: `wrote LOCK TOKEN` or `refused LOCK TOKEN`."""
+
+import fcntl
+import os
+import random
+import sys
+import time
+
+sys.path.insert(0, os.path.join(os.path.dirname(os.path.abspath(__file__)), "..", "..", "..", "python"))
+
+from wozgirt import LockError, LockLost, NotInTime, Session, lines  # noqa: E402
+
+LEASE = 4.0
+
+
+class Noted(Session):
+    """A client that notes each answer."""
+
+    def __init__(self, places, note):
+        self.note, self.sent = note, 0.0
+        super().__init__(places, lease=LEASE)
+        self.session = self._key
+
+    def _send(self, line):
+        if line not in (b"ping\n", b"status\n"):
+            self.sent = time.monotonic()
+        super()._send(line)
+
+    def _answered(self, number, words):
+        asked = self._asked
+        if asked is not None and asked.number == number:
+            self.note("did", self.session, number, f"{self.sent:.6f} {time.monotonic():.6f}", asked.line.decode().strip(), "|", *words)
+        return super()._answered(number, words)
+
+    def _is_granted(self, name, token):
+        found = super()._is_granted(name, token)
+        if found is not None:
+            self.note("granted", self.session, name, token)
+        return found
+
+
+def write(path, token):
+    """Writes to what the lock guards, which refuses a token that is lower than one it has seen."""
+    with open(path, "a+b") as file:
+        fcntl.flock(file, fcntl.LOCK_EX)
+        file.seek(0)
+        if token < int(file.read() or b"0"):
+            return False
+        file.truncate(0)
+        file.write(b"%d" % token)
+        return True
+
+
+def inside(client, folder, name, token, note, chance):
+    """Is inside the lock for a while."""
+    begun = until = time.monotonic()
+    try:
+        for _ in range(chance.randrange(1, 4)):
+            note("wrote" if write(os.path.join(folder, f"store.{name}"), token) else "refused", name, token)
+            client.check()
+            until = time.monotonic()
+            time.sleep(chance.random() * 0.004)
+    finally:
+        note("inside", name, token, f"{begun:.6f} {until:.6f}")
+
+
+def once(client, locks, folder, note, chance):
+    """One lock, taken in one way or another."""
+    name, kind = chance.choice(locks), chance.random()
+    if kind < 0.2:
+        token = client.try_acquire(name, label=chance.randrange(1000))
+    else:
+        try:
+            token = client.acquire(name, label=chance.randrange(1000), wait=None if kind < 0.8 else chance.random() * 0.02)
+        except NotInTime:
+            return
+    if token is None:
+        return
+    inside(client, folder, name, token, note, chance)
+    if chance.random() < 0.05:
+        client.leave()
+    else:
+        client.release(name, token)
+
+
+def main(number, servers, locks, seconds, folder, seed):
+    chance, end, client = random.Random(f"{seed} {number}"), time.monotonic() + float(seconds), None
+    places = lines.places(servers)
+    with open(os.path.join(folder, f"client.{number}.txt"), "w", encoding="ascii", buffering=1) as file:
+        def note(*words):
+            file.write(" ".join(map(str, words)) + "\n")
+        while time.monotonic() < end:
+            try:
+                client = client or Noted(chance.sample(places, len(places)), note)
+                once(client, locks.split(","), folder, note, chance)
+                time.sleep(chance.random() * 0.01)
+            except (LockLost, OSError) as lost:
+                if client is not None:
+                    note("lost", client.session, str(lost).replace(" ", "_"))
+                    client.close()
+                client = None
+            except LockError as fault:
+                note("fault", client.session, type(fault).__name__, fault)
+        if client is not None:
+            client.close()
+
+
+if __name__ == "__main__":
+    main(*sys.argv[1:])

@@ -1,0 +1,154 @@
+//! The lines by which an engine is one of several that read one log: keys with numbers, positions with digests, and the state.
+
+use crate::locks::Locks;
+use std::collections::BTreeMap;
+use std::fmt::Write as _;
+use std::hash::{DefaultHasher, Hasher};
+use std::mem;
+use wozgirt_engine::decimal;
+
+/// What is known of a key: the last number, and the first line of its answer.
+struct Last {
+    number: u64,
+    answer: String,
+}
+
+/// 64 hexadecimal digits that depend on all bytes. The proved engine has SHA-256.
+pub fn digest(bytes: &[u8]) -> String {
+    let part = |number: u8| {
+        let mut hasher = DefaultHasher::new();
+        hasher.write_u8(number);
+        hasher.write(bytes);
+        format!("{:016x}", hasher.finish())
+    };
+    (0..4).map(part).collect()
+}
+
+pub struct Keyed {
+    pub locks: Locks,
+    keys: BTreeMap<u64, Last>,
+    /// What was told since the last digest.
+    told: String,
+    /// The last position, and its digest.
+    at: Option<(u64, String)>,
+    /// What is to be told.
+    pub output: String,
+}
+
+impl Keyed {
+    pub fn new(locks: Locks) -> Keyed {
+        Keyed { locks, keys: BTreeMap::new(), told: String::new(), at: None, output: String::new() }
+    }
+
+    /// One line of standard input.
+    pub fn line(&mut self, line: &str) {
+        let mut words = line.splitn(3, ' ');
+        let (one, two, rest) = (words.next().unwrap_or(""), words.next(), words.next());
+        if (one, two) == ("state", None) {
+            return self.state();
+        }
+        let Some(Ok(number)) = two.map(decimal) else { return self.tell_all(|it| it.locks.line(line)) };
+        match (one, decimal(one), rest) {
+            ("at", _, None) => self.tell_digest(number),
+            ("at", _, Some(digest)) => self.at = Some((number, digest.into())),
+            (_, Ok(key), Some("forget")) => {
+                if self.keys.get(&key).is_some_and(|last| last.number == number) {
+                    self.keys.remove(&key);
+                }
+            }
+            (_, Ok(key), Some(rest)) => match rest.strip_prefix("did ") {
+                Some(answer) => drop(self.keys.insert(key, Last { number, answer: answer.into() })),
+                None => self.tell_all(|it| it.input(key, number, rest)),
+            },
+            _ => self.tell_all(|it| it.locks.line(line)),
+        }
+    }
+
+    /// What this tells belongs to the next digest.
+    fn tell_all(&mut self, does: impl FnOnce(&mut Keyed)) {
+        does(self);
+        let answers = mem::take(&mut self.locks.answers);
+        self.told.push_str(&answers);
+        self.output.push_str(&answers);
+    }
+
+    fn input(&mut self, key: u64, number: u64, input: &str) {
+        match self.keys.get(&key) {
+            Some(last) if number < last.number => {
+                let _ = writeln!(self.locks.answers, "{key} refused past {}", last.number);
+            }
+            Some(last) if number == last.number => {
+                if !last.answer.is_empty() {
+                    let _ = writeln!(self.locks.answers, "{}", last.answer);
+                }
+            }
+            _ => {
+                self.locks.line(input);
+                let answer = self.locks.answers.lines().next().unwrap_or("").into();
+                self.keys.insert(key, Last { number, answer });
+            }
+        }
+    }
+
+    fn tell_digest(&mut self, position: u64) {
+        let digest = match &self.at {
+            None => "0".repeat(64),
+            Some((_, last)) => digest(format!("{last}{}", self.told).as_bytes()),
+        };
+        self.told.clear();
+        let _ = writeln!(self.output, "at {position} {digest}");
+        self.at = Some((position, digest));
+    }
+
+    fn state(&mut self) {
+        let mut lines = Vec::new();
+        for (l, lock) in self.locks.locks.iter().enumerate() {
+            lines.extend(lock.holder.map(|holder| format!("hold {l} {} {}", holder.token, holder.client)));
+        }
+        for (l, lock) in self.locks.locks.iter().enumerate() {
+            lines.extend(lock.line.iter().map(|waiter| format!("{} acquire {l} {}", waiter.client, waiter.label)));
+        }
+        lines.extend(self.keys.iter().map(|(key, last)| format!("{key} {} did {}", last.number, last.answer)));
+        lines.extend(self.at.iter().map(|(position, digest)| format!("at {position} {digest}")));
+        for line in &lines {
+            let _ = writeln!(self.output, "{line}");
+        }
+        let _ = writeln!(self.output, "state {}", lines.len());
+    }
+}
+
+#[cfg(test)]
+mod tests {
+    use super::*;
+
+    fn asked(keyed: &mut Keyed, line: &str) -> String {
+        keyed.line(line);
+        mem::take(&mut keyed.output)
+    }
+
+    #[test]
+    fn what_was_done_is_not_done_again() {
+        let mut keyed = Keyed::new(Locks::new(&[(8, 8)], false));
+        for (line, told) in [
+            ("at 0", format!("at 0 {}\n", "0".repeat(64))),
+            ("7 1 7 acquire 0 5", "7 granted 0 1\n".into()),
+            ("7 1 7 acquire 0 5", "7 granted 0 1\n".into()),
+            ("9 1 9 acquire 0 6", "9 waiting 0 0\n".into()),
+            ("7 2 7 release 0 1", "7 released 0\n9 granted 0 2\n".into()),
+            ("7 2 7 release 0 1", "7 released 0\n".into()),
+            ("7 1 7 acquire 0 5", "7 refused past 2\n".into()),
+            ("state", {
+                let zeros = "0".repeat(64);
+                format!("hold 0 2 9\n7 2 did 7 released 0\n9 1 did 9 waiting 0 0\nat 0 {zeros}\nstate 4\n")
+            }),
+            ("7 2 forget", String::new()),
+            ("7 1 7 cancel 0", "7 refused waiter 0\n".into()),
+        ] {
+            assert_eq!(asked(&mut keyed, line), told, "{line}");
+        }
+        assert_ne!(asked(&mut keyed, "at 4"), asked(&mut keyed, "at 4"));
+        assert_eq!(asked(&mut keyed, &format!("at 9 {}", "1".repeat(64))), "");
+        let digest = digest("1".repeat(64).as_bytes());
+        assert_eq!(asked(&mut keyed, "at 10"), format!("at 10 {digest}\n"));
+    }
+}

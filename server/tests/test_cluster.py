@@ -1,0 +1,467 @@
+"""Several servers over one log, which is a thread of the test: see log_double.py."""
+
+import filecmp
+import os
+import shutil
+import signal
+import subprocess
+import tempfile
+import threading
+import time
+import unittest
+
+from harness import (ENGINE, FOLDER, IS_DOUBLE, PATIENCE, RUNNING, SERVER, TOP, Server, needs_programs, read_lines, say, wait_until)
+from log_double import Log
+
+RELAY = os.path.join(TOP, "server", "tests", "log_double.py")
+HELP = subprocess.run([ENGINE, "locks", "--help"], capture_output=True, text=True, check=False).stdout if not IS_DOUBLE else "--strict"
+needs_strict = unittest.skipUnless("--strict" in HELP, "this engine has no --strict")
+
+
+def granted(sock):
+    """The line of the grant, which may come behind `waiting`, or with it."""
+    lines = [""]
+    while not lines[-1].startswith("granted "):
+        lines += read_lines(sock, 1) or [f"granted by nobody: {lines}"]
+    return lines[-1]
+
+
+class Trial(unittest.TestCase):
+    """A log, and servers as they are asked for."""
+
+    def setUp(self):
+        self.folder = tempfile.mkdtemp(prefix="wozgirt-", dir=FOLDER)
+        self.addCleanup(shutil.rmtree, self.folder, ignore_errors=True)
+        self.log = Log(os.path.join(self.folder, "log"))
+        self.log.__enter__()
+        self.addCleanup(self.log.__exit__)
+
+    def server(self, name, *words, lease="30", host_lease="30", checkpoint="100000", **more):
+        folder = os.path.join(self.folder, name)
+        os.makedirs(folder, exist_ok=True)
+        it = Server("--etcd", self.log.path, "--name", name, "--log-program", RELAY, "--host-lease", str(host_lease),
+                    "--checkpoint", str(checkpoint), *words, folder=folder, lease=lease, **more)
+        self.addCleanup(self.end, it)
+        return it
+
+    def end(self, server):
+        if server in RUNNING:
+            server.__exit__()
+
+    def kill(self, server):
+        server.process.kill()
+        server.process.wait()
+        RUNNING.remove(server)
+
+    def raw(self, server):
+        sock = server.raw()
+        self.addCleanup(sock.close)
+        return sock
+
+    def session(self, server, key, count=0):
+        """A connection with a session, and what that holds and waits for."""
+        sock = self.raw(server)
+        lines = say(sock, f"session {key}\n", 1 + count)
+        self.assertEqual(lines[0], f"session {key} {count}")
+        return sock, lines[1:]
+
+    def position(self, server):
+        return int(server.operate("cluster").split()[3])
+
+    def catch_up(self, *servers):
+        wait_until(lambda: len({server.operate("cluster").split()[3] for server in servers} | {str(len(self.log.entries))}) == 1)
+
+    def hand_over(self, server, name="b", count=20):
+        with server.raw() as sock:
+            for _ in range(count):
+                token = say(sock, f"acquire {name} 1\n")[0].split()[2]
+                self.assertEqual(say(sock, f"release {name} {token}\n"), [f"released {name}"])
+
+
+@needs_programs
+@needs_strict
+class Several(Trial):
+    def test_one_line_for_all(self):
+        a, b = self.server("a"), self.server("b")
+        one, two, three = self.raw(a), self.raw(b), self.raw(b)
+        self.assertEqual(say(one, "acquire a 7\n"), ["granted a 1"])
+        self.assertEqual(say(two, "try a 8\nacquire a 8\n", 2), ["busy a", "waiting a 0"])
+        self.assertEqual(say(three, "acquire a 9\n"), ["waiting a 1"])
+        self.assertEqual(say(three, "cancel a\nacquire a 9\n", 2), ["cancelled a", "waiting a 1"])
+        self.assertEqual(say(one, "release a 1\nacquire a 7\n", 2), ["released a", "waiting a 1"])
+        self.assertEqual(read_lines(two, 1), ["granted a 2"])
+        two.close()
+        self.assertEqual(read_lines(three, 1), ["granted a 3"])
+        self.assertEqual(say(three, "leave\nping\n", 2), ["left", "pong"])
+        self.assertEqual(read_lines(one, 1), ["granted a 4"])
+        self.catch_up(a, b)
+        stats = [say(sock, "stats a\n")[0].split() for sock in (one, three)]
+        self.assertEqual(stats[0], stats[1])
+        self.assertEqual(stats[0][1:5] + stats[0][6:], ["a", "8", "0", "4", "4"])
+        wait_until(lambda: a.operate("cluster").split()[3:6] == b.operate("cluster").split()[3:6])
+
+    def test_answers_come_in_the_order_of_the_lines(self):
+        lines = "acquire q 1\nacquire a x\nping\nacquire a 1\nping\nstats q\nacquire b 18446744073709551616\nacquire a 2\nleave\nping\n"
+        with self.raw(self.server("a")) as sock:
+            self.assertEqual(say(sock, lines, 10), [
+                "refused lock q", "refused syntax", "pong", "granted a 1", "pong", "refused lock q", "refused number",
+                "refused holds a", "left", "pong"])
+
+    def test_nobody_is_inside_with_another(self):
+        servers = [self.server(name) for name in "abc"]
+        inside, tokens, faults = [], [], []
+
+        def work(server):
+            with server.raw() as sock:
+                for _ in range(25):
+                    sock.sendall(b"acquire a 1\n")
+                    token = granted(sock).split()[2]
+                    inside.append(token)
+                    if len(inside) > 1:
+                        faults.append(list(inside))
+                    tokens.append(int(token))
+                    inside.remove(token)
+                    if say(sock, f"release a {token}\n") != ["released a"]:
+                        faults.append(token)
+
+        threads = [threading.Thread(target=work, args=(servers[i % 3],)) for i in range(12)]
+        [thread.start() for thread in threads]
+        [thread.join() for thread in threads]
+        self.assertEqual((faults, tokens), ([], list(range(1, 301))))
+
+    def test_many_lines_at_once(self):
+        count = 5000
+        with self.raw(self.server("a")) as sock:
+            text = b"".join(b"acquire a %d\nrelease a %d\nping\n" % (i, i) for i in range(1, count + 1))
+            sender = threading.Thread(target=sock.sendall, args=(text,))
+            sender.start()
+            got = read_lines(sock, 3 * count)
+            sender.join()
+            self.assertEqual(got, [w for i in range(1, count + 1) for w in (f"granted a {i}", "released a", "pong")])
+        self.assertLess(len(self.log.entries), count)  # many in one
+
+    def test_an_entry_that_is_there_twice_counts_once(self):
+        self.log.twice = True
+        a, b = self.server("a"), self.server("b")
+        self.hand_over(a)
+        self.assertEqual(say(self.raw(b), "acquire b 1\n"), ["granted b 21"])
+
+    def test_other_texts_in_the_log_are_passed_by(self):
+        a, b = self.server("a"), self.server("b")
+        for text in ("", "nonsense", f"by a 1 9 0 {'0' * 64}\t1 1 leave", f"by x 9 1 0 {'0' * 64}\t5 1 acquire 0 1"):
+            self.log.put(text)
+        self.assertEqual(say(self.raw(b), "acquire a 1\n"), ["granted a 1"])
+        self.hand_over(a)
+
+    def test_a_fault(self):
+        a, b = self.server("a"), self.server("b")
+        self.assertEqual(a.operate("corrupt a 1 5"), "corrupted a 0")
+        self.catch_up(a, b)
+        self.assertEqual(a.operate("stats a"), b.operate("stats a"))
+        self.assertGreater(int(b.operate("stats a").split()[4]), 0)
+        wait_until(lambda: "lock a, machine 1, 5 over 0" in b.text_of_log())
+
+
+@needs_programs
+@needs_strict
+class Sessions(Trial):
+    def test_what_was_done_is_not_done_again(self):
+        a, b = self.server("a"), self.server("b")
+        one, _ = self.session(a, 77)
+        self.assertEqual(say(one, "1 acquire a 5\n"), ["1 granted a 1"])
+        two, lines = self.session(b, 77, 1)
+        self.assertEqual(lines, ["holds a 1"])
+        self.assertEqual(one.recv(10), b"")  # it is there now
+        self.assertEqual(say(two, "1 acquire a 5\n"), ["1 granted a 1"])
+        self.assertEqual(say(two, "2 release a 1\n2 release a 1\n3 acquire a 5\n", 3), ["2 released a", "2 released a", "3 granted a 2"])
+        self.assertEqual(say(two, "2 release a 1\nstats a\n", 2)[0], "2 refused past 3")
+        self.assertEqual(say(two, "4 release a 1\n4 release a 1\n", 2), ["4 refused holder a"] * 2)
+        self.assertEqual(a.calls(0), b.calls(0))
+
+    def test_who_waits_goes_on_waiting(self):
+        a, b = self.server("a"), self.server("b")
+        holder, (waiter, _) = self.raw(a), self.session(a, 5)
+        self.assertEqual(say(holder, "acquire a 1\n"), ["granted a 1"])
+        self.assertEqual(say(waiter, "1 acquire a 2\n"), ["1 waiting a 0"])
+        again, lines = self.session(b, 5, 1)
+        self.assertEqual(lines, ["waits a"])
+        self.assertEqual(say(again, "1 acquire a 2\n"), ["1 waiting a 0"])
+        self.assertEqual(say(holder, "release a 1\n"), ["released a"])
+        self.assertEqual(read_lines(again, 1), ["granted a 2"])
+        self.assertEqual(say(again, "1 acquire a 2\n2 leave\n3 try a 4\n", 3), ["1 waiting a 0", "2 left", "3 granted a 3"])
+
+    def test_who_comes_twice_is_told_once(self):
+        a = self.server("a")
+        socks = [self.raw(a) for _ in range(5)]
+        for i, sock in enumerate(socks):
+            sock.sendall(f"session 6\n{i} acquire a 5\n".encode())
+        for sock in socks[:4]:
+            read_lines(sock, 9)  # to the end
+        lines = []
+        while not lines or not lines[-1].startswith("4 "):
+            lines += read_lines(socks[4], 1)
+        self.assertIn(lines, (["session 6 0", "4 granted a 1"], ["session 6 1", "holds a 1", "4 refused holds a"]))
+
+    def test_a_leave_before_anything_else(self):
+        a = self.server("a")
+        sock, (other, _) = self.raw(a), self.session(a, 6)
+        self.assertEqual(say(sock, "leave\nleave\n", 2), ["left", "left"])
+        self.assertEqual(say(other, "1 leave\n2 leave\n3 acquire a 1\n3 acquire a 1\n", 4), ["1 left", "2 left", "3 granted a 1", "3 granted a 1"])
+
+    def test_lines_of_a_session(self):
+        with self.raw(self.server("a")) as sock:
+            self.assertEqual(say(sock, "session 9\nsession 9\nacquire a 1\n3 ping\nping\n01 leave\n", 6), [
+                "session 9 0", "refused syntax", "refused syntax", "refused syntax", "pong", "refused syntax"])
+            self.assertEqual(say(sock, "1 acquire q 1\n2 stop\n", 2), ["1 refused lock q", "refused syntax"])
+        with self.raw(self.server("b")) as sock:
+            self.assertEqual(say(sock, "acquire a 1\nsession 9\n", 2), ["granted a 1", "refused syntax"])
+
+    def test_one_who_does_not_come_back(self):
+        a, b = self.server("a", lease="0.5"), self.server("b", lease="0.5")
+        (one, _), other = self.session(a, 3), self.raw(b)
+        self.assertEqual(say(one, "1 acquire a 5\n"), ["1 granted a 1"])
+        one.close()
+        other.sendall(b"acquire a 5\n")
+        self.assertEqual(granted(other), "granted a 2")
+        wait_until(lambda: "did not come back; it held a" in a.text_of_log())
+        self.session(b, 3)
+
+    def test_the_number_is_not_the_key(self):
+        a = self.server("a")
+        (one, _), (two, _) = self.session(a, 12345), self.session(a, 678)
+        self.assertEqual(say(two, "1 acquire a 5\n"), ["1 granted a 1"])
+        self.assertIn("lock a held 2 5 1 ", a.operate("status", 4))
+        self.assertIn("client 2 0 a - ", a.operate("clients", 4))
+        self.assertEqual(say(two, "2 leave\n3 acquire b 5\n", 2), ["2 left", "3 granted b 1"])
+        self.assertIn("lock b held 3 5 1 ", a.operate("status", 4))
+
+    def test_a_server_alone_has_none(self):
+        with Server() as server, server.raw() as sock:
+            self.assertEqual(say(sock, "session 1\nacquire a 1\n", 2), ["refused session", "granted a 1"])
+            self.assertEqual(server.operate("cluster"), "refused cluster")
+
+
+@needs_programs
+@needs_strict
+class Ends(Trial):
+    def test_clients_of_a_killed_server_leave_or_go_on(self):
+        a, b = (self.server(name, lease="1", host_lease="1") for name in "ab")
+        plain, (keyed, _) = self.raw(a), self.session(a, 4)
+        self.assertEqual(say(plain, "acquire a 1\n"), ["granted a 1"])
+        self.assertEqual(say(keyed, "1 acquire b 1\n"), ["1 granted b 1"])
+        other = self.raw(b)
+        self.assertEqual(say(other, "acquire a 2\n"), ["waiting a 0"])
+        begun = time.monotonic()
+        self.kill(a)
+        again, lines = self.session(b, 4, 1)
+        self.assertEqual(lines, ["holds b 1"])
+        self.assertEqual(read_lines(other, 1), ["granted a 2"])
+        self.assertGreater(time.monotonic() - begun, 1)
+        wait_until(lambda: "server a 1 is over at position " in b.text_of_log())
+        self.assertEqual(say(again, "2 release b 1\n"), ["2 released b"])
+        a = self.server("a", lease="1", host_lease="1")
+        self.hand_over(a)
+        self.assertIn("cluster a 3 ", a.operate("cluster"))
+
+    def test_a_server_whose_lease_is_over(self):
+        a, b = self.server("a"), self.server("b")
+        sock = self.raw(a)
+        self.assertEqual(say(sock, "acquire a 1\n"), ["granted a 1"])
+        self.log.end_lease("a")
+        self.assertEqual(sock.recv(10), b"")
+        wait_until(lambda: "cluster a 3 " in a.operate("cluster"))
+        self.assertIn("out of the log (its lease in etcd is over): all connections end", a.text_of_log())
+        self.hand_over(a)
+        self.assertEqual(say(self.raw(b), "try a 1\n"), ["busy a"])  # until the grace is over
+
+    def test_a_stopped_server_tells_nothing_old(self):
+        a, b = (self.server(name, lease="1", host_lease="1") for name in "ab")
+        sock, other = self.raw(a), self.raw(b)
+        self.assertEqual(say(other, "acquire a 1\n"), ["granted a 1"])
+        self.assertEqual(say(sock, "acquire a 1\n"), ["waiting a 0"])
+        a.process.send_signal(signal.SIGSTOP)
+        self.assertEqual(say(other, "release a 1\n"), ["released a"])
+        wait_until(lambda: "server a 1 is over" in b.text_of_log())
+        self.assertEqual(say(other, "acquire a 1\n"), ["granted a 3"])
+        a.process.send_signal(signal.SIGCONT)
+        self.assertEqual(sock.recv(100), b"")
+        wait_until(lambda: "its lease in etcd was not renewed in time" in a.text_of_log())
+        self.assertEqual(say(self.raw(b), "try a 1\n"), ["busy a"])
+
+    def test_an_end_in_good_order(self):
+        a = self.server("a")
+        sock = self.raw(a)
+        self.assertEqual(say(sock, "acquire a 1\n"), ["granted a 1"])
+        sock.sendall(b"release a 1\nacquire b 1\n")
+        wait_until(lambda: self.log.texts()[-1].endswith("acquire 1 1"))
+        a.process.terminate()
+        self.assertEqual(a.process.wait(PATIENCE), 0)
+        self.assertEqual(read_lines(sock, 3), ["released a", "granted b 1"])
+        self.assertEqual(a.text_of_log().splitlines()[-1].split(" ", 1)[1], "stopped")
+
+    def test_the_engine_is_killed(self):
+        a, b = self.server("a"), self.server("b")
+        self.hand_over(a)
+        sock = self.raw(a)
+        self.assertEqual(say(sock, "acquire a 1\n"), ["granted a 1"])
+        a.kill_engine()
+        self.assertEqual(sock.recv(10), b"")
+        wait_until(lambda: "cluster a 3 " in a.operate("cluster"))
+        self.hand_over(b)
+        self.catch_up(a, b)
+        wait_until(lambda: a.operate("cluster").split()[3:5] == b.operate("cluster").split()[3:5])
+
+    def test_one_that_others_contradict(self):
+        a, b = self.server("a"), self.server("b")
+        self.hand_over(a)
+        settings = self.log.texts()[0].split("\t")[1]
+        self.log.put(f"by x 101 1 2 {'1' * 64}\t{settings}")
+        wait_until(lambda: "CONTRADICTION: server x had other answers up to position 2" in a.text_of_log())
+        self.hand_over(b)
+        self.log.put(f"by y 102 1 3 {'2' * 64}\t{settings}")
+        for server in (a, b):
+            self.assertEqual(server.process.wait(PATIENCE), 3)
+            self.assertIn("two other servers had other answers up to position 3: keep the folder", server.text_of_log())
+
+    def words(self, name, *more):
+        folder = os.path.join(self.folder, name)
+        return [SERVER, "--engine", ENGINE, "--journal", folder, "--socket", folder + ".sock", "--etcd", self.log.path, "--name", name,
+                "--log-program", RELAY, "--locks", "a,b,c", "--faults", *more]
+
+    def test_other_settings(self):
+        self.server("a")
+        for more in (["--checkpoint", "7"], ["--checkpoint", "100000", "--segment", "9"]):
+            it = subprocess.run(self.words("b", *more), capture_output=True, text=True, timeout=PATIENCE)
+            self.assertEqual(it.returncode, 1)
+            self.assertIn("are the same for all servers; in the log they are `100000 - 1 a:8:8,b:8:8,c:8:8`, here `", it.stderr)
+
+    def test_a_folder_is_one_servers(self):
+        a = self.server("a")
+        it = subprocess.Popen(self.words("b", "--journal", a.journal), stderr=subprocess.PIPE, text=True)
+        wait_until(lambda: it.poll() is not None)
+        self.assertEqual(it.returncode, 1)
+        self.assertIn("another server has this folder", it.communicate()[1])
+        self.hand_over(a)
+        with Server() as alone:
+            it = subprocess.run(self.words("b", "--journal", alone.journal), capture_output=True, text=True, timeout=PATIENCE)
+            self.assertEqual(it.returncode, 1)
+            self.assertIn("this folder has the journal of a server that was alone", it.stderr)
+
+    def test_no_program_for_the_log(self):
+        for program, why in (("/none", "cannot run"), ("false", "keeps ending before it has found the log: exit status: 1")):
+            it = subprocess.run([*self.words("b"), "--log-program", program], capture_output=True, text=True, timeout=PATIENCE)
+            self.assertEqual(it.returncode, 1)
+            self.assertIn(why, it.stderr)
+
+
+@needs_programs
+@needs_strict
+class Checkpoints(Trial):
+    def compare(self, *folders):
+        """The checkpoints and the segments of these hosts are the same, byte for byte: how many segments."""
+        names = [sorted(it for it in os.listdir(os.path.join(self.folder, name, "journal", "journal")) if it.endswith(".ring"))
+                 for name in folders]
+        self.assertEqual(names[0], names[-1])
+        for name in folders[1:]:
+            first, other = (os.path.join(self.folder, it, "journal") for it in (folders[0], name))
+            self.assertTrue(filecmp.cmp(first + "/CHECKPOINT", other + "/CHECKPOINT", shallow=False))
+            for segment in names[0]:
+                self.assertTrue(filecmp.cmp(f"{first}/journal/{segment}", f"{other}/journal/{segment}", shallow=False), segment)
+        return len(names[0])
+
+    def test_kills_and_starts_give_equal_chains(self):
+        words = ["--segment", "20"]
+        a, b = (self.server(name, *words, checkpoint=30) for name in "ab")
+        held, (waiting, _) = self.raw(b), self.session(b, 8)
+        self.assertEqual(say(held, "acquire a 7\n"), ["granted a 1"])
+        self.assertEqual(say(waiting, "1 acquire a 8\n"), ["1 waiting a 0"])
+        for _ in range(3):
+            self.hand_over(a, count=25)
+            self.kill(a)
+            self.hand_over(b, "c", count=20)
+            a = self.server("a", *words, checkpoint=30)
+        self.hand_over(a)
+        self.catch_up(a, b)
+        wait_until(lambda: a.operate("cluster").split()[3:6] == b.operate("cluster").split()[3:6])
+        self.assertEqual(say(held, "release a 1\n"), ["released a"])
+        self.assertEqual(read_lines(waiting, 1), ["granted a 2"])
+        self.catch_up(a, b)
+        a.stop()
+        b.stop()
+        self.assertGreater(self.compare("a", "b"), 8)
+        self.assertGreater(self.log.needs["a"][0], 50)
+
+    def test_a_new_host(self):
+        a, b = (self.server(name, checkpoint=30) for name in "ab")
+        held = self.raw(a)
+        self.assertEqual(say(held, "acquire a 7\n"), ["granted a 1"])
+        self.hand_over(a, count=40)
+        self.log.begun = 31  # the log does not go back to the beginning
+        with self.assertRaises(RuntimeError):
+            self.server("c", checkpoint=30)
+        os.makedirs(os.path.join(self.folder, "d"))
+        shutil.copytree(b.journal, os.path.join(self.folder, "d", "journal"), ignore=shutil.ignore_patterns("lock"))
+        d = self.server("d", checkpoint=30)
+        self.catch_up(a, b, d)
+        self.assertEqual(say(self.raw(d), "try a 1\n"), ["busy a"])
+        self.hand_over(d, count=20)
+        self.catch_up(a, b, d)
+        for server in (a, b, d):
+            server.stop()
+        self.compare("a", "b", "d")
+
+    def restarted(self, server):
+        """What becomes of the server if it is started again: status and log."""
+        it = subprocess.run(server.words, capture_output=True, text=True, timeout=PATIENCE)
+        return it.returncode, it.stderr
+
+    def test_another_log(self):
+        a, b = (self.server(name, checkpoint=30) for name in "ab")
+        self.hand_over(a, count=40)
+        self.catch_up(a, b)
+        a.stop()
+        b.stop()
+        self.log.identity = "other"
+        status, text = self.restarted(a)
+        self.assertEqual(status, 4)
+        self.assertIn("the checkpoint is of another log than other: was etcd replaced?", text)
+        self.log.identity = "double"
+        self.log.begun = 1000
+        status, text = self.restarted(b)
+        self.assertEqual(status, 4)
+        self.assertIn("the log is another one, or does not reach back to the checkpoint", text)
+
+    def test_damaged_checkpoints(self):
+        a, b, c = (self.server(name, checkpoint=30) for name in "abc")
+        held, path = self.raw(a), c.journal + "/CHECKPOINT"
+        self.assertEqual(say(held, "acquire a 7\n"), ["granted a 1"])
+        self.hand_over(a, count=40)
+        self.catch_up(a, b, c)
+        c.stop()
+        with open(path, encoding="ascii") as file:
+            text = file.read()
+
+        def start(damaged):
+            with open(path, "w", encoding="ascii") as file:
+                file.write(damaged)
+            return subprocess.Popen(c.words, stderr=subprocess.PIPE, text=True)
+
+        for damaged, status, why in ((text[:100], 1, "CHECKPOINT: line "), (text.replace("end\n", ""), 1, "CHECKPOINT: line "),
+                                     (text.replace("hold 0 1 ", "hold 0 2 "), 1, "the engine keeps ending before it is ready")):
+            it = start(damaged)
+            said = it.communicate(timeout=PATIENCE)[1]
+            self.assertEqual((it.returncode, why in said), (status, True), said)
+        # another client holds the lock: that may be, but is not what the others say
+        lines = [line if not line.startswith("hold 0 1 ") else "hold 0 1 12345" for line in text.split("\n")]
+        it = start("\n".join(lines))
+        say(held, "release a 1\n")
+        for _ in range(3):
+            self.hand_over(a, count=3)
+            self.hand_over(b, count=3)
+        said = it.communicate(timeout=PATIENCE)[1]
+        self.assertEqual(it.returncode, 3, said)
+        self.assertIn("CONTRADICTION", said)
+
+
+if __name__ == "__main__":
+    unittest.main()

@@ -1,0 +1,104 @@
+"""What judges the runs of three hosts finds each thing that is wrong: a small run that was made by hand, and spoiled in one place."""
+
+import contextlib
+import io
+import os
+import shutil
+import sys
+import tempfile
+import unittest
+
+sys.path.insert(0, os.path.join(os.path.dirname(os.path.abspath(__file__)), "cluster"))
+
+import verify  # noqa: E402
+from harness import FOLDER  # noqa: E402
+
+HEAD = "by {} 0 " + "0" * 64 + "\t"
+ENTRIES = [HEAD.format("a 1 1") + "with 9 - 0 l0,l1\there 7\t7 1 acquire 0 5",
+           HEAD.format("b 2 1") + "with 9 - 0 l0,l1\there 8\t8 1 acquire 0 6\t8 1 acquire 0 6",
+           HEAD.format("a 1 2") + "7 2 release 0 1",
+           HEAD.format("a 1 2") + "7 2 release 0 1",
+           HEAD.format("b 2 2") + "here 7\t8 2 release 0 2\t9 1 acquire 1 1",
+           HEAD.format("a 1 3") + "7 3 acquire 1 1"]
+FIRST = ["did 7 1 1.0 1.1 acquire l0 5 | granted l0 1", "inside l0 1 1.2 1.3", "wrote l0 1", "did 7 2 1.4 1.5 release l0 1 | released l0"]
+SECOND = ["did 8 1 1.0 1.2 acquire l0 6 | waiting l0 0", "granted 8 l0 2", "inside l0 2 1.6 1.7", "wrote l0 2", "did 8 2 1.8 1.9 release l0 2 | released l0"]
+JUDGES = (verify.judge_log, verify.judge_answers, verify.judge_holds, verify.judge_files)
+
+
+class Verify(unittest.TestCase):
+    def setUp(self):
+        self.folder = tempfile.mkdtemp(prefix="wozgirt-", dir=FOLDER)
+        self.addCleanup(shutil.rmtree, self.folder)
+
+    def wrong(self, entries=None, first=None, second=None, files=None):
+        """What is found wrong, by its first word."""
+        entries, first, second = entries or ENTRIES, first or FIRST, second or SECOND
+        self.write("log.txt", [f"{i} {i + 9} {it}" for i, it in enumerate(entries, 1) if it])
+        self.write("client.0.txt", first)
+        self.write("client.1.txt", second)
+        for name in "abc":
+            for place in (f"kept/{name}", f"server.{name}/journal"):
+                self.write(f"{place}/0000000001.ring", ["a segment"])
+            self.write(f"kept/{name}/5.checkpoint", ["a checkpoint"])
+            self.write(f"server.{name}/journal/0000000002.ring", ["one"] if name == "b" else ["one", "two"])
+        for name, lines in (files or {}).items():
+            self.write(name, lines)
+        run = verify.Run(self.folder, ["l0", "l1"])
+        with contextlib.redirect_stdout(io.StringIO()):
+            for judge in JUDGES:
+                judge(run)
+        return sorted({it.split()[0] for it in run.wrong})
+
+    def write(self, name, lines):
+        path = os.path.join(self.folder, name)
+        os.makedirs(os.path.dirname(path), exist_ok=True)
+        with open(path, "w", encoding="ascii") as file:
+            file.write("".join(f"{line}\n" for line in lines))
+
+    def test_a_right_run(self):
+        self.assertEqual(self.wrong(), [])
+
+    def test_the_second_reading(self):
+        self.wrong()
+        reading = verify.Run(self.folder, ["l0", "l1"]).reading
+        self.assertEqual(reading.locks.grants, [(0, 1, 7, 5), (0, 2, 8, 6)])
+        self.assertEqual((reading.done, reading.again, reading.ignored), (4, 3, 1))
+
+    def test_a_gap_in_the_log(self):
+        self.assertEqual(self.wrong(entries=[*ENTRIES[:3], "", *ENTRIES[4:]]), ["entries"])
+
+    def test_an_input_that_is_done_twice(self):
+        again = HEAD.format("a 1 3") + "here 7\tgone 7\there 7\t7 2 release 0 1"
+        self.assertIn("inputs", self.wrong(entries=[*ENTRIES[:4], again, ENTRIES[4]]))
+
+    def test_answers_that_the_log_does_not_have(self):
+        for line in ("did 7 1 1.0 1.1 acquire l0 5 | waiting l0 0", "did 7 9 1.0 1.1 acquire l0 5 | granted l0 1",
+                     "did 7 1 1.0 1.1 acquire l1 5 | granted l0 1", "did 7 1 1.0 1.1 try l0 5 | granted l0 1"):
+            with self.subTest(line=line):
+                self.assertIn("answers", self.wrong(first=[line, *FIRST[1:]]))
+
+    def test_an_input_before_one_that_was_answered_before(self):
+        late = "did 7 1 1.95 1.99 acquire l0 5 | granted l0 1"
+        self.assertEqual(self.wrong(first=[late, *FIRST[1:]]), ["inputs,"])
+
+    def test_grants(self):
+        self.assertIn("grants", self.wrong(second=[SECOND[0], "granted 8 l0 3", *SECOND[2:]]))
+        self.assertIn("grants", self.wrong(second=[SECOND[0], "granted 7 l0 2", *SECOND[2:]]))
+        self.assertIn("grants", self.wrong(second=[*SECOND[:2], *SECOND[1:]]))
+
+    def test_two_inside(self):
+        self.assertEqual(self.wrong(second=[*SECOND[:2], "inside l0 2 1.25 1.7", *SECOND[3:]]), ["times"])
+        self.assertEqual(self.wrong(second=[*SECOND[:2], "inside l0 1 1.6 1.7", *SECOND[3:]]), ["times"])
+
+    def test_a_write_without_a_grant(self):
+        self.assertEqual(self.wrong(first=[*FIRST, "wrote l1 1"]), ["writes"])
+
+    def test_files_that_differ(self):
+        self.assertEqual(self.wrong(files={"kept/b/5.checkpoint": ["another"]}), ["positions"])
+        self.assertEqual(self.wrong(files={"kept/b/0000000001.ring": ["another"]}), ["segments"])
+        self.assertEqual(self.wrong(files={"server.c/journal/0000000001.ring": ["a"]}), ["segments"])
+        self.assertEqual(self.wrong(files={"server.c/journal/0000000002.ring": ["one", "three"]}), ["segments"])
+
+
+if __name__ == "__main__":
+    unittest.main()

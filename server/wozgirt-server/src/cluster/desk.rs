@@ -1,0 +1,185 @@
+//! Between the connections and the log: what a client says becomes a line of the next entry.
+
+use super::{Key, Line, Session};
+use crate::connection::{Connection, Pending, Seat};
+use crate::desk::{Desk, Then};
+use crate::log::{End, Event};
+use crate::requests::BadRequest;
+use wozgirt_engine::{Answer, Input, Lock, NotALine, Stats, Token};
+
+impl Desk {
+    /// Whether the client holds the lock, as far as the engine told.
+    pub(crate) fn holds(&self, connection: &Connection, lock: Lock) -> bool {
+        match (&self.cluster, &connection.seat) {
+            (Some(cluster), Some(seat)) => {
+                cluster.owns.session(seat.key).is_some_and(|session| cluster.mirror.holds(session, lock))
+            }
+            (Some(_), None) => false,
+            (None, _) => connection.holds.contains(&lock),
+        }
+    }
+
+    /// The client gives its key. Its session begins, or goes on, where the log has it.
+    pub(crate) fn open_session(&mut self, connection: &mut Connection, key: u64) -> Then {
+        let Some(cluster) = &mut self.cluster else {
+            self.sums.refused("session");
+            connection.tell_in_order("refused session");
+            return Then::Wait;
+        };
+        if connection.seat.is_some() {
+            connection.tell_in_order(format_args!("refused {}", BadRequest::Rest(NotALine::Syntax)));
+            return Then::Wait;
+        }
+        connection.seat = Some(Seat { key, is_keyed: true, last: 0, has_left: false });
+        connection.pending.push_back(Pending::Opening);
+        cluster.put(Line::Here(key));
+        cluster.opening.push_back(connection.client);
+        cluster.owns.come(key, connection.client).map_or(Then::Wait, Then::Moved)
+    }
+
+    /// The key of a client that says something for the log. It is drawn if the client gave none. A session that is new, or has
+    /// left, begins before that.
+    fn key(&mut self, connection: &mut Connection) -> Option<Key> {
+        let cluster = self.cluster.as_mut()?;
+        if connection.seat.is_none() {
+            let key = cluster.draw().ok()?;
+            connection.seat = Some(Seat { key, is_keyed: false, last: 0, has_left: true });
+            cluster.owns.come(key, connection.client);
+        }
+        let seat = connection.seat.as_mut()?;
+        if std::mem::take(&mut seat.has_left) {
+            cluster.put(Line::Here(seat.key));
+            cluster.opening.push_back(connection.client);
+        }
+        Some(seat.key)
+    }
+
+    /// An input goes into the log; a look is answered at once.
+    pub(crate) fn put_input(&mut self, connection: &mut Connection, number: Option<u64>, input: Input) {
+        if let Input::Stats { lock } = input {
+            return self.tell_stats(connection, lock);
+        }
+        let Some(key) = self.key(connection) else { return };
+        let number = number.unwrap_or_else(|| connection.next_number());
+        connection.pending.push_back(Pending::Numbered(number, input));
+        if let Some(cluster) = &mut self.cluster {
+            cluster.put(Line::Do(key, number, input));
+        }
+    }
+
+    /// A leave ends the session. What the client says next is another one, or the same from the beginning.
+    pub(crate) fn put_leave(&mut self, connection: &mut Connection, number: Option<u64>) {
+        self.sums.inputs += 1;
+        let Some(key) = self.key(connection) else { return };
+        connection.pending.push_back(Pending::Leaving(number.unwrap_or(0)));
+        if let Some(cluster) = &mut self.cluster {
+            cluster.put(Line::Gone(key));
+        }
+        if let Some(seat) = &mut connection.seat {
+            seat.has_left = true;
+        }
+    }
+
+    fn tell_stats(&mut self, connection: &mut Connection, lock: Lock) {
+        let Some(sight) = self.board.lock(lock) else { return };
+        let (machines, waiters, passes) = (sight.machines, sight.line.len() as u64, sight.passes);
+        let (holder, token) = sight.holder.map_or((0, 0), |holder| (holder.client, holder.token));
+        let stats = Answer::Stats(Stats { lock, machines, waiters, passes, holder, token });
+        connection.tell_in_order(self.line(&stats));
+    }
+
+    /// Tells an operator where this server is in the log.
+    pub(crate) fn tell_cluster(&mut self, connection: &mut Connection) {
+        let Some(cluster) = &self.cluster else {
+            self.sums.refused("cluster");
+            connection.tell_in_order("refused cluster");
+            return;
+        };
+        let (position, digest) = cluster.digests.last();
+        let alive: Vec<String> =
+            cluster.alive.iter().flatten().map(|it| format!("{}:{}", it.name, it.incarnation)).collect();
+        let me = cluster.me.as_ref().map_or("- 0".into(), ToString::to_string);
+        let alive = if alive.is_empty() { "-".into() } else { alive.join(",") };
+        connection.tell_in_order(format_args!("cluster {me} {position} {digest} {} {alive}", cluster.saved.1));
+    }
+
+    /// Tells the client an answer to its own input, if it waits for that.
+    pub(crate) fn tell_numbered(&mut self, connection: &mut Connection, number: u64, answer: &Answer) {
+        if !matches!(connection.pending.front(), Some(Pending::Numbered(first, _)) if *first == number) {
+            return;
+        }
+        if let Some(Pending::Numbered(_, Input::Acquire { lock, .. })) = connection.pending.pop_front() {
+            self.board.asked_no_longer(lock);
+        }
+        if let Answer::Refused { why, .. } = answer {
+            self.sums.refused(why.word());
+        }
+        connection.tell_numbered(number, self.line(answer));
+        connection.tell_what_waited();
+    }
+
+    /// Tells the client that it is granted what it waited for. One whose session is on its way here is told then.
+    pub(crate) fn tell_grant(&self, connection: &mut Connection, lock: Lock, token: Token) {
+        if !matches!(connection.pending.front(), Some(Pending::Opening)) {
+            self.tell(connection, &Answer::Granted { lock, token });
+        }
+    }
+
+    /// The session is here: what it holds and waits for.
+    pub(crate) fn tell_here(&self, connection: &mut Connection, session: Session) {
+        let (Some(cluster), Some(seat)) = (&self.cluster, &connection.seat) else { return };
+        if !matches!(connection.pending.front(), Some(Pending::Opening)) {
+            return;
+        }
+        let key = seat.key;
+        connection.pending.pop_front();
+        let standing = cluster.mirror.standing(session);
+        let count = standing.holds.len() + usize::from(standing.waits.is_some());
+        connection.tell(format_args!("session {key} {count}"));
+        for (lock, token) in standing.holds {
+            connection.tell(format_args!("holds {} {token}", self.names.name(lock)));
+        }
+        if let Some(lock) = standing.waits {
+            connection.tell(format_args!("waits {}", self.names.name(lock)));
+        }
+        connection.tell_what_waited();
+    }
+
+    /// The session has left.
+    pub(crate) fn tell_left(&self, connection: &mut Connection) {
+        if let Some(&Pending::Leaving(number)) = connection.pending.front() {
+            connection.pending.pop_front();
+            connection.tell_numbered(number, "left");
+            connection.tell_what_waited();
+        }
+    }
+
+    /// The connection is gone. A client with a key may come back, here or at another server. Returns what it held.
+    pub(crate) fn end_seat(&mut self, connection: &mut Connection, end: End) -> String {
+        let (Some(cluster), Some(seat)) = (&mut self.cluster, connection.seat.take()) else { return String::new() };
+        let held = cluster.standing(seat.key).holds;
+        let held: Vec<&str> = held.into_iter().map(|(lock, _)| self.names.name(lock)).collect();
+        let is_over = !seat.is_keyed && !matches!(end, End::Engine | End::Stop | End::Log | End::Moved);
+        if is_over || end == End::Lease || seat.has_left {
+            if cluster.owns.go(seat.key, connection.client) && !seat.has_left {
+                cluster.put(Line::Gone(seat.key));
+            }
+        } else {
+            let lease = connection.lease.unwrap_or(self.settings.longest_lease);
+            cluster.owns.await_client(seat.key, connection.client, self.now + lease);
+        }
+        held.join(",")
+    }
+
+    /// Sessions whose clients have not come back are over.
+    pub(crate) fn end_late_sessions(&mut self) {
+        let Some(cluster) = &mut self.cluster else { return };
+        for key in cluster.owns.take_late(self.now) {
+            let held = cluster.standing(key).holds;
+            let held: Vec<&str> = held.into_iter().map(|(lock, _)| self.names.name(lock)).collect();
+            cluster.put(Line::Gone(key));
+            let (session, held) = (cluster.owns.session(key).unwrap_or(0), held.join(","));
+            self.log.say(&Event::SessionOver { session, held: if held.is_empty() { "nothing" } else { &held } });
+        }
+    }
+}

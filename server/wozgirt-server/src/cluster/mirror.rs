@@ -1,0 +1,348 @@
+//! Which answer of the engine is whose: what it was given, and what it tells, in the same order.
+//!
+//! The engine tells one line for an input, and then the grants that the input brings to others. The board says who is next in
+//! a line, and so which grants these are. An engine that tells something else is not the one that was asked.
+
+use super::apply::Given;
+use super::entries::{is_digest, Key, Session};
+use crate::board::Board;
+use std::collections::{BTreeMap, HashMap, VecDeque};
+use std::time::Instant;
+use wozgirt_engine::{decimal, Answer, Answered, Input, Lock, Token, NOBODY};
+
+/// What a session holds and waits for.
+#[derive(Debug, Clone, Default, PartialEq, Eq)]
+pub struct Standing {
+    /// The locks that it holds, with its tokens.
+    pub holds: Vec<(Lock, Token)>,
+    /// The lock that it waits for.
+    pub waits: Option<Lock>,
+}
+
+/// What a line of the engine says.
+#[derive(Debug, PartialEq, Eq)]
+pub enum Effect {
+    /// The first line for an input.
+    Answered {
+        /// Whose it is.
+        session: Session,
+        /// Its number.
+        number: u64,
+        /// What was asked.
+        input: Input,
+        /// What is answered.
+        answer: Answer,
+    },
+    /// Who waited is granted the lock.
+    Granted {
+        /// Whose it is.
+        session: Session,
+        /// The lock.
+        lock: Lock,
+        /// The token.
+        token: Token,
+    },
+    /// The client's session has come here.
+    Here(Key, Session),
+    /// What the client had is given up.
+    Gone(Key),
+    /// The session has left, with this.
+    Left(Session, Standing),
+    /// All of an entry is done.
+    Done {
+        /// The entry's position.
+        position: u64,
+        /// The digest there.
+        digest: String,
+    },
+}
+
+/// The engine told what it was not asked.
+#[derive(Debug, PartialEq, Eq)]
+pub struct NotAsked;
+
+#[derive(Debug)]
+enum Item {
+    Given(Given),
+    At(u64),
+}
+
+/// What the engine was given and has not answered, and what the sessions have.
+#[derive(Debug, Default)]
+pub struct Mirror {
+    items: VecDeque<Item>,
+    /// The grants that come before anything else.
+    next: BTreeMap<Lock, Session>,
+    standing: HashMap<Session, Standing>,
+}
+
+impl Mirror {
+    /// The engine was given this.
+    pub fn give(&mut self, given: Given) {
+        self.items.push_back(Item::Given(given));
+    }
+
+    /// The engine was asked for the digest at this position.
+    pub fn give_at(&mut self, position: u64) {
+        self.items.push_back(Item::At(position));
+    }
+
+    /// What a session has.
+    pub fn standing(&self, session: Session) -> Standing {
+        self.standing.get(&session).cloned().unwrap_or_default()
+    }
+
+    /// Whether the session holds the lock.
+    pub fn holds(&self, session: Session, lock: Lock) -> bool {
+        self.standing.get(&session).is_some_and(|it| it.holds.iter().any(|(held, _)| *held == lock))
+    }
+
+    /// The session holds the lock from before.
+    pub fn put_hold(&mut self, session: Session, lock: Lock, token: Token) {
+        self.standing.entry(session).or_default().holds.push((lock, token));
+    }
+
+    /// The session waits for the lock from before.
+    pub fn put_wait(&mut self, session: Session, lock: Lock) {
+        self.standing.entry(session).or_default().waits = Some(lock);
+    }
+
+    /// Nobody is to be told of sessions that come and go.
+    pub fn forget_clients(&mut self) {
+        self.items.retain(|item| !matches!(item, Item::Given(Given::Here(..) | Given::Gone(_))));
+    }
+
+    /// Nothing was given, and nobody has anything.
+    pub fn forget(&mut self) {
+        *self = Mirror::default();
+    }
+
+    /// Whether all that was given is answered.
+    pub fn is_idle(&self) -> bool {
+        self.items.is_empty()
+    }
+
+    /// One line of the engine.
+    pub fn hear(&mut self, line: &str, board: &mut Board, now: Instant) -> Result<Vec<Effect>, NotAsked> {
+        let mut effects = Vec::new();
+        self.pass_silent(board, &mut effects);
+        if let Some(rest) = line.strip_prefix("at ") {
+            effects.push(self.hear_digest(rest)?);
+            return Ok(effects);
+        }
+        let Answered { client, answer } = line.parse().map_err(|_| NotAsked)?;
+        let effect = if self.next.is_empty() {
+            self.hear_answer(client, answer, board, now)?
+        } else {
+            Some(self.hear_grant(client, &answer, board, now)?)
+        };
+        effects.extend(effect);
+        Ok(effects)
+    }
+
+    fn hear_digest(&mut self, rest: &str) -> Result<Effect, NotAsked> {
+        let (position, digest) = rest.split_once(' ').ok_or(NotAsked)?;
+        let is_asked = matches!(self.items.pop_front(), Some(Item::At(at)) if decimal(position) == Ok(at));
+        if !is_asked || !self.next.is_empty() || !is_digest(digest) {
+            return Err(NotAsked);
+        }
+        Ok(Effect::Done { position: decimal(position).map_err(|_| NotAsked)?, digest: digest.into() })
+    }
+
+    /// What stands next and is not answered.
+    fn pass_silent(&mut self, board: &mut Board, effects: &mut Vec<Effect>) {
+        while self.next.is_empty() {
+            match self.items.front() {
+                Some(Item::Given(Given::Here(key, session))) => effects.push(Effect::Here(*key, *session)),
+                Some(Item::Given(Given::Gone(key))) => effects.push(Effect::Gone(*key)),
+                Some(Item::Given(Given::Leave(session))) => {
+                    let session = *session;
+                    let standing = self.leave(session, board);
+                    effects.push(Effect::Left(session, standing));
+                }
+                Some(Item::Given(Given::Forget(..))) => {}
+                _ => return,
+            }
+            self.items.pop_front();
+        }
+    }
+
+    fn leave(&mut self, session: Session, board: &mut Board) -> Standing {
+        let standing = self.standing.remove(&session).unwrap_or_default();
+        if let Some(lock) = standing.waits {
+            board.waits_no_longer(lock, session);
+        }
+        for (lock, _) in &standing.holds {
+            board.left(*lock, session);
+            self.expect_next(*lock, board);
+        }
+        standing
+    }
+
+    /// The hold of this lock has ended: the first of the line is next.
+    fn expect_next(&mut self, lock: Lock, board: &Board) {
+        let first = board.lock(lock).and_then(|sight| sight.line.front());
+        self.next.extend(first.map(|waiter| (lock, waiter.client)));
+    }
+
+    fn hear_grant(
+        &mut self,
+        client: Session,
+        answer: &Answer,
+        board: &mut Board,
+        now: Instant,
+    ) -> Result<Effect, NotAsked> {
+        let Answer::Granted { lock, token } = *answer else { return Err(NotAsked) };
+        if self.next.remove(&lock) != Some(client) {
+            return Err(NotAsked);
+        }
+        let standing = self.standing.entry(client).or_default();
+        standing.waits = None;
+        standing.holds.push((lock, token));
+        board.granted(lock, client, token, None, now);
+        Ok(Effect::Granted { session: client, lock, token })
+    }
+
+    fn hear_answer(
+        &mut self,
+        client: Session,
+        answer: Answer,
+        board: &mut Board,
+        now: Instant,
+    ) -> Result<Option<Effect>, NotAsked> {
+        match self.items.pop_front() {
+            Some(Item::Given(Given::Do { session, number, input, is_new, .. })) if session == client => {
+                if is_new {
+                    self.note(session, input, &answer, board, now)?;
+                }
+                Ok(Some(Effect::Answered { session, number, input, answer }))
+            }
+            Some(Item::Given(Given::Stats(lock))) if client == NOBODY => match answer {
+                Answer::Stats(stats) if stats.lock == lock => {
+                    board.note_stats(&stats);
+                    Ok(None)
+                }
+                Answer::Refused { .. } => Ok(None), // there is no such lock
+                _ => Err(NotAsked),
+            },
+            _ => Err(NotAsked),
+        }
+    }
+
+    /// What a new input changes.
+    fn note(
+        &mut self,
+        session: Session,
+        input: Input,
+        answer: &Answer,
+        board: &mut Board,
+        now: Instant,
+    ) -> Result<(), NotAsked> {
+        let standing = self.standing.entry(session).or_default();
+        match (input, answer) {
+            (Input::Acquire { lock, label } | Input::Try { lock, label }, Answer::Granted { lock: l, token })
+                if lock == *l =>
+            {
+                standing.holds.push((lock, *token));
+                board.granted(lock, session, *token, Some(label), now);
+            }
+            (Input::Acquire { lock, label }, Answer::Waiting { lock: l, .. }) if lock == *l => {
+                standing.waits = Some(lock);
+                board.waits(lock, session, label, now);
+            }
+            (Input::Release { lock, .. }, Answer::Released { lock: l }) if lock == *l => {
+                standing.holds.retain(|(held, _)| *held != lock);
+                board.released(lock, session);
+                self.expect_next(lock, board);
+            }
+            (Input::Cancel { lock }, Answer::Cancelled { lock: l }) if lock == *l => {
+                standing.waits = None;
+                board.waits_no_longer(lock, session);
+            }
+            (Input::Corrupt { lock, machine, value }, Answer::Corrupted { lock: l, old }) if lock == *l => {
+                board.fault(lock, machine, value, *old);
+            }
+            (Input::Try { lock, .. }, Answer::Busy { lock: l }) if lock == *l => {}
+            (_, Answer::Refused { .. }) => {}
+            _ => return Err(NotAsked),
+        }
+        if self.standing.get(&session) == Some(&Standing::default()) {
+            self.standing.remove(&session);
+        }
+        Ok(())
+    }
+}
+
+#[cfg(test)]
+mod tests {
+    use super::*;
+
+    fn does(session: Session, number: u64, input: &str, is_new: bool) -> Given {
+        Given::Do { key: session + 100, session, number, input: input.parse().unwrap(), is_new }
+    }
+
+    fn told(mirror: &mut Mirror, board: &mut Board, lines: &[&str]) -> Vec<Effect> {
+        lines.iter().flat_map(|line| mirror.hear(line, board, Instant::now()).unwrap()).collect()
+    }
+
+    #[test]
+    fn grants_belong_to_what_brought_them() {
+        let (mut mirror, mut board) = (Mirror::default(), Board::new(2));
+        for given in [
+            does(1, 1, "acquire 0 5", true),
+            does(2, 1, "acquire 1 5", true),
+            does(3, 1, "acquire 0 6", true),
+            does(4, 1, "acquire 1 6", true),
+            does(1, 2, "release 0 1", true),
+            Given::Leave(3),
+            Given::Leave(2),
+            Given::Forget(2, 1),
+            Given::Gone(102),
+            Given::Here(104, 4),
+            does(4, 1, "acquire 1 6", false),
+        ] {
+            mirror.give(given);
+        }
+        mirror.give_at(1);
+        let lines =
+            ["1 granted 0 1", "2 granted 1 1", "3 waiting 0 0", "4 waiting 1 0", "1 released 0", "3 granted 0 2"];
+        let effects = told(&mut mirror, &mut board, &lines);
+        assert_eq!(effects.last(), Some(&Effect::Granted { session: 3, lock: 0, token: 2 }));
+        let digest = "0".repeat(64);
+        let effects = told(&mut mirror, &mut board, &["4 granted 1 2", "4 waiting 1 0", &format!("at 1 {digest}")]);
+        assert_eq!(effects[0], Effect::Left(3, Standing { holds: vec![(0, 2)], waits: None }));
+        assert_eq!(effects[2], Effect::Granted { session: 4, lock: 1, token: 2 });
+        assert_eq!(effects[3..5], [Effect::Gone(102), Effect::Here(104, 4)]);
+        assert!(matches!(effects[5], Effect::Answered { answer: Answer::Waiting { .. }, .. }));
+        assert_eq!(effects[6], Effect::Done { position: 1, digest });
+        assert_eq!(mirror.standing(4), Standing { holds: vec![(1, 2)], waits: None });
+        assert_eq!((board.locks()[0].holder, board.locks()[1].holder.unwrap().client), (None, 4));
+        assert!(mirror.is_idle() && mirror.holds(4, 1) && !mirror.holds(4, 0));
+    }
+
+    #[test]
+    fn what_nobody_asked() {
+        for (given, line) in [
+            (does(1, 1, "acquire 0 5", true), "2 granted 0 1"),
+            (does(1, 1, "acquire 0 5", true), "1 granted 1 1"),
+            (does(1, 1, "acquire 0 5", true), "1 released 0"),
+            (does(1, 1, "acquire 0 5", true), "at 1 0"),
+            (Given::Leave(1), "1 granted 0 1"),
+            (Given::Stats(0), "0 stats 1 8 0 0 0 0"),
+        ] {
+            let (mut mirror, mut board) = (Mirror::default(), Board::new(2));
+            mirror.give(given);
+            assert_eq!(mirror.hear(line, &mut board, Instant::now()), Err(NotAsked), "{line}");
+        }
+    }
+
+    #[test]
+    fn a_look_after_repairs() {
+        let (mut mirror, mut board) = (Mirror::default(), Board::new(1));
+        mirror.give(does(1, 1, "corrupt 0 2 3", true));
+        mirror.give(Given::Stats(0));
+        let effects = told(&mut mirror, &mut board, &["1 corrupted 0 0", "0 stats 0 8 0 6 0 0"]);
+        assert_eq!(effects.len(), 1);
+        assert_eq!((board.locks()[0].passes, board.locks()[0].machines, board.locks()[0].faults), (6, 8, 1));
+    }
+}

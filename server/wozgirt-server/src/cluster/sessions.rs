@@ -1,0 +1,148 @@
+//! The sessions of this server's own clients.
+
+use super::entries::{Key, Session};
+use std::collections::HashMap;
+use std::fs::File;
+use std::io::{self, Read};
+use std::time::Instant;
+use wozgirt_engine::Client;
+
+/// A key that no client has, for one that gives none.
+pub fn draw(random: &mut File) -> io::Result<Key> {
+    let mut bytes = [0; 8];
+    random.read_exact(&mut bytes)?;
+    Ok(Key::from_le_bytes(bytes))
+}
+
+/// Where a client of this server is.
+#[derive(Debug, PartialEq, Eq)]
+enum Own {
+    /// At this connection.
+    Here(Client),
+    /// It has until then to come back.
+    Away(Instant),
+}
+
+/// The clients of this server, by their keys.
+#[derive(Debug, Default)]
+pub struct Owns {
+    all: HashMap<Key, Own>,
+    /// The number of the client's last session, as soon as the log has given it.
+    sessions: HashMap<Key, Session>,
+    keys: HashMap<Session, Key>,
+}
+
+impl Owns {
+    /// The client is at this connection: the one where it was before.
+    pub fn come(&mut self, key: Key, client: Client) -> Option<Client> {
+        match self.all.insert(key, Own::Here(client)) {
+            Some(Own::Here(before)) => Some(before),
+            _ => None,
+        }
+    }
+
+    /// The log has given the client's session this number.
+    pub fn name(&mut self, key: Key, session: Session) {
+        self.sessions.insert(key, session);
+        self.keys.insert(session, key);
+    }
+
+    /// The session is over.
+    pub fn forget(&mut self, session: Session) {
+        if let Some(key) = self.keys.remove(&session) {
+            if self.sessions.get(&key) == Some(&session) {
+                self.sessions.remove(&key);
+            }
+        }
+    }
+
+    /// The number of the client's session.
+    pub fn session(&self, key: Key) -> Option<Session> {
+        self.sessions.get(&key).copied()
+    }
+
+    /// The connection of the client with this key.
+    pub fn client(&self, key: Key) -> Option<Client> {
+        match self.all.get(&key) {
+            Some(Own::Here(client)) => Some(*client),
+            _ => None,
+        }
+    }
+
+    /// The connection of the session's client.
+    pub fn client_of(&self, session: Session) -> Option<Client> {
+        self.keys.get(&session).and_then(|key| self.client(*key))
+    }
+
+    /// The connection is gone, and the client may come back until then.
+    pub fn await_client(&mut self, key: Key, client: Client, until: Instant) {
+        if self.client(key) == Some(client) {
+            self.all.insert(key, Own::Away(until));
+        }
+    }
+
+    /// The client is not this server's any more: whether it was, at this connection.
+    pub fn go(&mut self, key: Key, client: Client) -> bool {
+        let is_here = self.client(key) == Some(client);
+        if is_here {
+            self.all.remove(&key);
+        }
+        is_here
+    }
+
+    /// The client has come to another server: the connection where it was.
+    pub fn moved(&mut self, key: Key) -> Option<Client> {
+        match self.all.remove(&key) {
+            Some(Own::Here(client)) => Some(client),
+            _ => None,
+        }
+    }
+
+    /// Takes the clients that have not come back in time.
+    pub fn take_late(&mut self, now: Instant) -> Vec<Key> {
+        let is_late = |own: &Own| matches!(own, Own::Away(until) if *until <= now);
+        let mut late: Vec<Key> = self.all.iter().filter(|(_, own)| is_late(own)).map(|(key, _)| *key).collect();
+        late.sort_unstable();
+        for key in &late {
+            self.all.remove(key);
+        }
+        late
+    }
+}
+
+#[cfg(test)]
+mod tests {
+    use super::*;
+
+    #[test]
+    fn a_client_comes_and_goes() {
+        let (mut owns, start) = (Owns::default(), Instant::now());
+        let second = std::time::Duration::from_secs(1);
+        assert_eq!((owns.come(7, 1), owns.client(7), owns.client(8)), (None, Some(1), None));
+        owns.await_client(7, 1, start + second);
+        assert_eq!((owns.client(7), owns.take_late(start)), (None, vec![]));
+        assert_eq!(owns.come(7, 2), None);
+        assert_eq!(owns.come(7, 3), Some(2));
+        owns.await_client(7, 2, start + second); // it is at the other one by now
+        assert!(!owns.go(7, 2));
+        owns.await_client(7, 3, start + second);
+        assert_eq!(owns.take_late(start + second), [7]);
+        owns.come(9, 4);
+        assert_eq!((owns.moved(9), owns.moved(9)), (Some(4), None));
+    }
+
+    #[test]
+    fn sessions_have_numbers() {
+        let mut owns = Owns::default();
+        owns.come(70, 1);
+        owns.name(70, 5);
+        owns.name(70, 6); // it has left, and said more
+        assert_eq!((owns.client_of(5), owns.client_of(6), owns.session(70)), (Some(1), Some(1), Some(6)));
+        owns.forget(5);
+        assert_eq!((owns.client_of(5), owns.session(70)), (None, Some(6)));
+        owns.forget(6);
+        assert_eq!((owns.client_of(6), owns.session(70)), (None, None));
+        let mut random = File::open("/dev/urandom").unwrap();
+        assert_ne!(draw(&mut random).unwrap(), draw(&mut random).unwrap());
+    }
+}

@@ -1,0 +1,441 @@
+//! One of several servers: the log is read, the engine does what it says, and clients are told.
+
+use super::{Server, ENGINE, ENGINE_INPUT};
+use crate::board::Board;
+use crate::cluster::{
+    holders, Applied, BadCheckpoint, Block, Checkpoint, Cluster, Effect, Key, Phase, Read, Server as LogServer, Verdict,
+};
+use crate::engine::{Outcome, Unheard};
+use crate::log::{End, Event};
+use crate::CannotServe;
+use std::mem;
+use std::process::ExitStatus;
+use std::time::Instant;
+use wozgirt_engine::{decimal, Answer, Answered, Client, Input, NOBODY};
+use wozgirt_system::Interest;
+
+/// The status with which the process that speaks to etcd says that the log is not the one that is asked for.
+const LOST: i32 = 4;
+
+/// What the engine's state is before the first entry.
+fn first_state() -> Vec<String> {
+    vec![format!("at 0 {}", "0".repeat(64))]
+}
+
+impl Server {
+    /// Reads the checkpoint, and prepares the engine's folder for it.
+    pub(super) fn begin_cluster(&mut self) -> Result<(), CannotServe> {
+        let now = self.desk.now;
+        let desk = &mut self.desk;
+        let Some(cluster) = &mut desk.cluster else { return Ok(()) };
+        let (applied, state, segment) = match cluster.folder.read()? {
+            None => (Applied::new(cluster.applied.most_lines), first_state(), 0),
+            Some(text) => {
+                let found = Checkpoint::parse(&text, cluster.applied.most_lines);
+                let Checkpoint { identity, segment, applied, state } =
+                    found.map_err(|BadCheckpoint(line)| CannotServe::Checkpoint(cluster.folder.checkpoint(), line))?;
+                cluster.identity = Some(identity);
+                (applied, state, segment)
+            }
+        };
+        cluster.folder.restore(segment, applied.position)?;
+        cluster.folder.write_holders(&holders(&state))?;
+        cluster.saved = (segment, applied.position);
+        cluster.applied = applied;
+        cluster.phase = Phase::Restoring(Vec::new());
+        cluster.is_restored = false;
+        cluster.blocks.clear();
+        cluster.unread.clear();
+        cluster.mirror.forget();
+        desk.board.forget();
+        put_state(cluster, &mut desk.board, &state, now);
+        cluster.state = state;
+        check_settings(cluster)
+    }
+
+    /// Both processes: whether they have ended, and whether they are to be started.
+    pub(super) fn look_at_cluster(&mut self) -> Result<(), CannotServe> {
+        let (now, is_stopping) = (self.desk.now, self.stopping.is_some());
+        let outcome = self.desk.engine.look(is_stopping, now)?;
+        self.engine_ended(outcome)?;
+        let Some(cluster) = &mut self.desk.cluster else { return Ok(()) };
+        match cluster.log.look(is_stopping, now)? {
+            Outcome::NotYet => {}
+            Outcome::Again(status) | Outcome::Over(status) if status.code() == Some(LOST) && !is_stopping => {
+                return Err(CannotServe::LogLost);
+            }
+            Outcome::Again(status) => self.desk.log.say(&Event::LogEnded { status: status.to_string() }),
+            Outcome::Over(status) => {
+                self.desk.log.say(&Event::LogEnded { status: status.to_string() });
+                return if is_stopping { Ok(()) } else { Err(CannotServe::LogEnds(status)) };
+            }
+        }
+        if is_stopping {
+            return Ok(());
+        }
+        self.start_engine()?;
+        self.start_log()
+    }
+
+    fn engine_ended(&mut self, outcome: Outcome) -> Result<(), CannotServe> {
+        let is_planned = |phase: &Phase, status: &ExitStatus| matches!(phase, Phase::Ending(_)) && status.success();
+        let Some(cluster) = &self.desk.cluster else { return Ok(()) };
+        match outcome {
+            Outcome::NotYet => {}
+            Outcome::Again(status) if is_planned(&cluster.phase, &status) => self.save()?,
+            Outcome::Again(status) => {
+                self.desk.log.say(&Event::EngineEnded { status: status.to_string() });
+                if cluster.is_restored {
+                    self.lose_engine_of_cluster(true); // it ended badly while it was to end
+                }
+                self.begin_cluster()?;
+            }
+            Outcome::Over(status) => {
+                self.desk.log.say(&Event::EngineEnded { status: status.to_string() });
+                if self.stopping.is_none() {
+                    return Err(CannotServe::EngineEnds(status));
+                }
+            }
+        }
+        Ok(())
+    }
+
+    /// The engine has told its state and ended: that is the checkpoint, from which it starts again.
+    fn save(&mut self) -> Result<(), CannotServe> {
+        let now = self.desk.now;
+        let Some(cluster) = &mut self.desk.cluster else { return Ok(()) };
+        let Phase::Ending(state) = mem::replace(&mut cluster.phase, Phase::Restoring(Vec::new())) else {
+            return Ok(());
+        };
+        let segment = cluster.folder.sync_from(cluster.saved.0)?;
+        let (position, revision) = (cluster.applied.position, cluster.applied.revision);
+        cluster.folder.keep(segment, position)?;
+        let identity = cluster.identity.clone().unwrap_or_default();
+        let checkpoint = Checkpoint { identity, segment, applied: cluster.applied.clone(), state };
+        cluster.folder.write(&checkpoint.text())?;
+        cluster.folder.write_holders(&checkpoint.holders())?;
+        cluster.folder.forget(cluster.saved.1, position)?;
+        cluster.saved = (segment, position);
+        cluster.state = checkpoint.state;
+        if cluster.me.is_some() {
+            cluster.log.ask_line(format_args!("checkpoint {position} {revision}"));
+        }
+        self.desk.log.say(&Event::Checkpoint { position, segment });
+        self.desk.engine.start_at_once(now);
+        Ok(())
+    }
+
+    /// Starts the engine with the state that it ended with.
+    fn start_engine(&mut self) -> Result<(), CannotServe> {
+        let desk = &mut self.desk;
+        let Some(process) = desk.engine.start(desk.now).map_err(CannotServe::Engine)? else { return Ok(()) };
+        let Some(cluster) = &mut desk.cluster else { return Ok(()) };
+        if !cluster.is_restored {
+            desk.log.say(&Event::EngineStarted { process, grace: desk.settings.grace });
+        }
+        if let (Some(input), Some(output)) = (desk.engine.input(), desk.engine.output()) {
+            self.poller.add(output, ENGINE, Interest::READS)?;
+            self.poller.add(input, ENGINE_INPUT, Interest { reads: false, writes: false })?;
+        }
+        for lock in 0..desk.names.count() {
+            desk.engine.ask_line(format_args!("{NOBODY} {}", Input::Stats { lock }));
+        }
+        if cluster.saved.1 == 0 {
+            desk.engine.ask_line("at 0");
+        } else {
+            for line in cluster.state.iter().filter(|line| !line.starts_with("hold ")) {
+                desk.engine.ask_line(line);
+            }
+        }
+        desk.engine.ask_line("state");
+        Ok(())
+    }
+
+    /// What the engine has told.
+    pub(super) fn hear_engine_of_cluster(&mut self) -> Result<(), CannotServe> {
+        let mut lines = Vec::new();
+        let heard = self.desk.engine.read_lines(&mut lines);
+        for line in lines {
+            if !self.hear_line(line)? {
+                return Ok(());
+            }
+        }
+        match heard {
+            Ok(()) => {}
+            Err(Unheard::Ended) => {
+                let is_planned =
+                    self.desk.cluster.as_ref().is_some_and(|cluster| matches!(cluster.phase, Phase::Ending(_)));
+                if is_planned && self.stopping.is_none() {
+                    self.desk.engine.give_up(true, self.desk.now);
+                } else {
+                    self.lose_engine_of_cluster(true);
+                }
+            }
+            Err(Unheard::Unreadable(line, fault)) => {
+                self.desk.log.say(&Event::EngineUnreadable { line, fault: Some(fault) });
+                self.lose_engine_of_cluster(false);
+            }
+        }
+        self.pump()
+    }
+
+    /// One line of the engine. False if it is given up.
+    fn hear_line(&mut self, line: String) -> Result<bool, CannotServe> {
+        let now = self.desk.now;
+        let desk = &mut self.desk;
+        let Some(cluster) = &mut desk.cluster else { return Ok(false) };
+        cluster.has_answered = true;
+        match &mut cluster.phase {
+            Phase::Restoring(lines) | Phase::Asking(lines) => {
+                let is_last = line.starts_with("state ");
+                lines.push(line);
+                if is_last {
+                    self.hear_state()?;
+                }
+                return Ok(true);
+            }
+            Phase::Following => {}
+            Phase::Ending(_) => {
+                self.lose_engine_for(line);
+                return Ok(false);
+            }
+        }
+        match cluster.mirror.hear(&line, &mut desk.board, now) {
+            Ok(effects) => {
+                for effect in effects {
+                    self.tell_effect(effect)?;
+                }
+                Ok(true)
+            }
+            Err(_) => {
+                self.lose_engine_for(line);
+                Ok(false)
+            }
+        }
+    }
+
+    /// The engine has told its whole state.
+    fn hear_state(&mut self) -> Result<(), CannotServe> {
+        let Some(cluster) = &mut self.desk.cluster else { return Ok(()) };
+        let phase = mem::replace(&mut cluster.phase, Phase::Following);
+        let is_asked = matches!(phase, Phase::Asking(_));
+        let (Phase::Restoring(mut lines) | Phase::Asking(mut lines)) = phase else { return Ok(()) };
+        let count = lines.pop().and_then(|last| last.strip_prefix("state ").and_then(|count| count.parse().ok()));
+        let Some(start) = count.and_then(|count: usize| lines.len().checked_sub(count)) else {
+            self.lose_engine_for("state".into());
+            return Ok(());
+        };
+        let state = lines.split_off(start);
+        if is_asked {
+            cluster.phase = Phase::Ending(state);
+            self.desk.engine.end();
+            return Ok(());
+        }
+        if state != cluster.state {
+            return Err(CannotServe::Restored);
+        }
+        self.restored(&lines)
+    }
+
+    /// The engine has the state of the checkpoint, and has said this besides.
+    fn restored(&mut self, lines: &[String]) -> Result<(), CannotServe> {
+        let desk = &mut self.desk;
+        let Some(cluster) = &mut desk.cluster else { return Ok(()) };
+        for line in lines {
+            if let Ok(Answered { answer: Answer::Stats(stats), .. }) = line.parse() {
+                desk.board.note_stats(&stats);
+            }
+        }
+        if let Some(digest) = cluster.state.last().and_then(|line| line.rsplit(' ').next()) {
+            if !cluster.is_restored {
+                cluster.digests.note(cluster.applied.position, digest.into());
+            }
+        }
+        desk.engine.note_ready();
+        if !mem::replace(&mut cluster.is_restored, true) {
+            let held = cluster.state.iter().filter(|line| line.starts_with("hold ")).count();
+            desk.log.say(&Event::EngineReady { held });
+        }
+        self.start_log()?;
+        self.pump()
+    }
+
+    fn lose_engine_for(&mut self, line: String) {
+        self.desk.log.say(&Event::EngineUnreadable { line, fault: None });
+        self.lose_engine_of_cluster(false);
+    }
+
+    /// The engine is gone: it begins again at the checkpoint, and so has the log to be read again from there.
+    pub(super) fn lose_engine_of_cluster(&mut self, is_ended: bool) {
+        self.desk.engine.give_up(is_ended, self.desk.now);
+        if self.stopping.is_some() {
+            return self.part_all(End::Stop);
+        }
+        self.part_all(End::Engine);
+        self.leave_log(false);
+        if let Some(cluster) = &mut self.desk.cluster {
+            cluster.is_restored = false;
+            cluster.blocks.clear();
+            cluster.mirror.forget();
+            cluster.phase = Phase::Restoring(Vec::new());
+        }
+    }
+
+    /// Gives the engine what is there of the log.
+    pub(super) fn pump(&mut self) -> Result<(), CannotServe> {
+        loop {
+            let waiting = self.desk.engine.waiting();
+            let Some(cluster) = &mut self.desk.cluster else { return Ok(()) };
+            let Some(read) = cluster.next_read(waiting) else { return Ok(()) };
+            self.give(read)?;
+        }
+    }
+
+    /// Gives the engine one entry.
+    fn give(&mut self, read: Read) -> Result<(), CannotServe> {
+        let desk = &mut self.desk;
+        let Some(cluster) = &mut desk.cluster else { return Ok(()) };
+        let Read { position, revision, entry } = read;
+        let step = cluster.applied.apply(position, revision, entry.as_ref());
+        check_settings(cluster)?;
+        let is_own = entry.as_ref().is_some_and(|entry| Some(&entry.writer) == cluster.me.as_ref());
+        for given in step.given {
+            let line = given.to_string();
+            if !line.is_empty() {
+                desk.engine.ask_line(line);
+            }
+            cluster.give(given, is_own);
+        }
+        desk.engine.ask_line(format_args!("at {position}"));
+        cluster.mirror.give_at(position);
+        if step.is_checkpoint {
+            desk.engine.ask_line("state");
+        }
+        let claim = entry.filter(|_| step.is_taken && !is_own);
+        let claim = claim.map(|entry| (entry.writer.name, entry.position, entry.digest));
+        cluster.blocks.push_back(Block { claim, is_checkpoint: step.is_checkpoint });
+        self.note_ends(position, &step.over, &step.moved);
+        Ok(())
+    }
+
+    /// Servers that are over at this position, and sessions that have gone on elsewhere.
+    fn note_ends(&mut self, position: u64, over: &[LogServer], moved: &[(Key, LogServer)]) {
+        let desk = &mut self.desk;
+        let Some(cluster) = &mut desk.cluster else { return };
+        let me = cluster.me.clone();
+        let owns = &mut cluster.owns;
+        let moved = moved.iter().filter(|(_, before)| Some(before) == me.as_ref());
+        let clients: Vec<Client> = moved.filter_map(|(key, _)| owns.moved(*key)).collect();
+        for server in over {
+            desk.log.say(&Event::ServerOver { server, position });
+        }
+        for client in clients {
+            self.part(client, End::Moved);
+        }
+        if over.iter().any(|server| Some(server) == me.as_ref()) {
+            self.lose_log("another server has declared it over", false);
+        }
+    }
+
+    /// What the engine said is told to whom it concerns.
+    fn tell_effect(&mut self, effect: Effect) -> Result<(), CannotServe> {
+        let (desk, connections) = (&mut self.desk, &mut self.connections);
+        let Some(cluster) = &mut desk.cluster else { return Ok(()) };
+        let client = match &effect {
+            Effect::Done { position, digest } => return self.done(*position, digest.clone()),
+            Effect::Left(session, _) => {
+                cluster.owns.forget(*session);
+                return Ok(());
+            }
+            // a client may have come twice, and is told what it has where it came last
+            Effect::Here(..) => cluster.opening.pop_front(),
+            Effect::Gone(key) => cluster.owns.client(*key),
+            Effect::Granted { session, .. } => cluster.owns.client_of(*session),
+            Effect::Answered { session, input, answer, .. } => {
+                if let (Input::Corrupt { lock, machine, value }, Answer::Corrupted { old, .. }) = (*input, answer) {
+                    let (client, lock, old) = (*session, desk.names.name(lock), *old);
+                    desk.log.say(&Event::Fault { client, who: "a session", lock, machine, value, old });
+                }
+                cluster.owns.client_of(*session)
+            }
+        };
+        let Some(connection) = client.and_then(|client| connections.get_mut(&client)) else { return Ok(()) };
+        match effect {
+            Effect::Answered { number, answer, .. } => desk.tell_numbered(connection, number, &answer),
+            Effect::Granted { lock, token, .. } => desk.tell_grant(connection, lock, token),
+            Effect::Here(_, session) => desk.tell_here(connection, session),
+            Effect::Gone(_) => desk.tell_left(connection),
+            Effect::Left(..) | Effect::Done { .. } => {}
+        }
+        let client = connection.client;
+        if connection.has_line() {
+            self.backlog.push_back(client);
+        }
+        self.touch(client);
+        Ok(())
+    }
+
+    /// The engine has done an entry.
+    fn done(&mut self, position: u64, digest: String) -> Result<(), CannotServe> {
+        let desk = &mut self.desk;
+        let Some(cluster) = &mut desk.cluster else { return Ok(()) };
+        cluster.digests.note(position, digest);
+        let Some(block) = cluster.blocks.pop_front() else { return Ok(()) };
+        if block.is_checkpoint {
+            cluster.phase = Phase::Asking(Vec::new());
+        }
+        let Some((name, position, digest)) = block.claim else { return Ok(()) };
+        match cluster.digests.compare(&name, position, &digest) {
+            Verdict::Nothing => Ok(()),
+            Verdict::Other => {
+                cluster.contradictions += 1;
+                desk.log.say(&Event::Contradiction { name: &name, position });
+                Ok(())
+            }
+            Verdict::Damaged => {
+                desk.log.say(&Event::Contradiction { name: &name, position });
+                Err(CannotServe::Contradicted(position))
+            }
+        }
+    }
+
+    /// Ends both processes when all that was asked is answered.
+    pub(super) fn stop_cluster(&mut self) {
+        let Some(cluster) = &mut self.desk.cluster else { return };
+        if cluster.is_idle() || cluster.me.is_none() {
+            cluster.log.end();
+            self.desk.engine.end();
+        }
+    }
+}
+
+/// Who holds and who waits in a state.
+fn put_state(cluster: &mut Cluster, board: &mut Board, state: &[String], now: Instant) {
+    for line in state {
+        let words: Vec<&str> = line.split(' ').collect();
+        let number = |i: usize| words.get(i).and_then(|word| decimal(word).ok()).unwrap_or(0);
+        match words[..] {
+            ["hold", ..] => {
+                let (lock, token, session) = (number(1) as usize, number(2), number(3));
+                cluster.mirror.put_hold(session, lock, token);
+                board.holds(lock, session, token, now);
+            }
+            [_, "acquire", ..] => {
+                let (session, lock, label) = (number(0), number(2) as usize, number(3));
+                cluster.mirror.put_wait(session, lock);
+                board.waits(lock, session, label, now);
+            }
+            _ => {}
+        }
+    }
+}
+
+/// The settings of this server are those of the log.
+fn check_settings(cluster: &Cluster) -> Result<(), CannotServe> {
+    match &cluster.applied.settings {
+        Some(settings) if *settings != cluster.with => {
+            Err(CannotServe::Settings { log: settings.clone(), own: cluster.with.clone() })
+        }
+        _ => Ok(()),
+    }
+}

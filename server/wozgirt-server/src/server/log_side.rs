@@ -1,0 +1,158 @@
+//! The log that several servers have: read, written, lost.
+
+use super::{Server, LOG, LOG_INPUT};
+use crate::cluster::{Cluster, Told};
+use crate::engine::Unheard;
+use crate::log::{End, Event};
+use crate::CannotServe;
+use std::mem;
+use wozgirt_system::Interest;
+
+impl Server {
+    /// Starts the process that speaks to etcd, if the engine is ready.
+    pub(super) fn start_log(&mut self) -> Result<(), CannotServe> {
+        let desk = &mut self.desk;
+        let Some(cluster) = desk.cluster.as_mut().filter(|cluster| cluster.is_restored) else { return Ok(()) };
+        let Some(process) = cluster.log.start(desk.now).map_err(CannotServe::Log)? else { return Ok(()) };
+        desk.log.say(&Event::LogStarted { process });
+        if let (Some(input), Some(output)) = (cluster.log.input(), cluster.log.output()) {
+            self.poller.add(output, LOG, Interest::READS)?;
+            self.poller.add(input, LOG_INPUT, Interest { reads: false, writes: false })?;
+        }
+        self.reads_log = true;
+        Ok(())
+    }
+
+    /// This server cannot be in the log any more as it was: it begins there again, as another.
+    pub(super) fn lose_log(&mut self, why: &str, is_ended: bool) {
+        if self.stopping.is_none() {
+            self.desk.log.say(&Event::LogLeft { why });
+            self.part_all(End::Log);
+        }
+        self.leave_log(is_ended);
+    }
+
+    pub(super) fn leave_log(&mut self, is_ended: bool) {
+        let now = self.desk.now;
+        if let Some(cluster) = &mut self.desk.cluster {
+            cluster.leave();
+            cluster.log.give_up(is_ended, now);
+        }
+    }
+
+    /// What the log has told.
+    pub(super) fn hear_log(&mut self) -> Result<(), CannotServe> {
+        let mut lines = Vec::new();
+        let Some(cluster) = &mut self.desk.cluster else { return Ok(()) };
+        let heard = cluster.log.read_lines(&mut lines);
+        for line in lines {
+            if !self.hear_log_line(&line)? {
+                return Ok(());
+            }
+        }
+        match heard {
+            Ok(()) => {}
+            Err(Unheard::Ended) => self.lose_log("wozgirt-log ends", true),
+            Err(Unheard::Unreadable(line, _)) => {
+                self.desk.log.say(&Event::LogUnreadable { line: &line });
+                self.lose_log("wozgirt-log is given up", false);
+            }
+        }
+        self.pump()
+    }
+
+    /// One line of it. False if nothing more of it is heard.
+    fn hear_log_line(&mut self, line: &str) -> Result<bool, CannotServe> {
+        let desk = &mut self.desk;
+        let Some(cluster) = &mut desk.cluster else { return Ok(false) };
+        let is_right = match line.parse() {
+            Ok(Told::Log { identity, incarnation }) => return self.join_log(identity, incarnation).map(|()| true),
+            Ok(Told::Entry { position, revision, text }) => {
+                cluster.receive(position, revision, &text, desk.now).is_some()
+            }
+            Ok(Told::Alive(servers)) => {
+                let is_alive = cluster.me.as_ref().map_or(true, |me| servers.contains(me));
+                cluster.alive = Some(servers);
+                if !is_alive {
+                    self.lose_log("its lease in etcd is over", false);
+                    return Ok(false);
+                }
+                true
+            }
+            Ok(Told::Kept(number)) => {
+                let lease = desk.settings.cluster.as_ref().map(|words| words.host_lease);
+                if cluster.kept(number, lease) {
+                    self.touch_all(); // now they are read
+                }
+                return Ok(true);
+            }
+            Ok(Told::Away { name, seconds }) => {
+                desk.log.say(&Event::HostAway { name: &name, seconds });
+                true
+            }
+            Err(_) => false,
+        };
+        if !is_right {
+            desk.log.say(&Event::LogUnreadable { line: line.get(..100).unwrap_or(line) });
+            self.lose_log("wozgirt-log is given up", false);
+        }
+        Ok(is_right)
+    }
+
+    fn join_log(&mut self, identity: String, incarnation: u64) -> Result<(), CannotServe> {
+        let desk = &mut self.desk;
+        let (Some(cluster), Some(words)) = (&mut desk.cluster, &desk.settings.cluster) else { return Ok(()) };
+        if cluster.identity.as_ref().is_some_and(|known| *known != identity) {
+            return Err(CannotServe::OtherLog(identity));
+        }
+        let (position, revision) = (cluster.applied.position, cluster.applied.revision);
+        let server = crate::cluster::Server { name: words.name.as_str().into(), incarnation };
+        desk.log.say(&Event::LogJoined { identity: &identity, server: &server, position });
+        cluster.identity = Some(identity);
+        cluster.log.note_ready();
+        cluster.log.ask_line(format_args!("follow {position} {revision}"));
+        cluster.join(server);
+        cluster.say_alive(desk.now);
+        Ok(())
+    }
+
+    /// What time brings to one of several servers.
+    pub(super) fn sweep_cluster(&mut self) {
+        let (now, grace) = (self.desk.now, self.desk.settings.grace);
+        self.desk.end_late_sessions();
+        if let (Some(cluster), Some(words)) = (&mut self.desk.cluster, &self.desk.settings.cluster) {
+            cluster.declare(grace, now);
+            if now >= cluster.next_alive(words.host_lease) {
+                cluster.say_alive(now);
+            }
+        }
+    }
+
+    /// Who does not know that its lease lives may have been declared over, as one that was stopped for a while.
+    pub(super) fn check_lease(&mut self) {
+        let is_over = |cluster: &Cluster| cluster.lease.is_some_and(|until| until <= self.desk.now);
+        if self.desk.cluster.as_deref().is_some_and(is_over) {
+            self.lose_log("its lease in etcd was not renewed in time", false);
+        }
+    }
+
+    /// Puts what clients have said into the log.
+    pub(super) fn write_log(&mut self) -> Result<(), CannotServe> {
+        let waiting = self.desk.engine.waiting();
+        let Some(cluster) = &mut self.desk.cluster else { return Ok(()) };
+        while let Some(word) = cluster.next_entry(self.desk.now) {
+            cluster.log.ask_line(format_args!("append {word}"));
+        }
+        cluster.log.write();
+        if let Some((input, interest)) = cluster.log.awaited_input() {
+            self.poller.change(input, LOG_INPUT, interest)?;
+        }
+        let reads = cluster.takes_more(waiting);
+        if let Some(output) = cluster.log.output() {
+            if mem::replace(&mut self.reads_log, reads) != reads {
+                self.poller.change(output, LOG, Interest { reads, writes: false })?;
+            }
+        }
+        Ok(())
+    }
+}
