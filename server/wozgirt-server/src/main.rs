@@ -36,5 +36,6 @@ fn main() -> ExitCode {
 
 /// Says why on standard error, in one write: the engine and `wozgirt-log` write there too, and nothing gets between its words.
 fn complain(why: fmt::Arguments<'_>) {
-    let _ = std::io::stderr().write_all(format!("wozgirt-server: {why}\n").as_bytes()); // nobody can be told
+    // (if it cannot be written, nobody can be told)
+    let _ = std::io::stderr().write_all(format!("wozgirt-server: {why}\n").as_bytes());
 }

@@ -297,7 +297,10 @@ mod tests {
         let lines = ["with s", "here 70", "70 5 acquire 0 5", "70 4 cancel 0"];
         let step = applied.apply(1, 1, Some(&entry("a", 1, 1, &lines)));
         assert!(!step.is_checkpoint);
-        assert!(matches!(step.given[1..], [Given::Do { is_new: true, .. }, Given::Do { is_new: false, number: 4, .. }]));
+        assert!(matches!(
+            step.given[1..],
+            [Given::Do { is_new: true, .. }, Given::Do { is_new: false, number: 4, .. }]
+        ));
         let step = applied.apply(2, 2, Some(&entry("a", 1, 2, &["70 6 corrupt 3 1 1"])));
         assert!(step.is_checkpoint && applied.lines == 0);
         assert_eq!(step.given[1], Given::Stats(3));
