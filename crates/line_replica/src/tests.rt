@@ -10,6 +10,9 @@ use segment_loop::{EndFault, Segmented};
 use std::alloc::{AllocError, Global};
 use std::process::Abort;
 
+/// A segment is due once more lines were answered than this, and lines are answered all the same.
+const MOST: u64 = 99;
+
 /// How many lines were answered. A line is answered with their number and, on a line of its own, the line.
 #[derive(Drop)]
 struct Count {
@@ -44,19 +47,19 @@ impl AnswersLines for Count {
 }
 
 impl Segmented for Count {
-    ghost use Rattle.std.specs.Prelude.{◌≡◌, Bool, [], false, Option, IsSome};
+    ghost use Rattle.std.specs.Prelude.{◌≡◌, refl, nat_lt, [], Option, IsSome};
     ghost use Rattle.std.proofs.Common.{subst, sym};
     ghost use Rattle.disks.specs.Held.{Held};
 
     ghost segmenting = { record {
       text = λ s number behind. [];
-      is_due = λ s. false;
+      is_due = λ s. nat_lt 99 s.lines;
       IsNext = λ old new. new.lines ≡ old.lines;
       IsKept = λ old why new. new.lines ≡ old.lines;
     } };
 
     fn is_due(&self) -> bool {
-        false
+        self.lines > MOST
     }
 
     fn next(&self, _alloc: Global) -> Result<Count, EndFault> {
@@ -77,7 +80,7 @@ impl Segmented for Count {
     ghost knows = { λ old new was is line said noted a some.
         subst (λ (f : Option Held). IsSome f) (sym a) some };
 
-    ghost goes = { λ s e. e };
+    ghost goes = { λ s e. refl };
 }
 
 impl HasState for Count {
