@@ -26,6 +26,11 @@ With `--strict` nobody is answered `full` or `memory`: where memory is short, or
 program ends with status 1, and nothing is told of this line, nor perhaps of the last ones before it. So equal locks and
 equal lines have equal answers.
 
+In front of a call may stand a key and a number of the client's choice: `KEY NUMBER CONNECTION acquire LOCK ORDER`. A number
+is done once: the last of KEY is told its first line again, and one below the last `KEY refused past LAST`. `KEY NUMBER
+forget` lets go of KEY. `at PLACE` answers a digest of all that was told so far, and `state` the lines that bring the locks,
+the keys and the digest back.
+
 The answers leave before more is read. At the end of standard input the totals of all locks go to standard error.
 
 FOLDER, which has to be there, keeps the journal: a chain of segments, FOLDER/0000000001.ring and so on, which `check
