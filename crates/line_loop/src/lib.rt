@@ -10,8 +10,6 @@ mod parts;
 mod pending;
 mod putting;
 mod taking;
-#[cfg(test)]
-mod tests;
 mod unread;
 
 pub use answering::AnswersLines;

@@ -12,8 +12,6 @@ mod restorable;
 mod running;
 mod segmented;
 mod stating;
-#[cfg(test)]
-mod tests;
 
 pub use replica::Replica;
 pub use restorable::Restorable;

@@ -6,6 +6,4 @@ mod holders;
 pub mod holds;
 pub mod locks;
 mod refusals;
-#[cfg(test)]
-mod tests;
 mod totals;

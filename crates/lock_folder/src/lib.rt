@@ -6,8 +6,6 @@ mod folder;
 mod lists;
 mod places;
 mod rings;
-#[cfg(test)]
-mod tests;
 
 pub use faults::StartFault;
 pub use folder::start_locks;

@@ -4,8 +4,6 @@
 mod handing;
 pub mod laws;
 mod reading;
-#[cfg(test)]
-mod tests;
 
 pub use handing::hand_all;
 pub use reading::{HoldersError, read_holders};

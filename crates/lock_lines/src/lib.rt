@@ -5,8 +5,6 @@ mod answers;
 mod inputs;
 pub mod laws;
 mod reading;
-#[cfg(test)]
-mod tests;
 
 pub use answers::{Denial, put_answer, put_denial};
 pub use inputs::{Ask, Fault, Input};

@@ -6,8 +6,6 @@ mod locks;
 mod names;
 mod reading;
 mod sizes;
-#[cfg(test)]
-mod tests;
 mod writing;
 
 pub use checks::{LOCK_LIMIT, first_difference};

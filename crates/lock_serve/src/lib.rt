@@ -11,8 +11,6 @@ mod segment;
 mod segmented;
 mod service;
 mod stating;
-#[cfg(test)]
-mod tests;
 mod texts;
 
 pub use service::{LockService, Terms};

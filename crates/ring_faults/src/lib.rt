@@ -13,8 +13,6 @@ mod lines;
 mod put;
 mod replay;
 mod surveys;
-#[cfg(test)]
-mod tests;
 mod wrongs;
 
 pub use laws::{first_is_first, none_is_legal};

@@ -12,8 +12,6 @@ mod laws;
 mod lines;
 mod reader;
 mod signs;
-#[cfg(test)]
-mod tests;
 
 pub use chains::{HoldChain, holds_of_saved};
 pub use errors::{ChainHoldError, HoldError};

@@ -4,7 +4,5 @@
 mod reports;
 mod rings;
 mod seats;
-#[cfg(test)]
-mod tests;
 
 pub use reports::{ReportFault, report};

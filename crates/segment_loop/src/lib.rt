@@ -7,8 +7,6 @@ mod ending;
 mod segmented;
 mod segments;
 mod service;
-#[cfg(test)]
-mod tests;
 
 pub use beginning::{begin_file, begin_segment};
 pub use digested::Digested;

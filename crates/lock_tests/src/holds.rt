@@ -1,10 +1,10 @@
 //! Worked histories of locks with the lines of their holds, and histories that no lock has.
 
-use crate::{
+use ring_chains::Base;
+use ring_holds::{
     ChainHoldError, Choice, Hold, HoldChain, HoldError, HoldReader, count_labels, holds_of_saved,
     put_holds, put_labels,
 };
-use ring_chains::Base;
 use ring_saved::{Saved, read_saved};
 use ring_segments::SegmentError;
 use std::alloc::Global;

@@ -1,7 +1,7 @@
 //! A service that says the same to each line, and keeps a file while it does, until it has answered enough of them.
 
-use crate::{AnswersLines, Ending, LoopFault, Pending, Unread, serve_part};
 use disks::{Disk, MemoryDisk};
+use line_loop::{AnswersLines, Ending, LoopFault, Pending, Unread, serve_part};
 use std::alloc::{AllocError, Global};
 use std::io::{self, ErrorKind, Write};
 

@@ -1,7 +1,7 @@
 //! The report of a history that was worked by hand.
 
-use crate::reports::report;
 use ring_check::check_saved;
+use ring_report::report;
 use ring_saved::read_saved;
 
 const HISTORY: &[u8] = b"ringfarm 2

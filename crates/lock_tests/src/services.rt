@@ -2,10 +2,10 @@
 
 ghost use Rattle.ring_locks.specs.Kept.{IsKeptRing};
 
-use crate::{LockService, Terms};
 use disks::MemoryDisk;
 use line_loop::{AnswersLines, Ending, Pending, Unread, serve_part};
 use line_replica::HasState;
+use lock_serve::{LockService, Terms};
 use ring_book::Till;
 use ring_chains::Base;
 use ring_desk::OneThreadRing;

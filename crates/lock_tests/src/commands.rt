@@ -1,7 +1,7 @@
 //! Dialogues with the locks of a folder in memory.
 
-use crate::locks::run;
 use disks::{MemoryDisk, Stored, StoredEntry};
+use lock_commands::locks::run;
 use ring_commands::faults::ToolError;
 use ring_requests::LocksWords;
 use std::alloc::Global;

@@ -1,7 +1,7 @@
 //! Folders in memory.
 
-use crate::{Start, StartFault, start_locks};
 use disks::{MemoryDisk, Stored, StoredEntry};
+use lock_folder::{Start, StartFault, start_locks};
 use ring_locks::{Answer, Handover, Holder, Stats};
 use std::alloc::Global;
 use std::process::Abort;

@@ -2,7 +2,7 @@ use Rattle.std.proofs.Common.{◌≡◌, length, ap, arith}
 use Rattle.ring_saved.specs.Content.{content}
 use Rattle.ring_saved.specs.Spelling.{text}
 use Rattle.ring_check.proofs.SavedLines.{lines_some}
-use Rattle.ring_faults.proofs.tests.bad_lines_of_a_text_are_told.Goals as goal
+use Rattle.lock_tests.proofs.faults.bad_lines_of_a_text_are_told.Goals as goal
 
 pub bad_lines-requires : goal.bad_lines-requires
 bad_lines-requires g c =

@@ -1,6 +1,8 @@
 //! Worked lists.
 
-use crate::{ListError, ListedLock, first_difference, put_list, read_list_file, read_list_word};
+use lock_lists::{
+    ListError, ListedLock, first_difference, put_list, read_list_file, read_list_word,
+};
 
 fn is(lock: &ListedLock<'_>, name: &str, n: u32, k: u32) -> bool {
     lock.name == name && lock.n == n && lock.k == k

@@ -1,6 +1,6 @@
 //! Worked texts of holders.
 
-use crate::{HoldersError, hand_all, read_holders};
+use lock_holders::{HoldersError, hand_all, read_holders};
 use ring_book::Till;
 use ring_chains::Base;
 use ring_desk::OneThreadRing;

@@ -3,12 +3,12 @@
 ghost use Rattle.std.specs.Prelude.{◌≡◌};
 ghost use Rattle.segment_loop.specs.Segments.{IsNamed};
 
-use crate::{
-    EndFault, OpenSegment, SegmentRules, Segmented, begin_segment, close_segment, serve_segments,
-};
 use disks::{Disk, FolderEntry, MemoryDisk};
 use line_loop::{AnswersLines, LoopFault, Pending};
 use ring_segments::DIGEST_DIGITS;
+use segment_loop::{
+    EndFault, OpenSegment, SegmentRules, Segmented, begin_segment, close_segment, serve_segments,
+};
 use std::alloc::{AllocError, Global};
 use std::io::{self, Cursor, ErrorKind, Read};
 use std::process::Abort;

@@ -2,7 +2,7 @@ use Rattle.std.proofs.Common.{◌≡◌, length, ap, arith}
 use Rattle.ring_saved.specs.Content.{content}
 use Rattle.ring_saved.specs.Spelling.{text}
 use Rattle.ring_check.proofs.SavedLines.{lines_some}
-use Rattle.ring_report.proofs.tests.worked_history_is_reported.Goals as goal
+use Rattle.lock_tests.proofs.reports.worked_history_is_reported.Goals as goal
 
 pub check_saved-requires : goal.check_saved-requires
 check_saved-requires g c =

@@ -1,7 +1,6 @@
 //! A history with several faults, worked by hand.
 
-use crate::lines::bad_lines;
-use crate::put::put_bad_lines;
+use ring_faults::{bad_lines, put_bad_lines};
 use ring_saved::read_saved;
 
 const HISTORY: &[u8] = b"ringfarm 2

@@ -2,9 +2,9 @@
 
 ghost use Rattle.std.specs.Prelude.{◌≡◌, false};
 
-use crate::{HasState, Replica, Restorable};
 use disks::{Disk, MemoryDisk};
 use line_loop::{AnswersLines, Ending, Pending, Unread, serve_part};
+use line_replica::{HasState, Replica, Restorable};
 use ring_segments::DIGEST_DIGITS;
 use segment_loop::{EndFault, Segmented};
 use std::alloc::{AllocError, Global};

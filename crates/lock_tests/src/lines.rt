@@ -1,6 +1,6 @@
 //! Lines with what is read of them, and answers with their lines.
 
-use crate::{Ask, Denial, Fault, Input, put_answer, put_denial, read_input};
+use lock_lines::{Ask, Denial, Fault, Input, put_answer, put_denial, read_input};
 use ring_locks::{Answer, Holder, Refusal, Stats};
 use std::alloc::Global;
 use std::process::Abort;
