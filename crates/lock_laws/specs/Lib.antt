@@ -2,3 +2,4 @@ pub mod Begun
 pub mod Told
 pub mod Recovered
 pub mod Equal
+pub mod KeysBack
