@@ -20,3 +20,6 @@ pub mod Digests
 pub mod LineParts
 pub mod Heard
 pub mod SoundKeys
+pub mod Rejoining
+pub mod WaitingLines
+pub mod WaitersBack

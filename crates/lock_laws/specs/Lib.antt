@@ -3,3 +3,4 @@ pub mod Told
 pub mod Recovered
 pub mod Equal
 pub mod KeysBack
+pub mod WaitersBack

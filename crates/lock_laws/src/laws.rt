@@ -5,6 +5,7 @@
 ghost use Rattle.lock_laws.specs.Begun.{ServedLinesAreAnswered, AnsweredLinesFollow};
 ghost use Rattle.lock_laws.specs.Equal.{EqualLinesGiveEqualAnswers, EqualSegmentsEndEqually};
 ghost use Rattle.lock_laws.specs.KeysBack.{FreshIsSound, OwnLinesAreLines, SoundStays, KeysComeBack, PlacesAreLast};
+ghost use Rattle.lock_laws.specs.WaitersBack.{WaitersComeBack};
 ghost use Rattle.lock_laws.specs.Recovered.{LocksComeBack, NothingToldIsLost, AddedLocksBegin, NextLocksBegin, HandedLocksBegin};
 
 use line_loop::AnswersLines;
@@ -57,4 +58,10 @@ pub fn keys_come_back<S: AnswersLines>()
     ensures lines { OwnLinesAreLines S.is_answered }
     ensures back { KeysComeBack S.is_answered }
     ensures last { PlacesAreLast S.is_answered }
+{}
+
+/// Locks with the holds of others, for which nobody waits, that are given the lines of those who wait for the others, lock by lock
+/// and in their order, have the same clients waiting with the same orders, and the same holds. Each of them is told that it waits.
+pub fn waiters_come_back()
+    ensures { WaitersComeBack }
 {}
