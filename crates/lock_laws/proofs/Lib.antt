@@ -23,3 +23,4 @@ pub mod SoundKeys
 pub mod Rejoining
 pub mod WaitingLines
 pub mod WaitersBack
+pub mod StateBack

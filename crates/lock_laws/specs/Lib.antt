@@ -4,3 +4,4 @@ pub mod Recovered
 pub mod Equal
 pub mod KeysBack
 pub mod WaitersBack
+pub mod StateBack

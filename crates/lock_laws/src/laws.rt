@@ -1,10 +1,11 @@
 //! The laws of locks whose lines are answered with a journal: what is recovered of it. Each law is the contract of a function
 //! that does nothing; the statements are in `specs/Recovered.antt` and `specs/Equal.antt`. And the laws of the lines that bring a
-//! replica back: their statements are in `specs/KeysBack.antt`.
+//! replica back: their statements are in `specs/KeysBack.antt`, `specs/WaitersBack.antt` and `specs/StateBack.antt`.
 
 ghost use Rattle.lock_laws.specs.Begun.{ServedLinesAreAnswered, AnsweredLinesFollow};
 ghost use Rattle.lock_laws.specs.Equal.{EqualLinesGiveEqualAnswers, EqualSegmentsEndEqually};
 ghost use Rattle.lock_laws.specs.KeysBack.{FreshIsSound, OwnLinesAreLines, SoundStays, KeysComeBack, PlacesAreLast};
+ghost use Rattle.lock_laws.specs.StateBack.{HoldsAreFirst, StateComesBack};
 ghost use Rattle.lock_laws.specs.WaitersBack.{WaitersComeBack};
 ghost use Rattle.lock_laws.specs.Recovered.{LocksComeBack, NothingToldIsLost, AddedLocksBegin, NextLocksBegin, HandedLocksBegin};
 
@@ -64,4 +65,12 @@ pub fn keys_come_back<S: AnswersLines>()
 /// and in their order, have the same clients waiting with the same orders, and the same holds. Each of them is told that it waits.
 pub fn waiters_come_back()
     ensures { WaitersComeBack }
+{}
+
+/// The lines of the state of locks behind a replica are those of their holds, and then others. On strict terms a replica of locks
+/// with these holds, for which nobody waits, with no key and before the first place, that is given these others has the same
+/// clients waiting, the same holds, the same keys, and the digest at the last place.
+pub fn state_comes_back()
+    ensures first { HoldsAreFirst }
+    ensures back { StateComesBack }
 {}
