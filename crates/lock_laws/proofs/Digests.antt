@@ -1,5 +1,5 @@
 -- A digest has its digits.
-use Rattle.std.proofs.Common.{◌≡◌, ℕ, zero, suc, ◌<◌, ◌%◌, List, [], ◌∷◌, ◌++◌, length, get_or, w32, refl, arith, IsTrue}
+use Rattle.std.proofs.Common.{ℕ, zero, suc, ◌<◌, List, [], ◌∷◌, ◌++◌, get_or, w32, refl, arith, IsTrue}
 use Rattle.std.specs.Prelude.{slice_index, replicate}
 use Rattle.std.specs.Int.{to_be_bytes}
 use Rattle.std.specs.List.{AllByRecursion}

@@ -1,15 +1,14 @@
 -- What is heard of a line says how the line is spelled.
-use Rattle.std.proofs.Common.{◌≡◌, ◌≢◌, ℕ, ◌+◌, ◌<◌, ◌≤◌, ◌^◌, ◌&&◌, Bool, true, false, cond, eqb, ltb, IsTrue, List, [], ◌∷◌, ◌++◌, length, take, Option, Some, None, Result, Ok, Err, refl, ap, sym, subst, ◌∙◌, arith}
+use Rattle.std.proofs.Common.{◌≡◌, ℕ, ◌+◌, ◌<◌, ◌≤◌, ◌^◌, Bool, true, false, cond, eqb, ltb, IsTrue, List, [], ◌∷◌, ◌++◌, length, take, Option, Some, None, Result, Ok, Err, refl, ap, sym, ◌∙◌, arith}
 use Rattle.std.specs.Prelude.{codes}
 use Rattle.std.specs.List.{AllByRecursion, list_all}
-use Rattle.std.proofs.lemmas.Bool.{cases_Bool, ltb-false, eqb-true, and_parts}
+use Rattle.std.proofs.lemmas.Bool.{ltb-false, eqb-true, and_parts}
 use Rattle.std.proofs.lemmas.List.{length-take-le}
 use Rattle.text_lines.specs.declared.fault.Fault.{Fault}
 use Rattle.text_lines.specs.Spelling.{spaced}
 use Rattle.text_lines.specs.Reading.{word_at}
 use Rattle.line_parts.specs.Limits.{line_limit}
 use Rattle.line_parts.specs.Numbers.{order_at}
-use Rattle.line_parts.proofs.Spellings.{word_takes}
 use Rattle.lock_lines.proofs.Fronts.{spaced_some, ended_some}
 use Rattle.ring_segments.specs.Spelling.{DigestFits, digest_digits, is_digit}
 use Rattle.line_replica.specs.Reading.{Heard, Tagged, Place, Digest, Plain, heard, of_tagged, of_place, of_digest, with_key, with_number, tagged_at, on_read, place_at, last_number, digest_at, with_digest, is_last_digest}

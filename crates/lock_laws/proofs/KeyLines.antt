@@ -1,12 +1,11 @@
 -- The line of a key and that of a place are read as what they tell.
-use Rattle.std.proofs.Common.{◌≡◌, ◌≢◌, ℕ, zero, suc, ◌+◌, ◌<◌, ◌≤◌, ◌^◌, ◌&&◌, Bool, true, false, cond, eqb, IsTrue, List, [], ◌∷◌, ◌++◌, length, take, map, Option, Some, None, Ok, Err, inl, inr, ◌⊎◌, refl, ap, sym, subst, ◌∙◌, append_assoc, length-append, arith}
+use Rattle.std.proofs.Common.{◌≡◌, ℕ, zero, suc, ◌+◌, ◌<◌, ◌≤◌, ◌^◌, Bool, true, cond, eqb, IsTrue, List, [], ◌∷◌, ◌++◌, length, take, Option, Some, None, Ok, inl, inr, refl, ap, sym, ◌∙◌, length-append, arith}
 use Rattle.std.specs.Prelude.{codes}
 use Rattle.std.specs.Fmt.{decimal, digits}
 use Rattle.std.specs.List.{AllByRecursion, list_all}
 use Rattle.std.proofs.lemmas.Bool.{ne_eqb, and_from}
 use Rattle.std.proofs.lemmas.Fmt.{decimal-digits_of, length-decimal-le}
 use Rattle.std.proofs.Math.Seq.{take-append_seam}
-use Rattle.text_lines.specs.declared.fault.Fault.TheVariants.{Bad}
 use Rattle.text_lines.specs.Spelling.{spaced}
 use Rattle.text_lines.specs.Reading.{word_at}
 use Rattle.text_lines.proofs.Basics.{same_eqb}
@@ -14,10 +13,9 @@ use Rattle.line_parts.specs.Limits.{line_limit}
 use Rattle.line_parts.specs.Numbers.{number_text, decimal_at, order_at}
 use Rattle.line_parts.proofs.Numerals.{decimal_fails}
 use Rattle.lock_lines.proofs.Fronts.{spaced_reads}
-use Rattle.line_loop.specs.Answering.{IsLine}
 use Rattle.ring_segments.specs.Spelling.{DigestFits, digest_digits, is_digit}
 use Rattle.line_replica.specs.Keys.{ToldView}
-use Rattle.line_replica.specs.Reading.{Heard, Tagged, Place, Digest, heard, with_key, with_number, tagged_at, did_at, on_read, kept_text, place_at, last_number, digest_at, with_digest, is_last_digest}
+use Rattle.line_replica.specs.Reading.{Heard, Tagged, Digest, heard, with_key, with_number, tagged_at, did_at, on_read, kept_text, place_at, last_number, digest_at, with_digest, is_last_digest}
 use Rattle.line_replica.specs.Running.{place_line}
 use Rattle.line_replica.specs.State.{key_line, did_text}
 use Rattle.line_replica.proofs.Hearing.{is_tagged, is_untagged, is_digest}

@@ -1,8 +1,8 @@
 -- Keys and a running digest that come back.
-use Rattle.std.proofs.Common.{◌≡◌, ◌≢◌, ℕ, zero, suc, ◌+◌, ◌<◌, ◌≤◌, ◌^◌, false, List, [], ◌∷◌, ◌++◌, length, take, Option, Some, None, inl, inr, ◌⊎◌, refl, ap, sym, subst, ◌∙◌, append_assoc, append-nil, length-append, arith}
+use Rattle.std.proofs.Common.{◌≡◌, ℕ, ◌+◌, ◌<◌, ◌^◌, false, List, [], ◌∷◌, ◌++◌, length, take, Option, Some, inl, inr, refl, ap, sym, subst, ◌∙◌, append_assoc, append-nil, length-append, arith}
 use Rattle.std.specs.Prelude.{codes}
 use Rattle.std.specs.List.{AllByRecursion}
-use Rattle.std.specs.declared.cmp.Ordering.TheVariants.{Less, Equal, Greater}
+use Rattle.std.specs.declared.cmp.Ordering.TheVariants.{Greater}
 use Rattle.std.specs.Ordering.{nat_cmp, match_ordering}
 use Rattle.std.specs.Cmp.{nat_cmp_is}
 use Rattle.std.specs.BTreeMap.{insert_entry}
@@ -12,12 +12,12 @@ use Rattle.line_loop.specs.Stands.{Stand, AnsweringWith, by_stand, stand}
 use Rattle.ring_segments.specs.Spelling.{DigestFits, digest_digits}
 use Rattle.line_replica.specs.declared.replica.Replica.{Replica}
 use Rattle.line_replica.specs.Keys.{ToldView, Table, with_told}
-use Rattle.line_replica.specs.Reading.{Heard, Tagged, Digest, heard, did_at, kept_text}
-use Rattle.line_replica.specs.Replies.{IsTold, IsTagTaken, IsTakenIn, IsPlaced, IsReplied, IsHeard}
+use Rattle.line_replica.specs.Reading.{Heard}
+use Rattle.line_replica.specs.Replies.{IsTold, IsTagTaken, IsPlaced, IsReplied, IsHeard}
 use Rattle.line_replica.specs.Running.{RunningView, at_place, with_said, grown, place_line}
 use Rattle.line_replica.specs.State.{key_line, key_lines, did_text, lines_at}
 use Rattle.line_replica.proofs.Given.{whole_line, whole_at}
-use Rattle.lock_laws.specs.KeysBack.{own_lines, IsFresh, IsKept, IsRising, IsBehind, IsRunning, IsSound, at_last, IsBack, KeysComeBack}
+use Rattle.lock_laws.specs.KeysBack.{IsKept, IsRising, IsBehind, IsRunning, at_last, KeysComeBack}
 use Rattle.lock_laws.proofs.KeyLines.{key_heard, hears_key, did_reads, kept_again, hears_place, first_digits}
 
 -- ---- keys, one above the other

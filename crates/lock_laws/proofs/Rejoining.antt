@@ -1,18 +1,17 @@
 -- A client that waited for a lock may wait for it again, as far as the others do.
-use Rattle.std.proofs.Common.{◌≡◌, ◌≢◌, ℕ, zero, suc, ◌<◌, ◌≤◌, Bool, true, false, cond, List, [], ◌∷◌, ◌++◌, length, Option, Some, None, inl, inr, ◌⊎◌, refl, ap, sym, subst, ◌∙◌, append_assoc, arith}
-use Rattle.std.specs.Prelude.{slice_get, slice_set, ◌==◌, ◌||◌, if◌then◌else◌, is_some}
-use Rattle.std.proofs.lemmas.Bool.{cases_Bool, eqb-true, eq-eqb, or_cases, or_left, or_right, both_ways}
+use Rattle.std.proofs.Common.{◌≡◌, ℕ, zero, suc, ◌≤◌, Bool, true, false, List, [], ◌∷◌, ◌++◌, length, Option, Some, None, inl, inr, refl, ap, sym, subst, ◌∙◌, arith}
+use Rattle.std.specs.Prelude.{slice_get, ◌==◌, ◌||◌}
+use Rattle.std.proofs.lemmas.Bool.{eqb-true, eq-eqb, or_cases, or_left, or_right, both_ways}
 use Rattle.ring_locks.specs.declared.answers.Waiter.{Waiter}
 use Rattle.ring_locks.specs.declared.answers.Holder.{Holder}
 use Rattle.ring_locks.specs.declared.answers.Answer.TheVariants as answer
 use Rattle.ring_locks.specs.declared.answers.Refusal.{Refusal}
-use Rattle.ring_locks.specs.declared.answers.Refusal.TheVariants as refusal
 use Rattle.ring_locks.specs.Lines.{Lock, stands, is_held_by, waits_for, client_of, holder_of, comes_to}
-use Rattle.ring_locks.specs.Locks.{Acquire, Turn, acquired, joined, acquire_refusal, turn}
+use Rattle.ring_locks.specs.Locks.{Acquire, acquired, joined, acquire_refusal, turn}
 use Rattle.ring_locks.specs.Promises.{AreApart, AreRight, comes, ComesToAnEnd}
 use Rattle.ring_locks.proofs.Answered.{circles_are_real}
 use Rattle.ring_locks.proofs.Circles.{whom}
-use Rattle.ring_locks.proofs.Standing.{StandsAt, waits_at, waits_there, nowhere_waits, stands_append}
+use Rattle.ring_locks.proofs.Standing.{waits_at, waits_there, nowhere_waits}
 
 -- ---- who comes back to itself comes to no end
 

@@ -1,10 +1,10 @@
 -- What a replica keeps can be told, whatever was asked.
-use Rattle.std.proofs.Common.{◌≡◌, ◌≢◌, ℕ, zero, suc, ◌+◌, ◌<◌, ◌≤◌, ◌^◌, Bool, true, false, cond, eqb, List, [], ◌∷◌, ◌++◌, length, take, Option, Some, None, Result, Ok, Err, inl, inr, ◌⊎◌, refl, ap, sym, subst, ◌∙◌, append_assoc, append-nil, length-append, arith}
+use Rattle.std.proofs.Common.{◌≡◌, ℕ, suc, ◌+◌, ◌<◌, ◌≤◌, ◌^◌, Bool, true, false, cond, eqb, List, [], ◌∷◌, ◌++◌, length, take, Option, Some, None, Result, Ok, Err, inl, inr, ◌⊎◌, refl, ap, sym, subst, ◌∙◌, append_assoc, append-nil, length-append, arith}
 use Rattle.std.specs.Prelude.{codes}
 use Rattle.std.specs.List.{AllByRecursion}
 use Rattle.std.specs.declared.cmp.Ordering.{Ordering}
 use Rattle.std.specs.declared.cmp.Ordering.TheVariants.{Less, Equal, Greater}
-use Rattle.std.specs.Ordering.{nat_cmp, match_ordering, is_eq}
+use Rattle.std.specs.Ordering.{nat_cmp, match_ordering}
 use Rattle.std.specs.Cmp.{ranked}
 use Rattle.std.specs.BTreeMap.{insert_entry, is_at}
 use Rattle.std.specs.Map.{remove_entry}
@@ -23,11 +23,11 @@ use Rattle.ring_segments.specs.Spelling.{DigestFits, digest_digits}
 use Rattle.line_replica.specs.declared.replica.Replica.{Replica}
 use Rattle.line_replica.specs.Keys.{ToldView, Table, last_of, with_told, without, turn_by, turn_after, first_line, forgotten_if}
 use Rattle.line_replica.specs.Reading.{Heard, Tagged, Place, Digest, Plain, heard, did_at, is_forget, kept_text, on_read}
-use Rattle.line_replica.specs.Replies.{IsTold, IsPassedOn, IsTagTaken, IsTakenIn, IsPlaced, IsReplied, IsHeard, IsAnsweredOnce, turn_of}
+use Rattle.line_replica.specs.Replies.{IsTold, IsTagTaken, IsPlaced, IsHeard, IsAnsweredOnce, turn_of}
 use Rattle.line_replica.specs.Running.{RunningView, at_place, with_said, grown, next_of, place_line}
 use Rattle.line_replica.specs.State.{key_line, key_lines, did_text, lines_at}
 use Rattle.line_replica.proofs.Given.{whole_line}
-use Rattle.lock_laws.specs.KeysBack.{own_lines, IsFresh, IsFirst, IsKept, IsRising, IsBehind, IsRunning, IsSound, FreshIsSound, IsKeepable, SoundStays, OwnLinesAreLines, at_last, PlacesAreLast}
+use Rattle.lock_laws.specs.KeysBack.{IsFirst, IsKept, IsRising, IsBehind, IsRunning, FreshIsSound, IsKeepable, SoundStays, OwnLinesAreLines, at_last, PlacesAreLast}
 use Rattle.lock_laws.proofs.KeyLines.{spaced_short, first_digits}
 use Rattle.lock_laws.proofs.LineParts.{line_behind, line_rest, spaced_ends, digits_end}
 use Rattle.lock_laws.proofs.Heard.{IsOfKey, IsReadSo, read_so}

@@ -1,5 +1,5 @@
 -- The whole state comes back.
-use Rattle.std.proofs.Common.{◌≡◌, ◌≢◌, ℕ, zero, suc, ◌+◌, ◌/◌, ◌%◌, ◌<◌, ◌≤◌, ◌^◌, false, List, [], ◌∷◌, ◌++◌, length, Option, Some, None, refl, ap, sym, subst, ◌∙◌, append_assoc, append-nil, arith}
+use Rattle.std.proofs.Common.{◌≡◌, ℕ, ◌+◌, ◌%◌, ◌<◌, ◌≤◌, ◌^◌, false, List, [], ◌∷◌, ◌++◌, length, Option, None, refl, ap, sym, subst, ◌∙◌, append_assoc, append-nil, arith}
 use Rattle.std.specs.Prelude.{codes}
 use Rattle.std.specs.List.{AllByRecursion}
 use Rattle.std.proofs.lemmas.Bool.{ne_eqb}
@@ -9,9 +9,8 @@ use Rattle.text_lines.specs.Reading.{word_at}
 use Rattle.line_parts.specs.Numbers.{number_text, decimal_at, order_at}
 use Rattle.line_parts.proofs.Numerals.{by_digits}
 use Rattle.line_loop.specs.Answering.{Answers}
-use Rattle.line_loop.specs.Stands.{Stand, AnsweringWith, by_stand, stand}
+use Rattle.line_loop.specs.Stands.{AnsweringWith, by_stand, stand}
 use Rattle.line_replica.specs.declared.replica.Replica.{Replica}
-use Rattle.line_replica.specs.Keys.{Table}
 use Rattle.line_replica.specs.Reading.{Heard, Plain, heard, with_key, tagged_at, place_at, digest_at}
 use Rattle.line_replica.specs.Replies.{IsReplied, IsHeard}
 use Rattle.line_replica.specs.Running.{RunningView, at_place, with_said}
@@ -24,7 +23,7 @@ use Rattle.lock_serve.specs.Serving.{IsServed}
 use Rattle.lock_serve.specs.State.{holds_from, wait_line, wait_lines, waits_from}
 use Rattle.lock_laws.specs.KeysBack.{own_lines, IsFresh}
 use Rattle.lock_laws.specs.WaitersBack.{IsOfBits, holders_of, waiters_of, waiting_from}
-use Rattle.lock_laws.specs.StateBack.{locks_in, HoldsAreFirst, HasTheState, StateComesBack}
+use Rattle.lock_laws.specs.StateBack.{locks_in, HoldsAreFirst, StateComesBack}
 use Rattle.lock_laws.proofs.KeyLines.{same_text, number_reads}
 use Rattle.lock_laws.proofs.KeysBack.{keys_come_back}
 use Rattle.lock_laws.proofs.WaitersBack.{waiters_come_back}

@@ -1,5 +1,5 @@
 -- Clients that wait come back.
-use Rattle.std.proofs.Common.{◌≡◌, ◌≢◌, ℕ, zero, suc, ◌+◌, ◌<◌, ◌≤◌, ◌&&◌, Bool, true, false, cond, List, [], ◌∷◌, ◌++◌, length, drop, map, Option, Some, None, inl, inr, ◌⊎◌, refl, ap, sym, subst, ◌∙◌, append_assoc, append-nil, length-append, arith}
+use Rattle.std.proofs.Common.{◌≡◌, ℕ, suc, ◌+◌, ◌<◌, ◌≤◌, ◌&&◌, Bool, true, false, cond, List, [], ◌∷◌, ◌++◌, length, drop, map, Option, Some, None, inl, inr, refl, ap, sym, subst, ◌∙◌, append_assoc, append-nil, length-append, arith}
 use Rattle.std.specs.Prelude.{slice_get, slice_set, option_map}
 use Rattle.std.specs.List.{AllByRecursion}
 use Rattle.std.proofs.Math.Seq.{drop-length}
@@ -17,9 +17,9 @@ use Rattle.ring_locks.specs.declared.answers.Answer.TheVariants as answer
 use Rattle.ring_locks.specs.declared.answers.HoldEnd.{HoldEnd}
 use Rattle.ring_locks.specs.declared.answers.Waiter.{Waiter}
 use Rattle.ring_locks.specs.Lines.{Lock, stands}
-use Rattle.ring_locks.specs.Locks.{Acquire, Asked, Mark, Step, Turn, step, turn}
+use Rattle.ring_locks.specs.Locks.{Acquire, Asked, Mark, Step, Turn, step}
 use Rattle.ring_locks.specs.Promises.{AreRight}
-use Rattle.ring_locks.specs.Kept.{LockView, lock_of, locks_of, lock_limit, IsDone, AreMade, ended_at, answers_of}
+use Rattle.ring_locks.specs.Kept.{LockView, lock_of, locks_of, lock_limit, IsDone, AreMade, ended_at}
 use Rattle.ring_locks.proofs.Right.{right_step}
 use Rattle.ring_locks.proofs.Standing.{get_set, stands_append}
 use Rattle.lock_lines.specs.declared.inputs.Ask.TheVariants as reads
@@ -33,9 +33,9 @@ use Rattle.lock_serve.specs.Asking.{is_want}
 use Rattle.lock_serve.specs.Noting.{lines_about, note_about, events_at, events_from}
 use Rattle.lock_serve.specs.Serving.{IsToldOf, IsInputAnswered, IsServed}
 use Rattle.lock_serve.specs.State.{wait_line, wait_lines, waits_from}
-use Rattle.lock_laws.specs.WaitersBack.{holders_of, waiters_of, IsOfBits, HaveState, HaveTheHolds, waiting_lines, waiting_from, HaveTheWaiters, WaitersComeBack}
+use Rattle.lock_laws.specs.WaitersBack.{holders_of, waiters_of, IsOfBits, HaveState, HaveTheHolds, waiting_lines, waiting_from, WaitersComeBack}
 use Rattle.lock_laws.proofs.EqualLocks.{asked_done}
-use Rattle.lock_laws.proofs.Following.{some_is, none_is, step_is, also_there, lock_there, as_many, step_many}
+use Rattle.lock_laws.proofs.Following.{some_is, step_is, also_there, lock_there, as_many, step_many}
 use Rattle.lock_laws.proofs.Rejoining.{ArePart, waits_again}
 use Rattle.lock_laws.proofs.WaitingLines.{same_lock, reads_wait}
 
