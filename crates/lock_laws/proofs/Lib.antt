@@ -24,3 +24,4 @@ pub mod Rejoining
 pub mod WaitingLines
 pub mod WaitersBack
 pub mod StateBack
+pub mod StateStays

@@ -11,7 +11,9 @@ use Rattle.ring_locks.specs.Promises.{AreRight}
 use Rattle.ring_locks.specs.Kept.{LockView, locks_of, lock_limit}
 use Rattle.lock_lines.specs.Answers.{answer_line}
 use Rattle.lock_serve.specs.declared.service.LockService.{LockService}
-use Rattle.lock_serve.specs.Serving.{IsServed}
+use Rattle.lock_serve.specs.declared.service.Terms.{Terms}
+use Rattle.lock_serve.specs.Counting.{SegmentView}
+use Rattle.lock_serve.specs.Serving.{IsLineAnswered, IsServed}
 use Rattle.lock_serve.specs.State.{waits_from}
 
 -- who holds each lock, and who waits for it, in order
@@ -30,6 +32,12 @@ pub record HaveState (vs : List LockView) : Type 0 where
   pub right : AreRight (locks_of vs)
   pub few : length vs ≤ lock_limit
   pub bits : AllByRecursion (λ (v : LockView). AllByRecursion IsOfBits v.line) vs
+
+-- a law: they stay so, whatever is asked
+abbrev pub HavingStateStays : Type 0
+HavingStateStays =
+    (terms : Terms) (old new : SegmentView) (line said noted : List ℕ) → HaveState old.locks
+    → IsLineAnswered terms old line said noted new → HaveState new.locks
 
 -- locks with the holds of these, for which nobody waits, as behind a restart whose holds were
 -- handed back

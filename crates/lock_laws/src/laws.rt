@@ -6,7 +6,7 @@ ghost use Rattle.lock_laws.specs.Begun.{ServedLinesAreAnswered, AnsweredLinesFol
 ghost use Rattle.lock_laws.specs.Equal.{EqualLinesGiveEqualAnswers, EqualSegmentsEndEqually};
 ghost use Rattle.lock_laws.specs.KeysBack.{FreshIsSound, OwnLinesAreLines, SoundStays, KeysComeBack, PlacesAreLast};
 ghost use Rattle.lock_laws.specs.StateBack.{HoldsAreFirst, StateComesBack};
-ghost use Rattle.lock_laws.specs.WaitersBack.{WaitersComeBack};
+ghost use Rattle.lock_laws.specs.WaitersBack.{HavingStateStays, WaitersComeBack};
 ghost use Rattle.lock_laws.specs.Recovered.{LocksComeBack, NothingToldIsLost, AddedLocksBegin, NextLocksBegin, HandedLocksBegin};
 
 use line_loop::AnswersLines;
@@ -61,10 +61,12 @@ pub fn keys_come_back<S: AnswersLines>()
     ensures last { PlacesAreLast S.is_answered }
 {}
 
-/// Locks with the holds of others, for which nobody waits, that are given the lines of those who wait for the others, lock by lock
-/// and in their order, have the same clients waiting with the same orders, and the same holds. Each of them is told that it waits.
+/// Locks with the holds of others, for which nobody waits, that are given the lines of those who wait for the others, lock by
+/// lock and in their order, have the same clients waiting with the same orders, and the same holds. Each of them is told that it
+/// waits. What is asked of the others for it, numbers of 64 bits above all, stays so, whatever is asked of them.
 pub fn waiters_come_back()
-    ensures { WaitersComeBack }
+    ensures stays { HavingStateStays }
+    ensures back { WaitersComeBack }
 {}
 
 /// The lines of the state of locks behind a replica are those of their holds, and then others. On strict terms a replica of locks
