@@ -1,6 +1,6 @@
 -- The state of locks can be told, whatever is asked.
-use Rattle.std.proofs.Common.{◌≡◌, ◌≢◌, ℕ, zero, suc, ◌+◌, ◌<◌, ◌≤◌, ◌^◌, Bool, true, false, cond, not, List, [], ◌∷◌, ◌++◌, length, Option, Some, None, inl, inr, ◌⊎◌, refl, ap, sym, subst, ◌∙◌, arith}
-use Rattle.std.specs.Prelude.{slice_get, slice_set, ◌==◌}
+use Rattle.std.proofs.Common.{◌≡◌, ℕ, zero, suc, ◌<◌, ◌^◌, Bool, true, false, cond, not, List, [], ◌∷◌, length, Option, Some, None, inl, inr, refl, ap, sym, subst, ◌∙◌, arith}
+use Rattle.std.specs.Prelude.{slice_get, ◌==◌}
 use Rattle.std.specs.List.{AllByRecursion}
 use Rattle.std.proofs.lemmas.Bool.{cases_lt}
 use Rattle.std.proofs.lemmas.List.{length-map}
@@ -14,7 +14,7 @@ use Rattle.ring_locks.specs.declared.answers.Waiter.{Waiter}
 use Rattle.ring_locks.specs.Lines.{Lock, without}
 use Rattle.ring_locks.specs.Locks.{Ask, Acquire, Try, Release, Cancel, Leave, Corrupt, Stats, Input, Asked, Turn, advanced, step, step_at, turn}
 use Rattle.ring_locks.specs.Promises.{AreRight, locks_after, leaves}
-use Rattle.ring_locks.specs.Kept.{LockView, lock_of, locks_of, IsDone, IsAnswer, IsLeft}
+use Rattle.ring_locks.specs.Kept.{LockView, lock_of, locks_of, IsAnswer}
 use Rattle.ring_locks.proofs.Moves.{waiter, IsEnd, Released, Left, Move, Stays, Waits, Gets, Ends, Drops, Faults, move_of}
 use Rattle.ring_locks.proofs.Right.{right_step, right_stays}
 use Rattle.ring_locks.proofs.Standing.{get_set}
