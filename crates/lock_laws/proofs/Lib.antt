@@ -14,3 +14,14 @@ pub mod EqualRings
 pub mod EqualLocks
 pub mod EqualLines
 pub mod EqualSegments
+pub mod KeyLines
+pub mod KeysBack
+pub mod Digests
+pub mod LineParts
+pub mod Heard
+pub mod SoundKeys
+pub mod Rejoining
+pub mod WaitingLines
+pub mod WaitersBack
+pub mod StateBack
+pub mod StateStays

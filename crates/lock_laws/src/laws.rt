@@ -1,9 +1,15 @@
 //! The laws of locks whose lines are answered with a journal: what is recovered of it. Each law is the contract of a function
-//! that does nothing; the statements are in `specs/Recovered.antt` and `specs/Equal.antt`.
+//! that does nothing; the statements are in `specs/Recovered.antt` and `specs/Equal.antt`. And the laws of the lines that bring a
+//! replica back: their statements are in `specs/KeysBack.antt`, `specs/WaitersBack.antt` and `specs/StateBack.antt`.
 
 ghost use Rattle.lock_laws.specs.Begun.{ServedLinesAreAnswered, AnsweredLinesFollow};
 ghost use Rattle.lock_laws.specs.Equal.{EqualLinesGiveEqualAnswers, EqualSegmentsEndEqually};
+ghost use Rattle.lock_laws.specs.KeysBack.{FreshIsSound, OwnLinesAreLines, SoundStays, KeysComeBack, PlacesAreLast};
+ghost use Rattle.lock_laws.specs.StateBack.{HoldsAreFirst, StateComesBack};
+ghost use Rattle.lock_laws.specs.WaitersBack.{HavingStateStays, WaitersComeBack};
 ghost use Rattle.lock_laws.specs.Recovered.{LocksComeBack, NothingToldIsLost, AddedLocksBegin, NextLocksBegin, HandedLocksBegin};
+
+use line_loop::AnswersLines;
 
 /// Lines that the service answers are answered so, whether its segment is kept on or not, and no file changes; and lines that are
 /// answered in parts, one behind the other, are answered as a whole.
@@ -41,4 +47,32 @@ pub fn locks_begin_segments()
 pub fn equal_lines_give_equal_answers()
     ensures answers { EqualLinesGiveEqualAnswers }
     ensures segments { EqualSegmentsEndEqually }
+{}
+
+/// A replica with no key, before the first place, that is given the lines of another one's keys and last place has the same keys,
+/// and the digest at that place; it tells nothing, and the service inside gets none of these lines. So it is with each replica
+/// that began with no key: what it keeps can be told, in lines, as long as answers begin with lines that are not empty and not
+/// too long.
+pub fn keys_come_back<S: AnswersLines>()
+    ensures fresh { FreshIsSound S.is_answered }
+    ensures sound { SoundStays S.is_answered }
+    ensures lines { OwnLinesAreLines S.is_answered }
+    ensures back { KeysComeBack S.is_answered }
+    ensures last { PlacesAreLast S.is_answered }
+{}
+
+/// Locks with the holds of others, for which nobody waits, that are given the lines of those who wait for the others, lock by
+/// lock and in their order, have the same clients waiting with the same orders, and the same holds. Each of them is told that it
+/// waits. What is asked of the others for it, numbers of 64 bits above all, stays so, whatever is asked of them.
+pub fn waiters_come_back()
+    ensures stays { HavingStateStays }
+    ensures back { WaitersComeBack }
+{}
+
+/// The lines of the state of locks behind a replica are those of their holds, and then others. On strict terms a replica of locks
+/// with these holds, for which nobody waits, with no key and before the first place, that is given these others has the same
+/// clients waiting, the same holds, the same keys, and the digest at the last place.
+pub fn state_comes_back()
+    ensures first { HoldsAreFirst }
+    ensures back { StateComesBack }
 {}
