@@ -172,7 +172,8 @@ class Sessions(unittest.TestCase):
         self.assertEqual(lines.places("tcp:one:7000,tcp:[::1]:7001"), [("one", 7000), ("::1", 7001)])
         self.assertEqual(lines.places("/run/a,/run/b"), ["/run/a", "/run/b"])
         self.assertEqual(lines.places("tcp:one:7000"), [("one", 7000)])
-        for one in ("a,b", "/run/lock.sock", ("one", 1)):
+        self.assertEqual(lines.places("a.sock,tcp:one:7000,./b"), ["a.sock", ("one", 7000), "./b"])
+        for one in ("a,b", "/run/a,b", "/run/lock.sock", ("one", 1)):
             self.assertEqual(lines.places(one), [one])
         for wrong in ("tcp:one", "tcp::1", "tcp:one:0", []):
             with self.subTest(place=wrong), self.assertRaises(ValueError):
