@@ -1,5 +1,6 @@
 #!/usr/bin/env python3
-"""worker.py NUMBER SERVERS LOCKS SECONDS FOLDER SEED: a client that takes locks and gives them back, and notes what it was answered.
+"""worker.py FIRST COUNT SERVERS LOCKS SECONDS FOLDER SEED: clients, as many as COUNT, that take locks and give them back, and note what
+they were answered. They end after SECONDS, or when the file `enough` is in FOLDER.
 
 `client.N.txt` has a line for each, with its session's key: `did KEY NUMBER SENT GOT INPUT | ANSWER`, `granted KEY LOCK TOKEN`, `inside LOCK TOKEN FROM TO`
 (the client knew that it held the lock, by one clock of the machine), `lost KEY WHY`. What is shared is written to `store.LOCK`, which
@@ -9,6 +10,7 @@ import fcntl
 import os
 import random
 import sys
+import threading
 import time
 
 sys.path.insert(0, os.path.join(os.path.dirname(os.path.abspath(__file__)), "..", "..", "..", "python"))
@@ -88,16 +90,16 @@ def once(client, locks, folder, note, chance):
         client.release(name, token)
 
 
-def main(number, servers, locks, seconds, folder, seed):
-    chance, end, client = random.Random(f"{seed} {number}"), time.monotonic() + float(seconds), None
-    places = lines.places(servers)
+def work(number, places, locks, end, folder, seed):
+    """What one client does."""
+    chance, client, enough = random.Random(f"{seed} {number}"), None, os.path.join(folder, "enough")
     with open(os.path.join(folder, f"client.{number}.txt"), "w", encoding="ascii", buffering=1) as file:
         def note(*words):
             file.write(" ".join(map(str, words)) + "\n")
-        while time.monotonic() < end:
+        while time.monotonic() < end and not os.path.exists(enough):
             try:
                 client = client or Noted(chance.sample(places, len(places)), note)
-                once(client, locks.split(","), folder, note, chance)
+                once(client, locks, folder, note, chance)
                 time.sleep(chance.random() * 0.01)
             except (LockLost, OSError) as lost:
                 if client is not None:
@@ -108,6 +110,14 @@ def main(number, servers, locks, seconds, folder, seed):
                 note("fault", client.session, type(fault).__name__, fault)
         if client is not None:
             client.close()
+
+
+def main(first, count, servers, locks, seconds, folder, seed):
+    end = time.monotonic() + float(seconds)
+    words = lines.places(servers), locks.split(","), end, folder, seed
+    them = [threading.Thread(target=work, args=(number, *words)) for number in range(int(first), int(first) + int(count))]
+    [it.start() for it in them]
+    [it.join() for it in them]
 
 
 if __name__ == "__main__":
