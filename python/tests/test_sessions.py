@@ -50,6 +50,8 @@ class Arbiter:
             return f"granted {name} {self._give(name, session)}"
         if holder[0] == session:
             return f"refused holds {name}"
+        if verb == "try":
+            return f"busy {name}"
         line.append(session)
         return f"waiting {name} {len(line)}"
 

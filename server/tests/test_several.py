@@ -161,8 +161,7 @@ class Cuts(Commands):
             self.assertEqual(self.verbs(), ["acquire", "release", "leave"])
 
     def test_a_try(self):
-        self.arbiter.holders["a"], busy = (9, 5), self.arbiter._do
-        self.arbiter._do = lambda session, verb, name="", _="": f"busy {name}" if verb == "try" else busy(session, verb, name, _)
+        self.arbiter.holders["a"] = 9, 5
         for moment in self.each_moment():
             self.doors[0].fails = moment
             self.assertEqual(self.run_it("try", "a", *UP), (1, "", ""))
