@@ -310,6 +310,22 @@ class Sessions(unittest.TestCase):
         client.check()
 
     @by_the_clock
+    def test_a_hold_goes_on_where_its_server_is_silent(self, longer):
+        lease = 1.6 * longer
+        self.setUp()
+        client = self.session(lease=lease)
+        token = client.acquire("a")
+        first = client._at
+        self.arbiter.doors[first].is_silent = True
+        self.addCleanup(setattr, self.arbiter.doors[first], "is_silent", False)
+        end = time.monotonic() + lease
+        while time.monotonic() < end:
+            client.check()  # others never had it
+            time.sleep(lease / 50)
+        self.assertNotEqual(client._at, first)
+        client.release("a", token)
+
+    @by_the_clock
     def test_without_a_server_it_is_lost_by_the_clock(self, longer):
         lease = 0.8 * longer
         self.setUp()
