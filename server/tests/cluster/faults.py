@@ -1,7 +1,8 @@
 #!/usr/bin/env python3
 """faults.py [SECONDS [SEED [CLIENTS [FOLDER]]]] [--every SECONDS] [--answers N]: three hosts with twelve clients, or more, a lock for each
-three of them, and a fault each few seconds, in an order that is drawn; then verify.py judges. What there is no time for is left out. The
-last line is `N passed, M failed`; where no hosts can be made it says why it is skipped. 120 seconds by ./test, 1200 before a release.
+three of them, `wozgirt lock` beside them, and a fault each few seconds, in an order that is drawn; then verify.py judges. What there is
+no time for is left out. The last line is `N passed, M failed`; where no hosts can be made it says why it is skipped. 120 seconds by
+./test, 1200 before a release.
 
 With --every a fault begins just so often, and is over by then. With --answers no fault comes any more when clients were told so many, or
 after SECONDS. `faults.py 3600 1 96 /tmp/million --every 4 --answers 1000000` is the longest trial."""
@@ -15,9 +16,11 @@ import signal
 import subprocess
 import sys
 import tempfile
+import threading
 import time
 
 from bed import NAMES, Bed, why_not
+from harness import COMMAND
 from recorder import Recorder
 from verify import verify
 
@@ -184,6 +187,30 @@ class Faults:
         self.bed.start_server(name)
 
 
+class Commands:
+    """`wozgirt lock` again and again, beside the clients: how often it ended with which status."""
+
+    def __init__(self, words, servers, locks, count=2):
+        self.words, self.servers, self.locks = words, servers, locks
+        self.statuses, self.is_over = collections.Counter(), threading.Event()
+        self.threads = [threading.Thread(target=self._work, args=(i,)) for i in range(count)]
+        [it.start() for it in self.threads]
+
+    def _work(self, number):
+        chance = random.Random(f"{self.words.seed} command {number}")
+        while not self.is_over.is_set():
+            servers = ",".join(chance.sample(self.servers, len(self.servers)))
+            words = [COMMAND, "lock", "--lease", "4", "--socket", servers, chance.choice(self.locks), "--"]
+            words += [sys.executable, os.path.join(HERE, "worker.py"), "inside", self.words.folder, str(number)]
+            self.statuses[subprocess.run(words, stderr=subprocess.DEVNULL, check=False).returncode] += 1
+
+    def end(self):
+        """Ends it. What is wrong: each status but that of a right end, of no server, and of a lost lock."""
+        self.is_over.set()
+        [it.join() for it in self.threads]
+        return [f"wozgirt lock ended with {status}, {count} times" for status, count in self.statuses.items() if status not in (0, 69, 75)]
+
+
 class Answers:
     """How many answers clients have noted so far."""
 
@@ -229,12 +256,14 @@ def run(words, locks):
     with Bed(folder, checkpoint=250 * clients, locks=",".join(locks)) as bed:
         bed.start()
         recorder = Recorder(bed.members.urls(), os.path.join(folder, "log.txt"))
-        servers = ",".join("tcp:%s:%d" % it for it in bed.places())
+        servers = ["tcp:%s:%d" % it for it in bed.places()]
+        commands = Commands(words, servers, locks)
         share = SHARE if clients > 12 else 1
-        workers = [subprocess.Popen([sys.executable, os.path.join(HERE, "worker.py"), str(first), str(min(share, clients - first)), servers,
-                                     ",".join(locks), str(words.seconds), folder, str(words.seed)]) for first in range(0, clients, share)]
+        workers = [subprocess.Popen([sys.executable, os.path.join(HERE, "worker.py"), str(first), str(min(share, clients - first)),
+                                     ",".join(servers), ",".join(locks), str(words.seconds), folder, str(words.seed)]) for first in range(0, clients, share)]
         faults = disturb(bed, workers, words, Answers(folder, clients), chance)
         late = [it for it in workers if wait(it, words.seconds) is None]
+        bad = commands.end()
         recorder.catch_up()
         ends = {name: bed.servers[name].poll() for name in NAMES}
         faults.note("servers ended and started again:", collections.Counter(bed.statuses), "at the end:", ends)
@@ -242,7 +271,8 @@ def run(words, locks):
         for it in late:
             it.kill()
     print("faults:", ", ".join(f"{name} {count}" for name, count in sorted(faults.done.items())))
-    return [f"{len(late)} clients do not end"] * bool(late) + [f"server {name} ended with {end}" for name, end in ends.items() if end is not None]
+    print("wozgirt lock ended with", ", ".join(f"{status}: {count}" for status, count in sorted(commands.statuses.items())))
+    return bad + [f"{len(late)} clients do not end"] * bool(late) + [f"server {name} ended with {end}" for name, end in ends.items() if end is not None]
 
 
 def wait(worker, seconds):

@@ -1,6 +1,7 @@
 #!/usr/bin/env python3
 """worker.py FIRST COUNT SERVERS LOCKS SECONDS FOLDER SEED: clients, as many as COUNT, that take locks and give them back, and note what
-they were answered. They end after SECONDS, or when the file `enough` is in FOLDER.
+they were answered. They end after SECONDS, or when the file `enough` is in FOLDER. `worker.py inside FOLDER NUMBER` is what `wozgirt lock` runs while it
+holds a lock.
 
 `client.N.txt` has a line for each, with its session's key: `did KEY NUMBER SENT GOT INPUT | ANSWER`, `granted KEY LOCK TOKEN`, `inside LOCK TOKEN FROM TO`
 (the client knew that it held the lock, by one clock of the machine), `lost KEY WHY`. What is shared is written to `store.LOCK`, which
@@ -112,6 +113,15 @@ def work(number, places, locks, end, folder, seed):
             client.close()
 
 
+def command(folder, number):
+    """Is inside the lock that `wozgirt lock` holds for this process, which is ended if that is lost."""
+    name, token, begun = os.environ["WOZGIRT_LOCK"], int(os.environ["WOZGIRT_TOKEN"]), time.monotonic()
+    verb = "wrote" if write(os.path.join(folder, f"store.{name}"), token) else "refused"
+    time.sleep(random.random() * 0.004)
+    with open(os.path.join(folder, f"client.command.{number}.txt"), "a", encoding="ascii") as file:
+        file.write(f"{verb} {name} {token}\ninside {name} {token} {begun:.6f} {time.monotonic():.6f}\n")
+
+
 def main(first, count, servers, locks, seconds, folder, seed):
     end = time.monotonic() + float(seconds)
     words = lines.places(servers), locks.split(","), end, folder, seed
@@ -121,4 +131,4 @@ def main(first, count, servers, locks, seconds, folder, seed):
 
 
 if __name__ == "__main__":
-    main(*sys.argv[1:])
+    (command if sys.argv[1] == "inside" else main)(*sys.argv[2 if sys.argv[1] == "inside" else 1:])
