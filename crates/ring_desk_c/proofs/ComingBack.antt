@@ -25,7 +25,7 @@ use Rattle.ring_desk.specs.Rings.{RingView, IsOneThreadRing, IsClient}
 use Rattle.ring_desk.specs.Texts.{saved_block, saved_alone, surveys_told}
 use Rattle.ring_desk_c.specs.Answers.{IsSavedText}
 use Rattle.ring_desk_c.specs.Resumed.{IsResumedAs, IsResumedFrom}
-use Rattle.ring_desk_c.specs.Trips.{SavesComeBack}
+use Rattle.ring_desk_c.specs.Trips.{IsBackAs, SavesComeBack}
 use Rattle.ring_desk_c.proofs.OneLog.{surveys_in, only_log}
 use Rattle.ring_desk_c.proofs.SeatSurveys.{same_surveys}
 
@@ -76,15 +76,19 @@ client_back d e one two history told seat c here there =
     let number : (get_or e.clients seat c).number ≡ (get_or d.clients seat c).number = is.number ∙ sym was.number in
     λ i. record { number = number i; log = log i }
 
+-- a ring that resumes the block of another is that ring again
+pub ring_back : (d e : RingView ℕ) (saved : SavedRing) (seats : ℕ) → IsOneThreadRing till 0 d → block_of saved ≡ saved_block 0 d → IsResumedAs saved seats e → IsBackAs d e
+ring_back d e saved seats ring same resumed =
+    let history : e.book.history ≡ d.book.history = resumed.history ∙ (ap (λ (b : Block). map event_of b.events) same ∙ lines_tell (opening d.book.start 0) d.book.history ring.book.legal) in
+    let surveys : surveys_told e.clients ≡ surveys_told d.clients = resumed.surveys ∙ ap (λ (b : Block). b.surveys) same in
+    record {
+      start = resumed.start ∙ ap (λ (b : Block). ring_with b.k b.start) same;
+      history = history;
+      surveys = surveys;
+      clients = client_back d e ring resumed.right history surveys;
+    }
+
 pub comes_back : SavesComeBack
 comes_back d e bytes place seats ring t from =
     let back = block_back d e bytes place seats t from in
-    let resumed : IsResumedAs from.at.ring seats e = from.at.resumed in
-    let history : e.book.history ≡ d.book.history = resumed.history ∙ (ap (λ (b : Block). map event_of b.events) back.1 ∙ lines_tell (opening d.book.start 0) d.book.history ring.book.legal) in
-    let surveys : surveys_told e.clients ≡ surveys_told d.clients = resumed.surveys ∙ ap (λ (b : Block). b.surveys) back.1 in (
-      back.0,
-      resumed.start ∙ ap (λ (b : Block). ring_with b.k b.start) back.1,
-      history,
-      surveys,
-      client_back d e ring resumed.right history surveys,
-    )
+    (back.0, ring_back d e from.at.ring seats ring back.1 from.at.resumed)

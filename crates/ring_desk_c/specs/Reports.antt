@@ -139,7 +139,7 @@ pub record IsTextReport (bytes : List ℕ) (code : ℕ) (old new : List ℕ) (sa
   pub whole : length bytes ≤ length old → (code ≡ 0) × (new ≡ bytes ++ drop (length bytes) old)
   pub small : length old < length bytes → (code ≡ too_small) × (new ≡ old)
 
--- no number of 64 bits but the last counts the bytes
+-- the text has 2^64 - 1 bytes or more
 abbrev pub HasNoSize : List ℕ → Type 0
 HasNoSize bytes = 2 ^ 64 - 1 ≤ length bytes
 
