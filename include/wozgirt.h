@@ -242,9 +242,9 @@ uint32_t wozgirt_events_before(const struct wozgirt_ring *ring, uint64_t *count)
 /* The event of this number, from 0; of one that is gone WOZGIRT_NO_EVENT. */
 uint32_t wozgirt_event_at(const struct wozgirt_ring *ring, uint64_t number, struct wozgirt_event *event);
 
-/* Copies the saved text of the ring as it is now into the buffer, and returns its size. WOZGIRT_TOO_SMALL: nothing is
- * copied, but the size is returned, so a buffer of length 0 asks for it. The ring stays as it was. Behind a `wozgirt_cut`
- * this is the text of the new segment, whose numbers begin anew. */
+/* Writes the saved text of the ring as it is now into the buffer, and returns its size. WOZGIRT_TOO_SMALL: nothing is
+ * written, but the size is returned, so a buffer of length 0 asks for it. The ring stays as it was. It does not allocate.
+ * Behind a `wozgirt_cut` this is the text of the new segment, whose numbers begin anew. */
 uint32_t wozgirt_save(const struct wozgirt_ring *ring, uint8_t *buffer, size_t length, uint64_t *size);
 
 /* ---- A journal, and a history without end, of a ring over a till (else WOZGIRT_NO_TILL). The history is cut into segments,
@@ -258,7 +258,7 @@ uint32_t wozgirt_save(const struct wozgirt_ring *ring, uint8_t *buffer, size_t l
  *      next file with 1.
  *   3. To resume, `wozgirt_open_segment` with the bytes of the last file, whatever was cut off of it, and then 1.
  *
- * So numbers never repeat, as long as one process at a time goes on from a file. Each of the three calls copies bytes into a
+ * So numbers never repeat, as long as one process at a time goes on from a file. Each of the three calls writes bytes into a
  * buffer, and is WOZGIRT_TOO_SMALL as `wozgirt_save` is; nothing has changed then. */
 
 /* The beginning of the journal of the ring's segment: its file with all of the segment so far. A journal is kept from then

@@ -50,6 +50,8 @@ class Arbiter:
             return f"granted {name} {self._give(name, session)}"
         if holder[0] == session:
             return f"refused holds {name}"
+        if verb == "try":
+            return f"busy {name}"
         line.append(session)
         return f"waiting {name} {len(line)}"
 
@@ -172,7 +174,8 @@ class Sessions(unittest.TestCase):
         self.assertEqual(lines.places("tcp:one:7000,tcp:[::1]:7001"), [("one", 7000), ("::1", 7001)])
         self.assertEqual(lines.places("/run/a,/run/b"), ["/run/a", "/run/b"])
         self.assertEqual(lines.places("tcp:one:7000"), [("one", 7000)])
-        for one in ("a,b", "/run/lock.sock", ("one", 1)):
+        self.assertEqual(lines.places("a.sock,tcp:one:7000,./b"), ["a.sock", ("one", 7000), "./b"])
+        for one in ("a,b", "/run/a,b", "/run/lock.sock", ("one", 1)):
             self.assertEqual(lines.places(one), [one])
         for wrong in ("tcp:one", "tcp::1", "tcp:one:0", []):
             with self.subTest(place=wrong), self.assertRaises(ValueError):
@@ -305,6 +308,22 @@ class Sessions(unittest.TestCase):
         client.release("a", token)
         self.assertLess(time.monotonic() - begun, lease)
         client.check()
+
+    @by_the_clock
+    def test_a_hold_goes_on_where_its_server_is_silent(self, longer):
+        lease = 1.6 * longer
+        self.setUp()
+        client = self.session(lease=lease)
+        token = client.acquire("a")
+        first = client._at
+        self.arbiter.doors[first].is_silent = True
+        self.addCleanup(setattr, self.arbiter.doors[first], "is_silent", False)
+        end = time.monotonic() + lease
+        while time.monotonic() < end:
+            client.check()  # others never had it
+            time.sleep(lease / 50)
+        self.assertNotEqual(client._at, first)
+        client.release("a", token)
 
     @by_the_clock
     def test_without_a_server_it_is_lost_by_the_clock(self, longer):

@@ -3,12 +3,13 @@
 from __future__ import annotations
 
 import base64
-import http.client
 import json
 import socket
 import ssl
 from typing import Any, Dict, Iterator, List, Optional, Tuple, Union
 from urllib.parse import urlsplit
+
+from .posts import Line
 
 Answer = Dict[str, Any]
 #: Where a member is: whether by TLS, its host, and its port.
@@ -81,7 +82,7 @@ class Member:
 
     def __init__(self, places: List[Place], tls: Optional[ssl.SSLContext] = None, patience: float = PATIENCE):
         self._places, self._tls, self._patience, self._at = places, tls, patience, 0
-        self._line: Optional[http.client.HTTPConnection] = None
+        self._line: Optional[Line] = None
 
     @property
     def name(self) -> str:
@@ -97,11 +98,10 @@ class Member:
     def ask(self, path: str, body: Answer) -> Answer:
         """What the member answers."""
         try:
-            response = self._send(path, [body])
-            return self._known(json.loads(response.read()))
+            return self._known(json.loads(self._body(self._send(path, [body]))))
         except NoAnswer:
             raise
-        except (OSError, http.client.HTTPException, ValueError) as fault:
+        except (OSError, ValueError) as fault:
             self._drop()
             raise NoAnswer(f"{self.name}: {fault or type(fault).__name__}") from fault
 
@@ -109,29 +109,34 @@ class Member:
         """The results that the member sends, one after the other. It ends with `NoAnswer`, which is `Silent` if the member may
         well be there; the connection is closed then."""
         try:
-            for text in self._send(path, bodies):
-                yield self._known(json.loads(text))
+            rest = b""
+            for part in self._send(path, bodies).parts():
+                *texts, rest = (rest + part).split(b"\n")
+                for text in texts:
+                    yield self._known(json.loads(text))
             raise NoAnswer(f"{self.name}: it ended the stream")
         except NoAnswer:
             raise
         except socket.timeout as fault:
             raise Silent(f"{self.name}: {fault}") from fault
-        except (OSError, http.client.HTTPException, ValueError) as fault:
+        except (OSError, ValueError) as fault:
             raise NoAnswer(f"{self.name}: {fault or type(fault).__name__}") from fault
         finally:
             self._drop()
 
-    def _send(self, path: str, bodies: List[Answer]) -> http.client.HTTPResponse:
+    def _send(self, path: str, bodies: List[Answer]) -> Line:
         if self._line is None:
             safe, host, port = self._places[self._at]
-            self._line = (http.client.HTTPSConnection(host, port, timeout=self._patience, context=self._tls) if safe
-                          else http.client.HTTPConnection(host, port, timeout=self._patience))
-        # a member that has lost the others ends a stream with this word, and is not just silent
-        self._line.request("POST", f"/v3/{path}", "".join(map(json.dumps, bodies)), {"Grpc-Metadata-hasleader": "true"})
-        response = self._line.getresponse()
-        if response.status != 200:
-            raise Denied(f"{self.name}: {reason(response.read().decode('utf-8', 'replace'))}")
-        return response
+            self._line = Line(host, port, self._tls if safe else None, self._patience)
+        if self._line.post(f"/v3/{path}", "".join(map(json.dumps, bodies)).encode()) != 200:
+            raise Denied(f"{self.name}: {reason(self._body(self._line).decode('utf-8', 'replace'))}")
+        return self._line
+
+    def _body(self, line: Line) -> bytes:
+        body = line.body()
+        if line.is_over:
+            self._drop()
+        return body
 
     @staticmethod
     def _known(answer: Any) -> Answer:

@@ -3,6 +3,7 @@
 from __future__ import annotations
 
 import operator
+import re
 from dataclasses import dataclass
 from typing import List, Optional, Tuple, Union
 
@@ -99,12 +100,10 @@ def place(given: Place) -> Place:
 
 
 def places(given: Places) -> List[Place]:
-    """One server or several: a text is cut at commas if each piece begins with tcp: or /."""
+    """One server or several: a text is cut at each comma behind which another place begins, with tcp:, / or ./."""
     if isinstance(given, tuple):
         return [given]
-    pieces = given.split(",") if isinstance(given, str) else given
-    if isinstance(given, str) and not all(it.startswith(("tcp:", "/")) for it in pieces):
-        return [given]
+    pieces = re.split(",(?=tcp:|/|[.]/)", given) if isinstance(given, str) else given
     if not pieces:
         raise ValueError("no server")
     return [place(it) for it in pieces]

@@ -17,6 +17,9 @@ from .lines import LockLost, LockStatus, Place, Places
 CONNECT_ONE, ANSWER = 2.0, 5.0
 #: Seconds until all servers are tried again, if none of them answers.
 PAUSE = 0.05
+#: After this part of its lease a client speaks, and after another one without an answer it looks for another server. So a quarter
+#: is left for that, until what it holds is lost after half of the lease.
+PARTS = 8
 
 
 class _Input(NamedTuple):
@@ -115,7 +118,7 @@ class Session(Client):
             self._resume("the server closed the connection")
         now = time.monotonic()
         if line == PING:
-            if self._pings and now > self._pings[0] + self._lease / 4:
+            if self._pings and now > self._pings[0] + self._lease / PARTS:
                 self._resume("the server does not answer")
                 return
             self._pings.append(now)
@@ -183,7 +186,7 @@ class Session(Client):
 
     def _receive(self, deadline: Optional[float], flags: int = 0) -> bool:
         """As of one server; but where nothing comes this client speaks, and goes on with another one."""
-        left = self._lease / 4 if deadline is None else min(self._lease / 4, deadline - time.monotonic())
+        left = self._lease / PARTS if deadline is None else min(self._lease / PARTS, deadline - time.monotonic())
         if left <= 0:
             return False
         try:
@@ -309,13 +312,13 @@ class Session(Client):
 
     def _speak(self) -> None:
         while not self._closed.is_set():
-            self._wake.wait(self._lease / 4)
+            self._wake.wait(self._lease / PARTS)
             self._wake.clear()
-            if self._closed.is_set() or not self._mutex.acquire(timeout=self._lease / 8):
+            if self._closed.is_set() or not self._mutex.acquire(timeout=self._lease / PARTS / 2):
                 continue  # a call is at work, and speaks itself
             try:
                 self._send(PING)
-                if self._answer(time.monotonic() + self._lease / 4, until_pong=True) is None and self._pings:
+                if self._answer(time.monotonic() + self._lease / PARTS, until_pong=True) is None and self._pings:
                     self._resume("the server does not answer")
             except (lines.LockError, OSError, ValueError):
                 return

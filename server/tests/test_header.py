@@ -1,4 +1,4 @@
-"""The client in C, `include/wozgirt_lock.h`, with a server."""
+"""The client in C, `include/wozgirt_lock.h`, with a server; that of several is also compiled here."""
 
 import os
 import shutil
@@ -58,10 +58,11 @@ class Header(unittest.TestCase):
             labels = [line.split()[4] for line in server.calls() if line.split()[1] == "p"]
             self.assertEqual(labels, ["1", "77", "78", str(2 ** 64 - 1), "79"])
 
-    def test_it_is_c_and_cpp(self):
-        code = '#include "wozgirt_lock.h"\nint main() { struct wozgirt_lock_client it; return wozgirt_lock_open(&it, "/") == 0; }\n'
+    def test_they_are_c_and_cpp(self):
+        code = ('#include "wozgirt_session.h"\nint main() { struct wozgirt_lock_client it; struct wozgirt_session all; '
+                'return wozgirt_lock_open(&it, "/") == 0 || wozgirt_session_open(&all, "/", 1000) == 0; }\n')
         with tempfile.TemporaryDirectory() as folder:
-            for compiler, end, words in (("cc", "c", ["-std=c99"]), ("cc", "c", []), ("clang", "c", ["-std=c11"]),
+            for compiler, end, words in (("cc", "c", ["-std=c99"]), ("cc", "c", ["-O2"]), ("clang", "c", ["-std=c11"]),
                                          ("c++", "cpp", ["-std=c++17"]), ("c++", "cpp", ["-std=c++11"])):
                 if shutil.which(compiler):
                     source = os.path.join(folder, "header." + end)

@@ -1,5 +1,5 @@
 -- What is opened from the saved text of a ring is that ring.
-use Rattle.std.proofs.Common.{◌≡◌, ℕ, zero, suc, List, [], ◌∷◌, map, refl, sym, ap, ◌∙◌, subst, Some, Ok}
+use Rattle.std.proofs.Common.{◌≡◌, ℕ, zero, suc, List, [], ◌∷◌, map, refl, sym, ap, ◌∙◌, subst, Some, Ok, ◌<◌, length, get_or}
 use Rattle.std.specs.Prelude.{slice_get, option_map}
 use Rattle.std.proofs.lemmas.List.{append-nil}
 use Rattle.std.proofs.lemmas.Option.{none-some, same_Some, slice_get-map}
@@ -19,11 +19,15 @@ use Rattle.ring_saved.specs.Meaning.{IsRightRead}
 use Rattle.ring_saved.proofs.TextLaws.{text_reads}
 use Rattle.ring_check.specs.Table.{event_of}
 use Rattle.ring_blocks.specs.SavedOf.{saved_for, saved_event}
-use Rattle.ring_desk.specs.Rings.{RingView, IsOneThreadRing}
-use Rattle.ring_desk.specs.Texts.{saved_block, saved_alone}
+use Rattle.ring_logs.specs.LogView.{LogView}
+use Rattle.ring_desk.specs.Clients.{log_from}
+use Rattle.ring_desk.specs.Rings.{RingView, IsOneThreadRing, IsClient}
+use Rattle.ring_desk.specs.Texts.{saved_block, saved_alone, surveys_told}
 use Rattle.ring_desk_c.specs.Answers.{IsSavedText}
 use Rattle.ring_desk_c.specs.Resumed.{IsResumedAs, IsResumedFrom}
-use Rattle.ring_desk_c.specs.Trips.{SavesComeBack}
+use Rattle.ring_desk_c.specs.Trips.{IsBackAs, SavesComeBack}
+use Rattle.ring_desk_c.proofs.OneLog.{surveys_in, only_log}
+use Rattle.ring_desk_c.proofs.SeatSurveys.{same_surveys}
 
 -- the line of an event that is a step describes it
 line_tells : (a b : State ℕ) (seat : ℕ) (o : Op) (r : Reply) → StepOf till a o r b → event_of (saved_for seat o r) ≡ record { seat = seat; op = o; reply = r }
@@ -58,12 +62,33 @@ block_back d e bytes place seats t from =
     let there : slice_get (map block_of rings) place ≡ Some (block_of from.at.ring) = slice_get-map block_of rings place ∙ ap (option_map block_of) from.at.at in
     only (saved_block 0 d) (block_of from.at.ring) place (subst (λ (bs : List Block). slice_get bs place ≡ Some (block_of from.at.ring)) blocks there)
 
+-- a client is known by its place, the history and its surveys
+client_back : (d e : RingView ℕ) → IsOneThreadRing till 0 d → IsOneThreadRing till 0 e → e.book.history ≡ d.book.history → surveys_told e.clients ≡ surveys_told d.clients →
+    (seat : ℕ) (c : LogView) → seat < length d.clients → seat < length e.clients → get_or e.clients seat c ≡ get_or d.clients seat c
+client_back d e one two history told seat c here there =
+    let was : IsClient till 0 d.book seat (get_or d.clients seat c) = one.each seat c here in
+    let is : IsClient till 0 e.book seat (get_or e.clients seat c) = two.each seat c there in
+    let surveys : surveys_in (get_or e.clients seat c).log ≡ surveys_in (get_or d.clients seat c).log =
+    same_surveys e.clients d.clients seat c (λ i x lt. (two.each i x lt).number) (λ i x lt. (one.each i x lt).number) told there here in
+    let log : (get_or e.clients seat c).log ≡ (get_or d.clients seat c).log =
+    only_log till (opening e.book.start 0) e.book.history seat (get_or e.clients seat c).log is.fits
+    ∙ ((λ i. log_from seat 0 (history i) (surveys i)) ∙ sym (only_log till (opening d.book.start 0) d.book.history seat (get_or d.clients seat c).log was.fits)) in
+    let number : (get_or e.clients seat c).number ≡ (get_or d.clients seat c).number = is.number ∙ sym was.number in
+    λ i. record { number = number i; log = log i }
+
+-- a ring that resumes the block of another is that ring again
+pub ring_back : (d e : RingView ℕ) (saved : SavedRing) (seats : ℕ) → IsOneThreadRing till 0 d → block_of saved ≡ saved_block 0 d → IsResumedAs saved seats e → IsBackAs d e
+ring_back d e saved seats ring same resumed =
+    let history : e.book.history ≡ d.book.history = resumed.history ∙ (ap (λ (b : Block). map event_of b.events) same ∙ lines_tell (opening d.book.start 0) d.book.history ring.book.legal) in
+    let surveys : surveys_told e.clients ≡ surveys_told d.clients = resumed.surveys ∙ ap (λ (b : Block). b.surveys) same in
+    record {
+      start = resumed.start ∙ ap (λ (b : Block). ring_with b.k b.start) same;
+      history = history;
+      surveys = surveys;
+      clients = client_back d e ring resumed.right history surveys;
+    }
+
 pub comes_back : SavesComeBack
 comes_back d e bytes place seats ring t from =
     let back = block_back d e bytes place seats t from in
-    let resumed : IsResumedAs from.at.ring seats e = from.at.resumed in (
-      back.0,
-      resumed.start ∙ ap (λ (b : Block). ring_with b.k b.start) back.1,
-      resumed.history ∙ (ap (λ (b : Block). map event_of b.events) back.1 ∙ lines_tell (opening d.book.start 0) d.book.history ring.book.legal),
-      resumed.surveys ∙ ap (λ (b : Block). b.surveys) back.1,
-    )
+    (back.0, ring_back d e from.at.ring seats ring back.1 from.at.resumed)

@@ -1,5 +1,5 @@
 -- The number of locks stays the same, and a leave tells of each at most once.
-use Rattle.std.proofs.Common.{◌≡◌, ℕ, zero, suc, ◌+◌, ◌≤◌, List, [], ◌∷◌, ◌++◌, map, length, take, drop, get_or, inl, inr, refl, subst, add-one, drop-cons, append_assoc, ◌<◌, sym, ap, ◌∙◌, Option, Some, None, arith}
+use Rattle.std.proofs.Common.{◌≡◌, ℕ, zero, suc, ◌+◌, ◌≤◌, List, [], ◌∷◌, ◌++◌, length, drop, get_or, inl, inr, refl, subst, add-one, drop-cons, append_assoc, ◌<◌, sym, ap, ◌∙◌, Option, Some, None, arith}
 use Rattle.std.specs.Prelude.{slice_get}
 use Rattle.std.proofs.lemmas.List.{length-map, length-set, length-append}
 use Rattle.ring_locks.specs.declared.answers.Answers.{Answers}

@@ -1,12 +1,11 @@
 -- A lock that is added over a ring with no events is free.
-use Rattle.std.proofs.Common.{◌≡◌, ℕ, ◌+◌, List, [], ◌∷◌, ◌++◌, map, drop, length, refl, sym, ap, ◌∙◌, subst, Option, Some, None, arith}
+use Rattle.std.proofs.Common.{◌≡◌, ℕ, ◌+◌, List, [], ◌∷◌, map, drop, length, refl, sym, ap, ◌∙◌, subst, Option, None, arith}
 use Rattle.std.specs.List.{All}
 use Rattle.std.proofs.lemmas.List.{drop_all, length-append}
 use Rattle.std.proofs.lemmas.List.Elements.{All-nil, All-cons, All-append}
 use Rattle.ring_model.specs.declared.events.Event.{Event}
 use Rattle.ring_chains.specs.Bases.{shifted}
 use Rattle.ring_endless.specs.Endless.{EndlessView}
-use Rattle.ring_locks.specs.declared.answers.Holder.{Holder}
 use Rattle.ring_locks.specs.Locks.{Call}
 use Rattle.ring_locks.specs.Promises.{open_after}
 use Rattle.ring_locks.specs.Kept.{LockView}

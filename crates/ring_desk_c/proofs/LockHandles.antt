@@ -6,7 +6,7 @@ use seplogic.Ra.Ura.{Ura}
 use mir.Syntax.{impl, tnil, dnil, ptr_eq}
 use mir.Raw.{raw as bare}
 use mir.Val.{Val, vptr, vnull, vbool, vstruct, of_list, op2_val, has_ty, WT}
-use base.Logic.{SProp, ent, never, never_e, guard, guard_i, via, id⊢, snd∗}
+use base.Logic.{ent, never_e, guard, guard_i, via, snd∗}
 use base.Fml.{Fml, ftrue}
 use types.Logic.{Logic, sem}
 use types.Kit.{Item, Goal, Seq, Step, step, ‵, given, ◌$◌, ◌∵◌, !, qed, done, check, move, drop, fsplit, fjoin, fpick, fpack, feq_i, feq_l, use1, learn}
@@ -27,7 +27,7 @@ use Rattle.std.specs.contracts.alloc.Global as heap
 use Rattle.std.proofs.alloc.Global.TheLaws as heap_laws
 use Rattle.std.proofs.GlobalToken.{dealloc_token-Testable}
 use Rattle.std.specs.contracts.impls.GlobalAllocator.TheImpl.{ghosts}
-use Rattle.ring_desk_c.specs.Held.{held, testable}
+use Rattle.ring_desk_c.specs.Held.{held}
 use Rattle.ring_desk_c.specs.contracts.desks.LockDesk as kept
 use Rattle.ring_desk_c.specs.contracts.lock_handle.LockHandle as handle
 use Rattle.ring_desk_c.proofs.Values.{both, both_tt}

@@ -16,14 +16,12 @@ use Rattle.ring_book.specs.declared.books.groups.GroupReceipt.{GroupReceipt}
 use Rattle.ring_logs.specs.Seats.{receipts_from}
 use Rattle.ring_desk.specs.Rings.{RingView, IsOneThreadRing, IsTried, told_more}
 use Rattle.ring_desk.specs.Refusals.{IsDecided, bounds_of, seat_refusal, pass_refusal, try_refusal, corrupt_refusal, group_refusal}
-use Rattle.ring_saved.specs.Spelling.{Fits}
+use Rattle.ring_saved.specs.Spelling.{text as spelled, Fits}
 use Rattle.ring_desk.specs.Texts.{saved_alone, IsTextOf}
 use Rattle.ring_desk.specs.declared.errors.CallError.{CallError}
-use Rattle.std_alloc.specs.declared.vec.Vec.{Vec}
-use Rattle.std.specs.declared.alloc.Global.{Global}
 use Rattle.ring_endless.specs.Endless.{survey_now}
 use Rattle.ring_files.specs.Calls as files
-use Rattle.ring_desk_c.specs.Reports.{grant_in}
+use Rattle.ring_desk_c.specs.Reports.{grant_in, HasNoSize}
 use Rattle.ring_desk_c.specs.declared.kept.Kept.{Kept}
 use Rattle.ring_desk_c.specs.declared.kept.Kept.TheVariants.{Till, Idle}
 use Rattle.ring_desk_c.specs.declared.kept.TextError.{TextError}
@@ -147,9 +145,10 @@ pub record IsSavedText (d : RingView ℕ) (bytes : List ℕ) : Type 0 where
   pub text : IsTextOf d bytes
   pub fits : Fits (saved_alone d)
 
--- The saved text of the segment of a ring over a till; there is none of a ring that is over no till.
-abbrev pub IsTextAnswer : Kept → Result (Vec ℕ Global) TextError → Type 0
-IsTextAnswer (Till d) (Ok bytes) = IsSavedText d.ring.ring bytes.items
-IsTextAnswer (Till d) (Err text.OutOfMemory) = Unit {0}
+-- The saved text of the segment of a ring over a till; there is none of a ring that is over no till,
+-- and for one of 2^64 - 1 bytes or more there is no memory.
+abbrev pub IsTextAnswer : Kept → Result (List ℕ) TextError → Type 0
+IsTextAnswer (Till d) (Ok bytes) = IsSavedText d.ring.ring bytes
+IsTextAnswer (Till d) (Err text.OutOfMemory) = HasNoSize (spelled (saved_alone d.ring.ring))
 IsTextAnswer (Idle d) (Err text.NoTill) = Unit {0}
 IsTextAnswer _ _ = ⊥

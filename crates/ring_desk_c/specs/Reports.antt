@@ -1,6 +1,6 @@
 -- The form of an answer for C: a code, and the values written to the struct that C lends (this
 -- project's own).
-use Rattle.std.specs.Prelude.{◌≡◌, ℕ, ◌<◌, ◌≤◌, List, ◌++◌, length, drop, Option, Some, None, Result, Ok, Err, IfOk}
+use Rattle.std.specs.Prelude.{◌≡◌, ℕ, ◌-◌, ◌^◌, ◌<◌, ◌≤◌, List, ◌++◌, length, drop, Option, Some, None, Result, Ok, Err, IfOk}
 use Rattle.ring_model.specs.declared.events.Event.{Event}
 use Rattle.ring_model.specs.declared.events.Op.{Op}
 use Rattle.ring_model.specs.declared.events.Op.TheVariants.{Pass, Member, Corrupt}
@@ -22,8 +22,6 @@ use Rattle.ring_check.specs.Legal.{IsRightCheck}
 use Rattle.ring_check.specs.Meaning.{IsRightText}
 use Rattle.ring_desk.specs.declared.errors.CallError.{CallError}
 use Rattle.ring_desk.specs.declared.errors.CallError.TheVariants as call
-use Rattle.std_alloc.specs.declared.vec.Vec.{Vec}
-use Rattle.std.specs.declared.alloc.Global.{Global}
 use Rattle.ring_desk_c.specs.declared.answers.Answer.{Answer}
 use Rattle.ring_desk_c.specs.declared.answers.EventRow.{EventRow}
 use Rattle.ring_desk_c.specs.declared.answers.Group.{Group}
@@ -141,10 +139,13 @@ pub record IsTextReport (bytes : List ℕ) (code : ℕ) (old new : List ℕ) (sa
   pub whole : length bytes ≤ length old → (code ≡ 0) × (new ≡ bytes ++ drop (length bytes) old)
   pub small : length old < length bytes → (code ≡ too_small) × (new ≡ old)
 
+-- the text has 2^64 - 1 bytes or more
+abbrev pub HasNoSize : List ℕ → Type 0
+HasNoSize bytes = 2 ^ 64 - 1 ≤ length bytes
+
 -- of a text, or of none, and then nothing is written
-abbrev pub IsSaveReport : Result (Vec ℕ Global) TextError → ℕ → List ℕ → List ℕ → ℕ → ℕ → Type 0
-IsSaveReport (Ok bytes) code old new size said =
-    IsTextReport bytes.items code old new said
+abbrev pub IsSaveReport : Result (List ℕ) TextError → ℕ → List ℕ → List ℕ → ℕ → ℕ → Type 0
+IsSaveReport (Ok bytes) code old new size said = IsTextReport bytes code old new said
 IsSaveReport (Err e) code old new size said =
     (code ≡ text_code e) × (new ≡ old) × (said ≡ size)
 

@@ -1,20 +1,18 @@
 -- The file of a ring's segment, its journal, and the next segment, for C (this project's own).
-use Rattle.std.specs.Prelude.{◌≡◌, ◌≢◌, ℕ, ◌<◌, ◌≤◌, ◌⊎◌, true, false, List, [], ◌∷◌, ◌++◌, length, drop, None, Result, Ok, Err}
-use Rattle.std_alloc.specs.declared.vec.Vec.{Vec}
-use Rattle.std.specs.declared.alloc.Global.{Global}
+use Rattle.std.specs.Prelude.{◌≡◌, ◌≢◌, ℕ, ◌<◌, ◌≤◌, ◌⊎◌, true, false, List, [], ◌∷◌, ◌++◌, length, drop, Result, Ok, Err}
 use Rattle.ring_saved.specs.declared.saved.SavedRing.{SavedRing}
-use Rattle.ring_check.specs.declared.answers.Kind.{Kind}
 use Rattle.ring_chains.specs.declared.bases.Base.{Base}
 use Rattle.ring_segments.specs.declared.errors.SegmentError.{SegmentError}
 use Rattle.ring_segments.specs.declared.errors.SegmentError.TheVariants as segment
 use Rattle.ring_segments.specs.declared.last.LastSegment.{LastSegment}
 use Rattle.ring_segments.specs.Last.{IsRightLast}
-use Rattle.ring_files.specs.Files.{FilesView, IsFileText, IsNextFile, HasNoNext, new_lines, kept_now, filed_at}
+use Rattle.ring_files.specs.Files.{FilesView, file_text, IsFileText, IsNextFile, HasNoNext, new_lines, kept_now, filed_at}
 use Rattle.ring_desk_c.specs.declared.kept.Kept.{Kept}
 use Rattle.ring_desk_c.specs.declared.kept.Kept.TheVariants.{Till, Idle}
 use Rattle.ring_desk_c.specs.declared.kept.TextError.{TextError}
 use Rattle.ring_desk_c.specs.declared.kept.TextError.TheVariants as text
 use Rattle.ring_desk_c.specs.Codes.{segment_code, no_memory, history_full, too_small, no_till, many_rings}
+use Rattle.ring_desk_c.specs.Reports.{HasNoSize}
 use Rattle.ring_desk_c.specs.Resumed.{IsResumedAs, IsRingRefused}
 
 -- ---- texts
@@ -24,18 +22,19 @@ abbrev pub IsFileOf : Kept → List ℕ → Type 0
 IsFileOf (Till d) bytes = IsFileText d bytes
 IsFileOf (Idle d) bytes = ⊥
 
--- That text; there is none of a ring that is over no till.
-abbrev pub IsFileAnswer : Kept → Result (Vec ℕ Global) TextError → Type 0
-IsFileAnswer (Till d) (Ok bytes) = IsFileText d bytes.items
-IsFileAnswer (Till d) (Err text.OutOfMemory) = Unit {0}
+-- That text; there is none of a ring that is over no till, and no memory for one of 2^64 - 1 bytes
+-- or more.
+abbrev pub IsFileAnswer : Kept → Result (List ℕ) TextError → Type 0
+IsFileAnswer (Till d) (Ok bytes) = IsFileText d bytes
+IsFileAnswer (Till d) (Err text.OutOfMemory) = HasNoSize (file_text d.place d.ring)
 IsFileAnswer (Idle d) (Err text.NoTill) = Unit {0}
 IsFileAnswer _ _ = ⊥
 
 -- The lines that the journal of the segment does not have; there are none where none is kept.
-abbrev pub IsLinesAnswer : Kept → Result (Vec ℕ Global) TextError → Type 0
-IsLinesAnswer (Till d) (Ok bytes) = (d.notes.kept ≡ true) × (bytes.items ≡ new_lines d)
+abbrev pub IsLinesAnswer : Kept → Result (List ℕ) TextError → Type 0
+IsLinesAnswer (Till d) (Ok bytes) = (d.notes.kept ≡ true) × (bytes ≡ new_lines d)
 IsLinesAnswer (Till d) (Err text.NoJournal) = d.notes.kept ≡ false
-IsLinesAnswer (Till d) (Err text.OutOfMemory) = d.notes.kept ≡ true
+IsLinesAnswer (Till d) (Err text.OutOfMemory) = (d.notes.kept ≡ true) × HasNoSize (new_lines d)
 IsLinesAnswer (Idle d) (Err text.NoTill) = Unit {0}
 IsLinesAnswer _ _ = ⊥
 

@@ -2,10 +2,9 @@
 
 ghost use Rattle.std.specs.Prelude.{◌≡◌};
 ghost use Rattle.ring_blocks.specs.SavedOf;
-ghost use Rattle.ring_desk_c.specs.Reports.{IsCallReport, IsTryReport, IsReplyReport, IsGroupReport, IsSightReport, IsEventReport, row_for, grant_in, IsSaveReport, IsTextReport, IsCheckReport, line_of};
+ghost use Rattle.ring_desk_c.specs.Reports.{IsCallReport, IsTryReport, IsReplyReport, IsGroupReport, IsSightReport, IsEventReport, row_for, grant_in, IsTextReport, IsCheckReport, line_of};
 
-use crate::codes::{NO_EVENT, NO_MEMORY, TOO_SMALL, call_code, kind_code, text_code};
-use crate::kept::TextError;
+use crate::codes::{NO_EVENT, NO_MEMORY, TOO_SMALL, call_code, kind_code};
 use ring_book::GroupReceipt;
 use ring_check::{CheckError, Summary};
 use ring_desk::CallError;
@@ -278,16 +277,6 @@ pub(crate) fn report_text(text: &[u8], out: &mut [u8], size: &mut u64) -> u32
     }
     out[..text.len()].copy_from_slice(text);
     0
-}
-
-/// The answer of a save.
-pub(crate) fn report_save(answer: Result<Vec<u8>, TextError>, out: &mut [u8], size: &mut u64) -> u32
-    ensures { IsSaveReport answer result out.old out.new size.old size.new }
-{
-    match answer {
-        Ok(text) => report_text(text.as_slice(), out, size),
-        Err(error) => text_code(error),
-    }
 }
 
 /// No sums, with a line.

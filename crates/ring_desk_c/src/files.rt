@@ -1,17 +1,16 @@
 //! The file of a ring's segment, its journal, and the next segment, for C.
 
-ghost use Rattle.std.specs.Prelude.{◌≡◌, ◌≢◌, ℕ, true, false, Result};
-ghost use Rattle.std_alloc.specs.declared.vec.Vec.{Vec};
-ghost use Rattle.std.specs.declared.alloc.Global.{Global};
-ghost use Rattle.ring_desk_c.specs.Codes.{closed};
+ghost use Rattle.std.specs.Prelude.{◌≡◌, ◌≢◌, ℕ, List, true, false, Result, IfOk, IfErr};
+ghost use Rattle.ring_desk_c.specs.Codes.{closed, text_code};
 ghost use Rattle.ring_desk_c.specs.Reports.{IsSaveReport};
-ghost use Rattle.ring_desk_c.specs.Sealed.{IsFileOf, IsFileAnswer, IsLinesAnswer, IsStepReport, IsCutReport, kept_after};
+ghost use Rattle.ring_desk_c.specs.Sealed.{IsFileOf, IsFileAnswer, IsLinesAnswer, IsNotSealed, IsStepReport, IsCutReport, kept_after};
 ghost use Rattle.ring_desk_c.specs.declared.kept.TextError.{TextError};
 
-use crate::answers::{report_save, report_text};
+use crate::answers::report_text;
 use crate::codes::{CLOSED, HISTORY_FULL, NO_MEMORY, NO_TILL, TOO_SMALL, text_code};
-use crate::handle::{Handle, hold, is_closed, loosen};
-use crate::kept::{Kept, TextError, file_text, keep, lines};
+use crate::handle::{Handle, hold, is_closed, loosen, put_back, take_out};
+use crate::kept::{Kept, TextError, keep};
+use crate::kept_texts::{file_text, put_file, put_lines};
 use crate::loose::Loose;
 use core::mem::replace_with;
 use ring_endless::NextError;
@@ -22,38 +21,16 @@ fn file_by_handle(handle: Handle, alloc: Global) -> (Handle, Result<Vec<u8>, Tex
     requires { handle.full ≡ true }
     ensures full { result.0.full ≡ true }
     ensures same { result.0.value ≡ handle.value }
-    ensures file { IsFileAnswer handle.value result.1 }
+    ensures ok { IfOk result.1 (λ text. IsFileOf handle.value text.items) }
+    ensures err { IfErr result.1 (λ e. IsNotSealed handle.value (text_code e)) }
 {
     let kept = loosen(handle).into_box();
     let answer = file_text(&kept, alloc);
     (hold(Loose::of(kept)), answer)
 }
 
-/// The lines that the journal of a ring that C holds does not have.
-fn lines_by_handle(handle: Handle, alloc: Global) -> (Handle, Result<Vec<u8>, TextError>)
-    requires { handle.full ≡ true }
-    ensures full { result.0.full ≡ true }
-    ensures same { result.0.value ≡ handle.value }
-    ensures lines { IsLinesAnswer handle.value result.1 }
-{
-    let kept = loosen(handle).into_box();
-    let answer = lines(&kept, alloc);
-    (hold(Loose::of(kept)), answer)
-}
-
-/// The journal of a ring that C holds has all of its segment.
-fn keep_by_handle(handle: Handle, _call: ()) -> (Handle, ())
-    requires { handle.full ≡ true }
-    ensures full { result.0.full ≡ true }
-    ensures kept { result.0.value ≡ kept_after handle.value }
-{
-    let mut kept = loosen(handle).into_box();
-    keep(&mut kept);
-    (hold(Loose::of(kept)), ())
-}
-
-/// Copies the beginning of the journal of the ring's segment, all of the segment so far, to the front of the caller's bytes, if
-/// there is room, and returns its size. From now on a journal is kept.
+/// Writes the beginning of the journal of the ring's segment, all of the segment so far, to the front of the caller's bytes, if
+/// there is room, and tells its size. From now on a journal is kept. It takes no memory.
 #[unsafe(no_mangle)]
 pub extern "C" fn wozgirt_open_journal(
     alloc: Global,
@@ -71,23 +48,24 @@ pub extern "C" fn wozgirt_open_journal(
         → ring.new.value ≡ kept_after ring.old.value }
     ensures same { ring.old.full ≡ true → result ≢ 0 → ring.new.value ≡ ring.old.value }
     ensures reported { ring.old.full ≡ true
-        → (answer : Result (Vec ℕ Global) TextError)
+        → (answer : Result (List ℕ) TextError)
         × IsFileAnswer ring.old.value answer
         × IsSaveReport answer result out.old out.new size.old size.new }
 {
     if is_closed(ring) {
         return CLOSED;
     }
-    let answer = replace_with(ring, alloc, file_by_handle);
-    let code = report_save(answer, out, size);
+    let mut kept = take_out(ring, alloc);
+    let code = put_file(&kept, out, size);
     if code == 0 {
-        replace_with(ring, (), keep_by_handle);
+        keep(&mut kept);
     }
+    put_back(ring, kept);
     code
 }
 
-/// Copies the lines that the journal does not have to the front of the caller's bytes, if there is room, and returns their size.
-/// The journal has them then.
+/// Writes the lines that the journal does not have to the front of the caller's bytes, if there is room, and tells their size.
+/// The journal has them then. It takes no memory.
 #[unsafe(no_mangle)]
 pub extern "C" fn wozgirt_take_journal(
     alloc: Global,
@@ -105,18 +83,19 @@ pub extern "C" fn wozgirt_take_journal(
         → ring.new.value ≡ kept_after ring.old.value }
     ensures same { ring.old.full ≡ true → result ≢ 0 → ring.new.value ≡ ring.old.value }
     ensures reported { ring.old.full ≡ true
-        → (answer : Result (Vec ℕ Global) TextError)
+        → (answer : Result (List ℕ) TextError)
         × IsLinesAnswer ring.old.value answer
         × IsSaveReport answer result out.old out.new size.old size.new }
 {
     if is_closed(ring) {
         return CLOSED;
     }
-    let answer = replace_with(ring, alloc, lines_by_handle);
-    let code = report_save(answer, out, size);
+    let mut kept = take_out(ring, alloc);
+    let code = put_lines(&kept, out, size);
     if code == 0 {
-        replace_with(ring, (), keep_by_handle);
+        keep(&mut kept);
     }
+    put_back(ring, kept);
     code
 }
 

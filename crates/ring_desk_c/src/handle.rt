@@ -107,3 +107,28 @@ pub(crate) fn take(handle: Handle, alloc: Global) -> (Handle, Loose<Kept, Global
         },
     )
 }
+
+/// Takes out what C holds, whose handle is closed then.
+pub(crate) fn take_out(ring: &mut Handle, alloc: Global) -> Box<Kept>
+    requires { ring.old.full ≡ true }
+    ensures closed { ring.new.full ≡ false }
+    ensures is { result.value ≡ ring.old.value }
+{
+    replace_with(ring, alloc, take).into_box()
+}
+
+/// A handle that has the box, in the place of one that has nothing.
+fn hold_again(_closed: Handle, loose: Loose<Kept, Global>) -> (Handle, ())
+    requires { loose.full ≡ true }
+    ensures { (result.0.full ≡ true) × (result.0.value ≡ loose.value) }
+{
+    (hold(loose), ())
+}
+
+/// Puts it back.
+pub(crate) fn put_back(ring: &mut Handle, kept: Box<Kept>)
+    requires { ring.old.full ≡ false }
+    ensures { (ring.new.full ≡ true) × (ring.new.value ≡ kept.value) }
+{
+    replace_with(ring, Loose::of(kept), hold_again);
+}

@@ -1,7 +1,7 @@
 //! The ring that C holds, over one of the two resources.
 
-ghost use Rattle.ring_desk_c.specs.Answers.{IsPassAnswer, IsTryAnswer, IsCorruptAnswer, IsGroupAnswer, IsSurveyAnswer, IsGlance, IsTextAnswer, events_of, before_of, event_of, first_grant};
-ghost use Rattle.ring_desk_c.specs.Sealed.{IsFileAnswer, IsLinesAnswer, kept_after};
+ghost use Rattle.ring_desk_c.specs.Answers.{IsPassAnswer, IsTryAnswer, IsCorruptAnswer, IsGroupAnswer, IsSurveyAnswer, IsGlance, events_of, before_of, event_of, first_grant};
+ghost use Rattle.ring_desk_c.specs.Sealed.{kept_after};
 ghost use Rattle.std.specs.Prelude.{◌≡◌};
 
 use crate::answers::grant_in;
@@ -9,7 +9,6 @@ use ring_book::{GroupReceipt, Idle};
 use ring_desk::{CallError, OneThreadRing};
 use ring_files::FileRing;
 use ring_model::{Event, Receipt, Survey};
-use std::alloc::Global;
 
 /// A ring over a till, which adds up the orders of granted passes, without end; or one over a resource that does no work.
 #[derive(Drop)]
@@ -145,55 +144,6 @@ pub(crate) fn event(kept: &Kept, number: u64) -> Option<Event>
     match kept {
         Kept::Till(ring) => ring.event(number),
         Kept::Idle(ring) => ring.history().get(number as usize).copied(),
-    }
-}
-
-/// The saved text of the ring's segment as it is, if it is a ring over a till.
-pub(crate) fn text(kept: &Kept, alloc: Global) -> Result<Vec<u8>, TextError>
-    ensures { IsTextAnswer kept.now result }
-{
-    match kept {
-        Kept::Till(ring) => match ring.text(alloc) {
-            Ok(text) => Ok(text),
-            Err(_) => Err(TextError::OutOfMemory),
-        },
-        Kept::Idle(_) => Err(TextError::NoTill),
-    }
-}
-
-/// The text of the file of the ring's segment as it is, if it is a ring over a till.
-pub(crate) fn file_text(kept: &Kept, alloc: Global) -> Result<Vec<u8>, TextError>
-    ensures { IsFileAnswer kept.now result }
-{
-    match kept {
-        Kept::Till(ring) => match ring.file_text(alloc) {
-            Ok(text) => Ok(text),
-            Err(_) => Err(TextError::OutOfMemory),
-        },
-        Kept::Idle(_) => Err(TextError::NoTill),
-    }
-}
-
-/// The lines of a ring without end that its journal does not have, if one is kept.
-fn ring_lines(ring: &FileRing, alloc: Global) -> Result<Vec<u8>, TextError>
-    ensures { IsLinesAnswer (Kept.Till ring.now) result }
-{
-    if !ring.is_kept() {
-        return Err(TextError::NoJournal);
-    }
-    match ring.lines(alloc) {
-        Ok(text) => Ok(text),
-        Err(_) => Err(TextError::OutOfMemory),
-    }
-}
-
-/// The same of what C holds.
-pub(crate) fn lines(kept: &Kept, alloc: Global) -> Result<Vec<u8>, TextError>
-    ensures { IsLinesAnswer kept.now result }
-{
-    match kept {
-        Kept::Till(ring) => ring_lines(ring, alloc),
-        Kept::Idle(_) => Err(TextError::NoTill),
     }
 }
 

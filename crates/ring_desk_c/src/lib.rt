@@ -13,6 +13,7 @@ mod desks;
 mod files;
 mod handle;
 mod kept;
+mod kept_texts;
 pub mod laws;
 mod lock_answers;
 mod lock_handle;

@@ -1,3 +1,5 @@
 pub mod Settled
 pub mod Chained
 pub mod Surveyed
+pub mod Filled
+pub mod Texted

@@ -1,3 +1,4 @@
 pub mod Files
 pub mod Calls
+pub mod Filling
 pub mod Laws

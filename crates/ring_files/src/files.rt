@@ -6,15 +6,18 @@ ghost use Rattle.ring_chains.specs.Bases.{IsBase, shifted_event};
 ghost use Rattle.ring_chains.specs.Tallies.{IsInSegment};
 ghost use Rattle.ring_segments.specs.Spelling.{DigestFits};
 ghost use Rattle.ring_desk.specs.Rings.{IsOneThreadRing};
-ghost use Rattle.ring_desk.specs.Texts.{saved_alone, IsTextOf};
-ghost use Rattle.ring_saved.specs.Spelling.{Fits};
+ghost use Rattle.ring_check.specs.Legal.{IsLegalText};
+ghost use Rattle.ring_desk.specs.Texts.{saved_alone};
+ghost use Rattle.ring_saved.specs.Spelling.{text, Fits};
 ghost use Rattle.ring_endless.specs.Endless.{survey_now};
 ghost use Rattle.ring_endless.specs.declared.rings.NextError.TheVariants as error;
-ghost use Rattle.ring_files.specs.Files.{IsFiled, IsFileText, IsNextFile, HasNoNext, filed_at, kept_now, new_lines};
+ghost use Rattle.ring_files.specs.Files.{IsFiled, IsFileText, file_text, IsNextFile, HasNoNext, filed_at, kept_now, new_lines};
+ghost use Rattle.ring_files.specs.Filling.{Fills};
 ghost use Rattle.ring_files.specs.Calls.{IsPassed, IsTriedBy, IsCorrupted, IsGroupedBy, IsSurveyedBy, event_at};
 
 use crate::places::FilePlace;
-use crate::texts::{file_text, lines_from};
+use crate::saves::put_text;
+use crate::texts::{file_text, put_file, put_lines};
 use ring_book::{GroupReceipt, Till};
 use ring_chains::Base;
 use ring_desk::{CallError, OneThreadRing};
@@ -235,23 +238,26 @@ impl FileRing {
         }
     }
 
-    /// The saved text of the segment as it is now, which counts by itself.
-    ///
-    /// # Errors
-    ///
-    /// Only if memory runs out.
-    pub fn text(&self, alloc: Global) -> Result<Vec<u8>, AllocError>
-        ensures text { IfOk result (λ text. IsTextOf self.now.ring.ring text.items) }
-        ensures fits { IfOk result (λ _. Fits (saved_alone self.now.ring.ring)) }
+    /// Writes the saved text of the segment as it is now, which counts by itself, to the front of the bytes, if they have room for
+    /// it. Returns its size, counted up to 2^64 - 1. It takes no memory.
+    pub fn save(&self, out: &mut [u8]) -> usize
+        ensures written { Fills out.old out.new 0 result (text (saved_alone self.now.ring.ring)) }
+        ensures fits { Fits (saved_alone self.now.ring.ring) }
+        ensures legal { IsLegalText (saved_alone self.now.ring.ring) }
     {
-        let mut text = Vec::new(alloc);
-        match self.ring.segment().save(&mut text) {
-            Ok(()) => Ok(text),
-            Err(_) => Err(AllocError),
-        }
+        put_text(out, 0, self.ring.segment())
     }
 
-    /// The text of the segment's file as it is now.
+    /// Writes the text of the segment's file as it is now to the front of the bytes, if they have room for it. Returns its size,
+    /// counted up to 2^64 - 1. It takes no memory.
+    pub fn put_file(&self, out: &mut [u8]) -> usize
+        ensures written { Fills out.old out.new 0 result (file_text self.now.place self.now.ring) }
+        ensures is { IsFileText self.now (file_text self.now.place self.now.ring) }
+    {
+        put_file(out, &self.place, &self.ring)
+    }
+
+    /// The same text by itself.
     ///
     /// # Errors
     ///
@@ -271,16 +277,13 @@ impl FileRing {
         self.looked.clear();
     }
 
-    /// The lines of what the journal does not have.
-    ///
-    /// # Errors
-    ///
-    /// Only if memory runs out.
-    pub fn lines(&self, alloc: Global) -> Result<Vec<u8>, AllocError>
-        ensures { IfOk result (λ text. text.items ≡ new_lines self.now) }
+    /// Writes the lines of what the journal does not have to the front of the bytes, if they have room for them. Returns their
+    /// size, counted up to 2^64 - 1. It takes no memory.
+    pub fn put_lines(&self, out: &mut [u8]) -> usize
+        ensures { Fills out.old out.new 0 result (new_lines self.now) }
     {
-        lines_from(
-            alloc,
+        put_lines(
+            out,
             self.ring.segment().history(),
             self.events,
             self.looked.as_slice(),

@@ -3,8 +3,10 @@
 #![tactic(auto)]
 
 mod files;
+mod fills;
 pub mod laws;
 mod places;
+mod saves;
 mod texts;
 
 pub use files::{FileRing, Looked};

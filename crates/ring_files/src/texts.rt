@@ -1,116 +1,144 @@
-//! The text of a ring's file, and the lines of its journal. Writing them takes no memory.
+//! The text of a ring's file, and the lines of its journal, written into bytes of a caller. It takes no memory.
 
-ghost use Rattle.std.specs.Prelude.{◌≡◌, ◌<◌, ◌^◌, ◌++◌, length, drop, IfOk};
-ghost use Rattle.text_lines.specs.Writing.{Writes};
+ghost use Rattle.std.specs.Prelude.{◌≡◌, ◌<◌, ◌++◌, drop, IfOk};
+ghost use Rattle.text_lines.specs.Spelling.{spaced, ended};
 ghost use Rattle.ring_saved.specs.Spelling.{Fits};
 ghost use Rattle.ring_check.specs.Legal.{IsLegalText};
-ghost use Rattle.ring_journal.specs.Spelling.{head_text as journal_text};
-ghost use Rattle.ring_segments.specs.Spelling.{head_of, head_text, HeadFits, DigestFits};
+ghost use Rattle.ring_segments.specs.Spelling.{number_line, behind_line, base_line, head_text, BaseFits, HeadFits};
 ghost use Rattle.ring_blocks.specs.Journals.{event_lines};
 ghost use Rattle.ring_desk.specs.Texts.{saved_alone};
-ghost use Rattle.ring_files.specs.Files.{head_at, IsTextAt, survey_lines};
+ghost use Rattle.ring_files.specs.Files.{head_at, file_text, IsTextAt, survey_lines};
+ghost use Rattle.ring_files.specs.Filling.{Fills};
 
 use crate::files::Looked;
+use crate::fills::{event_line, put, survey_line};
 use crate::places::FilePlace;
-use ring_blocks::{put_events, put_survey};
-use ring_book::Till;
+use crate::saves::put_text;
+use ring_blocks::{saved_event, saved_survey};
 use ring_chains::Base;
-use ring_desk::OneThreadRing;
 use ring_endless::EndlessRing;
-use ring_journal::put_first_line;
 use ring_model::Event;
-use ring_segments::{SegmentHead, put_head};
 use std::alloc::{AllocError, Global};
-use std::io::Write;
-use text_lines::WriteFault;
+use text_lines::Line;
 
-/// The head of the file at this place, of one ring with this base.
-fn head_of(alloc: Global, place: &FilePlace, base: Base) -> Result<SegmentHead, AllocError>
-    ensures is { IfOk result (λ h. head_of h ≡ head_at place.now base) }
-    ensures fits { IfOk result (λ h. (0 < h.number) × DigestFits h.behind) }
+/// Two numbers on one line.
+fn counts(number: u64, rings: u64) -> Line
+    ensures { result ≡ spaced number ++ ended rings }
 {
-    let mut bases = Vec::with_capacity(alloc, 1)?;
-    bases.push_reserved(base);
-    Ok(SegmentHead {
-        number: place.number(),
-        behind: place.behind(),
-        bases,
-    })
+    let mut line = Line::new();
+    line.byte(b'\n');
+    line.number(rings);
+    line.byte(b' ');
+    line.number(number);
+    line
 }
 
-/// Writes the beginning of a journal of this ring, which has all of it.
-fn put_beginning<W: Write>(out: &mut W, ring: &OneThreadRing<Till>) -> Result<(), WriteFault>
-    ensures written { Writes (W.contents out.old) (W.contents out.new) result
-        (journal_text (saved_alone ring.now)) }
-    ensures fits { IfOk result (λ _. Fits (saved_alone ring.now)) }
-    ensures legal { IfOk result (λ _. IsLegalText (saved_alone ring.now)) }
+/// Puts the first line of a file of one ring.
+fn put_number(out: &mut [u8], place: usize, number: u64) -> usize
+    ensures { Fills out.old out.new place result (number_line number 1) }
 {
-    match put_first_line(out) {
-        Ok(()) => ring.save(out),
-        Err(fault) => Err(fault),
-    }
+    let behind = put(out, place, b"ringsegment 1 ");
+    put(out, behind, counts(number, 1).as_bytes())
 }
 
-/// Writes a head, and after it the beginning of a journal of this ring.
-fn put_file<W: Write>(
-    out: &mut W,
-    head: &SegmentHead,
-    ring: &OneThreadRing<Till>,
-) -> Result<(), WriteFault>
-    requires number { 0 < head.now.number }
-    requires digits { DigestFits head.now.behind }
-    requires some { 0 < length head.now.bases.items }
-    requires rings { length head.now.bases.items < 2 ^ 32 }
-    ensures written { Writes (W.contents out.old) (W.contents out.new) result
-        (head_text (head_of head.now) ++ journal_text (saved_alone ring.now)) }
-    ensures head { IfOk result (λ _. HeadFits (head_of head.now)) }
-    ensures fits { IfOk result (λ _. Fits (saved_alone ring.now)) }
-    ensures legal { IfOk result (λ _. IsLegalText (saved_alone ring.now)) }
+/// Puts the line of the digest of the file before.
+fn put_behind(out: &mut [u8], place: usize, digits: &[u8]) -> usize
+    ensures { Fills out.old out.new place result (behind_line digits.now) }
 {
-    match put_head(out, head) {
-        Ok(()) => put_beginning(out, ring),
-        Err(fault) => Err(fault),
-    }
+    let named = put(out, place, b"behind ");
+    let told = put(out, named, digits);
+    put(out, told, b"\n")
 }
 
-/// The text of the file at this place, of this ring.
+/// The line of what came before, each of whose numbers is within its range by its type.
+fn base_line(base: Base) -> Line
+    ensures is { result ≡ base_line base }
+    ensures fits { BaseFits base }
+{
+    let mut line = Line::new();
+    line.byte(b'\n');
+    line.number(base.calm);
+    line.byte(b' ');
+    line.number(base.amount);
+    line.byte(b' ');
+    line.number(base.grants);
+    line.byte(b' ');
+    line.number(base.events);
+    line.byte(b' ');
+    line.byte(b'e');
+    line.byte(b's');
+    line.byte(b'a');
+    line.byte(b'b');
+    line
+}
+
+/// Puts the head of the file at this place of a chain, of one ring with this base, at the front of the bytes.
+fn put_head(out: &mut [u8], file: &FilePlace, base: Base) -> usize
+    ensures written { Fills out.old out.new 0 result (head_text (head_at file.now base)) }
+    ensures fits { HeadFits (head_at file.now base) }
+{
+    let digits = file.behind();
+    let numbered = put_number(out, 0, file.number());
+    let linked = put_behind(out, numbered, &digits);
+    put(out, linked, base_line(base).as_bytes())
+}
+
+/// Puts the text of the file at this place of a chain, of this ring, at the front of the bytes, if they have room for it. Returns
+/// its size.
+pub(crate) fn put_file(out: &mut [u8], file: &FilePlace, ring: &EndlessRing) -> usize
+    ensures written { Fills out.old out.new 0 result (file_text file.now ring.now) }
+    ensures head { HeadFits (head_at file.now ring.now.base) }
+    ensures fits { Fits (saved_alone ring.now.ring) }
+    ensures legal { IsLegalText (saved_alone ring.now.ring) }
+{
+    let headed = put_head(out, file, *ring.base());
+    let begun = put(out, headed, b"ringjournal 1\n");
+    put_text(out, begun, ring.segment())
+}
+
+/// The same text by itself.
 pub(crate) fn file_text(
     alloc: Global,
-    place: &FilePlace,
+    file: &FilePlace,
     ring: &EndlessRing,
 ) -> Result<Vec<u8>, AllocError>
-    ensures { IfOk result (λ text. IsTextAt place.now ring.now text.items) }
+    ensures { IfOk result (λ text. IsTextAt file.now ring.now text.items) }
 {
-    let head = head_of(alloc, place, *ring.base())?;
-    let mut text = Vec::new(alloc);
-    match put_file(&mut text, &head, ring.segment()) {
-        Ok(()) => Ok(text),
-        Err(_) => Err(AllocError),
+    let size = put_file(&mut [], file, ring);
+    if size == usize::MAX {
+        return Err(AllocError);
     }
+    let mut text = vec![in alloc; 0; size]?;
+    put_file(text.as_mut_slice(), file, ring);
+    Ok(text)
 }
 
-/// Writes a journal's line for each of these surveys.
-fn put_surveys<W: Write>(out: &mut W, looked: &[Looked]) -> Result<(), WriteFault>
-    ensures { Writes (W.contents out.old) (W.contents out.new) result (survey_lines looked.now) }
+/// Puts a journal's line for each of these events.
+fn put_calls(out: &mut [u8], place: usize, events: &[Event]) -> usize
+    ensures { Fills out.old out.new place result (event_lines 0 events.now) }
 {
+    let mut behind = place;
+    for event in events {
+        let begun = put(out, behind, b"0 ");
+        behind = put(out, begun, event_line(saved_event(*event)).as_bytes());
+    }
+    behind
+}
+
+/// Puts a journal's line for each of these surveys.
+fn put_looked(out: &mut [u8], place: usize, looked: &[Looked]) -> usize
+    ensures { Fills out.old out.new place result (survey_lines looked.now) }
+{
+    let mut behind = place;
     for one in looked {
-        match put_survey(out, 0, one.seat, one.survey) {
-            Ok(()) => {}
-            Err(fault) => return Err(fault),
-        }
+        let begun = put(out, behind, b"0 ");
+        behind = put(
+            out,
+            begun,
+            survey_line(saved_survey(one.seat, one.survey)).as_bytes(),
+        );
     }
-    Ok(())
-}
-
-/// Writes a journal's line for each of these events, and then for each of these surveys.
-fn put_lines<W: Write>(out: &mut W, events: &[Event], looked: &[Looked]) -> Result<(), WriteFault>
-    ensures { Writes (W.contents out.old) (W.contents out.new) result
-        (event_lines 0 events.now ++ survey_lines looked.now) }
-{
-    match put_events(out, 0, events) {
-        Ok(()) => put_surveys(out, looked),
-        Err(fault) => Err(fault),
-    }
+    behind
 }
 
 /// The events of a history from a place on; none if it is behind the end.
@@ -123,19 +151,12 @@ fn events_from(history: &[Event], from: usize) -> &[Event]
     &history[from..]
 }
 
-/// The lines of a journal for the events of a history from a place on, and for these surveys.
-pub(crate) fn lines_from(
-    alloc: Global,
-    history: &[Event],
-    from: usize,
-    looked: &[Looked],
-) -> Result<Vec<u8>, AllocError>
-    ensures { IfOk result (λ text. text.items
-        ≡ event_lines 0 (drop from history.now) ++ survey_lines looked.now) }
+/// Puts the lines of a journal for the events of a history from a place on, and for these surveys, at the front of the bytes, if
+/// they have room for them. Returns their size.
+pub(crate) fn put_lines(out: &mut [u8], history: &[Event], from: usize, looked: &[Looked]) -> usize
+    ensures { Fills out.old out.new 0 result
+        (event_lines 0 (drop from history.now) ++ survey_lines looked.now) }
 {
-    let mut text = Vec::new(alloc);
-    match put_lines(&mut text, events_from(history, from), looked) {
-        Ok(()) => Ok(text),
-        Err(_) => Err(AllocError),
-    }
+    let called = put_calls(out, 0, events_from(history, from));
+    put_looked(out, called, looked)
 }

@@ -1,8 +1,10 @@
 //! Waiting for many files at once.
 
 use crate::checked;
+use std::ffi::{c_long, c_ulong, c_void};
 use std::io;
 use std::os::fd::{AsFd, AsRawFd, FromRawFd, OwnedFd};
+use std::ptr;
 use std::time::Duration;
 
 const EPOLL_CLOEXEC: i32 = 0o2_000_000;
@@ -13,8 +15,11 @@ const EPOLLIN: u32 = 0x001;
 const EPOLLOUT: u32 = 0x004;
 const EPOLLERR: u32 = 0x008;
 const EPOLLHUP: u32 = 0x010;
+const POLLIN: i16 = 1;
 /// How many events one wait takes at most.
 const ROUND: usize = 256;
+/// A wait that is shorter ends to the microsecond: `epoll_wait` counts milliseconds.
+const FINE: Duration = Duration::from_millis(10);
 
 /// `struct epoll_event` of the system, which is packed on this one kind of processor.
 #[cfg_attr(target_arch = "x86_64", repr(C, packed))]
@@ -25,7 +30,22 @@ struct Raw {
     key: u64,
 }
 
+/// `struct pollfd` and `struct timespec` of the system.
+#[repr(C)]
+struct Polled {
+    file: i32,
+    events: i16,
+    happened: i16,
+}
+
+#[repr(C)]
+struct Time {
+    seconds: c_long,
+    nanoseconds: c_long,
+}
+
 extern "C" {
+    fn ppoll(files: *mut Polled, count: c_ulong, time: *const Time, mask: *const c_void) -> i32;
     fn epoll_create1(flags: i32) -> i32;
     fn epoll_ctl(epoll: i32, operation: i32, file: i32, event: *mut Raw) -> i32;
     fn epoll_wait(epoll: i32, events: *mut Raw, most: i32, milliseconds: i32) -> i32;
@@ -102,10 +122,19 @@ impl Poller {
     /// is all that had happened; else the next wait tells of more.
     pub fn wait(&mut self, time: Option<Duration>, events: &mut Vec<Event>) -> io::Result<bool> {
         events.clear();
-        // rounded up, so that a wait for a deadline does not end just before it
-        let milliseconds =
-            time.map_or(-1, |time| i32::try_from(time.as_nanos().div_ceil(1_000_000)).unwrap_or(i32::MAX));
         let epoll = self.epoll.as_raw_fd();
+        let milliseconds = match time {
+            Some(time) if !time.is_zero() && time < FINE => {
+                let mut polled = Polled { file: epoll, events: POLLIN, happened: 0 };
+                let time = Time { seconds: 0, nanoseconds: c_long::from(time.subsec_nanos() as i32) };
+                // SAFETY: `polled` is one valid entry, and the time is only read. What comes of it the next call tells.
+                unsafe { ppoll(&mut polled, 1, &time, ptr::null()) };
+                0
+            }
+            // rounded up, so that a wait for a deadline does not end just before it
+            Some(time) => i32::try_from(time.as_nanos().div_ceil(1_000_000)).unwrap_or(i32::MAX),
+            None => -1,
+        };
         // SAFETY: `raw` has `ROUND` writable events, and any bytes are an event.
         let count = match checked(unsafe { epoll_wait(epoll, self.raw.as_mut_ptr(), ROUND as i32, milliseconds) }) {
             Ok(count) => count as usize,
@@ -146,6 +175,20 @@ mod tests {
         assert_eq!(waited(&mut poller, 1000), [told]);
         one.read_exact(&mut [0]).unwrap();
         assert_eq!(waited(&mut poller, 0), []);
+    }
+
+    #[test]
+    fn a_short_wait_ends_in_time_or_when_something_comes() {
+        let (one, mut other) = UnixStream::pair().unwrap();
+        let mut poller = Poller::new().unwrap();
+        poller.add(&one, 7, Interest::READS).unwrap();
+        for time in [Duration::from_micros(1), Duration::from_micros(300), FINE - Duration::from_nanos(1)] {
+            let (begun, mut events) = (std::time::Instant::now(), Vec::new());
+            assert!(poller.wait(Some(time), &mut events).unwrap() && events.is_empty());
+            assert!(begun.elapsed() >= time);
+        }
+        other.write_all(b"x").unwrap();
+        assert_eq!(waited(&mut poller, 5).len(), 1);
     }
 
     #[test]

@@ -4,6 +4,7 @@ An entry is `by NAME INCARNATION SERIAL POSITION DIGEST`, and lines `with SETTIN
 `server NAME INCARNATION`, with tabs between them. KEY is a session's; sessions count from 1, in the order in which they come."""
 
 import collections
+import sys
 
 
 class Locks:
@@ -11,25 +12,35 @@ class Locks:
 
     def __init__(self, count):
         self.holders, self.waiting, self.tokens = [None] * count, [collections.deque() for _ in range(count)], [0] * count
+        self.waits = {}  # the lock that a client waits for
+        self.held = collections.defaultdict(set)  # the locks that a client holds
         self.grants = []  # (lock, token, client, label)
 
     def _give(self, lock, client, label):
         self.tokens[lock] += 1
         self.holders[lock] = client, self.tokens[lock]
+        self.held[client].add(lock)
         self.grants.append((lock, self.tokens[lock], client, label))
         return f"granted {lock} {self.tokens[lock]}"
 
     def _next(self, lock):
+        self.held[self.holders[lock][0]].discard(lock)
         self.holders[lock] = None
         if self.waiting[lock]:
-            self._give(lock, *self.waiting[lock].popleft())
+            client, label = self.waiting[lock].popleft()
+            del self.waits[client]
+            self._give(lock, client, label)
+
+    def _wait_no_longer(self, client):
+        line = self.waiting[self.waits.pop(client)]
+        line.remove(next(it for it in line if it[0] == client))
 
     def _is_in_a_circle(self, client, lock):
         while self.holders[lock] is not None:
             holder = self.holders[lock][0]
             if holder == client:
                 return True
-            lock = next((i for i, line in enumerate(self.waiting) if any(it[0] == holder for it in line)), None)
+            lock = self.waits.get(holder)
             if lock is None:
                 return False
         return False
@@ -43,15 +54,13 @@ class Locks:
             self._next(lock)
             return f"released {lock}"
         if verb == "cancel":
-            found = [it for it in self.waiting[lock] if it[0] == client]
-            if not found:
+            if self.waits.get(client) != lock:
                 return f"refused waiter {lock}"
-            self.waiting[lock].remove(found[0])
+            self._wait_no_longer(client)
             return f"cancelled {lock}"
         if holder is not None and holder[0] == client:
             return f"refused holds {lock}"
-        lines = self.waiting if verb == "acquire" else [self.waiting[lock]]
-        if any(it[0] == client for line in lines for it in line):
+        if client in self.waits and (verb == "acquire" or self.waits[client] == lock):
             return f"refused waits {lock}"
         if holder is None:
             return self._give(lock, client, number)
@@ -60,16 +69,16 @@ class Locks:
         if self._is_in_a_circle(client, lock):
             return f"refused circle {lock}"
         self.waiting[lock].append((client, number))
+        self.waits[client] = lock
         return f"waiting {lock} {len(self.waiting[lock]) - 1}"
 
     def leave(self, client):
         """The client waits for nothing and holds nothing."""
-        for line in self.waiting:
-            for it in [it for it in line if it[0] == client]:
-                line.remove(it)
-        for lock, holder in enumerate(self.holders):
-            if holder is not None and holder[0] == client:
-                self._next(lock)
+        if client in self.waits:
+            self._wait_no_longer(client)
+        for lock in sorted(self.held.get(client, ())):
+            self._next(lock)
+        self.held.pop(client, None)
 
 
 class Reading:
@@ -77,7 +86,8 @@ class Reading:
 
     def __init__(self, count):
         self.locks, self.settings, self.servers, self.over, self.sessions = Locks(count), None, {}, {}, {}
-        self.answers = collections.defaultdict(list)  # by key and number: place, input, answer
+        self.answers = collections.defaultdict(dict)  # by key, by number: place, verb and lock, answer
+        self.twice = []  # those that were done more than once
         self.done = self.again = self.entries = self.ignored = self.last_session = 0
 
     def read(self, text):
@@ -139,5 +149,9 @@ class Reading:
             return
         self.sessions[key] = writer, number, self.sessions[key][2]
         answer = self.locks.do(key, words[0], *map(int, words[1:]))
-        self.answers[key, number].append((self.done, words, answer))
+        if number in self.answers[key]:
+            self.twice.append((key, number))
+        # texts are the same few, but for grants
+        asked, answer = sys.intern(" ".join(words[:2])), answer if answer.startswith("granted") else sys.intern(answer)
+        self.answers[key][number] = self.done, asked, answer
         self.done += 1

@@ -2,6 +2,7 @@
 
 import subprocess
 import threading
+import time
 
 from bed import LOG_PROGRAM
 
@@ -45,6 +46,13 @@ class Recorder:
             self.process.stdin.flush()
         except (OSError, AttributeError, ValueError):
             pass  # it is started again
+
+    def catch_up(self):
+        """Waits until nothing has come for a while."""
+        last = -1
+        while last != self.position:
+            last = self.position
+            time.sleep(2)
 
     def end(self):
         """Ends it; the file is whole."""

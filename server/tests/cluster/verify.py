@@ -7,6 +7,7 @@ import glob
 import os
 import subprocess
 import sys
+from array import array
 
 sys.path.insert(0, os.path.dirname(os.path.dirname(os.path.abspath(__file__))))
 sys.dont_write_bytecode = True
@@ -19,20 +20,61 @@ from model import Reading  # noqa: E402
 
 
 def whole_lines(path):
-    """The lines of a file; a last one without its end is none."""
-    return read(path).decode("ascii").split("\n")[:-1]
+    """The lines of a file, one after the other; a last one without its end is none."""
+    with open(path, encoding="ascii") as file:
+        for line in file:
+            if line.endswith("\n"):
+                yield line[:-1]
 
 
 class Run:
-    """What a run left in a folder."""
+    """What a run left in a folder. A run may have millions of lines, so each is looked at once, and only what is compared later is kept."""
 
     def __init__(self, folder, locks):
         self.folder, self.locks, self.wrong, self.passed = folder, locks, [], 0
-        self.notes = [line.split(" ") for name in sorted(glob.glob(f"{folder}/client.*.txt")) for line in whole_lines(name)]
-        self.log = [line.split(" ", 2) for line in whole_lines(f"{folder}/log.txt")]
-        self.reading = Reading(len(locks))
-        for _, _, text in self.log:
+        self.reading, self.gaps = Reading(len(locks)), []
+        for i, line in enumerate(whole_lines(f"{folder}/log.txt"), 1):
+            position, _, text = line.split(" ", 2)
+            if int(position) != i:
+                self.gaps.append(position)
             self.reading.read(text)
+        self.grants = {(locks[lock], token): client for lock, token, client, _ in self.reading.locks.grants}
+        self.counts, self.bad_answers, self.bad_writes = collections.Counter(), [], []
+        # of each answer when it was asked and told, and its place among all; of each time inside a lock its token, beginning and end
+        self.sent, self.got, self.places = array("d"), array("d"), array("q")
+        self.told, self.inside = [], collections.defaultdict(list)
+        for name in sorted(glob.glob(f"{folder}/client.*.txt")):
+            for line in whole_lines(name):
+                self.note(line)
+
+    def note(self, line):
+        """What a client noted."""
+        words = line.split(" ")
+        self.counts[words[0]] += 1
+        if words[0] == "did":
+            self.did(line, words)
+            if words[-3] == "granted":
+                self.told.append((words[-2], int(words[-1]), int(words[1])))
+        elif words[0] == "granted":
+            self.told.append((words[2], int(words[3]), int(words[1])))
+        elif words[0] == "inside":
+            self.inside[words[1]].append((int(words[2]), float(words[3]), float(words[4])))
+        elif words[0] == "wrote" and (words[1], int(words[2])) not in self.grants:
+            self.bad_writes.append(line)
+
+    def did(self, line, words):
+        """An answer has to be that of the log."""
+        told = line.partition(" | ")[2]
+        if told == "left":
+            return  # it has no number in the log
+        place, asked, answer = self.reading.answers.get(int(words[1]), {}).get(int(words[2]), (None, "- 0", ""))
+        verb, lock = asked.split(" ")
+        if place is None or self.named(answer) != told or verb != words[5] or self.locks[int(lock)] != words[6]:
+            self.bad_answers.append(f"{line}: the log has {place} {asked} {answer}")
+            return
+        self.sent.append(float(words[3]))
+        self.got.append(float(words[4]))
+        self.places.append(place)
 
     def judge(self, what, wrong, count):
         """One thing that has to be, of which there is this number of cases."""
@@ -42,61 +84,44 @@ class Run:
         else:
             self.passed += 1
 
-    def of(self, verb):
-        """What clients noted of this kind."""
-        return [words for words in self.notes if words[0] == verb]
-
     def named(self, answer):
         """An answer as clients know it, with the lock's name."""
         words = answer.split(" ")
         at = 2 if words[0] == "refused" else 1
-        return " ".join([*words[:at], self.locks[int(words[at])], *words[at + 1:]])
+        return " ".join([*words[:at], self.locks[int(words[at])], *words[at + 1:]]) if len(words) > at else answer
 
 
 def judge_log(run):
     """The log has no gap, and each input was done once."""
-    positions = [int(it[0]) for it in run.log]
-    run.judge("entries of the log, without a gap", [it for i, it in enumerate(positions, 1) if it != i], len(positions))
-    twice = [key for key, found in run.reading.answers.items() if len(found) > 1]
-    run.judge(f"inputs done once ({run.reading.again} were there again and not done again)", twice, run.reading.done)
+    run.judge("entries of the log, without a gap", run.gaps, run.reading.entries)
+    run.judge(f"inputs done once ({run.reading.again} were there again and not done again)", run.reading.twice, run.reading.done)
 
 
 def judge_answers(run):
     """What clients were told is what the log's answers are, in an order that they could see."""
-    wrong, spans = [], []
-    for words in run.of("did"):
-        session, number, sent, got = int(words[1]), int(words[2]), float(words[3]), float(words[4])
-        bar = words.index("|")
-        told = " ".join(words[bar + 1:])
-        if told == "left":
-            continue  # it has no number in the log
-        found = run.reading.answers.get((session, number))
-        if not found or run.named(found[0][2]) != told or found[0][1][0] != words[5] or run.locks[int(found[0][1][1])] != words[6]:
-            wrong.append(f"{' '.join(words)}: the log has {found}")
-        else:
-            spans.append((sent, got, found[0][0]))
-    run.judge("answers to clients, each in the log with this answer", wrong, len(spans))
-    ends, at, highest, late = sorted((got, place) for _, got, place in spans), 0, -1, []
-    for sent, _, place in sorted(spans):
-        while ends[at][0] < sent:
-            highest, at = max(highest, ends[at][1]), at + 1
-        if place < highest:
-            late.append(f"{place} is before {highest}, which was answered before it was asked")
-    run.judge("inputs, none before one that was answered before it was asked", late, len(spans))
+    count = len(run.places)
+    run.judge("answers to clients, each in the log with this answer", run.bad_answers, count)
+    ends, at, highest, late = sorted(range(count), key=run.got.__getitem__), 0, -1, []
+    for i in sorted(range(count), key=run.sent.__getitem__):
+        while run.got[ends[at]] < run.sent[i]:
+            highest, at = max(highest, run.places[ends[at]]), at + 1
+        if run.places[i] < highest:
+            late.append(f"{run.places[i]} is before {highest}, which was answered before it was asked")
+    run.judge("inputs, none before one that was answered before it was asked", late, count)
 
 
 def judge_holds(run):
     """Grants are those of the log, tokens rise, and nobody is inside while another is."""
-    grants = {(run.locks[lock], token): client for lock, token, client, _ in run.reading.locks.grants}
-    told = [(words[2], int(words[3]), int(words[1])) for words in run.of("granted")]
-    told += [(words[-2], int(words[-1]), int(words[1])) for words in run.of("did") if words[-3] == "granted"]
-    run.judge("grants to clients, each in the log, to this client", [it for it in told if grants.get(it[:2]) != it[2]], len(told))
-    run.judge("grants to clients, each token once", [it for it, count in collections.Counter(it[:2] for it in told).items() if count > 1], len(told))
-    spans = sorted((words[1], int(words[2]), float(words[3]), float(words[4])) for words in run.of("inside"))
-    wrong = [f"{one} and {other}" for one, other in zip(spans, spans[1:]) if one[0] == other[0] and (other[2] < one[3] or other[1] <= one[1])]
-    run.judge("times inside a lock, none while another was inside", wrong, len(spans))
-    refused = len(run.of("refused"))
-    run.judge(f"writes behind locks ({refused} refused for an old token)", [it for it in run.of("wrote") if (it[1], int(it[2])) not in grants], len(run.of("wrote")))
+    told = run.told
+    run.judge("grants to clients, each in the log, to this client", [it for it in told if run.grants.get(it[:2]) != it[2]], len(told))
+    counts = collections.Counter((lock, token) for lock, token, _ in told)
+    run.judge("grants to clients, each token once", [it for it, count in counts.items() if count > 1], len(told))
+    wrong = []
+    for lock, spans in run.inside.items():
+        spans.sort()
+        wrong += [f"{lock} {one} and {other}" for one, other in zip(spans, spans[1:]) if other[1] < one[2] or other[0] <= one[0]]
+    run.judge("times inside a lock, none while another was inside", wrong, run.counts["inside"])
+    run.judge(f"writes behind locks ({run.counts['refused']} refused for an old token)", run.bad_writes, run.counts["wrote"])
 
 
 def judge_files(run):
@@ -105,14 +130,15 @@ def judge_files(run):
     for path in glob.glob(f"{run.folder}/kept/*/*.checkpoint"):
         texts[int(os.path.basename(path).split(".")[0])].add(read(path))
     run.judge("positions with a checkpoint, at which those of all hosts are the same", [it for it, found in texts.items() if len(found) > 1], len(texts))
-    segments = collections.defaultdict(dict)
+    segments = collections.defaultdict(list)
     for name in NAMES:
         kept, last = f"{run.folder}/kept/{name}", f"{run.folder}/server.{name}/journal"
         for folder in (kept, last):
             for it in journals.segments(folder) if os.path.isdir(folder) else ():
-                segments[it][folder] = read(os.path.join(folder, it))
+                segments[it].append(folder)
     wrong, pairs = [], 0
-    for it, found in sorted(segments.items()):
+    for it, folders in sorted(segments.items()):
+        found = {folder: read(os.path.join(folder, it)) for folder in folders}
         longest = max(found.values(), key=len)
         pairs += len(found) - 1
         for folder, text in found.items():
@@ -123,9 +149,11 @@ def judge_files(run):
 
 
 def holds_of(folder):
-    """The holds that a folder of segments tells: lock, token, label."""
-    return [(int(words[0]), int(words[6]), int(words[4])) for words in map(str.split, journals.calls(folder))
-            if words[1] == "p" and words[2] == "0" and words[5] == "g"]
+    """The holds that a folder of segments tells, one after the other: lock, token, label."""
+    for text in journals.texts(folder):
+        for words in map(str.split, journals.calls_of(text)):
+            if words[1] == "p" and words[2] == "0" and words[5] == "g":
+                yield int(words[0]), int(words[6]), int(words[4])
 
 
 def judge_histories(run):
@@ -165,7 +193,7 @@ def verify(folder, locks):
     """Judges all; how many things are right, and how many wrong."""
     run = Run(folder, locks)
     print(f"log: {run.reading.entries} entries, {run.reading.ignored} ignored; {len(run.reading.locks.grants)} grants; "
-          f"{len(run.of('lost'))} times a client lost what it had; faults told to clients: {len(run.of('fault'))}")
+          f"{run.counts['lost']} times a client lost what it had; faults told to clients: {run.counts['fault']}")
     for judge in (judge_log, judge_answers, judge_holds, judge_files, judge_histories):
         judge(run)
     return run.passed, len(run.wrong)

@@ -1,5 +1,7 @@
 #!/usr/bin/env python3
-"""worker.py NUMBER SERVERS LOCKS SECONDS FOLDER SEED: a client that takes locks and gives them back, and notes what it was answered.
+"""worker.py FIRST COUNT SERVERS LOCKS SECONDS FOLDER SEED: clients, as many as COUNT, that take locks and give them back, and note what
+they were answered. They end after SECONDS, or when the file `enough` is in FOLDER. `worker.py inside FOLDER NUMBER` is what `wozgirt lock` runs while it
+holds a lock.
 
 `client.N.txt` has a line for each, with its session's key: `did KEY NUMBER SENT GOT INPUT | ANSWER`, `granted KEY LOCK TOKEN`, `inside LOCK TOKEN FROM TO`
 (the client knew that it held the lock, by one clock of the machine), `lost KEY WHY`. What is shared is written to `store.LOCK`, which
@@ -9,6 +11,7 @@ import fcntl
 import os
 import random
 import sys
+import threading
 import time
 
 sys.path.insert(0, os.path.join(os.path.dirname(os.path.abspath(__file__)), "..", "..", "..", "python"))
@@ -88,16 +91,16 @@ def once(client, locks, folder, note, chance):
         client.release(name, token)
 
 
-def main(number, servers, locks, seconds, folder, seed):
-    chance, end, client = random.Random(f"{seed} {number}"), time.monotonic() + float(seconds), None
-    places = lines.places(servers)
+def work(number, places, locks, end, folder, seed):
+    """What one client does."""
+    chance, client, enough = random.Random(f"{seed} {number}"), None, os.path.join(folder, "enough")
     with open(os.path.join(folder, f"client.{number}.txt"), "w", encoding="ascii", buffering=1) as file:
         def note(*words):
             file.write(" ".join(map(str, words)) + "\n")
-        while time.monotonic() < end:
+        while time.monotonic() < end and not os.path.exists(enough):
             try:
                 client = client or Noted(chance.sample(places, len(places)), note)
-                once(client, locks.split(","), folder, note, chance)
+                once(client, locks, folder, note, chance)
                 time.sleep(chance.random() * 0.01)
             except (LockLost, OSError) as lost:
                 if client is not None:
@@ -110,5 +113,22 @@ def main(number, servers, locks, seconds, folder, seed):
             client.close()
 
 
+def command(folder, number):
+    """Is inside the lock that `wozgirt lock` holds for this process, which is ended if that is lost."""
+    name, token, begun = os.environ["WOZGIRT_LOCK"], int(os.environ["WOZGIRT_TOKEN"]), time.monotonic()
+    verb = "wrote" if write(os.path.join(folder, f"store.{name}"), token) else "refused"
+    time.sleep(random.random() * 0.004)
+    with open(os.path.join(folder, f"client.command.{number}.txt"), "a", encoding="ascii") as file:
+        file.write(f"{verb} {name} {token}\ninside {name} {token} {begun:.6f} {time.monotonic():.6f}\n")
+
+
+def main(first, count, servers, locks, seconds, folder, seed):
+    end = time.monotonic() + float(seconds)
+    words = lines.places(servers), locks.split(","), end, folder, seed
+    them = [threading.Thread(target=work, args=(number, *words)) for number in range(int(first), int(first) + int(count))]
+    [it.start() for it in them]
+    [it.join() for it in them]
+
+
 if __name__ == "__main__":
-    main(*sys.argv[1:])
+    (command if sys.argv[1] == "inside" else main)(*sys.argv[2 if sys.argv[1] == "inside" else 1:])

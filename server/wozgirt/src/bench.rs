@@ -2,7 +2,8 @@
 //! lock once: until then some are alone, which a busy machine makes long.
 
 use crate::client::{token, unexpected, Client, Fault};
-use crate::words::{Load, Place};
+use crate::places::Place;
+use crate::words::Load;
 use std::sync::atomic::{AtomicBool, AtomicU64, AtomicUsize, Ordering};
 use std::sync::Barrier;
 use std::thread;

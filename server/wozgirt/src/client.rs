@@ -1,9 +1,9 @@
 //! A connection to the server, whose calls wait.
 
-use crate::words::Place;
+use crate::places::Place;
 use std::fmt;
 use std::io::{self, ErrorKind, Read, Write};
-use std::net::TcpStream;
+use std::net::{TcpStream, ToSocketAddrs};
 use std::os::fd::{AsFd, BorrowedFd};
 use std::os::unix::net::UnixStream;
 use std::time::{Duration, Instant};
@@ -26,6 +26,12 @@ pub enum Fault {
     Refused(String),
     /// The server said what it should not.
     Unexpected(String),
+    /// One of several servers.
+    At(Place, Box<Fault>),
+    /// None of several servers answers.
+    Nobody,
+    /// The session went on, and what it had is gone.
+    Gone(&'static str),
 }
 
 impl fmt::Display for Fault {
@@ -37,6 +43,9 @@ impl fmt::Display for Fault {
             Fault::Late => f.write_str("the server does not answer"),
             Fault::Refused(why) => write!(f, "refused: {why}"),
             Fault::Unexpected(line) => write!(f, "the server said: {}", line.escape_debug()),
+            Fault::At(place, fault) => write!(f, "{place}: {fault}"),
+            Fault::Nobody => f.write_str("no server answers"),
+            Fault::Gone(what) => f.write_str(what),
         }
     }
 }
@@ -68,6 +77,19 @@ impl Stream {
                 Ok(Stream::Tcp(stream))
             }
         }
+    }
+
+    /// The same, but the other end may take only so long to be there.
+    fn open_within(place: &Place, time: Duration) -> io::Result<Stream> {
+        let Place::Tcp(address) = place else { return Stream::open(place) };
+        let mut fault = io::Error::new(ErrorKind::NotFound, "the name has no address");
+        for address in address.to_socket_addrs()? {
+            match TcpStream::connect_timeout(&address, time) {
+                Ok(stream) => return stream.set_nodelay(true).map(|()| Stream::Tcp(stream)),
+                Err(other) => fault = other,
+            }
+        }
+        Err(fault)
     }
 
     fn set_read_timeout(&self, time: Option<Duration>) -> io::Result<()> {
@@ -113,7 +135,16 @@ impl AsFd for Client {
 impl Client {
     /// Connects.
     pub fn open(place: &Place) -> Result<Client, Fault> {
-        let stream = Stream::open(place).map_err(|fault| Fault::Connect(place.clone(), fault))?;
+        Client::over(place, Stream::open(place))
+    }
+
+    /// Connects to one of several servers, which may be gone.
+    pub fn open_within(place: &Place, time: Duration) -> Result<Client, Fault> {
+        Client::over(place, Stream::open_within(place, time))
+    }
+
+    fn over(place: &Place, stream: io::Result<Stream>) -> Result<Client, Fault> {
+        let stream = stream.map_err(|fault| Fault::Connect(place.clone(), fault))?;
         Ok(Client { stream, bytes: Vec::new(), taken: 0, timeout: None })
     }
 

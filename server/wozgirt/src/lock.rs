@@ -1,18 +1,22 @@
 //! `wozgirt lock`: a command that runs while a lock is held.
 
-use crate::client::{token, unexpected, Client, Fault, SOON};
-use crate::words::{Hold, Patience, Place};
+use crate::alone::Alone;
+use crate::client::Fault;
+use crate::places::Place;
+use crate::session::Session;
+use crate::words::Hold;
 use std::fmt;
 use std::io;
 use std::os::unix::process::{CommandExt, ExitStatusExt};
 use std::process::{Child, Command, ExitStatus};
 use std::time::{Duration, Instant};
-use wozgirt_system::{inherit, send_signal, Interest, Poller, Signal, Signals};
+use wozgirt_system::{send_signal, Event, Interest, Poller, Signal, Signals};
 
-/// The lease over TCP, if none is asked for.
-const TCP_LEASE: Duration = Duration::from_secs(30);
+/// The lease over TCP, and of several servers, if none is asked for.
+pub const LEASE: Duration = Duration::from_secs(30);
 const SIGNALS: u64 = 0;
-const SERVER: u64 = 1;
+/// How long at least something is waited for.
+const LEAST: Duration = Duration::from_millis(1);
 
 /// How it ended.
 #[derive(Debug)]
@@ -23,6 +27,8 @@ pub enum Ending {
     Conflict,
     /// The lock was lost while the command ran, and the command was ended.
     Lost,
+    /// A signal came before the lock was had.
+    Signal(Signal),
 }
 
 /// Why the command was not run.
@@ -60,131 +66,81 @@ impl From<io::Error> for NotRun {
     }
 }
 
-/// The lease as this side keeps it: it speaks after each quarter, and takes the lock for lost after a half, so that the
-/// command has another quarter to end before the server may give the lock to another.
-struct Lease {
-    time: Duration,
-    /// The server heard this client then, or later.
-    heard: Instant,
-    /// When the ping was sent that is not answered yet.
-    pinged: Option<Instant>,
+/// What came of asking for the lock.
+pub enum Got {
+    /// It is held, with this token.
+    Token(u64),
+    /// It was not to be had in time.
+    Conflict,
+    /// A signal ended the wait.
+    Signal(Signal),
 }
 
-impl Lease {
-    fn next_ping(&self) -> Option<Instant> {
-        self.pinged.is_none().then(|| self.heard + self.time / 4)
-    }
+/// One server or several that keep the lock while COMMAND runs.
+pub trait Link {
+    /// What it waits with; signals have the key 0 there.
+    fn poller(&mut self) -> &mut Poller;
+    /// The lease, if there is one.
+    fn lease(&self) -> Option<Duration>;
+    /// Has COMMAND inherit what keeps the lock, if that is wanted.
+    fn share(&self) -> io::Result<()>;
+    /// When something is to be done without being told.
+    fn next_time(&self) -> Option<Instant>;
+    /// Does what is due. Why the lock is lost, if it is.
+    fn look(&mut self, events: &[Event], now: Instant) -> Option<Fault>;
+    /// Nothing is heard any more.
+    fn give_up(&mut self) -> io::Result<()>;
+    /// Gives the lock back.
+    fn release(&mut self, token: u64) -> Result<(), Fault>;
+}
 
-    fn loss(&self) -> Instant {
-        self.heard + self.time / 2
+/// Runs the command while the lock is held, by this server or by these.
+pub fn run(places: &[Place], hold: &Hold) -> Result<Ending, NotRun> {
+    if let [place] = places {
+        let mut alone = Alone::open(place, hold)?;
+        return match alone.acquire(hold)? {
+            Some(token) => {
+                let signals = heard(alone.poller())?;
+                command(hold, token, &mut alone, signals)
+            }
+            None => Ok(Ending::Conflict),
+        };
     }
+    let mut session = Session::open(places, hold)?;
+    let ending = run_in(&mut session, hold);
+    session.leave();
+    ending
+}
 
-    fn ping_if_due(&mut self, client: &mut Client, now: Instant) -> Result<(), Fault> {
-        if self.next_ping().is_some_and(|due| due <= now) {
-            client.send("ping")?;
-            self.pinged = Some(now);
-        }
-        Ok(())
-    }
-
-    fn ponged(&mut self) {
-        self.heard = self.pinged.take().unwrap_or(self.heard);
+fn run_in(session: &mut Session, hold: &Hold) -> Result<Ending, NotRun> {
+    let mut signals = heard(session.poller())?;
+    match session.acquire(hold, &mut signals)? {
+        Got::Token(token) => command(hold, token, session, signals),
+        Got::Conflict => Ok(Ending::Conflict),
+        Got::Signal(signal) => Ok(Ending::Signal(signal)),
     }
 }
 
-/// Runs the command while the lock is held.
-pub fn run(place: &Place, hold: &Hold) -> Result<Ending, NotRun> {
-    let mut client = Client::open(place)?;
-    let mut lease = match hold.lease.or(client.is_tcp().then_some(TCP_LEASE)) {
-        None => None,
-        Some(asked) => {
-            let heard = Instant::now();
-            Some(Lease { time: client.lease(asked)?, heard, pinged: None })
-        }
-    };
-    let Some(token) = acquire(&mut client, hold, &mut lease)? else { return Ok(Ending::Conflict) };
-    let mut signals =
-        Signals::new(&[Signal::Child, Signal::Terminate, Signal::HangUp, Signal::Interrupt, Signal::Quit])?;
-    if !hold.closes {
-        inherit(&client)?;
-    }
+/// The signals that are heard from here on.
+fn heard(poller: &Poller) -> io::Result<Signals> {
+    let signals = Signals::new(&[Signal::Child, Signal::Terminate, Signal::HangUp, Signal::Interrupt, Signal::Quit])?;
+    poller.add(&signals, SIGNALS, Interest::READS)?;
+    Ok(signals)
+}
+
+fn command(hold: &Hold, token: u64, link: &mut impl Link, mut signals: Signals) -> Result<Ending, NotRun> {
+    link.share()?;
     let child = start(hold, token)?;
-    let mut guard = Guard { child, is_group: hold.is_group, lease, ends_at: None };
-    let kill_after = guard.lease.as_ref().map_or(hold.kill_after, |lease| hold.kill_after.min(lease.time / 4));
-    let status = guard.watch(&mut client, &mut signals, kill_after)?;
+    let kill_after = link.lease().map_or(hold.kill_after, |lease| hold.kill_after.min(lease / 4));
+    let mut guard = Guard { child, is_group: hold.is_group, ends_at: None };
+    let status = guard.watch(link, &mut signals, kill_after)?;
     if guard.ends_at.is_some() {
         return Ok(Ending::Lost);
     }
-    if let Err(fault) = release(&mut client, &hold.name, token) {
+    if let Err(fault) = link.release(token) {
         eprintln!("wozgirt: after COMMAND had ended: {fault}");
     }
     Ok(Ending::Command(status))
-}
-
-/// The token, or nothing if the lock is not to be had in time.
-fn acquire(client: &mut Client, hold: &Hold, lease: &mut Option<Lease>) -> Result<Option<u64>, Fault> {
-    let (name, label) = (&hold.name, hold.label.unwrap_or(std::process::id().into()));
-    let verb = if hold.patience == Patience::None { "try" } else { "acquire" };
-    client.send(&format!("{verb} {name} {label}"))?;
-    let deadline = match hold.patience {
-        Patience::For(time) => Some(Instant::now() + time),
-        _ => None,
-    };
-    let mut is_answered = false;
-    loop {
-        let answer_due = (!is_answered).then(|| Instant::now() + SOON);
-        let ping_due = lease.as_ref().map(|lease| lease.next_ping().unwrap_or(lease.loss()));
-        let until = [answer_due, deadline.filter(|_| is_answered), ping_due].into_iter().flatten().min();
-        match client.line(until) {
-            Ok(line) if line == "pong" => lease.iter_mut().for_each(Lease::ponged),
-            Ok(line) if line.starts_with("waiting ") => is_answered = true,
-            Ok(line) if line.starts_with("busy ") => return Ok(None),
-            Ok(line) => return token(&line, name).map(Some).ok_or_else(|| unexpected(line)),
-            Err(Fault::Late) => {
-                let now = Instant::now();
-                if deadline.is_some_and(|deadline| deadline <= now) {
-                    return cancel(client, name);
-                }
-                let is_lost = lease.as_ref().is_some_and(|lease| lease.loss() <= now);
-                if is_lost || answer_due.is_some_and(|due| due <= now) {
-                    return Err(Fault::Late);
-                }
-            }
-            Err(fault) => return Err(fault),
-        }
-        if let Some(lease) = lease {
-            lease.ping_if_due(client, Instant::now())?;
-        }
-    }
-}
-
-/// Waits no longer; the grant may have come first.
-fn cancel(client: &mut Client, name: &str) -> Result<Option<u64>, Fault> {
-    client.send(&format!("cancel {name}"))?;
-    let until = Some(Instant::now() + SOON);
-    let mut granted = None;
-    loop {
-        let line = client.line(until)?;
-        match line.split(' ').next() {
-            Some("cancelled") => return Ok(None),
-            Some("refused") if granted.is_some() => return Ok(granted),
-            Some("pong") => {}
-            _ => granted = Some(token(&line, name).ok_or_else(|| unexpected(line))?),
-        }
-    }
-}
-
-fn release(client: &mut Client, name: &str, token: u64) -> Result<(), Fault> {
-    client.send(&format!("release {name} {token}"))?;
-    let until = Some(Instant::now() + SOON);
-    loop {
-        let line = client.line(until)?;
-        match line.split(' ').next() {
-            Some("released") => return Ok(()),
-            Some("pong") => {}
-            _ => return Err(unexpected(line)),
-        }
-    }
 }
 
 fn start(hold: &Hold, token: u64) -> Result<Child, NotRun> {
@@ -203,7 +159,6 @@ fn start(hold: &Hold, token: u64) -> Result<Child, NotRun> {
 struct Guard {
     child: Child,
     is_group: bool,
-    lease: Option<Lease>,
     /// After the loss of the lock: when the command is killed.
     ends_at: Option<Instant>,
 }
@@ -211,65 +166,33 @@ struct Guard {
 impl Guard {
     fn watch(
         &mut self,
-        client: &mut Client,
+        link: &mut impl Link,
         signals: &mut Signals,
         kill_after: Duration,
     ) -> Result<ExitStatus, NotRun> {
-        let (mut poller, mut events) = (Poller::new()?, Vec::new());
-        poller.add(&*signals, SIGNALS, Interest::READS)?;
-        poller.add(&*client, SERVER, Interest::READS)?;
+        let mut events = Vec::new();
         loop {
             if let Some(status) = self.child.try_wait()? {
                 return Ok(status);
             }
-            poller.wait(self.next_time(), &mut events)?;
+            let until = self.ends_at.or(link.next_time());
+            let time = until.map(|until| until.saturating_duration_since(Instant::now()).max(LEAST));
+            link.poller().wait(time, &mut events)?;
             while let Some(signal) = signals.next_signal() {
                 self.pass_on(signal);
             }
-            let is_readable = events.iter().any(|event| event.key == SERVER);
             let now = Instant::now();
             if self.ends_at.is_none() {
-                if let Some(why) = self.look(client, is_readable, now) {
+                if let Some(why) = link.look(&events, now) {
                     eprintln!("wozgirt: the lock is lost ({why}); COMMAND is ended");
                     self.send(Signal::Terminate);
                     self.ends_at = Some(now + kill_after);
-                    poller.remove(&*client)?;
+                    link.give_up()?;
                 }
             } else if self.ends_at.is_some_and(|end| end <= now) {
                 self.send(Signal::Kill);
             }
         }
-    }
-
-    fn next_time(&self) -> Option<Duration> {
-        let until = match (self.ends_at, &self.lease) {
-            (Some(end), _) => Some(end),
-            (None, Some(lease)) => Some(lease.next_ping().unwrap_or(lease.loss()).min(lease.loss())),
-            (None, None) => None,
-        };
-        until.map(|until| until.saturating_duration_since(Instant::now()).max(Duration::from_millis(1)))
-    }
-
-    /// Why the lock is lost, if it is.
-    fn look(&mut self, client: &mut Client, is_readable: bool, now: Instant) -> Option<Fault> {
-        if is_readable {
-            if let Err(fault) = client.read(Some(Duration::from_millis(1))) {
-                if !matches!(fault, Fault::Late) {
-                    return Some(fault);
-                }
-            }
-        }
-        while let Some(line) = client.line_that_is_there() {
-            match &mut self.lease {
-                Some(lease) if line == "pong" => lease.ponged(),
-                _ => return Some(unexpected(line)),
-            }
-        }
-        let lease = self.lease.as_mut()?;
-        if lease.loss() <= now {
-            return Some(Fault::Late);
-        }
-        lease.ping_if_due(client, now).err()
     }
 
     /// A terminal sends its signals to the command too, unless that has a group of its own.

@@ -1,8 +1,12 @@
 //! The command `wozgirt`: a lock around another command, and looks at the server. See `--help`.
 
+mod alone;
 mod bench;
 mod client;
+mod finding;
 mod lock;
+mod places;
+mod session;
 mod status;
 mod words;
 
@@ -21,13 +25,14 @@ const PROTOCOL: u8 = 76;
 fn main() -> ExitCode {
     let place = std::env::var("WOZGIRT_SOCKET").unwrap_or_else(|_| PLACE.into());
     let status = match parse(std::env::args().skip(1), &place) {
-        Ok(Words::Lock(place, hold)) => match lock::run(&place, &hold) {
+        Ok(Words::Lock(places, hold)) => match lock::run(&places, &hold) {
             Ok(Ending::Command(ended)) => lock::status(ended),
             Ok(Ending::Conflict) => hold.conflict_status,
             Ok(Ending::Lost) => LOST,
+            Ok(Ending::Signal(signal)) => 128 + signal.number() as u8,
             Err(fault) => say(&fault, status_of(&fault)),
         },
-        Ok(Words::Status(place, every)) => match status::run(&place, every) {
+        Ok(Words::Status(places, every)) => match status::run(&places, every) {
             Ok(()) => 0,
             Err(fault) => say(&fault, status_of_fault(&fault)),
         },
@@ -63,6 +68,8 @@ fn status_of(fault: &NotRun) -> u8 {
 fn status_of_fault(fault: &Fault) -> u8 {
     match fault {
         Fault::Connect(..) | Fault::Closed | Fault::System(_) | Fault::Late => UNAVAILABLE,
+        Fault::Nobody | Fault::Gone(_) => UNAVAILABLE,
+        Fault::At(_, fault) => status_of_fault(fault),
         Fault::Refused(_) | Fault::Unexpected(_) => PROTOCOL,
     }
 }

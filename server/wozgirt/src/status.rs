@@ -1,7 +1,7 @@
 //! `wozgirt status` and `wozgirt watch`: a table of the locks.
 
 use crate::client::{Client, Fault};
-use crate::words::Place;
+use crate::places::Place;
 use std::io::{self, IsTerminal, Write};
 use std::time::Duration;
 
@@ -9,22 +9,41 @@ const HEAD: [&str; 9] = ["LOCK", "STATE", "CLIENT", "LABEL", "TOKEN", "FOR", "WA
 /// To the first line, and nothing below it.
 const CLEAR: &str = "\x1b[H\x1b[J";
 
-/// Prints the table; again after such a time, until standard output is closed.
-pub fn run(place: &Place, every: Option<Duration>) -> Result<(), Fault> {
-    let mut client = Client::open(place)?;
+/// Of several servers, how long one may take to be there.
+const SOON: Duration = Duration::from_secs(2);
+
+/// Prints the table, as the first of the servers knows it that answers; again after such a time, until standard output is closed.
+pub fn run(places: &[Place], every: Option<Duration>) -> Result<(), Fault> {
+    let (mut client, mut lines) = first(places)?;
     let mut output = io::stdout();
     loop {
-        let rows = client.status()?.iter().map(|line| row(line)).collect::<Option<Vec<_>>>();
+        let rows = lines.iter().map(|line| row(line)).collect::<Option<Vec<_>>>();
         let rows = rows.ok_or_else(|| Fault::Unexpected("a lock that cannot be read".into()))?;
         let clear = if every.is_some() && output.is_terminal() { CLEAR } else { "" };
         if output.write_all(format!("{clear}{}", table(&rows)).as_bytes()).and_then(|()| output.flush()).is_err() {
             return Ok(()); // nobody reads it any more
         }
-        match every {
-            None => return Ok(()),
-            Some(time) => std::thread::sleep(time),
+        let Some(time) = every else { return Ok(()) };
+        std::thread::sleep(time);
+        match client.status() {
+            Ok(more) => lines = more,
+            Err(fault) if places.len() == 1 => return Err(fault),
+            Err(_) => (client, lines) = first(places)?,
         }
     }
+}
+
+/// The first of the servers that answers, and what it says.
+fn first(places: &[Place]) -> Result<(Client, Vec<String>), Fault> {
+    let mut fault = Fault::Nobody;
+    for place in places {
+        let client = if places.len() == 1 { Client::open(place) } else { Client::open_within(place, SOON) };
+        match client.and_then(|mut client| client.status().map(|lines| (client, lines))) {
+            Ok(found) => return Ok(found),
+            Err(other) => fault = other,
+        }
+    }
+    Err(fault)
 }
 
 /// The cells of `lock NAME STATE CLIENT LABEL TOKEN AGE WAITING OLDEST GRANTS LONGEST`.

@@ -1,5 +1,6 @@
 //! The words of the command line.
 
+use crate::places::{places, Place};
 use std::fmt;
 use std::time::Duration;
 
@@ -17,7 +18,8 @@ wozgirt bench [CLIENTS [LOCKS [SECONDS]]]
     measures hand-overs of the server's first locks, which nobody else should use meanwhile
 
 Options:
-  --socket PLACE            a path, or tcp:HOST:PORT [WOZGIRT_SOCKET, or /run/wozgirt/lock.sock]
+  --socket PLACE[,PLACE ..] a path, or tcp:HOST:PORT [WOZGIRT_SOCKET, or /run/wozgirt/lock.sock]; of several
+                            servers over one log the nearest first: if one is lost, the next has the same hold
   -w, --wait SECONDS        give up after so long; without it, wait for as long as it takes
   -n, --no-wait             give up at once
   -E, --conflict-status N   the status of giving up [1]
@@ -35,33 +37,15 @@ server, or COMMAND cannot be run; 75 the lock was lost while COMMAND ran; 76 the
 #[derive(Debug, Clone, PartialEq, Eq)]
 pub enum Words {
     /// To run a command while a lock is held.
-    Lock(Place, Hold),
+    Lock(Vec<Place>, Hold),
     /// To print how the locks are; again after such a time.
-    Status(Place, Option<Duration>),
+    Status(Vec<Place>, Option<Duration>),
     /// To measure.
     Bench(Place, Load),
     /// To print the help.
     Help,
     /// To print the version.
     Version,
-}
-
-/// Where the server is.
-#[derive(Debug, Clone, PartialEq, Eq)]
-pub enum Place {
-    /// A socket with a name.
-    Path(String),
-    /// A host and a port.
-    Tcp(String),
-}
-
-impl fmt::Display for Place {
-    fn fmt(&self, f: &mut fmt::Formatter<'_>) -> fmt::Result {
-        match self {
-            Place::Path(path) => f.write_str(path),
-            Place::Tcp(address) => write!(f, "tcp:{address}"),
-        }
-    }
 }
 
 /// How long to wait for a lock.
@@ -126,6 +110,8 @@ pub enum BadWords {
     NoCommand,
     /// Both of --wait and --no-wait.
     Both,
+    /// Several servers where one is measured.
+    Several,
 }
 
 impl fmt::Display for BadWords {
@@ -138,6 +124,7 @@ impl fmt::Display for BadWords {
             BadWords::NoName => f.write_str("NAME is missing"),
             BadWords::NoCommand => f.write_str("COMMAND is missing"),
             BadWords::Both => f.write_str("--wait and --no-wait exclude each other"),
+            BadWords::Several => f.write_str("bench measures one server: name it with --socket PLACE"),
         }
     }
 }
@@ -160,7 +147,7 @@ struct Reading {
     command: Vec<String>,
 }
 
-/// Reads the words after the program's name. `place` is where the server is if no word says it.
+/// Reads the words after the program's name. `place` is where the server is, or the servers are, if no word says it.
 pub fn parse(words: impl IntoIterator<Item = String>, place: &str) -> Result<Words, BadWords> {
     let mut words = words.into_iter();
     let verb = words.next().ok_or(BadWords::None)?;
@@ -248,11 +235,7 @@ impl Reading {
     }
 
     fn words(self, verb: &str, place: &str) -> Result<Words, BadWords> {
-        let place = self.place.as_deref().unwrap_or(place);
-        let place = match place.strip_prefix("tcp:") {
-            Some(address) => Place::Tcp(address.into()),
-            None => Place::Path(place.into()),
-        };
+        let mut places = places(self.place.as_deref().unwrap_or(place));
         let mut others = self.others.into_iter();
         let words = match verb {
             "bench" => {
@@ -262,10 +245,11 @@ impl Reading {
                     Some(word) => word.parse().ok().filter(|&n| n > 0).ok_or(BadWords::Value("bench".into(), word)),
                 };
                 let load = Load { clients: count(clients, 64)?, locks: count(locks, 1)?, time: bench_time(time)? };
+                let place = places.pop().filter(|_| places.is_empty()).ok_or(BadWords::Several)?;
                 Words::Bench(place, load)
             }
-            "status" => Words::Status(place, None),
-            "watch" => Words::Status(place, Some(self.every)),
+            "status" => Words::Status(places, None),
+            "watch" => Words::Status(places, Some(self.every)),
             _ => {
                 let patience = match (self.is_impatient, self.wait) {
                     (true, Some(_)) => return Err(BadWords::Both),
@@ -280,7 +264,7 @@ impl Reading {
                 let Reading { conflict_status, label, lease, kill_after, closes, is_group, command, .. } = self;
                 let hold =
                     Hold { name, patience, conflict_status, label, lease, kill_after, closes, is_group, command };
-                Words::Lock(place, hold)
+                Words::Lock(places, hold)
             }
         };
         others.next().map_or(Ok(words), |word| Err(BadWords::Unknown(word)))
@@ -332,11 +316,12 @@ mod tests {
 
     #[test]
     fn the_others() {
-        assert_eq!(read("status"), Ok(Words::Status(Place::Path("/s".into()), None)));
-        let words = Words::Status(Place::Tcp("h:1".into()), Some(Duration::from_secs(2)));
+        assert_eq!(read("status"), Ok(Words::Status(vec!["/s".into()], None)));
+        assert_eq!(read("status --socket /a,tcp:h:1"), Ok(Words::Status(vec!["/a".into(), "tcp:h:1".into()], None)));
+        let words = Words::Status(vec!["tcp:h:1".into()], Some(Duration::from_secs(2)));
         assert_eq!(read("watch --every 2 --socket tcp:h:1"), Ok(words));
         let load = Load { clients: 8, locks: 2, time: Duration::from_secs(1) };
-        assert_eq!(read("bench 8 2 1"), Ok(Words::Bench(Place::Path("/s".into()), load)));
+        assert_eq!(read("bench 8 2 1"), Ok(Words::Bench("/s".into(), load)));
         assert_eq!(read("--help"), Ok(Words::Help));
         assert_eq!(read("lock --help"), Ok(Words::Help));
         assert_eq!(read("--version"), Ok(Words::Version));
@@ -359,6 +344,7 @@ mod tests {
             ("status all", "`all` has no place here"),
             ("bench 0", "bench: bad value `0`"),
             ("bench 1 1 1 1", "`1` has no place here"),
+            ("bench --socket /a,/b", "bench measures one server: name it with --socket PLACE"),
         ] {
             assert_eq!(read(words).unwrap_err().to_string(), why, "{words}");
         }

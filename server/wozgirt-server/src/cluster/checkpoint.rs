@@ -243,7 +243,7 @@ impl Folder {
     pub fn keep(&self, last: u64, position: u64) -> io::Result<()> {
         let kept = self.kept(position);
         match fs::remove_file(&kept) {
-            Err(fault) if fault.kind() != io::ErrorKind::NotFound => return Err(fault),
+            Err(fault) if fault.kind() != io::ErrorKind::NotFound => Err(fault),
             _ => fs::hard_link(self.segment(last), kept),
         }
     }

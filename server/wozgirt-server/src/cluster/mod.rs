@@ -12,6 +12,7 @@ mod log;
 mod mirror;
 mod sessions;
 mod words;
+mod writer;
 
 pub use apply::Applied;
 use apply::Given;
@@ -22,6 +23,7 @@ pub use log::Told;
 pub use mirror::{Effect, Mirror, Standing};
 pub use sessions::{draw, Owns};
 pub use words::{OverEtcd, ReadingOverEtcd};
+use writer::Writer;
 
 use crate::engine::Engine;
 use crate::names::Names;
@@ -36,18 +38,8 @@ use wozgirt_engine::Client;
 
 /// The longest line of the process that speaks to etcd.
 const LONGEST_LOG_LINE: usize = 8 << 20;
-/// How many lines, and bytes, an entry has at most.
-const MOST_LINES: usize = 2000;
-const MOST_BYTES: usize = 256 << 10;
 /// The longest list of locks, which has to go into an entry.
 pub const LONGEST_LIST: usize = 200_000;
-/// How many entries may be on their way into the log. What comes meanwhile goes with the next one: with two on their way, 64 clients
-/// had 0.6 of the hand-overs.
-const MOST_ON_WAY: u64 = 1;
-/// Behind an entry of many lines the next one waits a little, since many are told answers and say more: with 64 clients 3.4 hand-overs
-/// for an entry, and not 2.6.
-const MANY_LINES: usize = 4;
-const GATHERING: Duration = Duration::from_millis(1);
 /// With so many entries unread, or bytes for the engine, no more is read of the log.
 const MOST_UNREAD: usize = 64;
 const MOST_FOR_ENGINE: usize = 1 << 20;
@@ -133,12 +125,7 @@ pub struct Cluster {
     last_sign: Instant,
     /// How often another server had other answers.
     pub contradictions: u64,
-    batch: VecDeque<Line>,
-    /// How many lines the last entry had, and until when the next one waits for more.
-    last_lines: usize,
-    gathers_until: Option<Instant>,
-    serial: u64,
-    returned: u64,
+    writer: Writer,
     random: File,
 }
 
@@ -178,11 +165,7 @@ impl Cluster {
             first_sign: 1,
             last_sign: now,
             contradictions: 0,
-            batch: VecDeque::new(),
-            last_lines: 0,
-            gathers_until: None,
-            serial: 0,
-            returned: 0,
+            writer: Writer::default(),
             random: File::open("/dev/urandom")?,
         }))
     }
@@ -205,13 +188,13 @@ impl Cluster {
 
     /// Whether all that was asked is answered.
     pub fn is_idle(&self) -> bool {
-        self.batch.is_empty() && self.serial == self.returned && self.unread.is_empty() && self.mirror.is_idle()
+        self.writer.is_idle() && self.unread.is_empty() && self.mirror.is_idle()
     }
 
     /// The line goes into the log with the next entry, if this server is in it.
     pub fn put(&mut self, line: Line) {
         if self.me.is_some() {
-            self.batch.push_back(line);
+            self.writer.put(line);
         }
     }
 
@@ -239,12 +222,11 @@ impl Cluster {
         self.first_sign = 1;
         self.alive = None;
         self.absent.clear();
-        self.batch.clear();
+        self.writer = Writer::default();
         self.unread.clear();
         self.owns = Owns::default();
         self.opening.clear();
         self.mirror.forget_clients();
-        (self.serial, self.returned) = (0, 0);
     }
 
     /// When the next sign of life is due.
@@ -276,30 +258,9 @@ impl Cluster {
         is_first
     }
 
-    /// The next entry, if there is something to say and few are on their way.
-    pub fn next_entry(&mut self, now: Instant) -> Option<String> {
-        let writer = self.me.clone()?;
-        if self.gathers_until.is_some_and(|until| now < until) && self.batch.len() < MOST_LINES {
-            return None;
-        }
-        self.gathers_until = None;
-        if self.batch.is_empty() || self.serial - self.returned >= MOST_ON_WAY {
-            return None;
-        }
-        self.serial += 1;
-        let (position, digest) = self.digests.last();
-        let mut entry = Entry { writer, serial: self.serial, position, digest: digest.into(), lines: Vec::new() };
-        let mut bytes = 0;
-        while entry.lines.len() < MOST_LINES && bytes < MOST_BYTES {
-            let Some(line) = self.batch.pop_front() else { break };
-            bytes += match &line {
-                Line::With(settings) => settings.len(),
-                _ => 100,
-            };
-            entry.lines.push(line);
-        }
-        self.last_lines = entry.lines.len();
-        Some(entry.to_string())
+    /// The next entry, if there is something to say and it is time.
+    pub fn next_entry(&mut self, now: Instant) -> Option<Entry> {
+        self.writer.next(self.me.as_ref()?, &self.digests, now)
     }
 
     /// The next entry of the log. Nothing if it is not the next one.
@@ -309,11 +270,8 @@ impl Cluster {
             return None;
         }
         let entry: Option<Entry> = text.parse().ok();
-        if let Some(entry) = entry.as_ref().filter(|entry| Some(&entry.writer) == self.me.as_ref()) {
-            if entry.serial > self.returned && self.last_lines >= MANY_LINES {
-                self.gathers_until = Some(now + GATHERING);
-            }
-            self.returned = self.returned.max(entry.serial);
+        if let Some(entry) = &entry {
+            self.writer.note(entry, self.me.as_ref(), now);
         }
         self.unread.push_back(Read { position, revision, entry });
         Some(())
@@ -331,8 +289,8 @@ impl Cluster {
     }
 
     /// When the next entry is due, if one waits.
-    pub fn gathers_until(&self) -> Option<Instant> {
-        self.gathers_until.filter(|_| !self.batch.is_empty())
+    pub fn entry_due(&self) -> Option<Instant> {
+        self.writer.due()
     }
 
     /// Whether more is read of the log.
@@ -360,7 +318,7 @@ impl Cluster {
             let since = self.absent.entry(server.clone()).or_insert(now);
             if now.saturating_duration_since(*since) >= grace {
                 *since = now;
-                self.batch.push_back(Line::Server(server));
+                self.writer.put(Line::Server(server));
             }
         }
     }

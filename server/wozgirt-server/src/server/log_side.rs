@@ -140,8 +140,8 @@ impl Server {
     pub(super) fn write_log(&mut self) -> Result<(), CannotServe> {
         let waiting = self.desk.engine.waiting();
         let Some(cluster) = &mut self.desk.cluster else { return Ok(()) };
-        while let Some(word) = cluster.next_entry(self.desk.now) {
-            cluster.log.ask_line(format_args!("append {word}"));
+        while let Some(entry) = cluster.next_entry(self.desk.now) {
+            cluster.log.ask_line(format_args!("append {entry}"));
         }
         cluster.log.write();
         if let Some((input, interest)) = cluster.log.awaited_input() {

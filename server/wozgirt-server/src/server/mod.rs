@@ -203,7 +203,7 @@ impl Server {
         let grace = self.grace_until.filter(|_| self.is_engine_ready());
         let log = self.desk.cluster.as_ref().and_then(|cluster| cluster.log.next_look(now));
         let log = log.filter(|_| self.desk.cluster.as_ref().is_some_and(|cluster| cluster.is_restored));
-        let entry = self.desk.cluster.as_ref().and_then(|cluster| cluster.gathers_until());
+        let entry = self.desk.cluster.as_ref().and_then(|cluster| cluster.entry_due());
         let times = [self.desk.engine.next_look(now), log, entry, grace, self.shut_until, self.stopping];
         let next = times.into_iter().flatten().fold(self.next_sweep, Instant::min);
         next.saturating_duration_since(now)

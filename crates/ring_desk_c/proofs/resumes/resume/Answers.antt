@@ -1,4 +1,4 @@
-use Rattle.std.proofs.Common.{◌≡◌, ◌∙◌, inr}
+use Rattle.std.proofs.Common.{◌∙◌, inr}
 use Rattle.ring_saved.specs.declared.saved.SavedRing.{SavedRing}
 use Rattle.ring_desk_c.specs.Resumed.{FitsSeats}
 use Rattle.ring_desk_c.proofs.Places.{can_go_on, want_code}

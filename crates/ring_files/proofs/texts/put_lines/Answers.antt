@@ -1,11 +1,10 @@
-use Rattle.text_lines.proofs.Writing.{writes_then, writes_err}
+use Rattle.std.proofs.Common.{drop}
 use Rattle.ring_blocks.specs.Journals.{event_lines}
 use Rattle.ring_files.specs.Files.{survey_lines}
+use Rattle.ring_files.proofs.Filled.{fills_then}
 use Rattle.ring_files.proofs.texts.put_lines.Goals as goal
 
-pub returns-in-Ok : goal.returns-in-Ok
-returns-in-Ok g c =
-    writes_then (g.W.Write.contents c.args.out.now) (g.W.Write.contents c.put_events.new.out) (g.W.Write.contents c.put_surveys.new.out) c.put_surveys.result (event_lines 0 c.args.events.now) (survey_lines c.args.looked.now) c.in-Ok.ensures c.put_surveys.ensures
-
-pub returns-in-Err : goal.returns-in-Err
-returns-in-Err g c = writes_err (g.W.Write.contents c.args.out.now) (g.W.Write.contents c.put_events.new.out) c.in-Err.fault (event_lines 0 c.args.events.now) (survey_lines c.args.looked.now) c.in-Err.ensures
+pub returns : goal.returns
+returns c =
+    let called = rw c.events_from.ensures at c.put_calls-called.ensures in
+    fills_then (event_lines 0 (drop c.args.from c.args.history.now)) (survey_lines c.args.looked.now) called c.put_looked.ensures

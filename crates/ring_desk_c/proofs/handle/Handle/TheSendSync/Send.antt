@@ -1,10 +1,8 @@
 -- What a handle has says the same to every thread.
-use mathlib.Core.List.{[], ◌∷◌}
 use mathlib.Core.Bool.{Bool, true, false}
 use mir.Raw.{raw}
 use base.Fml.{Fml}
 use base.Shift.{Keyless}
-use denote.RattleType.{RattleType}
 use denote.Memory.{lone}
 use denote.Builtin.{RawPtr}
 use denote.RawPtr.{Ptr, block_ptr, null_ptr}

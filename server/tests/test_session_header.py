@@ -1,0 +1,188 @@
+"""The client in C of several servers, `include/wozgirt_session.h`, with servers, and with doors in this process that fail when they are
+told to."""
+
+import os
+import shutil
+import subprocess
+import sys
+import tempfile
+import unittest
+
+from harness import PATIENCE, TOP, by_the_clock, needs_loopback, needs_programs, say, wait_until
+from test_cluster import Trial, needs_strict
+from test_header import compiles
+
+sys.path.insert(0, os.path.join(TOP, "python", "tests"))
+
+from test_sessions import Arbiter, Door  # noqa: E402
+
+SOURCE = os.path.join(TOP, "server", "tests", "session_client.c")
+needs_c = unittest.skipUnless(shutil.which("cc"), "no C compiler")
+
+
+class Clients(unittest.TestCase):
+    """Runs the program that does what it is told."""
+
+    @classmethod
+    def setUpClass(cls):
+        super().setUpClass()
+        cls.programs = tempfile.mkdtemp()
+        cls.addClassCleanup(shutil.rmtree, cls.programs)
+        cls.program = os.path.join(cls.programs, "session_client")
+        built = compiles("cc", "-std=c11", "-O1", "-o", cls.program, SOURCE)
+        if built != (True, ""):
+            raise AssertionError(built)
+
+    def client(self, places, lease=30000, opened=0):
+        it = subprocess.Popen([self.program, ",".join(places), str(lease)], stdin=subprocess.PIPE, stdout=subprocess.PIPE, text=True)
+        self.addCleanup(self.end_it, it)
+        self.assertEqual(it.stdout.readline(), f"open {opened}\n")
+        return it
+
+    @staticmethod
+    def end_it(it):
+        it.kill()
+        it.communicate()
+
+    def tell(self, it, line):
+        it.stdin.write(line + "\n")
+        it.stdin.flush()
+
+    def ask(self, it, line):
+        """What comes of a line."""
+        self.tell(it, line)
+        return it.stdout.readline().strip()
+
+
+@needs_c
+@needs_programs
+@needs_strict
+class Several(Clients, Trial):
+    def test_a_hold_goes_on(self):
+        a, b = self.server("a"), self.server("b")
+        it, other = self.client([a.path, b.path]), self.raw(b)
+        self.assertEqual([self.ask(it, line) for line in ("acquire a 7 0", "check", "acquire b 1 0", "acquire no 1 0", "release a 9", "release b 9")],
+                         ["acquire 0 1", "check 0", "acquire 2 refused session", "acquire 2 refused session", "release 2 refused holder a",
+                          "release 2 refused holder b"])
+        self.kill(a)
+        self.assertEqual(self.ask(it, "check"), "check 0")
+        wait_until(lambda: self.ask(it, "check") == "check 0" and " a - " in b.operate("clients"))
+        self.assertEqual(say(other, "try a 1\n"), ["busy a"])
+        self.assertEqual(self.ask(it, "release a 1"), "release 0")
+        self.assertEqual(say(other, "acquire a 1\n"), ["granted a 2"])
+        self.assertEqual(self.ask(it, "acquire a 1 0"), "acquire 1")
+        self.assertEqual(self.ask(it, "acquire a 1 20"), "acquire 1")
+        self.assertEqual(self.ask(it, "acquire no 1 20"), "acquire 2 refused lock no")
+        self.tell(it, "acquire a 1 -1")
+        b.wait_for_waiters("a", 1)
+        self.assertEqual(say(other, "release a 2\n"), ["released a"])
+        self.assertEqual(it.stdout.readline(), "acquire 0 3\n")
+        self.assertEqual(self.ask(it, "close"), "close 4")
+        self.assertEqual(say(other, "acquire a 1\n"), ["granted a 4"])  # it has left
+        self.assertEqual((self.ask(it, "check"), self.ask(it, "acquire a 1 0")), ("check 3", "acquire 3"))
+
+    def test_nobody_is_there(self):
+        self.client(["/nonexistent/a", "tcp:127.0.0.1:1", "tcp:nowhere"], opened=3)
+        self.client([""], opened=4)
+
+
+@needs_c
+@needs_loopback
+class Cuts(Clients):
+    """Each input is done once, wherever the connection is cut."""
+
+    def setUp(self):
+        self.arbiter = Arbiter()
+        self.doors = [Door(self.arbiter), Door(self.arbiter)]
+        for door in self.doors:
+            self.addCleanup(door.close)
+        self.places = ["tcp:%s:%d" % door.place for door in self.doors]
+
+    def cut(self, it, moment, line, answer):
+        """The next input fails so at the one door and at the other, and is done once all the same."""
+        before = len(self.arbiter.done)
+        for door in self.doors:
+            door.fails = moment
+        self.assertEqual(self.ask(it, line), answer)
+        self.assertEqual([door.fails for door in self.doors], [None, None])
+        self.assertEqual([words[2] for words in self.arbiter.done[before:]], [line.split(" ", 1)[0] if not line.endswith(" 0") else "try"])
+
+    def test_each_input(self):
+        it = self.client(self.places)
+        for token, moment in enumerate(("before", "after"), 1):
+            with self.subTest(moment=moment):
+                self.cut(it, moment, "acquire a 5 1000", f"acquire 0 {token}")
+                self.cut(it, moment, f"release a {token}", "release 0")
+                self.arbiter.holders["a"] = 9, 9
+                self.cut(it, moment, "acquire a 5 0", "acquire 1")
+                del self.arbiter.holders["a"]
+
+    def test_a_cancel(self):
+        self.arbiter.holders["a"] = 9, 5
+        for moment in ("before", "after"):
+            with self.subTest(moment=moment):
+                self.arbiter.done.clear()
+                it = self.client(self.places)
+                self.tell(it, "acquire a 1 100")
+                wait_until(lambda: self.arbiter.done)
+                self.doors[0].fails = moment
+                self.assertEqual(it.stdout.readline(), "acquire 1\n")
+                self.assertEqual([words[2] for words in self.arbiter.done], ["acquire", "cancel"])
+                self.ask(it, "close")
+
+    def test_a_wait(self):
+        """The grant comes before the cut, behind it, or before the answer that says to wait."""
+        for moment in ("behind", "before", "at once"):
+            with self.subTest(moment=moment):
+                self.arbiter.done.clear()
+                self.arbiter.holders["a"], self.arbiter.tokens["a"] = (9, 5), 5
+                it, door = self.client(self.places), Arbiter._do.__get__(self.arbiter)
+
+                def granted_at_once(session, verb, *words):
+                    said = door(session, verb, *words)
+                    if verb == "acquire":
+                        self.arbiter._pass("a")
+                    return said
+                self.arbiter._do = granted_at_once if moment == "at once" else door
+                self.doors[0].fails = "after" if moment == "at once" else None
+                self.tell(it, "acquire a 1 -1")
+                wait_until(lambda: self.arbiter.done)
+                if moment != "at once":
+                    with self.arbiter.mutex:
+                        if moment == "before":
+                            self.arbiter.hears[self.arbiter.done[0][0]] = lambda _: None  # it does not hear it
+                            self.arbiter._pass("a")
+                        self.doors[0].cut()
+                    if moment == "behind":
+                        wait_until(lambda: self.doors[1].socks)
+                        with self.arbiter.mutex:
+                            self.arbiter._pass("a")
+                self.assertEqual(it.stdout.readline(), "acquire 0 6\n")
+                self.assertEqual(self.ask(it, "release a 6"), "release 0")
+                self.assertEqual([words[2] for words in self.arbiter.done], ["acquire", "release"])
+                self.ask(it, "close")
+                self.doors[1].socks.clear()
+
+    def test_what_the_session_had_is_gone(self):
+        it = self.client(self.places)
+        self.assertEqual(self.ask(it, "acquire a 1 0"), "acquire 0 1")
+        with self.arbiter.mutex:
+            self.arbiter.holders.clear()
+            self.doors[0].cut()
+        wait_until(lambda: self.ask(it, "check") == "check 3")
+        self.assertEqual(self.ask(it, "release a 1"), "release 3")
+
+    @by_the_clock
+    def test_a_silent_server_is_left(self, longer):
+        it = self.client(self.places, lease=4000 * longer)
+        self.assertEqual(self.ask(it, "acquire a 1 0")[:9], "acquire 0")
+        self.doors[0].is_silent = True
+        wait_until(lambda: self.ask(it, "check") != "check 0" or self.doors[1].socks)
+        self.doors[0].is_silent = False
+        self.assertEqual(self.ask(it, "check"), "check 0")
+        self.ask(it, "close")
+        self.doors[1].socks.clear()
+
+
+if __name__ == "__main__":
+    unittest.main()
