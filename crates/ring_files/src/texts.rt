@@ -11,13 +11,14 @@ ghost use Rattle.ring_files.specs.Files.{head_at, file_text, IsTextAt, survey_li
 ghost use Rattle.ring_files.specs.Filling.{Fills};
 
 use crate::files::Looked;
-use crate::fills::{event_line, put, survey_line};
+use crate::fills::put;
 use crate::places::FilePlace;
 use crate::saves::put_text;
 use ring_blocks::{saved_event, saved_survey};
 use ring_chains::Base;
 use ring_endless::EndlessRing;
 use ring_model::Event;
+use ring_saved::{event_line, survey_line};
 use std::alloc::{AllocError, Global};
 use text_lines::Line;
 

@@ -3,14 +3,14 @@
 ghost use Rattle.std.specs.Prelude.{◌≡◌, ℕ, ◌<◌, ◌≤◌, ◌^◌, IfOk};
 ghost use Rattle.std.specs.List.{AllByRecursion};
 ghost use Rattle.text_lines.specs.Writing.{Writes};
-ghost use Rattle.ring_saved.specs.declared.saved.SavedEvent.TheVariants.{Granted, Refused, Member, Corrupted};
 ghost use Rattle.ring_saved.specs.Spelling.{first_line, ring_line, start_line, event_line, end_line, survey_line, done_line, IsNoMember, EventFits, SurveyFits};
 ghost use Rattle.ring_saved.specs.Versions.{first_version};
 
+use crate::event_lines::{event_line, survey_line};
 use crate::saved::{SavedEvent, SavedSurvey};
 use itoa::Buffer;
 use std::io::Write;
-use text_lines::{Line, WriteFault, put, put_all, put_row};
+use text_lines::{WriteFault, put, put_all, put_row};
 
 /// Writes the text's first line, which says the version.
 pub fn put_first_line<W: Write>(out: &mut W, version: u32) -> Result<(), WriteFault>
@@ -47,107 +47,6 @@ pub fn put_start_line<W: Write>(out: &mut W, values: &[u32]) -> Result<(), Write
     }
 }
 
-fn put_granted<W: Write>(
-    out: &mut W,
-    seat: u32,
-    machine: u32,
-    order: u64,
-    number: u64,
-    answer: u64,
-) -> Result<(), WriteFault>
-    ensures { Writes (W.contents out.old) (W.contents out.new) result
-        (event_line (Granted seat machine order number answer)) }
-{
-    let mut line = Line::new();
-    line.byte(b'\n');
-    line.number(answer);
-    line.byte(b' ');
-    line.number(number);
-    line.byte(b' ');
-    line.byte(b'g');
-    line.byte(b' ');
-    line.number(order);
-    line.byte(b' ');
-    line.number(machine as u64);
-    line.byte(b' ');
-    line.number(seat as u64);
-    line.byte(b' ');
-    line.byte(b'p');
-    put(out, line.as_bytes())
-}
-
-fn put_refused<W: Write>(out: &mut W, seat: u32, machine: u32, order: u64) -> Result<(), WriteFault>
-    ensures { Writes (W.contents out.old) (W.contents out.new) result
-        (event_line (Refused seat machine order)) }
-{
-    let mut line = Line::new();
-    line.byte(b'\n');
-    line.byte(b'n');
-    line.byte(b' ');
-    line.number(order);
-    line.byte(b' ');
-    line.number(machine as u64);
-    line.byte(b' ');
-    line.number(seat as u64);
-    line.byte(b' ');
-    line.byte(b'p');
-    put(out, line.as_bytes())
-}
-
-fn put_member<W: Write>(
-    out: &mut W,
-    seat: u32,
-    machine: u32,
-    order: u64,
-    left: u32,
-    number: u64,
-    answer: u64,
-) -> Result<(), WriteFault>
-    ensures { Writes (W.contents out.old) (W.contents out.new) result
-        (event_line (Member seat machine order left number answer)) }
-{
-    let mut line = Line::new();
-    line.byte(b'\n');
-    line.number(answer);
-    line.byte(b' ');
-    line.number(number);
-    line.byte(b' ');
-    line.number(left as u64);
-    line.byte(b' ');
-    line.number(order);
-    line.byte(b' ');
-    line.number(machine as u64);
-    line.byte(b' ');
-    line.number(seat as u64);
-    line.byte(b' ');
-    line.byte(b'm');
-    put(out, line.as_bytes())
-}
-
-fn put_corrupted<W: Write>(
-    out: &mut W,
-    seat: u32,
-    machine: u32,
-    value: u32,
-    old: u32,
-) -> Result<(), WriteFault>
-    ensures { Writes (W.contents out.old) (W.contents out.new) result
-        (event_line (Corrupted seat machine value old)) }
-{
-    let mut line = Line::new();
-    line.byte(b'\n');
-    line.number(old as u64);
-    line.byte(b' ');
-    line.number(value as u64);
-    line.byte(b' ');
-    line.number(machine as u64);
-    line.byte(b' ');
-    line.number(seat as u64);
-    line.byte(b' ');
-    line.byte(b'c');
-    put(out, line.as_bytes())
-}
-
 /// Writes the line of an event, each of whose numbers is within its range by its type. It fits in each version that has
 /// lines of its kind.
 pub fn put_event_line<W: Write>(out: &mut W, event: SavedEvent) -> Result<(), WriteFault>
@@ -155,34 +54,7 @@ pub fn put_event_line<W: Write>(out: &mut W, event: SavedEvent) -> Result<(), Wr
     ensures fits { (version : ℕ) → (version ≤ first_version → IsNoMember event)
         → EventFits version event }
 {
-    match event {
-        SavedEvent::Granted {
-            seat,
-            machine,
-            order,
-            number,
-            result: answer,
-        } => put_granted(out, seat, machine, order, number, answer),
-        SavedEvent::Refused {
-            seat,
-            machine,
-            order,
-        } => put_refused(out, seat, machine, order),
-        SavedEvent::Member {
-            seat,
-            machine,
-            order,
-            left,
-            number,
-            result: answer,
-        } => put_member(out, seat, machine, order, left, number, answer),
-        SavedEvent::Corrupted {
-            seat,
-            machine,
-            value,
-            old,
-        } => put_corrupted(out, seat, machine, value, old),
-    }
+    put(out, event_line(event).as_bytes())
 }
 
 /// Writes the line that ends the events and says how many they are.
@@ -198,22 +70,7 @@ pub fn put_survey_line<W: Write>(out: &mut W, survey: SavedSurvey) -> Result<(),
     ensures written { Writes (W.contents out.old) (W.contents out.new) result (survey_line survey) }
     ensures fits { SurveyFits survey }
 {
-    let mut line = Line::new();
-    line.byte(b'\n');
-    line.number(survey.rest);
-    line.byte(b' ');
-    line.number(survey.calm);
-    line.byte(b' ');
-    line.number(survey.first as u64);
-    line.byte(b' ');
-    line.number(survey.privileged as u64);
-    line.byte(b' ');
-    line.number(survey.position);
-    line.byte(b' ');
-    line.number(survey.seat as u64);
-    line.byte(b' ');
-    line.byte(b's');
-    put(out, line.as_bytes())
+    put(out, survey_line(survey).as_bytes())
 }
 
 /// Writes the last line, which says how many rings there are.
