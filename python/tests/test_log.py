@@ -331,6 +331,19 @@ class Etcd(unittest.TestCase):
             members.etcdctl("del", "locks/log")
             self.assertEqual(log.status(), 4)
 
+    def test_what_was_compacted_before_the_first_entry_is_not_missed(self):
+        members = self.members()
+        with Log(members.urls()):
+            pass
+        for i in range(5):
+            members.etcdctl("put", "other", str(i))
+        members.etcdctl("compaction", str(members.ask("a", "kv/range", {"key": "eA=="})["header"]["revision"]))
+        with Log(members.urls(), "b") as log:
+            log.append("one")
+            wait_until(lambda: members.etcdctl("get", "--print-value-only", "locks/log").strip() == "one")
+            log.say("follow 0 0")
+            wait_until(lambda: log.texts() == ["one"])
+
     def test_a_log_without_entries_begins_in_a_used_etcd(self):
         members = self.members()
         for i in range(5):

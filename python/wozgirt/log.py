@@ -226,6 +226,8 @@ class Reader:
     def __init__(self, program: Program, crowd: Crowd, identity: str, last: Tuple[int, int]):
         self._program, self._crowd, self._identity, self._member = program, crowd, identity, program.member()
         self._position, self._revision = last
+        # the revision of the first entry, and one before which nothing is wanted
+        self._first, self._least = 0, 0
         self._log, self._servers = program.key("log"), program.key("servers", "")
 
     def run(self) -> None:
@@ -269,7 +271,8 @@ class Reader:
         self._crowd.set({self._who(it) for it in servers})
         if version == self._position:
             self._revision = max(self._revision, revision)
-        return max(self._revision + 1, int(identity[0]["create_revision"])), revision + 1
+        self._first = int(last[0]["create_revision"]) if last else revision + 1
+        return max(self._revision + 1, int(identity[0]["create_revision"]), self._least), revision + 1
 
     def _who(self, it: Answer) -> str:
         return decoded(it["key"])[len(self._servers):].replace("/", ":")
@@ -281,7 +284,11 @@ class Reader:
                                {"create_request": {**below(self._servers), "start_revision": str(now)}}]
         for told in self._member.stream("watch", asked):
             if "compact_revision" in told:
-                raise Lost(f"the log is gone up to revision {told['compact_revision']}, and {start} is wanted")
+                gone = int(told["compact_revision"])
+                if self._position > 0 or gone > self._first:
+                    raise Lost(f"the log is gone up to revision {gone}, and {start} is wanted")
+                self._least = gone  # what is gone came before the first entry
+                return
             if told.get("canceled"):
                 raise NoAnswer(f"the watch is cancelled: {told.get('cancel_reason', '')}")
             self._take(told.get("events", []))
