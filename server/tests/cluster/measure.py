@@ -118,7 +118,7 @@ def of_api(bed, seconds):
 def of_etcdctl(bed, seconds, folder):
     """Those of `etcdctl lock NAME COMMAND`, one process after the other for each client."""
     script = 'end=$(($(date +%s) + $1)); while [ "$(date +%s)" -lt "$end" ]; do "$2" --endpoints "$3" lock "$4" true && echo x >>"$5"; done'
-    path = os.path.join(folder, "etcdctl")
+    path = tempfile.mkstemp(dir=folder)[1]
     words = [["sh", "-c", script, "sh", str(int(seconds)), ETCDCTL, bed.members.url(NAMES[i % 3]), f"cli/{LOCKS[i % 16]}", path] for i in range(CLIENTS)]
     them = [subprocess.Popen(it, env={**os.environ, "ETCDCTL_API": "3"}, stdout=subprocess.DEVNULL) for it in words]
     begun = time.monotonic()
