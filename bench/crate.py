@@ -1,0 +1,107 @@
+#!/usr/bin/env python3
+"""bench/crate.py [proof|tests|edits CRATE ..]: what the gate does for some crates alone: their proof, from nothing and with the search
+for contracts that no call can meet, which `rt check` leaves out; or their tests, proved and run; or their must-fail edits. The
+libraries below them are those that earlier runs kept, and are proved where they have changed. Prints what failed, and the processor
+seconds of each.
+
+With no words: the gate's checks that prove nothing, over all crates: the layout of files, files that nothing reads, words that mean
+something else to a reader, edits that cannot be applied.
+
+The status is 0 if nothing failed. It is no verdict: `rt ci` is. It rests on the kit's own module, as ./build does: try it at each move
+to another kit. Needs rt and python3."""
+import importlib.machinery
+import importlib.util
+import os
+import re
+import resource
+import shutil
+import sys
+import tempfile
+
+TOP = os.path.dirname(os.path.dirname(os.path.abspath(__file__)))
+sys.dont_write_bytecode = True
+
+
+def load(name, path):
+    """Returns a program in Python as a module."""
+    loader = importlib.machinery.SourceFileLoader(name, path)
+    module = importlib.util.module_from_spec(importlib.util.spec_from_loader(name, loader))
+    loader.exec_module(module)
+    return module
+
+
+def kit():
+    """The kit's module, set up as for `rt ci`, and its crates, lowest first."""
+    rt = load("rt", os.path.realpath(shutil.which("rt") or sys.exit("there is no rt")))
+    load("build", f"{TOP}/build").once_each(rt.rtlib)
+    rt.rtlib.stop = rt.stop
+    rt.rtlib.guarded()
+    rt.Crate.allowed = rt.handles_of(TOP)
+    rt.rtlib.Crate = rt.Crate
+    return rt, sorted(rt.rtlib.crates_below(TOP), key=lambda it: len(it.below()))
+
+
+def stopped(rt, crate, crates):
+    """Why the gate would not begin with the crate, if so."""
+    why = []
+    for look in (lambda: rt.rtlib.stop_on_links(crate.folder), lambda: rt.rtlib.stop_on_unread(crate.folder, crates),
+                 lambda: rt.rtlib.stop_on_text(crate, "verdict"), lambda: rt.stop_on_words(crate)):
+        try:
+            look()
+        except SystemExit:
+            why.append("as said above")
+    code = rt.rtlib.code_of(crate.folder)
+    why += [f"it names what {it} reaches" for it, words in rt.REACHES.items() if it not in crate.allowed and re.search(words, code)]
+    why += ["it renames std, or takes it whole"] * bool(re.search(rt.RENAMES, code)) + ["a test is ignored"] * bool(re.search(rt.IGNORED, code))
+    why += ["its layout is another"] * bool(rt.rtlib.fmt(crate.folder, "--check", sys.stdout))
+    good, bad = rt.edits_of(crate)
+    faults = ((it, rt.read_edit(it, crate.folder)[1]) for it in good)
+    return why + [f"{os.path.basename(it)}: {fault}" for it, fault in faults if fault] + [f"{it} is no edit" for it in bad]
+
+
+def proved(rt, crate, tests):
+    """Proves the crate, or its tests, from nothing, and runs these; whether all is well."""
+    with tempfile.TemporaryFile("a+", errors="replace") as crate.out:
+        os.makedirs(f"{crate.folder}/out", exist_ok=True)
+        words = crate.words(["--jobs", "2"], tests=tests, keeps=False)
+        status = crate.ci(["--jobs", "2"], True) if tests else crate.prove(["check", *words])
+        crate.out.seek(0)
+        if status:
+            print(crate.out.read(), end="")
+    return not status and (not tests or rt.run(crate, True))
+
+
+def tried(rt, crate):
+    """Tries the crate's edits; whether each is refused."""
+    outcomes = rt.must_fail_all(crate, rt.edits_of(crate)[0], ["--jobs", "2"])
+    for _, text in outcomes:
+        print(text, flush=True)
+    return all(is_refused for is_refused, _ in outcomes)
+
+
+def main(what="", *names):
+    os.chdir(TOP)
+    rt, crates = kit()
+    if not what:
+        faults = [f"{crate.name}: {why}" for crate in crates for why in stopped(rt, crate, crates)]
+        print(*faults, f"{len(crates)} crates, {len(faults)} faults", sep="\n")
+        return bool(faults)
+    chosen = [it for it in crates if it.name in names]
+    if what not in ("proof", "tests", "edits") or len(chosen) < max(len(names), 1):
+        sys.exit(__doc__)
+    failed = []
+    for crate in chosen:
+        crate.out = sys.stdout
+        if any(below.build_rlib(["--jobs", "2"], anew=False) for below in crate.below()):
+            sys.exit(f"a library below {crate.name} is not proved")
+        before = resource.getrusage(resource.RUSAGE_CHILDREN)
+        is_well = tried(rt, crate) if what == "edits" else proved(rt, crate, what == "tests")
+        spent = resource.getrusage(resource.RUSAGE_CHILDREN)
+        taken = spent.ru_utime + spent.ru_stime - before.ru_utime - before.ru_stime
+        print(f"{crate.name}: {what} {'well' if is_well else 'FAILED'}, {taken:.0f} processor seconds", flush=True)
+        failed += [crate.name] * (not is_well)
+    return bool(failed)
+
+
+if __name__ == "__main__":
+    sys.exit(main(*sys.argv[1:]))
