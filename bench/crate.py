@@ -36,6 +36,9 @@ def kit():
     load("build", f"{TOP}/build").once_each(rt.rtlib)
     rt.rtlib.stop = rt.stop
     rt.rtlib.guarded()
+    # (libraries that were kept may rest on kept work)
+    line = rt.rtlib.VERDICT.pattern.replace(r"statements=trusted\n", r"statements=trusted( incremental=trusted)?\n")
+    rt.rtlib.VERDICT = re.compile(line, re.M)
     rt.Crate.allowed = rt.handles_of(TOP)
     rt.rtlib.Crate = rt.Crate
     return rt, sorted(rt.rtlib.crates_below(TOP), key=lambda it: len(it.below()))
