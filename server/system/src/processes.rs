@@ -60,9 +60,17 @@ mod tests {
     use super::*;
     use std::os::unix::process::ExitStatusExt;
     use std::process::Command;
+    use std::sync::{Mutex, MutexGuard, PoisonError};
+
+    /// Held by each test here: a child of one would inherit what another lets its own child inherit.
+    fn alone() -> MutexGuard<'static, ()> {
+        static ONE: Mutex<()> = Mutex::new(());
+        ONE.lock().unwrap_or_else(PoisonError::into_inner)
+    }
 
     #[test]
     fn a_child_ends_by_the_signal() {
+        let _alone = alone();
         let mut child = Command::new("sleep").arg("60").spawn().unwrap();
         send_signal(&child, Signal::Terminate, false).unwrap();
         assert_eq!(child.wait().unwrap().signal(), Some(15));
@@ -70,6 +78,7 @@ mod tests {
 
     #[test]
     fn an_inherited_file_is_there() {
+        let _alone = alone();
         let (one, _other) = std::os::unix::net::UnixStream::pair().unwrap();
         let path = format!("/dev/fd/{}", one.as_fd().as_raw_fd());
         let is_there = || Command::new("test").args(["-e", &path]).status().unwrap().success();
@@ -80,6 +89,7 @@ mod tests {
 
     #[test]
     fn one_has_a_lock() {
+        let _alone = alone();
         let path = std::env::temp_dir().join(format!("wozgirt-lock-{}", std::process::id()));
         let open = || std::fs::File::create(&path).unwrap();
         let one = open();
@@ -96,6 +106,7 @@ mod tests {
 
     #[test]
     fn a_pipe_that_has_nothing_is_not_waited_for() {
+        let _alone = alone();
         use std::io::Read;
         let mut child = Command::new("sleep").arg("60").stdout(std::process::Stdio::piped()).spawn().unwrap();
         let mut pipe = child.stdout.take().unwrap();
