@@ -123,6 +123,12 @@ module _ (salvage : Bool) (bytes : List ℕ) (h : Head) (rest : List ℕ) (fits 
     at,
   )
 
+-- the line that is left out has a number
+pub room_below : (most many lines : ℕ) (text : List ℕ) (bad : Option RecoverError) → many < most
+    → IfSome bad (λ e. line_among (lines_in text) (line_in e) + lines ≤ many) → IfSome bad (λ e. line_among (lines_in text) (line_in e) < most)
+room_below most many lines text None lt room = tt
+room_below most many lines text (Some e) lt room = omega (arith, lt, room)
+
 pub head_unkept : {X : Type 0} (salvage : Bool) (view : X → Head × List ℕ) (bytes : List ℕ) (e : ReadError) → IsRightHead view bytes (Err e) → IsFileFault salvage bytes (refused_head e)
 head_unkept salvage view bytes (reading.Syntax line) h = (inl h, λ s. inl (inr h.0))
 head_unkept salvage view bytes reading.Truncated h = (inl h, λ s. inl (inl h))
