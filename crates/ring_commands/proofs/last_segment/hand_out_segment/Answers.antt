@@ -24,7 +24,7 @@ returns-in-Ok-tell_head-clause-ok g c bytes early late =
     let t = c.in-Ok-tell_head.ensures.ok in (
       world (g.D.Disk.holds c.hand_over_kept.new.disk) late (g.W.Write.contents c.hand_over_kept.new.out) (g.E.Write.contents c.hand_over_kept.new.err),
       record { to_file = h.to_file; to_output = h.to_output },
-      record { files = t.files; to_file = t.to_file; to_output = t.to_output },
+      record { files = refl; to_file = t.to_file; to_output = t.to_output },
     )
 
 pub returns-in-Err-tell_head-clause-err : goal.returns-in-Err-tell_head-clause-err
@@ -39,6 +39,6 @@ returns-in-Err-tell_head-clause-err g c bytes early late =
       (
         world (g.D.Disk.holds c.hand_over_kept.new.disk) late (g.W.Write.contents c.hand_over_kept.new.out) (g.E.Write.contents c.hand_over_kept.new.err),
         record { to_file = h.to_file; to_output = h.to_output },
-        record { files = t.files; to_file = t.to_file; to_output = t.to_output },
+        record { files = refl; to_file = t.to_file; to_output = t.to_output },
       ),
     )
