@@ -1,5 +1,5 @@
 -- The files of a folder that are joined, one after the other.
-use Rattle.std.proofs.Common.{◌≡◌, ◌≢◌, ℕ, ◌+◌, ◌<◌, ◌≤◌, List, [], ◌∷◌, ◌++◌, length, Bool, true, false, eqb, Option, Some, None, refl, sym, ap, subst, ◌∙◌, arith, length-append, eqb-true, eq-eqb}
+use Rattle.std.proofs.Common.{◌≡◌, ℕ, ◌+◌, ◌<◌, List, [], ◌∷◌, ◌++◌, length, Bool, true, false, eqb, Option, Some, None, refl, sym, ap, subst, ◌∙◌, arith, length-append, eqb-true, eq-eqb}
 use Rattle.std.proofs.lemmas.Bool.{false_from_ne_true}
 use Rattle.disks.specs.Held.{Held}
 use Rattle.segment_folder.specs.declared.numbers.SegmentNumbers.{SegmentNumbers}
@@ -8,14 +8,13 @@ use Rattle.ring_saved.specs.Content.{Block}
 use Rattle.ring_segments.specs.declared.sums.ChainSums.{ChainSums}
 use Rattle.ring_segments.specs.Files.{File, AreChained}
 use Rattle.ring_segments.specs.Sums.{no_sums, sums_after}
-use Rattle.ring_segments.specs.Chain.{State, LeadTo, IsAdded, sums_at}
+use Rattle.ring_segments.specs.Chain.{State, LeadTo, sums_at}
 use Rattle.ring_segments.proofs.Adding.{chained, led_on}
 use Rattle.ring_joins.specs.Joining.{with_file, with_files}
 use Rattle.ring_joins.specs.Joins.{Joined, IsJoinedWith, IsCount}
 use Rattle.ring_joins.proofs.RingCounts.{files_more, joined_have_rings}
 use Rattle.ring_commands.specs.declared.faults.ToolError.{ToolError}
 use Rattle.ring_commands.specs.Named.{IsHeld}
-use Rattle.ring_commands.specs.Chained.{AreHeldFrom}
 use Rattle.ring_commands.specs.JoinedFolder.{IsUnjoined, IsJoinRefused}
 use Rattle.ring_commands.specs.JoinSteps.{JoinLeads, JoinEnds}
 use Rattle.ring_commands.proofs.Leads.{led_sums, sums_more, held_more, held_at}

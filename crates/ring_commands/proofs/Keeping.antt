@@ -1,5 +1,5 @@
 -- What is kept of a journal, and of a file of a chain.
-use Rattle.std.proofs.Common.{◌≡◌, ℕ, ◌+◌, ◌-◌, ◌<◌, ◌≤◌, ◌^◌, Bool, true, false, List, ◌++◌, length, length-append, take, Option, None, Some, Err, refl, sym, ap, ◌∙◌, inl, inr, arith}
+use Rattle.std.proofs.Common.{◌≡◌, ℕ, ◌+◌, ◌-◌, ◌<◌, ◌≤◌, Bool, true, false, List, ◌++◌, length, length-append, take, Option, None, Some, Err, refl, sym, ap, ◌∙◌, inl, inr, arith}
 use Rattle.std.specs.Prelude.{IfSome}
 use Rattle.std.proofs.lemmas.Bool.{false≢true}
 use Rattle.std.proofs.lemmas.Option.{none-some}
@@ -17,7 +17,7 @@ use Rattle.ring_salvage.specs.Salvaging.{IsSalvaged, IsLost, IsRightSalvage}
 use Rattle.ring_segments.specs.Spelling.{Head, HeadFits, head_text}
 use Rattle.ring_segments.specs.Meaning.{IsRightHead}
 use Rattle.ring_segments.specs.Files.{File}
-use Rattle.ring_segments.specs.Chain.{head_lines, refused_head, refused_journal, line_in, AfterHead, IsRightRefusal}
+use Rattle.ring_segments.specs.Chain.{head_lines, refused_head, refused_journal, line_in, IsRightRefusal}
 use Rattle.ring_segments.specs.Remarks.{lines_in, without_remarks, line_among}
 use Rattle.ring_segments.proofs.LineBounds.{recovery_within}
 use Rattle.ring_segments.proofs.RemarkSteps.{without_within}
@@ -118,8 +118,8 @@ module _ (salvage : Bool) (bytes : List ℕ) (h : Head) (rest : List ℕ) (fits 
   file_kept c many left bad told place kept is same at = (
     record { rest = rest; fits = fits; spelled = spelled; many = many; bad = bad; kept = kept },
     ap (λ (x : Option RecoverError). left_line left x) same
-    ∙ ap (λ (x : ℕ). left_line x (bad_in lines (lines_in rest) bad)) is
-    ∙ ap (λ (x : ℕ). left_line (length (without_remarks rest) - many) (bad_in x (lines_in rest) bad)) n,
+        ∙ ap (λ (x : ℕ). left_line x (bad_in lines (lines_in rest) bad)) is
+        ∙ ap (λ (x : ℕ). left_line (length (without_remarks rest) - many) (bad_in x (lines_in rest) bad)) n,
     at,
   )
 

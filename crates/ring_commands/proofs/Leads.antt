@@ -1,5 +1,5 @@
 -- The files of a folder that are added to a chain, one after the other.
-use Rattle.std.proofs.Common.{◌≡◌, ℕ, ◌+◌, ◌<◌, List, [], ◌∷◌, ◌++◌, length, Bool, true, false, Option, Some, None, refl, sym, ap, subst, ◌∙◌, arith, length-append, eqb, eqb-true, eq-eqb}
+use Rattle.std.proofs.Common.{◌≡◌, ℕ, ◌+◌, ◌<◌, List, [], ◌∷◌, ◌++◌, length, true, false, Option, Some, None, refl, sym, ap, subst, ◌∙◌, arith, length-append, eqb, eqb-true, eq-eqb}
 use Rattle.std.proofs.lemmas.Bool.{false_from_ne_true}
 use Rattle.disks.specs.Held.{Held}
 use Rattle.segment_folder.specs.declared.numbers.SegmentNumbers.{SegmentNumbers}
@@ -7,12 +7,12 @@ use Rattle.ring_commands.specs.declared.faults.ToolError.{ToolError}
 use Rattle.segment_folder.specs.Names.{segment_file}
 use Rattle.ring_segments.specs.declared.sums.ChainSums.{ChainSums}
 use Rattle.ring_segments.specs.Spelling.{digest_of, no_digest}
-use Rattle.ring_segments.specs.Files.{File, AreChained, IsWhole}
+use Rattle.ring_segments.specs.Files.{File}
 use Rattle.ring_segments.specs.Sums.{no_sums, sums_after}
 use Rattle.ring_segments.specs.Chain.{State, LeadTo, IsAdded, state_after, sums_at, digest_at}
 use Rattle.ring_segments.proofs.Adding.{chained, led_on}
 use Rattle.ring_commands.specs.Named.{IsHeld}
-use Rattle.ring_commands.specs.Chained.{chain_sums, sums_of, last_digest, AreHeldFrom, IsAddRefusal, IsFileRefused}
+use Rattle.ring_commands.specs.Chained.{chain_sums, last_digest, AreHeldFrom, IsAddRefusal, IsFileRefused}
 use Rattle.ring_commands.specs.ChainSteps.{Leads, Ends}
 
 -- what the files so far add up to

@@ -1,7 +1,7 @@
 -- A journal whose file was there, or was made, empty, before it was read.
 use Rattle.std.proofs.Common.{◌≡◌, ◌⊎◌, ◌∙◌, ℕ, List, [], get_or, arith, Bool, true, false, Option, None, Some, Result, Ok, Err, IfOk, refl, sym, ap, subst, inl, inr}
 use Rattle.std.specs.Prelude.{OnOk, OnErr, IfSome}
-use Rattle.std.specs.Option.{unwrap_or, is_some}
+use Rattle.std.specs.Option.{unwrap_or}
 use Rattle.std.specs.Result.{is_err}
 use Rattle.std.specs.Str.{bytes_eq}
 use Rattle.std.proofs.lemmas.Bool.{false≢true}
@@ -14,7 +14,7 @@ use Rattle.ring_journal.specs.Recovery.{IsRecovered}
 use Rattle.ring_serve.specs.Standings.{Standing}
 use Rattle.ring_serve.specs.Saved.{content_of}
 use Rattle.ring_serve.specs.Starting.{AreResumed}
-use Rattle.ring_commands.specs.Served.{HoldsNothing, IsOfJournal, IsNoted, IsSame, AreAsBefore, IsUntouched}
+use Rattle.ring_commands.specs.Served.{IsNoted, IsSame, AreAsBefore, IsUntouched}
 
 -- nothing is recovered of no bytes
 unrecovered : (bytes : List ℕ) (c : Content) → bytes ≡ [] → IsRecovered bytes c → ⊥

@@ -1,5 +1,5 @@
 -- The folder of a name, by its last slash.
-use Rattle.std.proofs.Common.{◌≡◌, ◌≢◌, ◌==◌, ℕ, zero, suc, ◌+◌, ◌-◌, ◌<◌, ◌≤◌, Bool, true, false, List, length, get_or, take, drop, Option, None, Some, MatchOption, Bor, refl, sym, ap, ◌∙◌, arith, eqb, eq-eqb, ne_eqb, eqb-true, length-drop, get_or-drop, codes}
+use Rattle.std.proofs.Common.{◌≡◌, ◌≢◌, ℕ, zero, suc, ◌+◌, ◌-◌, ◌<◌, ◌≤◌, Bool, true, false, List, length, get_or, take, drop, Option, None, Some, MatchOption, Bor, refl, sym, ap, ◌∙◌, arith, eqb, eq-eqb, ne_eqb, eqb-true, length-drop, get_or-drop, codes}
 use Rattle.std.specs.Option.{option_map}
 use Rattle.std.specs.Path.{rfind_below, rsplit_once}
 use Rattle.std.specs.Str.Pattern.{RFindsChar}

@@ -1,9 +1,8 @@
 -- The last place among some lines of a text.
-use Rattle.std.proofs.Common.{◌≡◌, ℕ, zero, suc, ◌+◌, ◌-◌, ◌<◌, ◌≤◌, Bool, true, false, cond, eqb, List, [], ◌∷◌, length, take, Option, Some, None, refl, sym, ap, subst, ◌∙◌, arith}
+use Rattle.std.proofs.Common.{◌≡◌, ℕ, zero, suc, ◌+◌, ◌-◌, ◌<◌, ◌≤◌, Bool, true, false, cond, eqb, List, [], ◌∷◌, length, take, refl, sym, ap, subst, ◌∙◌, arith}
 use Rattle.std.proofs.lemmas.List.{take_all}
-use Rattle.ring_journal.specs.declared.errors.RecoverError.{RecoverError}
 use Rattle.ring_segments.specs.Remarks.{lines_in, with_byte}
-use Rattle.ring_commands.specs.LastPlace.{tells_place, place_after, last_place, kept_lines}
+use Rattle.ring_commands.specs.LastPlace.{tells_place, place_after, last_place}
 
 -- ---- the loop
 

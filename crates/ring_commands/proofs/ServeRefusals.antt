@@ -1,5 +1,5 @@
 -- A request that serves lines is never refused for a list.
-use Rattle.std.proofs.Common.{◌≡◌, ◌⊎◌, ℕ, List, Option, None, Some, inl, inr}
+use Rattle.std.proofs.Common.{◌⊎◌, ℕ, List, Option, None, Some, inl, inr}
 use Rattle.disks.specs.Held.{Held}
 use Rattle.disks.specs.declared.disk.FolderEntry.{FolderEntry}
 use Rattle.segment_folder.specs.declared.errors.FolderError.{FolderError}

@@ -1,7 +1,7 @@
 -- What the journal's file holds while lines are served: no line replaces it.
-use Rattle.std.proofs.Common.{◌≡◌, ◌⊎◌, ◌∙◌, ℕ, List, [], ◌∷◌, Option, None, Some, refl, sym, subst, inl, inr}
+use Rattle.std.proofs.Common.{◌≡◌, ◌∙◌, ℕ, List, [], ◌∷◌, Option, None, Some, refl, sym, subst, inl, inr}
 use Rattle.std.specs.Prelude.{IfSome, ⊤}
-use Rattle.disks.specs.Held.{Held, bytes_of, IsOneFile, Replaces}
+use Rattle.disks.specs.Held.{Held, bytes_of, Replaces}
 use Rattle.line_loop.specs.Loop.{Written}
 use Rattle.ring_serve.specs.declared.answers.Answer.{Answer}
 use Rattle.ring_serve.specs.declared.answers.Answer.TheVariants as answer

@@ -1,5 +1,5 @@
 -- The answer of `check` to a folder of segments.
-use Rattle.std.specs.Prelude.{◌≡◌, ℕ, ◌+◌, ◌<◌, ◌==◌, cond, List, [], ◌∷◌, ◌++◌, length, Bool, false, Option, Some, None, Result, Ok, Err, codes, decimal, ◌⊎◌}
+use Rattle.std.specs.Prelude.{◌≡◌, ℕ, ◌+◌, ◌<◌, ◌==◌, cond, List, [], ◌∷◌, ◌++◌, length, Bool, Option, Some, None, Ok, Err, codes, decimal, ◌⊎◌}
 use Rattle.std.specs.Io.KnownBytes.{Appends}
 use Rattle.disks.specs.Held.{Held, Opens}
 use Rattle.disks.specs.Folders.{names_of, Lists}
@@ -10,15 +10,13 @@ use Rattle.segment_folder.specs.declared.errors.FolderError.{FolderError}
 use Rattle.segment_folder.specs.declared.errors.FolderError.TheVariants as folder
 use Rattle.segment_folder.specs.declared.numbers.SegmentNumbers.{SegmentNumbers}
 use Rattle.ring_segments.specs.declared.sums.ChainSums.{ChainSums}
-use Rattle.ring_segments.specs.declared.errors.SegmentError.{SegmentError}
 use Rattle.ring_segments.specs.declared.errors.SegmentError.TheVariants as segment
 use Rattle.ring_segments.specs.Spelling.{digest_of, no_digest}
 use Rattle.ring_segments.specs.Files.{File, AreChained}
 use Rattle.ring_segments.specs.Sums.{no_sums, sums_after}
-use Rattle.ring_segments.specs.Chain.{State, IsAdded, IsRightRefusal, LeadTo}
+use Rattle.ring_segments.specs.Chain.{State, IsRightRefusal, LeadTo}
 use Rattle.ring_commands.specs.Named.{IsHeld}
-use Rattle.ring_commands.specs.Reading.{most_bytes, names_stream, IsOver}
-use Rattle.ring_commands.specs.Worlds.{World}
+use Rattle.ring_commands.specs.Reading.{most_bytes, IsOver}
 use Rattle.ring_commands.specs.Written.{AppendsFront}
 use Rattle.ring_commands.specs.declared.faults.ToolError.{ToolError}
 use Rattle.ring_commands.specs.declared.faults.ToolError.TheVariants as tool

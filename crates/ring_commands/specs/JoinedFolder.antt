@@ -11,7 +11,7 @@ use Rattle.ring_segments.specs.Files.{File}
 use Rattle.ring_segments.specs.Chain.{LeadTo}
 use Rattle.ring_joins.specs.Joining.{with_files, joined}
 use Rattle.ring_joins.specs.Joins.{Joined, IsOverfull}
-use Rattle.ring_commands.specs.Chained.{AreHeldFrom, IsChainIn, IsFolder, IsAddRefusal, IsFileRefused, IsNamedWrong, IsNoSegment, AreNamesRefused}
+use Rattle.ring_commands.specs.Chained.{AreHeldFrom, IsChainIn, IsFolder, IsAddRefusal, IsNamedWrong, IsNoSegment, AreNamesRefused}
 use Rattle.ring_commands.specs.CheckText.{legal_line}
 use Rattle.ring_commands.specs.Handed.{IsHanded, IsHandRefusal}
 use Rattle.ring_commands.specs.Named.{IsHeld}

@@ -7,7 +7,7 @@ use Rattle.ring_journal.specs.declared.errors.RecoverError.{RecoverError}
 use Rattle.ring_journal.specs.declared.errors.RecoverError.TheVariants.{Truncated, Syntax, Bad, OutOfMemory}
 use Rattle.ring_journal.specs.Recovery.{IsRecovered, IsRightRecovery}
 use Rattle.ring_salvage.specs.Salvaging.{IsSalvaged, IsLost, IsRightSalvage}
-use Rattle.ring_segments.specs.Spelling.{Head, HeadFits, head_text}
+use Rattle.ring_segments.specs.Spelling.{HeadFits, head_text}
 use Rattle.ring_segments.specs.Meaning.{BeginsNoHead}
 use Rattle.ring_segments.specs.Files.{File}
 use Rattle.ring_segments.specs.Sums.{capped}

@@ -1,6 +1,6 @@
 -- The answer of `serve`.
-use Rattle.std.specs.Prelude.{◌≡◌, ℕ, ◌≤◌, ◌<◌, ◌^◌, ◌⊎◌, List, [], length, codes, Bool, true, false, Option, None, Some, IfSome, Err, ⊤}
-use Rattle.std.specs.Option.{option_map, is_some}
+use Rattle.std.specs.Prelude.{◌≡◌, ℕ, ◌≤◌, ◌<◌, ◌^◌, ◌⊎◌, List, [], length, codes, Bool, true, Option, None, Some, IfSome, Err, ⊤}
+use Rattle.std.specs.Option.{option_map}
 use Rattle.disks.specs.Held.{Held, HaveFolders, bytes_of, LeadsToNoFolder, Creates, Grows, Replaces}
 use Rattle.ring_saved.specs.declared.saved.Saved.{Saved}
 use Rattle.ring_saved.specs.declared.saved.SavedRing.{SavedRing}

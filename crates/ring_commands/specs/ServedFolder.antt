@@ -1,6 +1,5 @@
 -- `serve` with a journal that is a folder of segments.
-use Rattle.std.specs.Prelude.{◌≡◌, ◌≢◌, ℕ, ◌⊎◌, max, List, ◌++◌, Bool, true, false, Option, None, Some, IfSome, Ok, Err, codes}
-use Rattle.std.specs.Option.{option_map}
+use Rattle.std.specs.Prelude.{◌≡◌, ◌≢◌, ℕ, ◌⊎◌, max, List, Bool, true, false, Option, None, Some, IfSome, Ok, Err, codes}
 use Rattle.disks.specs.Held.{Held, IsOneFile, Creates}
 use Rattle.disks.specs.Folders.{Lists, is_among, names_of, path_in}
 use Rattle.disks.specs.declared.disk.FolderEntry.{FolderEntry}
@@ -13,7 +12,6 @@ use Rattle.ring_saved.specs.declared.saved.Saved.{Saved}
 use Rattle.ring_segments.specs.Spelling.{no_digest}
 use Rattle.ring_segments.specs.Last.{IsRightLast}
 use Rattle.ring_segments.specs.declared.last.LastSegment.{LastSegment}
-use Rattle.ring_segments.specs.declared.errors.SegmentError.{SegmentError}
 use Rattle.ring_segments.specs.declared.errors.SegmentError.TheVariants as segment
 use Rattle.ring_serve.specs.Standings.{Standing}
 use Rattle.ring_serve.specs.Starting.{AreResumed, AreResumedAfter}

@@ -40,7 +40,7 @@ fn place_among(text: &[u8], many: u64) -> &[u8]
 }
 
 /// The line that a refusal names, 0 if it names none.
-pub(crate) fn line_in(fault: RecoverError) -> u64
+fn line_in(fault: RecoverError) -> u64
     ensures { result ≡ line_in fault }
 {
     match fault {

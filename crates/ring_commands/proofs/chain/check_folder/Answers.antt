@@ -1,8 +1,7 @@
 use Rattle.std.proofs.Common.{List, ℕ, inl, inr, refl, subst}
 use Rattle.std.specs.Io.KnownBytes.{Appends}
 use Rattle.ring_segments.specs.declared.sums.ChainSums.{ChainSums}
-use Rattle.ring_segments.specs.Spelling.{no_digest}
-use Rattle.ring_commands.specs.Chained.{chain_line, sums_of, last_digest}
+use Rattle.ring_commands.specs.Chained.{chain_line, sums_of}
 use Rattle.ring_commands.specs.Written.{AppendsFront}
 use Rattle.ring_commands.proofs.chain.check_folder.Goals as goal
 

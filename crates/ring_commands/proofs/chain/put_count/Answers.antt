@@ -1,4 +1,4 @@
-use Rattle.std.proofs.Common.{◌≡◌, ◌++◌, List, ℕ, [], codes, decimal, ap, ◌∙◌}
+use Rattle.std.proofs.Common.{◌≡◌, ◌++◌, List, ℕ, codes, decimal, ap, ◌∙◌}
 use mathlib.Core.List.{append-nil}
 use Rattle.text_lines.proofs.Writing.{writes_same}
 use Rattle.ring_commands.proofs.chain.put_count.Goals as goal

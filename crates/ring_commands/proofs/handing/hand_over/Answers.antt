@@ -1,4 +1,4 @@
-use Rattle.std.proofs.Common.{ap, ℕ}
+use Rattle.std.proofs.Common.{ap}
 use Rattle.ring_commands.specs.Kept.{left_line}
 use Rattle.ring_commands.specs.declared.left.LeftOut.{LeftOut}
 use Rattle.ring_commands.proofs.HandedLines.{handed_alone, unhanded_alone}

@@ -1,4 +1,4 @@
-use Rattle.std.proofs.Common.{None, inl, inr, sym, subst}
+use Rattle.std.proofs.Common.{None, inl, inr, subst}
 use Rattle.ring_saved.specs.Content.{Content, content}
 use Rattle.ring_saved.specs.Spelling.{text}
 use Rattle.ring_check.specs.Legal.{IsLegalText, summary_of}

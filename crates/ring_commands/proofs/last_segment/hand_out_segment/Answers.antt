@@ -1,4 +1,4 @@
-use Rattle.std.proofs.Common.{◌++◌, None, Option, List, ℕ, inl, inr, refl, subst}
+use Rattle.std.proofs.Common.{◌++◌, None, inl, inr, refl, subst}
 use Rattle.ring_saved.specs.Content.{content}
 use Rattle.ring_saved.specs.Spelling.{text}
 use Rattle.ring_commands.specs.CheckText.{legal_line}

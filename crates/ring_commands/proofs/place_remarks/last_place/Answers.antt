@@ -1,4 +1,4 @@
-use Rattle.std.proofs.Common.{◌≡◌, ◌∙◌}
+use Rattle.std.proofs.Common.{◌∙◌}
 use Rattle.ring_commands.proofs.PlacesFound.{place_in_all}
 use Rattle.ring_commands.proofs.place_remarks.last_place.Goals as goal
 

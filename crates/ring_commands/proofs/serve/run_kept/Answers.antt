@@ -5,8 +5,7 @@ use Rattle.ring_saved.specs.declared.saved.Saved.{Saved}
 use Rattle.ring_requests.specs.declared.requests.ServeWords.{ServeWords}
 use Rattle.ring_serve.specs.Standings.{Standing}
 use Rattle.ring_serve.specs.Starting.{AreResumed}
-use Rattle.ring_commands.specs.declared.faults.ToolError.{ToolError}
-use Rattle.ring_commands.specs.Served.{journal_of, permits_of, IsNoted, BeginsAt, IsServedNoted, IsServed, IsServedFrom, IsRefusedFrom}
+use Rattle.ring_commands.specs.Served.{journal_of, permits_of, IsNoted, BeginsAt, IsServedNoted, IsServed, IsServedFrom}
 use Rattle.ring_commands.proofs.Folders.{listed_ok}
 use Rattle.ring_commands.proofs.serve.run_kept.Goals as goal
 

@@ -1,4 +1,4 @@
-use Rattle.std.proofs.Common.{List, inl, inr, sym, subst}
+use Rattle.std.proofs.Common.{List, inr, sym, subst}
 use Rattle.disks.specs.Folders.{Lists, names_of}
 use Rattle.disks.specs.declared.disk.FolderEntry.{FolderEntry}
 use Rattle.ring_commands.proofs.serve_folder.place_in.Goals as goal
