@@ -1,10 +1,11 @@
 //! What a client asks of one lock.
 
 ghost use Rattle.std.specs.Prelude.{◌≡◌, ℕ, ◌+◌, ◌⊎◌, List, [], None};
-ghost use Rattle.std.specs.Prelude.{false, length, IsTrue};
+ghost use Rattle.std.specs.Prelude.{true, false, length, IsTrue};
+ghost use Rattle.ring_model.specs.Ring.{is_settled};
 ghost use Rattle.ring_locks.specs.Lines.{stands, is_held_by, is_held_with};
 ghost use Rattle.ring_locks.specs.Locks.{Release, Cancel, Leave, Corrupt, Stats as Asks_stats, acquired, joined, tried, turn};
-ghost use Rattle.ring_locks.specs.Kept.{lock_of, need, IsKeptLock};
+ghost use Rattle.ring_locks.specs.Kept.{state_of, lock_of, need, IsKeptLock};
 ghost use Rattle.ring_locks.specs.Waiting.{lock_in};
 ghost use Rattle.ring_locks.specs.Parts.{view_of, IsTurnedIn, IsWantingIn};
 
@@ -35,6 +36,7 @@ pub(crate) fn is_held_with(client: u64, token: u64, holder: Option<Holder>) -> b
 /// A client that may wait acquires the lock.
 fn join(lock: &mut LockParts, waits: &mut Waits, number: u32, waiter: Waiter) -> Answers
     requires kept { IsKeptLock (view_of lock.old) }
+    requires settled { is_settled (state_of lock.old.ring).ring.values ≡ true }
     requires free { lock_in waits.old waiter.client ≡ None }
     ensures { IsTurnedIn number (view_of lock.old) (view_of lock.new) waits.old waits.new
         waiter.client (joined (lock_of (view_of lock.old)) waiter lock.old.holder) result
@@ -56,6 +58,7 @@ pub(crate) fn acquire(
     why: Option<Refusal>,
 ) -> Answers
     requires kept { IsKeptLock (view_of lock.old) }
+    requires settled { is_settled (state_of lock.old.ring).ring.values ≡ true }
     requires free { why ≡ None → lock_in waits.old waiter.client ≡ None }
     ensures { IsTurnedIn number (view_of lock.old) (view_of lock.new) waits.old waits.new
         waiter.client (acquired (lock_of (view_of lock.old)) waiter why) result
@@ -70,7 +73,8 @@ pub(crate) fn acquire(
 
 /// A client tries to acquire the lock, if nothing is against it.
 pub(crate) fn try_acquire(lock: &mut LockParts, waiter: Waiter, why: Option<Refusal>) -> Answers
-    requires { IsKeptLock (view_of lock.old) }
+    requires kept { IsKeptLock (view_of lock.old) }
+    requires settled { is_settled (state_of lock.old.ring).ring.values ≡ true }
     ensures { (number : ℕ) (entries : List (ℕ × ℕ))
         → IsTurnedIn number (view_of lock.old) (view_of lock.new) entries entries waiter.client
         (tried (lock_of (view_of lock.old)) waiter why) result
@@ -94,7 +98,8 @@ pub(crate) fn release(
     client: u64,
     token: u64,
 ) -> Answers
-    requires { IsKeptLock (view_of lock.old) }
+    requires kept { IsKeptLock (view_of lock.old) }
+    requires settled { is_settled (state_of lock.old.ring).ring.values ≡ true }
     ensures { IsTurnedIn number (view_of lock.old) (view_of lock.new) waits.old waits.new client
         (turn [] (lock_of (view_of lock.old)) client (Release token)) result }
 {
@@ -133,6 +138,7 @@ pub(crate) fn leave(
     waiting: bool,
 ) -> Answers
     requires kept { IsKeptLock (view_of lock.old) }
+    requires settled { is_settled (state_of lock.old.ring).ring.values ≡ true }
     requires waiting { waiting ≡ stands client lock.old.line.items }
     requires either { IsTrue (is_held_by client lock.old.holder) → waiting ≡ false }
     ensures turned { IsTurnedIn number (view_of lock.old) (view_of lock.new) waits.old waits.new

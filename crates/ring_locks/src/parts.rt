@@ -1,7 +1,7 @@
 //! One lock: its ring, who stands in its line, who holds it.
 
-ghost use Rattle.std.specs.Prelude.{◌≡◌, ◌+◌, ◌<◌, ◌⊎◌, List, ◌∷◌, length, Some, None, IsSome};
-ghost use Rattle.ring_model.specs.Ring.{first_privileged};
+ghost use Rattle.std.specs.Prelude.{◌≡◌, ◌+◌, ◌<◌, ◌⊎◌, List, ◌∷◌, length, Some, None, IsSome, true};
+ghost use Rattle.ring_model.specs.Ring.{first_privileged, is_settled};
 ghost use Rattle.ring_endless.specs.Endless.{local_survey};
 ghost use Rattle.ring_locks.specs.Lines.{without};
 ghost use Rattle.ring_locks.specs.Waiting.{lock_in};
@@ -45,7 +45,8 @@ pub(crate) fn refused(why: Refusal) -> Answers
 
 /// Grants the lock to a client.
 pub(crate) fn grant(lock: &mut LockParts, waiter: Waiter) -> Answers
-    requires { IsKeptLock (view_of lock.old) }
+    requires kept { IsKeptLock (view_of lock.old) }
+    requires settled { is_settled (state_of lock.old.ring).ring.values ≡ true }
     ensures { IsTurned (view_of lock.old) (view_of lock.new) waiter.client
         (granted (state_of lock.old.ring) lock.old.line.items waiter) result
         ⊎ IsWanting (view_of lock.old) (view_of lock.new) (length lock.old.line.items + 1) result }
@@ -100,7 +101,8 @@ pub(crate) fn end_hold(
     seat: u32,
     own: Option<Answer>,
 ) -> Answers
-    requires { IsKeptLock (view_of lock.old) }
+    requires kept { IsKeptLock (view_of lock.old) }
+    requires settled { is_settled (state_of lock.old.ring).ring.values ≡ true }
     ensures turned { IsTurnedIn number (view_of lock.old) (view_of lock.new) waits.old waits.new
         client (ended (state_of lock.old.ring) lock.old.line.items seat (own_answer client own))
         result }
