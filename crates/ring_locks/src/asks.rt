@@ -14,6 +14,7 @@ use crate::parts::{LockParts, drop_waiter, end_hold, fault, grant, refused, told
 use crate::waits::Waits;
 
 /// Whether the client is this holder.
+#[inline(always)]
 pub(crate) fn is_held_by(client: u64, holder: Option<Holder>) -> bool
     ensures { result ≡ is_held_by client holder }
 {
@@ -24,6 +25,7 @@ pub(crate) fn is_held_by(client: u64, holder: Option<Holder>) -> bool
 }
 
 /// Whether the client is this holder, with this token.
+#[inline(always)]
 pub(crate) fn is_held_with(client: u64, token: u64, holder: Option<Holder>) -> bool
     ensures { result ≡ is_held_with client token holder }
 {
@@ -34,6 +36,7 @@ pub(crate) fn is_held_with(client: u64, token: u64, holder: Option<Holder>) -> b
 }
 
 /// A client that may wait acquires the lock.
+#[inline(always)]
 fn join(lock: &mut LockParts, waits: &mut Waits, number: u32, waiter: Waiter) -> Answers
     requires kept { IsKeptLock (view_of lock.old) }
     requires settled { is_settled (state_of lock.old.ring).ring.values ≡ true }
@@ -50,6 +53,7 @@ fn join(lock: &mut LockParts, waits: &mut Waits, number: u32, waiter: Waiter) ->
 }
 
 /// A client acquires the lock, if nothing is against it.
+#[inline(always)]
 pub(crate) fn acquire(
     lock: &mut LockParts,
     waits: &mut Waits,
@@ -91,6 +95,7 @@ pub(crate) fn try_acquire(lock: &mut LockParts, waiter: Waiter, why: Option<Refu
 }
 
 /// A client releases the lock.
+#[inline(always)]
 pub(crate) fn release(
     lock: &mut LockParts,
     waits: &mut Waits,

@@ -13,11 +13,12 @@ ghost use Rattle.ring_locks.specs.Parts.{IsMade, IsWantOf};
 use crate::answers::{HoldEnd, Holder, Refusal};
 use ring_desk::CallError;
 use ring_endless::{EndlessRing, NextError};
-use ring_model::{Op, Reply, Survey};
 use ring_model::limits::EVENT_LIMIT;
+use ring_model::{Op, Reply, Survey};
 use std::alloc::Global;
 
 /// The number of a grant; 0 of another reply.
+#[inline(always)]
 fn number_of(reply: Reply) -> u64
     ensures { (number : ℕ) → number_of reply ≡ Some number → result ≡ number }
 {
@@ -38,6 +39,7 @@ fn old_of(reply: Reply) -> u32
 }
 
 /// Why a ring refuses a call that has its seat, its machine and its value right.
+#[inline(always)]
 fn want(error: CallError) -> Refusal
     ensures full { error ≡ CallError.HistoryFull → result ≡ Refusal.Full }
     ensures memory { error ≡ CallError.OutOfMemory → result ≡ Refusal.Memory }
@@ -60,7 +62,8 @@ fn first(ring: &EndlessRing) -> u32
 #[inline(always)]
 fn machine_of(op: Op) -> u32 {
     match op {
-        Op::Pass { machine, .. } | Op::Member { machine, .. } | Op::Corrupt { machine, .. } => machine,
+        Op::Pass { machine, .. } | Op::Member { machine, .. } | Op::Corrupt { machine, .. } =>
+            machine,
     }
 }
 
@@ -80,7 +83,6 @@ fn likely(ring: &EndlessRing) -> u32
 
 /// The privileged machine of a settled ring. It is searched for only where the likely one is not privileged.
 #[inline(always)]
-#[tactic(auto, using(crate::proofs::Settled::only_is_first))]
 fn privileged(ring: &EndlessRing) -> u32
     requires kept { IsKeptRing ring.now }
     requires settled { is_settled (state_of ring.now).ring.values ≡ true }
@@ -98,6 +100,7 @@ fn privileged(ring: &EndlessRing) -> u32
 /// # Errors
 ///
 /// `Full`, `Memory`. Nothing has changed then.
+#[inline(always)]
 pub(crate) fn reserve(ring: &mut EndlessRing, waiting: usize, events: u32) -> Result<(), Refusal>
     requires kept { IsKeptRing ring.old }
     requires few { events ≤ 1024 }
@@ -121,6 +124,7 @@ pub(crate) fn reserve(ring: &mut EndlessRing, waiting: usize, events: u32) -> Re
 /// # Errors
 ///
 /// `Full`, `Memory`; neither if there is room for an event. Nothing has changed then.
+#[inline(always)]
 pub(crate) fn pass_first(
     ring: &mut EndlessRing,
     seat: u32,
@@ -171,6 +175,7 @@ pub(crate) fn pass(ring: &mut EndlessRing, seat: u32, order: u64) -> Result<u64,
 /// # Errors
 ///
 /// `Full`, `Memory`; neither if there is room for an event. Nothing has changed then.
+#[inline(always)]
 fn pass_settled(ring: &mut EndlessRing, seat: u32, order: u64) -> Result<u64, Refusal>
     requires kept { IsKeptRing ring.old }
     requires settled { is_settled (state_of ring.old).ring.values ≡ true }
@@ -193,6 +198,7 @@ fn pass_settled(ring: &mut EndlessRing, seat: u32, order: u64) -> Result<u64, Re
 /// # Errors
 ///
 /// `Full`, `Memory`. Nothing has changed then.
+#[inline(always)]
 pub(crate) fn grant(ring: &mut EndlessRing, waiting: usize, order: u64) -> Result<u64, Refusal>
     requires kept { IsKeptRing ring.old }
     requires settled { is_settled (state_of ring.old).ring.values ≡ true }
@@ -272,6 +278,7 @@ fn survey_settled(ring: &EndlessRing) -> Survey
 }
 
 /// The end of a hold now, by this seat. It takes no memory.
+#[inline(always)]
 pub(crate) fn end(ring: &EndlessRing, seat: u32) -> HoldEnd
     requires kept { IsKeptRing ring.now }
     requires settled { is_settled (state_of ring.now).ring.values ≡ true }

@@ -25,6 +25,7 @@ pub(crate) struct LockParts {
 }
 
 /// Only the client that asks is answered.
+#[inline(always)]
 pub(crate) fn told(answer: Answer) -> Answers
     ensures { result ≡ record { own = Some answer; ended = None; granted = None } }
 {
@@ -36,6 +37,7 @@ pub(crate) fn told(answer: Answer) -> Answers
 }
 
 /// A refusal.
+#[inline(always)]
 pub(crate) fn refused(why: Refusal) -> Answers
     ensures { result
         ≡ record { own = Some (Answer.Refused why); ended = None; granted = None } }
@@ -44,6 +46,7 @@ pub(crate) fn refused(why: Refusal) -> Answers
 }
 
 /// Grants the lock to a client.
+#[inline(always)]
 pub(crate) fn grant(lock: &mut LockParts, waiter: Waiter) -> Answers
     requires kept { IsKeptLock (view_of lock.old) }
     requires settled { is_settled (state_of lock.old.ring).ring.values ≡ true }
@@ -93,6 +96,7 @@ pub(crate) fn wait(lock: &mut LockParts, waits: &mut Waits, number: u32, waiter:
 }
 
 /// Ends the hold of a client, with a survey by this seat, and grants the head of the line. It wants neither room nor memory.
+#[inline(always)]
 pub(crate) fn end_hold(
     lock: &mut LockParts,
     waits: &mut Waits,

@@ -1,4 +1,4 @@
-use Rattle.std.proofs.Common.{◌≡◌, ℕ, ◌+◌, ◌≤◌, ap, subst, arith}
+use Rattle.std.proofs.Common.{◌≡◌, ℕ, ◌+◌, ap, subst, arith}
 use Rattle.ring_endless.specs.Endless.{EndlessView}
 use Rattle.ring_endless.proofs.Segments.{tally_of, grants_now, end_small}
 use Rattle.ring_endless.proofs.rings.EndlessRing.grants.Goals as goal
