@@ -28,6 +28,7 @@ pub enum TextError {
 }
 
 /// A pass.
+#[inline(always)]
 pub(crate) fn pass(
     kept: &mut Kept,
     seat: u32,
