@@ -1,4 +1,5 @@
 pub mod Spelling
+pub mod Remarks
 pub mod Reading
 pub mod Meaning
 pub mod Files

@@ -38,7 +38,7 @@ pub after-requires-clause-short : goal.after-requires-clause-short
 after-requires-clause-short c = let t = c.in_ok-test.ensures c.args.bytes.now in all_short (content c.args.segment.now.saved).rings t.1
 
 pub after-requires-clause-right : goal.after-requires-clause-right
-after-requires-clause-right c = all_replayed c.requires.0.rest (content c.args.segment.now.saved) c.requires.0.recovered
+after-requires-clause-right c = all_replayed (file_in c.args.bytes.now c.args.segment.now) c.requires.0
 
 pub sums_with-sums-requires : goal.sums_with-sums-requires
 sums_with-sums-requires c =
