@@ -23,7 +23,7 @@ use Rattle.ring_segments.specs.Spelling.{DigestFits, digest_digits}
 use Rattle.line_replica.specs.declared.replica.Replica.{Replica}
 use Rattle.line_replica.specs.Keys.{ToldView, Table, last_of, with_told, without, turn_by, turn_after, first_line, forgotten_if}
 use Rattle.line_replica.specs.Reading.{Heard, Tagged, Place, Digest, Plain, heard, did_at, is_forget, kept_text, on_read}
-use Rattle.line_replica.specs.Replies.{IsTold, IsTagTaken, IsPlaced, IsHeard, IsAnsweredOnce, turn_of}
+use Rattle.line_replica.specs.Replies.{IsTold, IsTagTaken, IsPlaced, IsHeard, IsAnsweredOnce, turn_of, forget_note}
 use Rattle.line_replica.specs.Running.{RunningView, at_place, with_said, grown, next_of, place_line}
 use Rattle.line_replica.specs.State.{key_line, key_lines, did_text, lines_at}
 use Rattle.line_replica.proofs.Given.{whole_line}
@@ -220,7 +220,7 @@ module _ {S : Type 0} (A : AnsweringWith S) (old new : Replica S) (was is : Opti
     forgotten (Some last) = forgotten_at last (nat_cmp n last)
 
     by_word : (b : Bool) →
-        cond b (IsTold [] (forgotten_if (turn_of old.numbered.keys (record { key = k; number = n })) old.numbered.keys k) old.numbered was said noted new.numbered is)
+        cond b (IsTold [] (forgotten_if (turn_of old.numbered.keys (record { key = k; number = n })) old.numbered.keys k) (forget_note (turn_of old.numbered.keys (record { key = k; number = n })) (record { key = k; number = n })) old.numbered was said noted new.numbered is)
         (IsAnsweredOnce A (turn_of old.numbered.keys (record { key = k; number = n })) (record { key = k; number = n }) old.numbered was rest said noted new.numbered is) →
         AreKept new.numbered.keys
     by_word true t = still _ (forgotten (last_of old.numbered.keys k)) t.keys_are
