@@ -17,3 +17,6 @@ pub mod Following
 pub mod Adding
 pub mod Totals
 pub mod OneFiles
+pub mod Remarked
+pub mod Hashless
+pub mod RemarkSteps

@@ -1,6 +1,10 @@
 -- The remarks of a file, which are no part of what is recovered of it (this project's own).
-use Rattle.std.specs.Prelude.{ℕ, zero, suc, ◌+◌, ◌==◌, cond, not, Bool, false, List, [], ◌∷◌, ◌++◌, codes}
+use Rattle.std.specs.Prelude.{◌≡◌, ℕ, zero, suc, ◌+◌, ◌==◌, cond, not, Bool, false, List, [], ◌∷◌, ◌++◌, codes}
 use Rattle.std.specs.List.{filter, flat_map}
+
+-- the text ends with an LF
+abbrev pub IsEnded : List ℕ → Type 0
+IsEnded text = (front : List ℕ) × (text ≡ front ++ 10 ∷ [])
 
 -- these lines with a byte more in front of the first of them
 abbrev pub with_byte : ℕ → List (List ℕ) → List (List ℕ)

@@ -26,7 +26,7 @@ pub use heads::SegmentHead;
 pub use last::{LastSegment, read_last};
 pub use laws::{added_are_chained, files_tell_histories, one_file};
 pub use read::read_head;
-pub use remarks::put_remark;
+pub use remarks::{has_remark, is_remark, line_among, put_remark, split_line, without_remarks};
 pub use segments::{Segment, read_segment};
 pub use sums::ChainSums;
 pub use text_lines::{ReadError, WriteFault};
