@@ -42,22 +42,30 @@ answers_then A old mid new (line ∷ lines) more said later noted notes a b =
 pub true_or_false : true ≡ false → ⊥
 true_or_false e = subst (λ (b : Bool). cond b (Unit {0}) ⊥) e tt
 
--- the lines that bring back what a line changes are of this kind
-pub record Brings (Own : List ℕ → Type 0) (since line said : List ℕ) : Type 0 where
-  pub done : (tag : Tag) (rest : List ℕ) → heard line ≡ Tagged tag rest → Own (kept_line tag (first_line said))
+-- the lines that bring back what a line of the log has changed are of this kind, if the service inside was told so of an input
+pub record Brings {S : Type 0} (A : AnsweringWith S) (Own : List ℕ → Type 0) (since : List ℕ) (old : S) (was : Option Held) (line said : List ℕ) (new : S) (is : Option Held) : Type 0 where
+  pub done : (tag : Tag) (rest inside : List ℕ) → heard line ≡ Tagged tag rest → A old was rest said inside new is → Own (kept_line tag (first_line said))
   pub did : (tag : Tag) (rest text : List ℕ) → heard line ≡ Tagged tag rest → did_at rest ≡ Some text → Own (kept_line tag (kept_text text))
   pub forgets : (tag : Tag) (rest : List ℕ) → heard line ≡ Tagged tag rest → Own (forget_line tag)
   pub place : (place : ℕ) → heard line ≡ Place place → Own (place_line place (next_of since))
   pub digest : (place : ℕ) (digest : List ℕ) → heard line ≡ Digest place digest → Own (place_line place digest)
 
-own_brings : (since line said : List ℕ) → Brings IsOwn since line said
-own_brings since line said = record {
-  done = λ tag rest e. inl (tag, first_line said, refl);
+-- so it is with each line of this other kind
+abbrev pub BringAll : {S : Type 0} → AnsweringWith S → (List ℕ → Type 0) → (List ℕ → Type 0) → Type 0
+BringAll A Own Line = (since : List ℕ) (old new : _) (was is : Option Held) (line said : List ℕ) → Line line → Brings A Own since old was line said new is
+
+own_brings : {S : Type 0} (A : AnsweringWith S) → BringAll A IsOwn (λ line. Unit {0})
+own_brings A since old new was is line said any = record {
+  done = λ tag rest inside e a. inl (tag, first_line said, refl);
   did = λ tag rest text e f. inl (tag, kept_text text, refl);
   forgets = λ tag rest e. inr (inl (tag, refl));
   place = λ place e. inr (inr (place, next_of since, refl));
   digest = λ place digest e. inr (inr (place, digest, refl));
 }
+
+any_lines : (lines : List (List ℕ)) → AllByRecursion (λ (line : List ℕ). Unit {0}) lines
+any_lines [] = tt
+any_lines (line ∷ lines) = (tt, any_lines lines)
 
 module _ {S : Type 0} (A : AnsweringWith S) where
   module _ (Own : List ℕ → Type 0) where
@@ -87,7 +95,7 @@ module _ {S : Type 0} (A : AnsweringWith S) where
         numbers_are = f;
       }
 
-    module _ (old new : Numbered S) (was is : Option Held) (since line said noted : List ℕ) (brings : Brings Own since line said) where
+    module _ (old new : Numbered S) (was is : Option Held) (since line said noted : List ℕ) (brings : Brings A Own since old.inner was line said new.inner is) where
       told : (text : List ℕ) (keys : Table) → IsTold text keys [] old was said noted new is → (numbers : Numbers) → numbers_of keys ≡ numbers → IsTaken old was [] noted new is numbers
       told text keys t numbers e = none old new was is noted [] tt t.notes t.inner t.files numbers (ap numbers_of t.keys_are ∙ e)
 
@@ -97,7 +105,7 @@ module _ {S : Type 0} (A : AnsweringWith S) where
       by_turn : (r : Turn) (tag : Tag) (input : List ℕ) → heard line ≡ Tagged tag input → IsAnsweredOnce A r tag old was input said noted new is → IsTaken old was (given_at r input) noted new is (numbers_at r (numbers_of old.keys) tag)
       by_turn turn.Fresh tag input h p =
           let own = kept_line tag (first_line said) in
-          one old new was is noted input said p.inside (own ∷ []) (brings.done tag input h, tt) (p.notes ∙ ap (λ (u : List ℕ). p.inside ++ u) (sym (append-nil (remark_of own)))) p.answered
+          one old new was is noted input said p.inside (own ∷ []) (brings.done tag input p.inside h p.answered, tt) (p.notes ∙ ap (λ (u : List ℕ). p.inside ++ u) (sym (append-nil (remark_of own)))) p.answered
           (with_number (numbers_of old.keys) tag) (ap numbers_of p.keys_are ∙ numbers_inserted old.keys tag.key _)
       by_turn turn.Again tag input h t = told _ old.keys t (numbers_of old.keys) refl
       by_turn (turn.Past last) tag input h t = told _ old.keys t (numbers_of old.keys) refl
@@ -120,7 +128,7 @@ module _ {S : Type 0} (A : AnsweringWith S) where
           subst (λ (r : Turn). IsTaken old was (cond (is_forget rest) [] (given_at r rest)) noted new is (cond (is_forget rest) (numbers_but r (numbers_of old.keys) tag) (numbers_at r (numbers_of old.keys) tag)))
           (same_turn old.keys tag) (by_word (is_forget rest) tag rest h a)
 
-    module _ (old new : Replica S) (was is : Option Held) (line said noted : List ℕ) (brings : Brings Own old.running.since line said) where
+    module _ (old new : Replica S) (was is : Option Held) (line said noted : List ℕ) (brings : Brings A Own old.running.since old.numbered.inner was line said new.numbered.inner is) where
       placed : (place : ℕ) (digest text : List ℕ) → Own (place_line place digest) → IsPlaced place digest text old was said noted new is → IsTaken old.numbered was [] noted new.numbered is (numbers_of old.numbered.keys)
       placed place digest text is_own p =
           none old.numbered new.numbered was is noted (place_line place digest ∷ []) (is_own, tt) (p.notes ∙ sym (append-nil (remark_of (place_line place digest)))) (ap (λ (m : Numbered S). m.inner) p.numbered) p.files
@@ -184,7 +192,7 @@ module _ {S : Type 0} (A : AnsweringWith S) where
       ] refl
 
   -- the lines that are given, one after the other, are answered inside
-  given_inside : (Own : List ℕ → Type 0) (numbers : Numbers) (old new : Stand S) (lines : List (List ℕ)) (inside noted : List ℕ) → AreGiven A Own numbers old lines inside noted new → (told : List ℕ) × Answers (by_stand A) old (given numbers lines) told inside new
+  pub given_inside : (Own : List ℕ → Type 0) (numbers : Numbers) (old new : Stand S) (lines : List (List ℕ)) (inside noted : List ℕ) → AreGiven A Own numbers old lines inside noted new → (told : List ℕ) × Answers (by_stand A) old (given numbers lines) told inside new
   given_inside Own numbers old new [] inside noted g = ([], (refl, g.0, g.2))
   given_inside Own numbers old new (line ∷ lines) inside noted g =
       let rest = given_inside Own (numbers_after (heard line) numbers) g.0 new lines g.3 g.2 g.7 in (
@@ -194,20 +202,22 @@ module _ {S : Type 0} (A : AnsweringWith S) where
       )
 
   -- each line is taken, one after the other
-  taken : (old new : Replica S) (was is : Option Held) (lines : List (List ℕ)) (said noted : List ℕ) → Answers (by_stand (IsReplied A)) (stand old was) lines said noted (stand new is) → new.lost ≡ false →
-      (inside : List ℕ) × AreGiven A IsOwn (numbers_of old.numbered.keys) (stand old.numbered.inner was) lines inside noted (stand new.numbered.inner is)
-  taken old new was is [] said noted a whole =
-      ([], (refl, a.1, ap (λ (s : Stand (Replica S)). stand s.service.numbered.inner s.files) a.2))
-  taken old new was is (line ∷ lines) said noted a whole =
-      let mid = a.0 in
-      let w = whole_at mid.service new mid.files is lines a.2 a.4 a.8 whole in
-      let now = read IsOwn old mid.service was mid.files line a.1 a.3 (own_brings old.running.since line a.1) (heard line) refl (whole_line old mid.service was mid.files line a.1 a.3 a.5 w) in
-      let more = taken mid.service new mid.files is lines a.2 a.4 a.8 whole in
-      let rest = subst (λ (n : Numbers). AreGiven A IsOwn n (stand mid.service.numbered.inner mid.files) lines more.0 a.4 (stand new.numbered.inner is)) now.numbers_are more.1 in
-      (now.given.notes ++ more.0, (stand mid.service.numbered.inner mid.files, a.3, a.4, more.0, now.given, refl, a.7, rest))
+  module _ (Own Line : List ℕ → Type 0) (bring : BringAll A Own Line) where
+    pub taken : (old new : Replica S) (was is : Option Held) (lines : List (List ℕ)) (said noted : List ℕ) → AllByRecursion Line lines → Answers (by_stand (IsReplied A)) (stand old was) lines said noted (stand new is) → new.lost ≡ false →
+        (inside : List ℕ) × AreGiven A Own (numbers_of old.numbered.keys) (stand old.numbered.inner was) lines inside noted (stand new.numbered.inner is)
+    taken old new was is [] said noted all a whole =
+        ([], (refl, a.1, ap (λ (s : Stand (Replica S)). stand s.service.numbered.inner s.files) a.2))
+    taken old new was is (line ∷ lines) said noted all a whole =
+        let mid = a.0 in
+        let w = whole_at mid.service new mid.files is lines a.2 a.4 a.8 whole in
+        let brings = bring old.running.since old.numbered.inner mid.service.numbered.inner was mid.files line a.1 all.0 in
+        let now = read Own old mid.service was mid.files line a.1 a.3 brings (heard line) refl (whole_line old mid.service was mid.files line a.1 a.3 a.5 w) in
+        let more = taken mid.service new mid.files is lines a.2 a.4 all.1 a.8 whole in
+        let rest = subst (λ (n : Numbers). AreGiven A Own n (stand mid.service.numbered.inner mid.files) lines more.0 a.4 (stand new.numbered.inner is)) now.numbers_are more.1 in
+        (now.given.notes ++ more.0, (stand mid.service.numbered.inner mid.files, a.3, a.4, more.0, now.given, refl, a.7, rest))
 
   pub history : HasTheHistoryWithoutThem A
   history old new was is lines said noted a whole =
-      let t = taken old new was is lines said noted a whole in
+      let t = taken IsOwn (λ line. Unit {0}) (own_brings A) old new was is lines said noted (any_lines lines) a whole in
       let g = given_inside IsOwn (numbers_of old.numbered.keys) (stand old.numbered.inner was) (stand new.numbered.inner is) lines t.0 noted t.1 in
       (g.0, t.0, g.1, t.1)

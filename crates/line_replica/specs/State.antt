@@ -1,5 +1,6 @@
 -- The lines that bring a replica back (this project's own).
 use Rattle.std.specs.Prelude.{◌≡◌, ℕ, Bool, true, false, cond, nat_lt, List, [], ◌∷◌, ◌++◌, length, map, take, Option, codes}
+use Rattle.std.specs.List.{flat_map}
 use Rattle.text_lines.specs.Spelling.{spaced, ended}
 use Rattle.text_lines.specs.Reading.{word_at}
 use Rattle.disks.specs.Held.{Held}
@@ -51,7 +52,7 @@ forget_line tag = spaced tag.key ++ (spaced tag.number ++ codes "forget\n")
 
 -- the remarks of these lines, one after the other
 abbrev pub remarks_of : List (List ℕ) → List ℕ
-remarks_of lines = joined_lines (map remark_of lines)
+remarks_of lines = flat_map remark_of lines
 
 -- ---- how the state is told
 

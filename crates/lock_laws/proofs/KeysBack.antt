@@ -1,5 +1,6 @@
 -- Keys and a running digest that come back.
 use Rattle.std.proofs.Common.{◌≡◌, ℕ, ◌+◌, ◌<◌, ◌^◌, false, List, [], ◌∷◌, ◌++◌, length, take, Option, Some, inl, inr, refl, ap, sym, subst, ◌∙◌, append_assoc, append-nil, length-append, arith}
+use Rattle.std.proofs.lemmas.List.Concat.{flat_map-append}
 use Rattle.std.specs.Prelude.{codes}
 use Rattle.std.specs.List.{AllByRecursion}
 use Rattle.std.specs.declared.cmp.Ordering.TheVariants.{Greater}
@@ -18,7 +19,6 @@ use Rattle.line_replica.specs.Replies.{IsTold, IsTagTaken, IsPlaced, IsReplied, 
 use Rattle.line_replica.specs.Running.{RunningView, at_place, with_said, grown, place_line}
 use Rattle.line_replica.specs.State.{key_line, key_lines, did_text, kept_line, lines_at, remarks_of}
 use Rattle.line_replica.proofs.Given.{whole_line, whole_at}
-use Rattle.line_replica.proofs.JoinedLines.{remarks_then}
 use Rattle.lock_laws.specs.KeysBack.{IsKept, IsRising, IsBehind, IsRunning, at_last, KeysComeBack}
 use Rattle.lock_laws.proofs.KeyLines.{key_heard, hears_key, did_reads, kept_again, hears_place, first_digits}
 
@@ -208,6 +208,6 @@ module _ {S : Type 0} (A : AnsweringWith S) where
         running = p.running_is;
         inner = p.inner ∙ k.now.inner;
         says = p.says;
-        notes = k.noted_are ∙ (ap (λ (u : List ℕ). remarks_of (key_lines source.numbered.keys) ++ u) p.notes ∙ sym (remarks_then (key_lines source.numbered.keys) (lines_at r.place r.since)));
+        notes = k.noted_are ∙ (ap (λ (u : List ℕ). remarks_of (key_lines source.numbered.keys) ++ u) p.notes ∙ sym (flat_map-append remark_of (key_lines source.numbered.keys) (lines_at r.place r.since)));
         files = p.files ∙ k.now.files;
       }
