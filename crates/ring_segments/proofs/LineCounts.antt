@@ -22,6 +22,7 @@ use Rattle.ring_journal.specs.declared.calls.Call.TheVariants.{Event, Survey}
 use Rattle.ring_journal.specs.declared.calls.JournalLine.{JournalLine}
 use Rattle.ring_journal.specs.Spelling.{Journal, JournalFits, CallFits, JournalLineFits, call_line, journal_line, head_text, journal_text}
 use Rattle.ring_journal.specs.Recovery.{has_line_end}
+use Rattle.ring_segments.specs.Remarks.{IsEnded}
 
 -- how many lines end in the bytes
 abbrev pub ends : List ℕ → ℕ
@@ -165,9 +166,6 @@ journal_ends j f =
     omega (arith, one, calls, a, b)
 
 -- ---- the end
-
-abbrev pub IsEnded : List ℕ → Type 0
-IsEnded xs = (front : List ℕ) × (xs ≡ front ++ 10 ∷ [])
 
 ended_after : (front xs : List ℕ) → IsEnded xs → IsEnded (front ++ xs)
 ended_after front xs e = (front ++ e.0, ap (λ (u : List ℕ). front ++ u) e.1 ∙ sym (append_assoc front e.0 (10 ∷ [])))

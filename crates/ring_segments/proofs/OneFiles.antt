@@ -5,6 +5,7 @@ use Rattle.ring_saved.specs.Content.{Content}
 use Rattle.ring_journal.specs.Recovery.{IsRecovered}
 use Rattle.ring_journal.proofs.Cutting.{one_recovered}
 use Rattle.ring_segments.specs.Spelling.{Head, head_text}
+use Rattle.ring_segments.specs.Remarks.{without_remarks}
 use Rattle.ring_segments.specs.Reading.{head_at}
 use Rattle.ring_segments.specs.Files.{File}
 use Rattle.ring_segments.specs.Chain.{OneFile}
@@ -23,7 +24,7 @@ one_file f g same a b =
     let p : x ≡ y = ok_is x y (sym one ∙ ap head_at text ∙ two) in
     let head : f.head ≡ g.head = ap (λ (z : Head × List ℕ). z.0) p in
     let rest : a.rest ≡ b.rest = ap (λ (z : Head × List ℕ). z.1) p in
-    let content : f.content ≡ g.content = one_recovered b.rest f.content g.content (subst (λ (u : List ℕ). IsRecovered u f.content) rest a.recovered) b.recovered in
+    let content : f.content ≡ g.content = one_recovered (without_remarks b.rest) f.content g.content (subst (λ (u : List ℕ). IsRecovered (without_remarks u) f.content) rest a.recovered) b.recovered in
     ap (λ (u : List ℕ). filed u f.head f.content) same
     ∙ ap (λ (h : Head). filed g.bytes h f.content) head
     ∙ ap (λ (k : Content). filed g.bytes g.head k) content

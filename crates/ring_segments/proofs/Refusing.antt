@@ -6,8 +6,10 @@ use Rattle.ring_journal.specs.declared.errors.RecoverError.{RecoverError}
 use Rattle.ring_journal.specs.declared.errors.RecoverError.TheVariants as recovery
 use Rattle.ring_journal.specs.Recovery.{IsRightRecovery}
 use Rattle.ring_segments.specs.Spelling.{Head, number_line, behind_line, base_line, HeadFits, head_text}
+use Rattle.ring_segments.specs.Remarks.{lines_in, without_remarks, line_among}
 use Rattle.ring_segments.specs.Chain.{State, head_lines, refused_journal, line_in, IsRightRefusal}
 use Rattle.ring_segments.proofs.LineBounds.{recovery_within}
+use Rattle.ring_segments.proofs.RemarkSteps.{among_within}
 
 bases_some : (bs : List Base) → length bs ≤ length (flat_map base_line bs)
 bases_some [] = omega arith
@@ -22,15 +24,15 @@ head_long h =
     omega (arith, some, a, b)
 
 module _ (bytes : List ℕ) (h : Head) (rest : List ℕ) (fits : HeadFits h) (spelled : bytes ≡ head_text h ++ rest) where
-  pub journal_refused : (lines : ℕ) (e : RecoverError) → lines ≡ head_lines h → IsRightRecovery rest (Err e) → (l : Option State) (last : Bool) → IsRightRefusal l bytes last (refused_journal lines e)
+  pub journal_refused : (lines : ℕ) (e : RecoverError) → lines ≡ head_lines h → IsRightRecovery (without_remarks rest) (Err e) → (l : Option State) (last : Bool) → IsRightRefusal l bytes last (refused_journal (λ m. line_among (lines_in rest) m + lines) e)
   journal_refused lines recovery.Truncated n r l last = inr (record { head = h; rest = rest; fits = fits; spelled = spelled; holds = r })
-  journal_refused lines (recovery.Syntax m) n r l last = inr (record { head = h; rest = rest; fits = fits; spelled = spelled; holds = (m, ap (λ (x : ℕ). m + x) n, r) })
-  journal_refused lines (recovery.Bad m kind) n r l last = record { head = h; rest = rest; fits = fits; spelled = spelled; holds = (m, ap (λ (x : ℕ). m + x) n, r) }
+  journal_refused lines (recovery.Syntax m) n r l last = inr (record { head = h; rest = rest; fits = fits; spelled = spelled; holds = (m, ap (λ (x : ℕ). line_among (lines_in rest) m + x) n, r) })
+  journal_refused lines (recovery.Bad m kind) n r l last = record { head = h; rest = rest; fits = fits; spelled = spelled; holds = (m, ap (λ (x : ℕ). line_among (lines_in rest) m + x) n, r) }
   journal_refused lines recovery.OutOfMemory n r l last = tt
 
-  pub line_room : (e : RecoverError) → IsRightRecovery rest (Err e) → line_in e + head_lines h ≤ length bytes
+  pub line_room : (e : RecoverError) → IsRightRecovery (without_remarks rest) (Err e) → line_among (lines_in rest) (line_in e) + head_lines h ≤ length bytes
   line_room e r =
-      let within = recovery_within rest e r in
+      let within = among_within rest (line_in e) (recovery_within (without_remarks rest) e r) in
       let long = head_long h in
       let all : length bytes ≡ length (head_text h ++ rest) = ap length spelled in
       let cut = length-append (head_text h) rest in

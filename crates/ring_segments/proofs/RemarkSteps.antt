@@ -1,10 +1,10 @@
 -- A text is gone through line by line.
-use Rattle.std.proofs.Common.{◌≡◌, ℕ, zero, suc, ◌+◌, ◌-◌, ◌<◌, ◌≤◌, Bool, true, false, cond, eqb, List, [], ◌∷◌, ◌++◌, length, take, drop, get_or, refl, sym, ap, subst, ◌∙◌, append_assoc, length-append, arith}
+use Rattle.std.proofs.Common.{◌≡◌, ℕ, zero, suc, ◌+◌, ◌-◌, ◌<◌, ◌≤◌, Bool, true, false, cond, List, [], ◌∷◌, ◌++◌, length, take, drop, get_or, refl, sym, ap, subst, ◌∙◌, length-append, arith}
 use Rattle.std.specs.Prelude.{not, ◌||◌}
 use Rattle.std.specs.List.{filter, flat_map, list_any}
-use Rattle.std.proofs.lemmas.List.{append-nil, take_all, take_more, take-append-drop, drop_more, drop_all}
+use Rattle.std.proofs.lemmas.List.{take_all, take_more, take-append-drop, drop_more, drop_all}
 use Rattle.ring_journal.specs.Recovery.{has_line_end}
-use Rattle.ring_segments.specs.Remarks.{lines_in, is_remark, without_remarks, remarks_in, line_among}
+use Rattle.ring_segments.specs.Remarks.{lines_in, is_remark, without_remarks, line_among}
 use Rattle.ring_segments.proofs.Remarked.{line_then, last_line, lines_joined}
 
 -- ---- where the first line ends

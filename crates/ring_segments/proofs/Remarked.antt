@@ -1,8 +1,7 @@
 -- The lines of a text, and what is left of it without its remarks.
-use Rattle.std.proofs.Common.{◌≡◌, ℕ, zero, suc, ◌+◌, ◌-◌, ◌<◌, ◌≤◌, Bool, true, false, cond, eqb, List, [], ◌∷◌, ◌++◌, length, map, refl, sym, ap, subst, ◌∙◌, append_assoc, length-append, inl, inr, arith}
+use Rattle.std.proofs.Common.{◌≡◌, ℕ, ◌<◌, Bool, true, false, cond, eqb, List, [], ◌∷◌, ◌++◌, length, map, refl, sym, ap, subst, ◌∙◌, append_assoc, inl, inr, arith}
 use Rattle.std.specs.Prelude.{not, ◌||◌, ◌⊎◌}
 use Rattle.std.specs.List.{filter, flat_map, list_any, AllByRecursion}
-use Rattle.std.proofs.lemmas.List.{append-nil}
 use Rattle.std.proofs.lemmas.List.Concat.{flat_map-append}
 use Rattle.std.proofs.lemmas.List.Elements.{filter-append}
 use Rattle.ring_journal.specs.Recovery.{has_line_end}
@@ -136,8 +135,8 @@ unfolding remarks_in
 plain_remarks text none = none_found (lines_in text) none
 
 -- no byte is a #
-abbrev pub HasNoHash : List ℕ → Type 0
-HasNoHash text = list_any (λ b. eqb b 35) text ≡ false
+pub record HasNoHash (text : List ℕ) : Type 0 where
+  pub none : list_any (λ b. eqb b 35) text ≡ false
 
 both_false : (a b : Bool) → a ≡ false → b ≡ false → (a || b) ≡ false
 both_false true b e f = absurd cc
@@ -148,7 +147,7 @@ more_plain true b lines e f = both_false (eqb b 35) (list_any is_remark lines) e
 more_plain false b [] e f = both_false (eqb b 35) false e refl
 more_plain false b (line ∷ lines) e f = both_false (eqb b 35) (list_any is_remark lines) e (neither (is_remark line) (list_any is_remark lines) f).1
 
-pub no_hash_lines : (text : List ℕ) → HasNoHash text → list_any is_remark (lines_in text) ≡ false
+pub no_hash_lines : (text : List ℕ) → list_any (λ b. eqb b 35) text ≡ false → list_any is_remark (lines_in text) ≡ false
 unfolding lines_in
 no_hash_lines [] none = refl
 no_hash_lines (b ∷ bs) none =
@@ -157,10 +156,10 @@ no_hash_lines (b ∷ bs) none =
 
 -- bytes with no # are all kept, and have no remark
 pub no_hash_without : (text : List ℕ) → HasNoHash text → without_remarks text ≡ text
-no_hash_without text none = plain_without text (no_hash_lines text none)
+no_hash_without text none = plain_without text (no_hash_lines text none.none)
 
 pub no_hash_remarks : (text : List ℕ) → HasNoHash text → remarks_in text ≡ []
-no_hash_remarks text none = plain_remarks text (no_hash_lines text none)
+no_hash_remarks text none = plain_remarks text (no_hash_lines text none.none)
 
 pub plain_then : (a b : List ℕ) → IsOfLines a → HasNoHash a → without_remarks (a ++ b) ≡ a ++ without_remarks b
 plain_then a b w none = without_append a b w ∙ ap (λ (u : List ℕ). u ++ without_remarks b) (no_hash_without a none)

@@ -18,8 +18,9 @@ use Rattle.ring_journal.specs.Spelling.{JournalLineFits, journal_text}
 use Rattle.ring_journal.specs.ContentAfter.{are_open, whole, with_call, with_call_at, with_calls, in_order, content_after}
 use Rattle.ring_journal.specs.Recovery.{IsRecovered}
 use Rattle.ring_journal.proofs.Seatings.{length-by_seats}
+use Rattle.ring_segments.specs.Remarks.{IsEnded}
 use Rattle.ring_segments.specs.Files.{IsAllOf}
-use Rattle.ring_segments.proofs.LineCounts.{ends, ends_are, ends-append, journal_ends, IsEnded, journal_ended, none_follows}
+use Rattle.ring_segments.proofs.LineCounts.{ends, ends_are, ends-append, journal_ends, journal_ended, none_follows}
 
 abbrev count : List Block → ℕ
 count bs = length (flat_map block_lines bs)

@@ -5,10 +5,11 @@ use Rattle.text_lines.specs.Texts.{Spells, IsCutShort, IsFirstBadLine}
 use Rattle.text_lines.specs.declared.answer.ReadError.{ReadError}
 use Rattle.text_lines.specs.declared.answer.ReadError.TheVariants as reading
 use Rattle.ring_model.specs.Ring.{ring_with}
+use Rattle.ring_saved.specs.declared.saved.Saved.{Saved}
 use Rattle.ring_saved.specs.Content.{content}
 use Rattle.ring_journal.specs.declared.errors.RecoverError.{RecoverError}
 use Rattle.ring_journal.specs.declared.errors.RecoverError.TheVariants as recovery
-use Rattle.ring_journal.specs.Recovery.{IsRightRecovery}
+use Rattle.ring_journal.specs.Recovery.{IsRecovered, IsRightRecovery}
 use Rattle.ring_segments.specs.declared.places.SegmentPlace.{SegmentPlace}
 use Rattle.ring_segments.specs.declared.links.SegmentLink.{SegmentLink}
 use Rattle.ring_segments.specs.declared.sums.ChainSums.{ChainSums}
@@ -17,9 +18,10 @@ use Rattle.ring_segments.specs.declared.segments.Segment.{Segment}
 use Rattle.ring_segments.specs.declared.errors.SegmentError.{SegmentError}
 use Rattle.ring_segments.specs.declared.errors.SegmentError.TheVariants as refused
 use Rattle.ring_segments.specs.Spelling.{Head, head_of, HeadFits, head_text, no_digest}
+use Rattle.ring_segments.specs.Remarks.{lines_in, without_remarks, line_among}
 use Rattle.ring_segments.specs.Meaning.{BeginsNoHead}
 use Rattle.ring_segments.specs.Sums.{no_sums, sums_after}
-use Rattle.ring_segments.specs.Files.{File, IsFile, IsWhole, Place, Link, opening_link, link_after, AreChained, HasBases, AreStarts, IsShort, Follows}
+use Rattle.ring_segments.specs.Files.{File, IsFile, IsAllOf, IsWhole, Place, Link, opening_link, link_after, AreChained, HasBases, AreStarts, IsShort, Follows}
 
 -- the content of the program's own types
 abbrev pub place_in : SegmentPlace → Place
@@ -73,6 +75,10 @@ state_after s f = record { link = link_after f; sums = sums_after (sums_at s) f 
 abbrev pub head_lines : Head → ℕ
 head_lines h = 2 + length h.bases
 
+-- the number of a line of a file, remarks counted: the m-th one after the head that is no remark
+abbrev pub file_line : Head → List ℕ → ℕ → ℕ
+file_line h rest m = line_among (lines_in rest) m + head_lines h
+
 -- the bytes begin with a head, of which and of the bytes after it this holds
 pub record AfterHead (bytes : List ℕ) (Holds : Head → List ℕ → Type 0) : Type 0 where
   pub head : Head
@@ -102,21 +108,21 @@ IsBased l f = IsBehind l f × HasBases l f
 abbrev pub IsStarted : Link → File → Type 0
 IsStarted l f = IsBased l f × AreStarts l.places f.content.rings
 
--- The refusal is right: the head or the journal is refused so, where the lines of the
--- journal come after those of the head; or it is the first test that fails; memory aside.
+-- The refusal is right: the head or the journal, without its remarks, is refused so, where a line is
+-- named as it is in the file; or it is the first test that fails; memory aside.
 abbrev pub IsRightRefusal : Option State → List ℕ → Bool → SegmentError → Type 0
 IsRightRefusal l bytes last refused.Truncated =
     IsCutShort (Spells HeadFits head_text) bytes
-    ⊎ AfterHead bytes (λ h rest. IsRightRecovery rest (Err recovery.Truncated))
+    ⊎ AfterHead bytes (λ h rest. IsRightRecovery (without_remarks rest) (Err recovery.Truncated))
 IsRightRefusal l bytes last (refused.Syntax line) =
     (BeginsNoHead bytes × IsFirstBadLine (Spells HeadFits head_text) bytes line)
     ⊎ AfterHead bytes (λ h rest. (m : ℕ)
-    × (line ≡ m + head_lines h)
-    × IsRightRecovery rest (Err (recovery.Syntax m)))
+    × (line ≡ file_line h rest m)
+    × IsRightRecovery (without_remarks rest) (Err (recovery.Syntax m)))
 IsRightRefusal l bytes last (refused.Bad line kind) =
     AfterHead bytes (λ h rest. (m : ℕ)
-    × (line ≡ m + head_lines h)
-    × IsRightRecovery rest (Err (recovery.Bad m kind)))
+    × (line ≡ file_line h rest m)
+    × IsRightRecovery (without_remarks rest) (Err (recovery.Bad m kind)))
 IsRightRefusal l bytes last refused.Number = OfSegment bytes (λ f. ¬ IsNext (asked l f) f)
 IsRightRefusal l bytes last refused.Behind =
     OfSegment bytes (λ f. IsNext (asked l f) f × (¬ IsBehind (asked l f) f))
@@ -163,12 +169,18 @@ refused_head (reading.Syntax line) = refused.Syntax line
 refused_head reading.Truncated = refused.Truncated
 refused_head reading.OutOfMemory = refused.OutOfMemory
 
--- a refusal of the journal after this many lines
-abbrev pub refused_journal : ℕ → RecoverError → SegmentError
-refused_journal lines recovery.Truncated = refused.Truncated
-refused_journal lines (recovery.Syntax line) = refused.Syntax (line + lines)
-refused_journal lines (recovery.Bad line kind) = refused.Bad (line + lines) kind
-refused_journal lines recovery.OutOfMemory = refused.OutOfMemory
+-- a refusal of the journal, whose lines are numbered so in the file
+abbrev pub refused_journal : (ℕ → ℕ) → RecoverError → SegmentError
+refused_journal in_file recovery.Truncated = refused.Truncated
+refused_journal in_file (recovery.Syntax line) = refused.Syntax (in_file line)
+refused_journal in_file (recovery.Bad line kind) = refused.Bad (in_file line) kind
+refused_journal in_file recovery.OutOfMemory = refused.OutOfMemory
+
+-- the history that is recovered of a journal, and whether nothing is left out; or a right refusal
+abbrev pub IsReadJournal : List ℕ → Result (Saved × Bool) RecoverError → Type 0
+IsReadJournal bytes (Ok s) =
+    IsRecovered bytes (content s.0) × (IsTrue s.1 ↔ IsAllOf bytes (content s.0))
+IsReadJournal bytes (Err e) = IsRightRecovery bytes (Err e)
 
 -- the line that it names, 0 if it names none
 abbrev pub line_in : RecoverError → ℕ

@@ -15,22 +15,24 @@ use Rattle.ring_chains.specs.declared.bases.Base.{Base}
 use Rattle.ring_chains.specs.Bases.{no_base, IsBase, state_from, base_after}
 use Rattle.ring_chains.specs.Chains.{Segment, IsChainFrom, chain_history}
 use Rattle.ring_segments.specs.Spelling.{Head, HeadFits, head_text, digest_of, no_digest}
+use Rattle.ring_segments.specs.Remarks.{IsEnded, without_remarks}
 
 -- ---- one file
 
 -- a file of a chain: its bytes, its head, and the history that is recovered of the journal after
--- the head
+-- the head, without the remarks
 pub record File : Type 0 where
   pub bytes : List ℕ
   pub head : Head
   pub content : Content
 
--- The bytes begin with the text of the head, and the content is recovered of those after it.
+-- The bytes begin with the text of the head, and the content is recovered of those after it, without
+-- their remarks.
 pub record IsFile (f : File) : Type 0 where
   pub rest : List ℕ
   pub fits : HeadFits f.head
   pub spelled : f.bytes ≡ head_text f.head ++ rest
-  pub recovered : IsRecovered rest f.content
+  pub recovered : IsRecovered (without_remarks rest) f.content
 
 -- Nothing of the bytes of a journal is left out of the content: they are whole lines, and the last
 -- of their groups is whole.
@@ -41,11 +43,12 @@ pub record IsAllOf (bytes : List ℕ) (c : Content) : Type 0 where
   pub closed : whole_calls journal.calls ≡ journal.calls
   pub is : c ≡ content_after journal.began journal.calls
 
--- nor of those after the head
+-- nor of those after the head but remarks, and each of these is whole
 pub record IsWhole (f : File) : Type 0 where
   pub rest : List ℕ
   pub spelled : f.bytes ≡ head_text f.head ++ rest
-  pub all : IsAllOf rest f.content
+  pub ended : IsEnded rest
+  pub all : IsAllOf (without_remarks rest) f.content
 
 -- the segments of its rings, in their order
 abbrev pub segment_of : Base → Block → Segment

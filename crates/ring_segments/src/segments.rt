@@ -1,19 +1,21 @@
-//! A file as it is read: its head, and the history that is recovered of its journal.
+//! A file as it is read: its head, and the history that is recovered of its journal, without the remarks.
 
-ghost use Rattle.std.specs.Prelude.{◌≡◌, ◌==◌, ℕ, ◌+◌, ◌<◌, ◌≤◌, ◌^◌, ◌↔◌, List, [], ◌∷◌, ◌++◌, length, map, IsTrue};
+ghost use Rattle.std.specs.Prelude.{◌≡◌, ◌==◌, ℕ, ◌+◌, ◌<◌, ◌≤◌, ◌^◌, ◌↔◌, List, length, map, IsTrue};
 ghost use Rattle.std.specs.List.{flat_map, count_by};
 ghost use Rattle.ring_saved.specs.Content.{block_of, content};
 ghost use Rattle.ring_check.specs.Lines.{block_lines};
 ghost use Rattle.ring_journal.specs.Recovery.{IsRecovered};
+ghost use Rattle.ring_segments.specs.Remarks.{IsEnded, lines_in, without_remarks, line_among};
 ghost use Rattle.ring_segments.specs.Files.{IsAllOf};
-ghost use Rattle.ring_segments.specs.Chain.{IsReadSegment, refused_head, refused_journal, line_in};
+ghost use Rattle.ring_segments.specs.Chain.{IsReadJournal, IsReadSegment, refused_head, refused_journal, line_in};
 
 use crate::errors::SegmentError;
 use crate::heads::SegmentHead;
 use crate::read::read_head;
+use crate::remarks::{has_remark, line_among, without_remarks};
 use ring_journal::{RecoverError, recover_journal};
 use ring_saved::{Saved, SavedRing};
-use std::alloc::Global;
+use std::alloc::{AllocError, Global};
 use text_lines::ReadError;
 
 /// A file as it is read.
@@ -22,7 +24,7 @@ pub struct Segment {
     pub head: SegmentHead,
     /// The history that is recovered of its journal.
     pub saved: Saved,
-    /// Whether nothing of the journal is left out.
+    /// Whether nothing of the journal is left out but whole remarks.
     pub whole: bool,
 }
 
@@ -37,16 +39,17 @@ fn of_head(error: ReadError) -> SegmentError
     }
 }
 
-/// A refusal of the journal after a head of this many lines.
-fn of_journal(lines: u64, error: RecoverError) -> SegmentError
-    requires { line_in error + lines < 2 ^ 64 }
-    ensures { result ≡ refused_journal lines error }
+/// A refusal of the journal in these bytes, which come after a head of this many lines.
+fn of_journal(rest: &[u8], lines: u64, error: RecoverError) -> SegmentError
+    requires { line_among (lines_in rest.now) (line_in error) + lines < 2 ^ 64 }
+    ensures { result
+        ≡ refused_journal (λ m. line_among (lines_in rest.now) m + lines) error }
 {
     match error {
         RecoverError::Truncated => SegmentError::Truncated,
-        RecoverError::Syntax(line) => SegmentError::Syntax(line + lines),
+        RecoverError::Syntax(line) => SegmentError::Syntax(line_among(rest, line) + lines),
         RecoverError::Bad { line, kind } => SegmentError::Bad {
-            line: line + lines,
+            line: line_among(rest, line) + lines,
             kind,
         },
         RecoverError::OutOfMemory => SegmentError::OutOfMemory,
@@ -75,7 +78,7 @@ fn ends(bytes: &[u8]) -> usize
 
 /// Whether the bytes end with a line.
 fn is_ended(bytes: &[u8]) -> bool
-    ensures { IsTrue result ↔ ((front : List ℕ) × (bytes.now ≡ front ++ 10 ∷ [])) }
+    ensures { IsTrue result ↔ IsEnded bytes.now }
 {
     !bytes.is_empty() && bytes[bytes.len() - 1] == b'\n'
 }
@@ -89,6 +92,32 @@ fn is_whole(journal: &[u8], saved: &Saved) -> bool
     is_ended(journal) && ends(journal) == lines_of(&saved.rings) + 3
 }
 
+/// Recovers a journal, and whether it is all recovered.
+fn read_journal(alloc: Global, journal: &[u8]) -> Result<(Saved, bool), RecoverError>
+    ensures { IsReadJournal journal.now result }
+{
+    match recover_journal(alloc, journal) {
+        Ok(saved) => {
+            let all = is_whole(journal, &saved);
+            Ok((saved, all))
+        }
+        Err(error) => Err(error),
+    }
+}
+
+/// Recovers the journal behind a head: the bytes without their remarks. If there is none, they are not copied.
+fn read_rest(alloc: Global, rest: &[u8]) -> Result<(Saved, bool), RecoverError>
+    ensures { IsReadJournal (without_remarks rest.now) result }
+{
+    if !has_remark(rest) {
+        return read_journal(alloc, rest);
+    }
+    match without_remarks(alloc, rest) {
+        Ok(journal) => read_journal(alloc, &journal),
+        Err(AllocError) => Err(RecoverError::OutOfMemory),
+    }
+}
+
 /// Reads a file by itself, as if it were the first of a chain: its head, and the history that is recovered of its journal.
 ///
 /// # Errors
@@ -97,15 +126,15 @@ fn is_whole(journal: &[u8], saved: &Saved) -> bool
 pub fn read_segment(alloc: Global, bytes: &[u8]) -> Result<Segment, SegmentError>
     ensures { IsReadSegment bytes.now result }
 {
-    let (head, journal) = match read_head(alloc, bytes) {
+    let (head, rest) = match read_head(alloc, bytes) {
         Ok(found) => found,
         Err(error) => return Err(of_head(error)),
     };
-    match recover_journal(alloc, journal) {
-        Ok(saved) => {
-            let whole = is_whole(journal, &saved);
+    match read_rest(alloc, rest) {
+        Ok((saved, all)) => {
+            let whole = all && is_ended(rest);
             Ok(Segment { head, saved, whole })
         }
-        Err(error) => Err(of_journal(2 + head.bases.len() as u64, error)),
+        Err(error) => Err(of_journal(rest, 2 + head.bases.len() as u64, error)),
     }
 }

@@ -1,4 +1,4 @@
-use Rattle.std.proofs.Common.{◌≡◌, true, None, refl, sym, ◌∙◌}
+use Rattle.std.proofs.Common.{true, None, refl, sym, ◌∙◌}
 use Rattle.std.proofs.lemmas.List.{length-map}
 use Rattle.ring_saved.specs.Content.{block_of}
 use Rattle.ring_segments.specs.Chain.{file_in, link_in}

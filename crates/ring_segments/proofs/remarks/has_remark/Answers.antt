@@ -1,4 +1,4 @@
-use Rattle.std.proofs.Common.{◌≡◌, length, sym, ◌∙◌}
+use Rattle.std.proofs.Common.{length, sym, ◌∙◌}
 use Rattle.std.proofs.lemmas.Bool.{eqb-true}
 use Rattle.ring_segments.proofs.RemarkSteps.{empty_any}
 use Rattle.ring_segments.proofs.remarks.has_remark.Goals as goal

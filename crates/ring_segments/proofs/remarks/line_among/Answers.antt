@@ -1,4 +1,4 @@
-use Rattle.std.proofs.Common.{◌≡◌, ◌+◌, ◌<◌, ◌^◌, length, sym, ◌∙◌, ap, arith}
+use Rattle.std.proofs.Common.{◌≡◌, length, sym, ◌∙◌, ap, arith}
 use Rattle.std.proofs.lemmas.Bool.{eqb-true}
 use Rattle.ring_segments.specs.Remarks.{lines_in, line_among}
 use Rattle.ring_segments.proofs.RemarkSteps.{remark_among, other_among, among_most, among_none, among_empty}
