@@ -1,6 +1,6 @@
 """The calls that an engine's journal tells, read by docs/FORMATS.md: a small reader of a folder of segments.
 
-Each segment has a head, a history, and the calls after it. An engine that starts again writes the last segment anew, with the calls
+Each segment has a head, a history, and the calls after it; the lines that begin with # are remarks, and no calls. An engine that starts again writes the last segment anew, with the calls
 that it found there as the history; so both parts are read."""
 
 import os
@@ -26,7 +26,7 @@ def calls(folder):
 
 def calls_of(text):
     """The calls of a segment."""
-    lines = text.split("\n")[:-1]
+    lines = [line for line in text.split("\n")[:-1] if not line.startswith("#")]
     done = next(i for i, line in enumerate(lines) if line.startswith("done "))
     grants = [int(line.split()[2]) for line in lines[:done] if line.startswith("base ")]
     found = list(history(lines[:done])) + lines[done + 1:]

@@ -45,10 +45,10 @@ use Rattle.lock_serve.specs.Serving.{IsSaid, IsTold, IsAnsweredIf, IsInputAnswer
 use Rattle.line_replica.specs.Keys.{first_line}
 use Rattle.lock_laws.proofs.LineParts.{line_more}
 
-ends_behind : (front xs : List ℕ) → IsEnded xs → IsEnded (front ++ xs)
+pub ends_behind : (front xs : List ℕ) → IsEnded xs → IsEnded (front ++ xs)
 ends_behind front xs e = (front ++ e.0, ap (λ (u : List ℕ). front ++ u) e.1 ∙ sym (append_assoc front e.0 (10 ∷ [])))
 
-number_ends : (n : ℕ) → IsEnded (ended n)
+pub number_ends : (n : ℕ) → IsEnded (ended n)
 number_ends n = (decimal n, refl)
 
 of_both : (a b : List ℕ) → IsOfLines a → IsOfLines b → IsOfLines (a ++ b)
