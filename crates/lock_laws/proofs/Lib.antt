@@ -25,3 +25,5 @@ pub mod WaitingLines
 pub mod WaitersBack
 pub mod StateBack
 pub mod StateStays
+pub mod WholeTexts
+pub mod WithoutRemarks

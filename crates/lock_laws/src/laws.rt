@@ -7,6 +7,7 @@ ghost use Rattle.lock_laws.specs.Equal.{EqualLinesGiveEqualAnswers, EqualSegment
 ghost use Rattle.lock_laws.specs.KeysBack.{FreshIsSound, OwnLinesAreLines, SoundStays, KeysComeBack, PlacesAreLast};
 ghost use Rattle.lock_laws.specs.StateBack.{HoldsAreFirst, StateComesBack};
 ghost use Rattle.lock_laws.specs.WaitersBack.{HavingStateStays, WaitersComeBack};
+ghost use Rattle.lock_laws.specs.Remarked.{LocksOfReplicasComeBack};
 ghost use Rattle.lock_laws.specs.Recovered.{LocksComeBack, NothingToldIsLost, AddedLocksBegin, NextLocksBegin, HandedLocksBegin};
 
 use line_loop::AnswersLines;
@@ -23,6 +24,11 @@ pub fn answered_lines_follow()
 /// nobody waits for them, and a hold that is open is client 0's, with its token.
 pub fn locks_come_back()
     ensures { LocksComeBack }
+{}
+
+/// The same of the locks of a replica, in whose journal there are remarks too: it is so without them.
+pub fn locks_of_replicas_come_back()
+    ensures { LocksOfReplicasComeBack }
 {}
 
 /// Of whatever is kept of a journal, if it has the beginning of a segment and the notes of the lines that were told, rings are
