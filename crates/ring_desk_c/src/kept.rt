@@ -28,7 +28,6 @@ pub enum TextError {
 }
 
 /// A pass.
-#[inline(always)]
 pub(crate) fn pass(
     kept: &mut Kept,
     seat: u32,

@@ -123,7 +123,6 @@ impl FileRing {
     /// # Errors
     ///
     /// Those of [`OneThreadRing::pass`]. Nothing has changed then.
-    #[inline(always)]
     #[tactic(auto, using(crate::proofs::Settled::settled))]
     pub fn pass(&mut self, seat: u32, machine: u32, order: u64) -> Result<Receipt, CallError>
         ensures { IsPassed self.old self.new seat machine order result }

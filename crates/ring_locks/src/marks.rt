@@ -2,6 +2,7 @@
 
 ghost use Rattle.std.specs.Prelude.{◌≡◌, true, ℕ, ◌+◌, ◌<◌, ◌≤◌, ◌⊎◌, ◌^◌, length, [], ◌∷◌, map, slice_index, Some, IsOk, IfOk, IfErr, OnOk, OnErr};
 ghost use Rattle.ring_model.specs.Ring.{first_privileged, is_settled};
+ghost use Rattle.ring_model.specs.Replay.{machine_of};
 ghost use Rattle.ring_chains.specs.Bases.{IsBase, base_after};
 ghost use Rattle.ring_locks.specs.Grants.{carried, most_passes};
 ghost use Rattle.ring_endless.specs.Endless.{IsSameEndless, IsNext, local_survey};
@@ -60,7 +61,9 @@ fn first(ring: &EndlessRing) -> u32
 
 /// The machine of a call.
 #[inline(always)]
-fn machine_of(op: Op) -> u32 {
+fn machine_of(op: Op) -> u32
+    ensures { result ≡ machine_of op }
+{
     match op {
         Op::Pass { machine, .. } | Op::Member { machine, .. } | Op::Corrupt { machine, .. } =>
             machine,
