@@ -20,3 +20,4 @@ pub mod OneFiles
 pub mod Remarked
 pub mod Hashless
 pub mod RemarkSteps
+pub mod RemarkLaws
