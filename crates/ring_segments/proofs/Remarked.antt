@@ -2,6 +2,7 @@
 use Rattle.std.proofs.Common.{◌≡◌, ℕ, ◌<◌, Bool, true, false, cond, eqb, List, [], ◌∷◌, ◌++◌, length, map, refl, sym, ap, subst, ◌∙◌, append_assoc, inl, inr, arith}
 use Rattle.std.specs.Prelude.{not, ◌||◌}
 use Rattle.std.specs.List.{filter, flat_map, list_any, AllByRecursion}
+use Rattle.std.proofs.lemmas.List.{append-nil}
 use Rattle.std.proofs.lemmas.List.Concat.{flat_map-append}
 use Rattle.std.proofs.lemmas.List.Elements.{filter-append}
 use Rattle.ring_journal.specs.Recovery.{has_line_end}
@@ -202,3 +203,17 @@ remarks_then_remarks (line ∷ lines) rest all =
 pub begun_remark : (begun : List ℕ) → has_line_end begun ≡ false → without_remarks (35 ∷ begun) ≡ []
 unfolding without_remarks
 begun_remark begun none = ap (λ (ls : List (List ℕ)). flat_map same (filter is_kept ls)) (last_line 35 begun none)
+
+-- ---- texts of lines
+
+pub lines_both : (a b : List ℕ) → AreLines a → AreLines b → AreLines (a ++ b)
+lines_both a b v w = elim w [
+  | inl e ↦ subst AreLines (sym (ap (λ (u : List ℕ). a ++ u) e ∙ append-nil a)) v
+  | inr e ↦ inr (a ++ e.0, ap (λ (u : List ℕ). a ++ u) e.1 ∙ sym (append_assoc a e.0 (10 ∷ [])))
+]
+
+pub line_ended : (line : List ℕ) → IsOneLine line → AreLines line
+line_ended line l = inr (l.0, l.1)
+
+pub remark_ended : (line : List ℕ) → IsOneLine line → AreLines (remark_of line)
+remark_ended line l = inr (remark_of l.0, ap remark_of l.1)

@@ -12,8 +12,8 @@ IsOneLine line = (body : List ℕ) × (line ≡ body ++ 10 ∷ []) × (has_line_
 abbrev pub AreLines : List ℕ → Type 0
 AreLines text = (text ≡ []) ⊎ IsEnded text
 
--- Without its remarks a text is what it is without one that follows whole lines, and that one is among
--- its remarks, in its place.
+-- A remark that follows whole lines changes nothing of what a text is without its remarks, and is
+-- among these, in its place.
 abbrev pub RemarksAreLeftOut : Type 0
 RemarksAreLeftOut =
     (front line back : List ℕ) → AreLines front → IsOneLine line
