@@ -3,9 +3,7 @@
 use crate::segments::{FIRST, FIRST_DIGEST, NONE, changed, digits_of};
 use ring_check::Kind;
 use ring_saved::{SavedEvent, SavedSurvey};
-use ring_segments::{
-    Chain, SegmentError, has_remark, put_remark, read_segment, without_remarks,
-};
+use ring_segments::{Chain, SegmentError, has_remark, put_remark, read_segment, without_remarks};
 use std::test::Fail;
 
 const REMARKED: &str = "ringsegment 1 1 2\n\
