@@ -1,7 +1,10 @@
 -- The remarks of a replica's segment bring its keys and its place back.
-use Rattle.std.proofs.Common.{◌≡◌, ℕ, ◌+◌, ◌<◌, ◌≤◌, ◌^◌, Bool, true, false, cond, List, [], ◌∷◌, ◌++◌, length, take, drop, map, Option, Some, None, inl, inr, refl, ap, sym, subst, ◌∙◌, append_assoc, append-nil, length-append, arith}
+use Rattle.std.proofs.Common.{◌≡◌, ℕ, ◌<◌, ◌≤◌, ◌^◌, Bool, true, false, cond, List, [], ◌∷◌, ◌++◌, length, take, drop, map, Option, Some, None, inl, inr, refl, ap, sym, subst, ◌∙◌, append_assoc, append-nil, length-append, arith}
 use Rattle.std.specs.Prelude.{codes}
 use Rattle.std.specs.List.{AllByRecursion}
+use Rattle.std.specs.declared.cmp.Ordering.{Ordering}
+use Rattle.std.specs.declared.cmp.Ordering.TheVariants.{Less, Equal, Greater}
+use Rattle.std.specs.Ordering.{nat_cmp}
 use Rattle.std.proofs.lemmas.List.{map-append}
 use Rattle.text_lines.specs.Spelling.{spaced}
 use Rattle.text_lines.specs.Reading.{word_at}
@@ -12,16 +15,13 @@ use Rattle.line_loop.specs.Stands.{Stand, AnsweringWith, by_stand, stand}
 use Rattle.ring_segments.specs.Remarks.{remark_of, lines_in, remarks_in}
 use Rattle.ring_segments.specs.Spelling.{DigestFits, digest_digits}
 use Rattle.ring_segments.proofs.Remarked.{IsOfLines, HasNoHash, plain_then_remarks, remarks_then_remarks}
-use Rattle.line_replica.specs.declared.keys.Turn.{Turn}
-use Rattle.line_replica.specs.declared.keys.Turn.TheVariants as turn
-use Rattle.line_replica.specs.declared.reading.Tag.{Tag}
 use Rattle.line_replica.specs.declared.replica.Replica.{Replica}
-use Rattle.line_replica.specs.Keys.{ToldView, Table, with_told, first_line, forgotten_if}
+use Rattle.line_replica.specs.Keys.{ToldView, Table, last_of, with_told, turn_by, turn_after, first_line, forgotten_if}
 use Rattle.line_replica.specs.Log.{Numbers, numbers_of, given, given_of, numbers_after}
 use Rattle.line_replica.specs.Reading.{Heard, Tagged, Place, Digest, Plain, heard, did_at, is_forget, kept_text}
 use Rattle.line_replica.specs.Replies.{IsTold, IsTagTaken, IsAnsweredOnce, IsReplied, IsHeard, turn_of, forget_note}
 use Rattle.line_replica.specs.Running.{RunningView, at_place, with_said, next_of, place_line}
-use Rattle.line_replica.specs.State.{key_line, forget_line, own_lines, remarks_of}
+use Rattle.line_replica.specs.State.{key_line, kept_line, forget_line, own_lines, remarks_of}
 use Rattle.line_replica.proofs.Given.{own_at, own_forget, own_behind, own_of, read, answers_then, whole_line, whole_at}
 use Rattle.line_replica.proofs.Hearing.{is_tagged}
 use Rattle.lock_serve.specs.declared.service.LockService.{LockService}
@@ -40,14 +40,14 @@ use Rattle.lock_laws.proofs.WithoutRemarks.{lines_bring, all_end_once, parts, be
 
 -- ---- what is heard of the line that takes a key away
 
-short_forget : (tag : Tag) → tag.key < 2 ^ 64 → tag.number < 2 ^ 64 → length (forget_line tag) ≤ line_limit
-short_forget tag few small =
-    let a = length-append (spaced tag.key) (spaced tag.number ++ codes "forget\n") in
-    let b = length-append (spaced tag.number) (codes "forget\n") in
-    omega (arith, spaced_short tag.key few, spaced_short tag.number small, a, b)
+short_forget : (k n : ℕ) → k < 2 ^ 64 → n < 2 ^ 64 → length (forget_line (record { key = k; number = n })) ≤ line_limit
+short_forget k n few small =
+    let a = length-append (spaced k) (spaced n ++ codes "forget\n") in
+    let b = length-append (spaced n) (codes "forget\n") in
+    omega (arith, spaced_short k few, spaced_short n small, a, b)
 
-hears_forget : (tag : Tag) → tag.key < 2 ^ 64 → tag.number < 2 ^ 64 → heard (forget_line tag) ≡ Tagged tag (codes "forget\n")
-hears_forget tag few small = sym (is_tagged (forget_line tag) (codes "forget\n") tag (short_forget tag few small) (sym (key_tagged tag.key tag.number (codes "forget\n") few small)))
+hears_forget : (k n : ℕ) → k < 2 ^ 64 → n < 2 ^ 64 → heard (forget_line (record { key = k; number = n })) ≡ Tagged (record { key = k; number = n }) (codes "forget\n")
+hears_forget k n few small = sym (is_tagged (forget_line (record { key = k; number = n })) (codes "forget\n") (record { key = k; number = n }) (short_forget k n few small) (sym (key_tagged k n (codes "forget\n") few small)))
 
 no_did : did_at (codes "forget\n") ≡ None
 unfolding did_at word_at
@@ -129,16 +129,17 @@ module _ {S : Type 0} (A : AnsweringWith S) where
         files = n.files;
       })
 
-  brings_forget : (one other : Replica S) (tag : Tag) → tag.key < 2 ^ 64 → tag.number < 2 ^ 64 → other.numbered.keys ≡ forgotten_if (turn_of one.numbered.keys tag) one.numbered.keys tag.key → at_last other.running ≡ at_last one.running →
-      Brings one other (forget_line tag ∷ [])
-  brings_forget one other tag few small keys running = brings_one one other (forget_line tag) (λ b c was is told notes k r a whole.
+  brings_forget : (one other : Replica S) (k n : ℕ) → k < 2 ^ 64 → n < 2 ^ 64 → other.numbered.keys ≡ forgotten_if (turn_of one.numbered.keys (record { key = k; number = n })) one.numbered.keys k → at_last other.running ≡ at_last one.running →
+      Brings one other (forget_line (record { key = k; number = n }) ∷ [])
+  brings_forget one other k n few small keys running = brings_one one other (forget_line (record { key = k; number = n })) (λ b c was is told notes same r a whole.
+      let line = forget_line (record { key = k; number = n }) in
       let rest = codes "forget\n" in
-      let h : IsHeard A (Tagged tag rest) b was (forget_line tag) told notes c is = subst (λ (h : Heard). IsHeard A h b was (forget_line tag) told notes c is) (hears_forget tag few small) (whole_line A b c was is (forget_line tag) told notes a whole) in
-      let d : IsTagTaken A None tag b.numbered was rest told notes c.numbered is = subst (λ (d : Option (List ℕ)). IsTagTaken A d tag b.numbered was rest told notes c.numbered is) no_did h.numbered in
-      let t : IsTold [] (forgotten_if (turn_of b.numbered.keys tag) b.numbered.keys tag.key) (forget_note (turn_of b.numbered.keys tag) tag) b.numbered was told notes c.numbered is =
-      subst (λ (w : Bool). cond w (IsTold [] (forgotten_if (turn_of b.numbered.keys tag) b.numbered.keys tag.key) (forget_note (turn_of b.numbered.keys tag) tag) b.numbered was told notes c.numbered is) (IsAnsweredOnce A (turn_of b.numbered.keys tag) tag b.numbered was rest told notes c.numbered is)) forgets d in
+      let h : IsHeard A (Tagged (record { key = k; number = n }) rest) b was line told notes c is = subst (λ (h : Heard). IsHeard A h b was line told notes c is) (hears_forget k n few small) (whole_line A b c was is line told notes a whole) in
+      let d : IsTagTaken A None (record { key = k; number = n }) b.numbered was rest told notes c.numbered is = subst (λ (d : Option (List ℕ)). IsTagTaken A d (record { key = k; number = n }) b.numbered was rest told notes c.numbered is) no_did h.numbered in
+      let t : IsTold [] (forgotten_if (turn_of b.numbered.keys (record { key = k; number = n })) b.numbered.keys k) (forget_note (turn_of b.numbered.keys (record { key = k; number = n })) (record { key = k; number = n })) b.numbered was told notes c.numbered is =
+      subst (λ (w : Bool). cond w (IsTold [] (forgotten_if (turn_of b.numbered.keys (record { key = k; number = n })) b.numbered.keys k) (forget_note (turn_of b.numbered.keys (record { key = k; number = n })) (record { key = k; number = n })) b.numbered was told notes c.numbered is) (IsAnsweredOnce A (turn_of b.numbered.keys (record { key = k; number = n })) (record { key = k; number = n }) b.numbered was rest told notes c.numbered is)) forgets d in
       record {
-        keys = t.keys_are ∙ (ap (λ (x : Table). forgotten_if (turn_of x tag) x tag.key) k ∙ sym keys);
+        keys = t.keys_are ∙ (ap (λ (x : Table). forgotten_if (turn_of x (record { key = k; number = n })) x k) same ∙ sym keys);
         running = h.running ∙ (ap (λ (u : List ℕ). with_said b.running u) t.says ∙ (same_running b.running ∙ (r ∙ sym running)));
         inner = t.inner;
         says = t.says;
@@ -151,32 +152,43 @@ module _ {S : Type 0} (A : AnsweringWith S) where
     stays : new.running ≡ with_said old.running said → at_last new.running ≡ at_last old.running
     stays e = ap at_last e ∙ last_stays old.running said sound.running
 
-    by_turn : (r : Turn) (tag : Tag) (rest : List ℕ) → IsOfKey tag.key tag.number rest line → new.running ≡ with_said old.running said → IsAnsweredOnce A r tag old.numbered was rest said noted new.numbered is → Brings old new (own_at r tag said)
-    by_turn turn.Fresh tag rest of e p = brings_key old new (tag.key, record { number = tag.number; first = first_line said }) (answer_kept tag.key tag.number of.key_small of.number_small (first_line said) keepable.first keepable.short) p.keys_are (stays e)
-    by_turn turn.Again tag rest of e t = brings_none old new t.keys_are (stays e)
-    by_turn (turn.Past last) tag rest of e t = brings_none old new t.keys_are (stays e)
+    module _ (k n : ℕ) (rest : List ℕ) (of : IsOfKey k n rest line) (e : new.running ≡ with_said old.running said) where
+      fresh : new.numbered.keys ≡ with_told old.numbered.keys k n (first_line said) → Brings old new (kept_line (record { key = k; number = n }) (first_line said) ∷ [])
+      fresh keys = brings_key old new (k, record { number = n; first = first_line said }) (answer_kept k n of.key_small of.number_small (first_line said) keepable.first keepable.short) keys (stays e)
 
-    by_forget : (r : Turn) (tag : Tag) → turn_of old.numbered.keys tag ≡ r → tag.key < 2 ^ 64 → tag.number < 2 ^ 64 → new.running ≡ with_said old.running said → new.numbered.keys ≡ forgotten_if (turn_of old.numbered.keys tag) old.numbered.keys tag.key → Brings old new (own_forget r tag)
-    by_forget turn.Fresh tag q few small e keys = brings_none old new (keys ∙ ap (λ (r : Turn). forgotten_if r old.numbered.keys tag.key) q) (stays e)
-    by_forget turn.Again tag q few small e keys = brings_forget old new tag few small keys (stays e)
-    by_forget (turn.Past last) tag q few small e keys = brings_none old new (keys ∙ ap (λ (r : Turn). forgotten_if r old.numbered.keys tag.key) q) (stays e)
+      by_rank : (last : ℕ) (r : Ordering) → IsAnsweredOnce A (turn_by r last) (record { key = k; number = n }) old.numbered was rest said noted new.numbered is → Brings old new (own_at (turn_by r last) (record { key = k; number = n }) said)
+      by_rank last Less t = brings_none old new t.keys_are (stays e)
+      by_rank last Equal t = brings_none old new t.keys_are (stays e)
+      by_rank last Greater p = fresh p.keys_are
 
-    by_word : (b : Bool) (tag : Tag) (rest : List ℕ) → IsOfKey tag.key tag.number rest line → new.running ≡ with_said old.running said →
-        cond b (IsTold [] (forgotten_if (turn_of old.numbered.keys tag) old.numbered.keys tag.key) (forget_note (turn_of old.numbered.keys tag) tag) old.numbered was said noted new.numbered is)
-        (IsAnsweredOnce A (turn_of old.numbered.keys tag) tag old.numbered was rest said noted new.numbered is) →
-        Brings old new (cond b (own_forget (turn_of old.numbered.keys tag) tag) (own_at (turn_of old.numbered.keys tag) tag said))
-    by_word true tag rest of e t = by_forget (turn_of old.numbered.keys tag) tag refl of.key_small of.number_small e t.keys_are
-    by_word false tag rest of e a = by_turn (turn_of old.numbered.keys tag) tag rest of e a
+      by_last : (o : Option ℕ) → IsAnsweredOnce A (turn_after o n) (record { key = k; number = n }) old.numbered was rest said noted new.numbered is → Brings old new (own_at (turn_after o n) (record { key = k; number = n }) said)
+      by_last None p = fresh p.keys_are
+      by_last (Some last) a = by_rank last (nat_cmp n last) a
 
-    behind : (d : Option (List ℕ)) (tag : Tag) (rest : List ℕ) → did_at rest ≡ d → IsOfKey tag.key tag.number rest line → new.running ≡ with_said old.running said → IsTagTaken A d tag old.numbered was rest said noted new.numbered is →
-        Brings old new (own_behind d old.numbered.keys tag rest said)
-    behind (Some text) tag rest d of e t =
-        let spelled : IsOfKey tag.key tag.number (codes "did " ++ text) line = subst (λ (u : List ℕ). IsOfKey tag.key tag.number u line) (did_is rest text d) of in
-        brings_key old new (tag.key, record { number = tag.number; first = kept_text text }) (text_kept tag.key tag.number text line is_line spelled) t.keys_are (stays e)
-    behind None tag rest d of e a = by_word (is_forget rest) tag rest of e a
+      forget_rank : (last : ℕ) (r : Ordering) → turn_of old.numbered.keys (record { key = k; number = n }) ≡ turn_by r last → new.numbered.keys ≡ forgotten_if (turn_of old.numbered.keys (record { key = k; number = n })) old.numbered.keys k → Brings old new (own_forget (turn_by r last) (record { key = k; number = n }))
+      forget_rank last Less q keys = brings_none old new (keys ∙ ap (λ r. forgotten_if r old.numbered.keys k) q) (stays e)
+      forget_rank last Equal q keys = brings_forget old new k n of.key_small of.number_small keys (stays e)
+      forget_rank last Greater q keys = brings_none old new (keys ∙ ap (λ r. forgotten_if r old.numbered.keys k) q) (stays e)
+
+      forget_last : (o : Option ℕ) → turn_of old.numbered.keys (record { key = k; number = n }) ≡ turn_after o n → new.numbered.keys ≡ forgotten_if (turn_of old.numbered.keys (record { key = k; number = n })) old.numbered.keys k → Brings old new (own_forget (turn_after o n) (record { key = k; number = n }))
+      forget_last None q keys = brings_none old new (keys ∙ ap (λ r. forgotten_if r old.numbered.keys k) q) (stays e)
+      forget_last (Some last) q keys = forget_rank last (nat_cmp n last) q keys
+
+      by_word : (b : Bool) →
+          cond b (IsTold [] (forgotten_if (turn_of old.numbered.keys (record { key = k; number = n })) old.numbered.keys k) (forget_note (turn_of old.numbered.keys (record { key = k; number = n })) (record { key = k; number = n })) old.numbered was said noted new.numbered is)
+          (IsAnsweredOnce A (turn_of old.numbered.keys (record { key = k; number = n })) (record { key = k; number = n }) old.numbered was rest said noted new.numbered is) →
+          Brings old new (cond b (own_forget (turn_of old.numbered.keys (record { key = k; number = n })) (record { key = k; number = n })) (own_at (turn_of old.numbered.keys (record { key = k; number = n })) (record { key = k; number = n }) said))
+      by_word true t = forget_last (last_of old.numbered.keys k) refl t.keys_are
+      by_word false a = by_last (last_of old.numbered.keys k) a
+
+      behind : (d : Option (List ℕ)) → did_at rest ≡ d → IsTagTaken A d (record { key = k; number = n }) old.numbered was rest said noted new.numbered is → Brings old new (own_behind d old.numbered.keys (record { key = k; number = n }) rest said)
+      behind (Some text) d t =
+          let spelled : IsOfKey k n (codes "did " ++ text) line = subst (λ (u : List ℕ). IsOfKey k n u line) (did_is rest text d) of in
+          brings_key old new (k, record { number = n; first = kept_text text }) (text_kept k n text line is_line spelled) t.keys_are (stays e)
+      behind None d a = by_word (is_forget rest) a
 
     by_heard : (h : Heard) → IsReadSo line h → IsHeard A h old was line said noted new is → Brings old new (own_of h old.numbered.keys old.running.since said)
-    by_heard (Tagged tag rest) of a = behind (did_at rest) tag rest refl of a.running a.numbered
+    by_heard (Tagged tag rest) of a = behind tag.key tag.number rest of a.running (did_at rest) refl a.numbered
     by_heard (Place place) of a = brings_place old new place (next_of old.running.since) of (next_fits old.running.since) (ap (λ n. n.keys) a.numbered) a.running
     by_heard (Digest place digest) of a = brings_place old new place digest of.0 of.1 (ap (λ n. n.keys) a.numbered) a.running
     by_heard Plain of a = brings_none old new a.numbered.keys_are (stays a.running)

@@ -1,13 +1,12 @@
 -- What is left of a replica's segment without its remarks.
-use Rattle.std.proofs.Common.{◌≡◌, ℕ, ◌<◌, ◌^◌, Bool, true, false, cond, eqb, List, [], ◌∷◌, ◌++◌, length, Some, inl, inr, ◌⊎◌, refl, ap, sym, subst, ◌∙◌, append_assoc, append-nil, arith}
+use Rattle.std.proofs.Common.{◌≡◌, ℕ, Bool, true, false, cond, eqb, List, [], ◌∷◌, ◌++◌, length, inl, inr, ◌⊎◌, refl, ap, sym, subst, ◌∙◌, append_assoc, append-nil, arith}
 use Rattle.std.specs.Prelude.{codes, not, ◌||◌}
 use Rattle.std.specs.List.{filter, flat_map, list_any, AllByRecursion}
 use Rattle.std.proofs.lemmas.Bool.{ne_eqb}
 use Rattle.std.proofs.lemmas.List.Folds.{list_any-append}
 use Rattle.text_lines.specs.Spelling.{spaced, ended}
-use Rattle.disks.specs.Held.{Held}
-use Rattle.line_loop.specs.Answering.{IsLine, HasNoEnd, Answers}
-use Rattle.line_loop.specs.Stands.{Stand, by_stand, stand}
+use Rattle.line_loop.specs.Answering.{IsLine}
+use Rattle.line_loop.specs.Stands.{Stand, stand}
 use Rattle.ring_saved.specs.Versions.{latest_version}
 use Rattle.ring_saved.specs.Content.{Content}
 use Rattle.ring_saved.specs.Spelling.{text, block_text, done_line}
@@ -19,16 +18,15 @@ use Rattle.ring_journal.proofs.LineEnds.{EndsOnce}
 use Rattle.ring_segments.specs.Remarks.{IsEnded, lines_in, is_remark, without_remarks}
 use Rattle.ring_segments.proofs.Remarked.{IsOfLines, HasNoHash, last_line, plain_then, remarks_then}
 use Rattle.ring_segments.proofs.Hashless.{no_hash_append, no_hash_call, no_hash_head}
-use Rattle.line_replica.specs.declared.reading.Tag.{Tag}
 use Rattle.line_replica.specs.declared.replica.Replica.{Replica}
 use Rattle.line_replica.specs.Keys.{first_line}
 use Rattle.line_replica.specs.Log.{Numbers, numbers_of, given, given_of, numbers_after}
-use Rattle.line_replica.specs.Noted.{IsGiven, AreGiven}
+use Rattle.line_replica.specs.Noted.{AreGiven}
 use Rattle.line_replica.specs.Replies.{IsReplied}
-use Rattle.line_replica.specs.Reading.{Heard, Tagged, Place, Digest, heard, did_at, kept_text}
-use Rattle.line_replica.specs.Running.{next_of, place_line}
-use Rattle.line_replica.specs.State.{key_line, did_text, kept_line, forget_line, own_lines, remarks_of}
-use Rattle.line_replica.proofs.Given.{Brings, BringAll, taken, given_inside}
+use Rattle.line_replica.specs.Reading.{Heard, Tagged, Place, Digest, heard, kept_text}
+use Rattle.line_replica.specs.Running.{next_of}
+use Rattle.line_replica.specs.State.{did_text, own_lines, remarks_of}
+use Rattle.line_replica.proofs.Given.{BringAll, taken, given_inside}
 use Rattle.lock_serve.specs.declared.service.LockService.{LockService}
 use Rattle.lock_serve.specs.Serving.{IsServed}
 use Rattle.lock_serve.specs.Segments.{rings_of, content_of}
