@@ -297,9 +297,9 @@ def segment_file(folder, number):
 
 
 def read_segment(text):
-    """Reads a segment's file up to its last whole line: its number, the digest before it, and its rings, each with its events and
-    surveys in their order."""
-    lines = text[:text.rindex("\n") + 1].splitlines()
+    """Reads a segment's file up to its last whole line, without its remarks: its number, the digest before it, and its rings, each
+    with its events and surveys in their order."""
+    lines = [line for line in text[:text.rindex("\n") + 1].splitlines() if not line.startswith("#")]
     words = [line.split() for line in lines]
     number, count = int(words[0][2]), int(words[0][3])
     bases = [tuple(map(int, word[1:])) for word in words[2:2 + count]]

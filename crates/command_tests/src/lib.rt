@@ -13,6 +13,8 @@ mod names;
 #[cfg(test)]
 mod reading;
 #[cfg(test)]
+mod remarks;
+#[cfg(test)]
 mod salvage;
 #[cfg(test)]
 mod segments;

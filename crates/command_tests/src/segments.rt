@@ -10,7 +10,7 @@ use ring_segments::{
 use std::alloc::{AllocError, Global};
 use std::test::Fail;
 
-const NONE: &str = "0000000000000000000000000000000000000000000000000000000000000000";
+pub const NONE: &str = "0000000000000000000000000000000000000000000000000000000000000000";
 
 pub const FIRST: &str = "ringsegment 1 1 2\n\
     behind 0000000000000000000000000000000000000000000000000000000000000000\n\
@@ -74,7 +74,7 @@ pub const THIRD: &str = "ringsegment 1 3 3\n\
 pub const THIRD_DIGEST: &str = "2244ec08b1b29a5f67def1883062ad99864f287154d1166f1217cb72a467fdc1";
 
 /// The digits of a digest.
-fn digits_of(text: &str) -> [u8; DIGEST_DIGITS] {
+pub fn digits_of(text: &str) -> [u8; DIGEST_DIGITS] {
     let mut found = [b'0'; DIGEST_DIGITS];
     for (i, digit) in text.as_bytes().iter().enumerate() {
         if i < DIGEST_DIGITS {
@@ -85,7 +85,7 @@ fn digits_of(text: &str) -> [u8; DIGEST_DIGITS] {
 }
 
 /// A text with another part.
-fn changed(alloc: Global, text: &str, old: &str, new: &str) -> Result<Vec<u8>, AllocError> {
+pub fn changed(alloc: Global, text: &str, old: &str, new: &str) -> Result<Vec<u8>, AllocError> {
     let mut bytes = Vec::new(alloc);
     match text.split_once(old) {
         Some((front, back)) => {

@@ -6,8 +6,8 @@ use Rattle.ring_saved.specs.Content.{content, block_of}
 use Rattle.ring_check.specs.Meaning.{IsRightBlock, IsRightText}
 use Rattle.ring_check.proofs.Meanings.{legal_means}
 use Rattle.ring_segments.specs.declared.last.LastSegment.{LastSegment}
-use Rattle.ring_segments.specs.Last.{IsRightLast}
-use Rattle.ring_segments.proofs.Starts.{recovered_starts}
+use Rattle.ring_segments.specs.Last.{IsRightLast, last_file}
+use Rattle.ring_segments.proofs.Starts.{file_starts}
 use Rattle.ring_chains.specs.declared.bases.Base.{Base}
 use Rattle.ring_desk.specs.Rings.{RingView}
 use Rattle.ring_files.specs.Files.{FilesView, PlaceView, filed_at}
@@ -19,7 +19,7 @@ pub right_ring : (bytes : List ℕ) (last : LastSegment) (ring : SavedRing) → 
     → (version : ℕ) × (place : ℕ) × IsRightBlock version place (block_of ring)
 right_ring bytes last ring right one =
     let file = right.file in
-    let text : IsRightText (content last.saved) = (legal_means (content last.saved) (recovered_starts file.rest (content last.saved) file.recovered)).0 file.recovered.legal in
+    let text : IsRightText (content last.saved) = (legal_means (content last.saved) (file_starts (last_file bytes last) file)).0 file.recovered.legal in
     right_at last.saved.version 0 last.saved.rings.items 0 ring text.blocks (ap (λ (rs : List SavedRing). slice_get rs 0) one)
 
 -- a ring that goes on there

@@ -22,7 +22,10 @@ use Rattle.ring_journal.proofs.Orders.{nothing_after}
 use Rattle.ring_chains.specs.declared.bases.Base.{Base}
 use Rattle.ring_chains.specs.Bases.{base_after}
 use Rattle.ring_segments.specs.Spelling.{head_text}
+use Rattle.ring_segments.specs.Remarks.{without_remarks}
 use Rattle.ring_segments.specs.Files.{IsFile, IsWhole, AreBases, AreStarts, Place, place_after, segments}
+use Rattle.ring_segments.proofs.LineCounts.{journal_ended}
+use Rattle.ring_segments.proofs.Hashless.{journal_without}
 use Rattle.ring_desk.specs.Rings.{RingView}
 use Rattle.ring_desk.specs.Texts.{saved_alone, saved_block}
 use Rattle.ring_desk.proofs.Saved.{ring_right}
@@ -80,11 +83,16 @@ module _ (d : FilesView) (bytes : List ℕ) (i : IsFiled d) (t : IsFileText d by
   same : saved_alone d.ring.ring ≡ content_after (saved_alone d.ring.ring) []
   same = sym (nothing_after (saved_alone d.ring.ring) (record { blocks = (ring_right 0 d.ring.ring i.ring.ring, tt); rings_said = refl }))
 
+  -- it has no remark
+  kept : journal_text (alone d) ≡ without_remarks (journal_text (alone d))
+  kept = sym (journal_without (alone d) fits)
+
   pub whole : IsWhole (file_with d bytes)
   whole = record {
     rest = journal_text (alone d);
     spelled = spelled;
-    all = record { journal = alone d; fits = fits; spelled = refl; closed = refl; is = same };
+    ended = journal_ended (alone d) fits;
+    all = record { journal = alone d; fits = fits; spelled = sym kept; closed = refl; is = same };
   }
 
   pub file : IsFile (file_with d bytes)
@@ -95,7 +103,7 @@ module _ (d : FilesView) (bytes : List ℕ) (i : IsFiled d) (t : IsFileText d by
     recovered = record {
       journal = alone d;
       tail = [];
-      lines = record { fits = fits; spelled = sym (append-nil (journal_text (alone d))); behind = λ a more f e. no_line a more e };
+      lines = record { fits = fits; spelled = sym kept ∙ sym (append-nil (journal_text (alone d))); behind = λ a more f e. no_line a more e };
       unended = refl;
       began = t.legal;
       is = same;

@@ -15,7 +15,7 @@ use Rattle.ring_chains.specs.Bases.{IsBase, shifted}
 use Rattle.ring_chains.specs.Chains.{chain_history}
 use Rattle.ring_chains.proofs.ChainHistories.{history_append}
 use Rattle.ring_segments.specs.Files.{File, Place, Link, segments_of, segments, link_after, first_link, AreBases, AreStarts, IsShort, Follows, AreChainedAfter, at_number, of_ring}
-use Rattle.ring_segments.proofs.Starts.{recovered_starts}
+use Rattle.ring_segments.proofs.Starts.{file_starts}
 use Rattle.ring_joins.specs.Joining.{begun, opened, extended, with_file, with_files}
 use Rattle.ring_joins.specs.JoinLaws.{JoinedIsOfChains}
 use Rattle.ring_joins.proofs.Whole.{start_of, Stands, AreJoined, HasStart, IsSound, no_base_is, sound_begun, stands_begun, events_more, file_more, to_recursion}
@@ -50,7 +50,7 @@ ring_more version place (suc i) (k ∷ ks) (p ∷ ps) (b ∷ bs) (f ∷ fs) j e 
 
 file_history : (l : Link) (i : ℕ) (ks : List Block) (f : File) → AreJoined 0 ks l.places → Follows l f → history_at i (with_file ks f) ≡ history_at i ks ++ chain_history (at_number i (segments f))
 file_history l i ks f j h =
-    let starts = recovered_starts h.file.rest f.content h.file.recovered in
+    let starts = file_starts f h.file in
     ring_more f.content.version 0 i ks l.places f.head.bases f.content.rings j h.bases.rings h.bases.bases h.starts
     ((legal_means f.content starts).0 h.file.recovered.legal).blocks (to_recursion HasStart f.content.rings starts) h.short
 

@@ -30,7 +30,7 @@ use Rattle.ring_chains.specs.Chains.{Segment, chain_history}
 use Rattle.ring_chains.proofs.Tallied.{few_grants, calm_few}
 use Rattle.ring_segments.specs.Sums.{capped}
 use Rattle.ring_segments.specs.Files.{File, Place, Link, segments_of, place_after, link_after, first_link, AreBases, AreStarts, IsShort, Follows, AreChainedAfter}
-use Rattle.ring_segments.proofs.Starts.{recovered_starts}
+use Rattle.ring_segments.proofs.Starts.{file_starts}
 use Rattle.ring_joins.specs.Joining.{shifted_event, counted_survey, shifted_survey, with_segment, begun, opened, extended, with_file, with_files, content_of, joined}
 use Rattle.ring_joins.specs.JoinLaws.{JoinedIsLegal}
 use Rattle.ring_joins.proofs.ShiftedEvents.{uncapped, events_move}
@@ -257,7 +257,7 @@ joined_more version place (k ∷ ks) (p ∷ ps) (b ∷ bs) (f ∷ fs) j e bases 
 
 pub file_more : (l : Link) (ks : List Block) (f : File) → AreJoined 0 ks l.places → Follows l f → AreJoined 0 (with_file ks f) (link_after f).places
 file_more l ks f j h =
-    let starts = recovered_starts h.file.rest f.content h.file.recovered in
+    let starts = file_starts f h.file in
     joined_more f.content.version 0 ks l.places f.head.bases f.content.rings j h.bases.rings h.bases.bases h.starts
     ((legal_means f.content starts).0 h.file.recovered.legal).blocks (to_recursion HasStart f.content.rings starts) h.short
 

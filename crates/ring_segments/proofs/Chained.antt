@@ -13,9 +13,8 @@ use Rattle.ring_chains.specs.Bases.{no_base, IsAmount, state_from, base_after}
 use Rattle.ring_chains.specs.Chains.{Segment, IsChainFrom, chain_history}
 use Rattle.ring_chains.proofs.ChainHistories.{chains_are_histories}
 use Rattle.ring_segments.specs.Spelling.{BaseFits}
-use Rattle.ring_segments.specs.Remarks.{without_remarks}
 use Rattle.ring_segments.specs.Files.{File, segments_of, segments, Place, place_of, place_after, Link, first_link, link_after, link_of, opening_link, AreBases, AreStarts, Follows, AreChainedAfter, at_number, of_ring, FilesTellHistories, LaterFilesTellHistories}
-use Rattle.ring_segments.proofs.Starts.{recovered_starts}
+use Rattle.ring_segments.proofs.Starts.{file_starts}
 
 -- each segment is a history of the one-thread ring by itself
 abbrev AreHistories : List Segment → Type 0
@@ -29,8 +28,7 @@ blocks_tell version place (b ∷ bs) (k ∷ ks) a = (a.0.legal_and_whole, blocks
 
 file_tells : (l : Link) (f : File) → Follows l f → AreHistories (segments f)
 file_tells l f h =
-    let r = h.file.recovered in
-    blocks_tell f.content.version 0 f.head.bases f.content.rings ((legal_means f.content (recovered_starts (without_remarks h.file.rest) f.content r)).0 r.legal).blocks
+    blocks_tell f.content.version 0 f.head.bases f.content.rings ((legal_means f.content (file_starts f h.file)).0 h.file.recovered.legal).blocks
 
 -- the segments begin at these places, and those of more rings with nothing before them
 abbrev BeginAt : List Place → List Segment → Type 0

@@ -2,10 +2,9 @@
 use Rattle.std.proofs.Common.{◌≡◌, ℕ, ◌+◌, Bool, List, [], ◌∷◌, Option, Err, sym, ap, subst, ◌∙◌, arith}
 use Rattle.std.specs.List.{All, AllByRecursion}
 use Rattle.std.proofs.lemmas.List.Elements.{All-from_recursion}
-use Rattle.ring_saved.specs.Content.{Block, Content}
+use Rattle.ring_saved.specs.Content.{Block}
 use Rattle.ring_check.specs.Meaning.{AreRightBlocks}
 use Rattle.ring_check.proofs.Meanings.{legal_means}
-use Rattle.ring_journal.specs.Recovery.{IsRecovered}
 use Rattle.ring_chains.specs.declared.bases.Base.{Base}
 use Rattle.ring_chains.specs.Bases.{no_base, IsBase}
 use Rattle.ring_segments.specs.declared.errors.SegmentError.{SegmentError}
@@ -15,7 +14,7 @@ use Rattle.ring_segments.specs.declared.sums.ChainSums.{ChainSums}
 use Rattle.ring_segments.specs.Replays.{IsReplayed}
 use Rattle.ring_segments.specs.Sums.{sums_after}
 use Rattle.ring_segments.specs.Chain.{State, asked, sums_at, state_after, IsStarted, IsTested, IsRightRefusal, OfSegment}
-use Rattle.ring_segments.proofs.Starts.{recovered_starts}
+use Rattle.ring_segments.proofs.Starts.{file_starts}
 
 -- ---- what a file that follows gives
 
@@ -45,8 +44,10 @@ blocks_replayed version place (k ∷ ks) h =
     let enough = b.enough in
     (record { positive = omega (arith, two, enough); legal = b.legal_and_whole.0 }, blocks_replayed version (place + 1) ks h.1)
 
-pub all_replayed : (bytes : List ℕ) (c : Content) → IsRecovered bytes c → All IsReplayed c.rings
-all_replayed bytes c r = All-from_recursion IsReplayed c.rings (blocks_replayed c.version 0 c.rings ((legal_means c (recovered_starts bytes c r)).0 r.legal).blocks)
+pub all_replayed : (f : File) → IsFile f → All IsReplayed f.content.rings
+all_replayed f is =
+    let c = f.content in
+    All-from_recursion IsReplayed c.rings (blocks_replayed c.version 0 c.rings ((legal_means c (file_starts f is)).0 is.recovered.legal).blocks)
 
 -- ---- the answers
 

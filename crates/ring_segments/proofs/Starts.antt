@@ -10,6 +10,8 @@ use Rattle.ring_journal.specs.declared.calls.Call.TheVariants.{Event, Survey}
 use Rattle.ring_journal.specs.declared.calls.JournalLine.{JournalLine}
 use Rattle.ring_journal.specs.ContentAfter.{whole, with_call, with_call_at, with_calls, in_order, content_after}
 use Rattle.ring_journal.specs.Recovery.{IsRecovered}
+use Rattle.ring_segments.specs.Remarks.{without_remarks}
+use Rattle.ring_segments.specs.Files.{File, IsFile}
 
 abbrev HasStart : Block → Type 0
 HasStart b = length b.start ≡ b.n
@@ -38,8 +40,12 @@ read_have : (version : ℕ) (bs : List Block) → AllByRecursion (BlockFits vers
 read_have version [] f = tt
 read_have version (b ∷ bs) f = (f.0.start, read_have version bs f.1)
 
-pub recovered_starts : (bytes : List ℕ) (c : Content) → IsRecovered bytes c → HasItsStarts c
+recovered_starts : (bytes : List ℕ) (c : Content) → IsRecovered bytes c → HasItsStarts c
 recovered_starts bytes c r =
     let j = r.journal in
     let have : Have (content_after j.began j.calls).rings = ordered (with_calls j.began.rings (whole j.calls)) (calls_more j.began.rings (whole j.calls) (read_have j.began.version j.began.rings r.lines.fits.began.rings)) in
     subst HasItsStarts (sym r.is) (All-from_recursion HasStart (content_after j.began j.calls).rings have)
+
+-- so has that of a file
+pub file_starts : (f : File) → IsFile f → HasItsStarts f.content
+file_starts f is = recovered_starts (without_remarks is.rest) f.content is.recovered

@@ -2,7 +2,6 @@ use Rattle.std.proofs.Common.{◌≡◌, false, refl, ◌∙◌, arith}
 use Rattle.std.proofs.lemmas.List.{length-map}
 use Rattle.std.proofs.lemmas.Result.{err_from_is_err_and}
 use Rattle.ring_saved.specs.Content.{block_of, content}
-use Rattle.ring_segments.specs.Remarks.{without_remarks}
 use Rattle.ring_segments.specs.Files.{IsWhole}
 use Rattle.ring_segments.specs.Chain.{file_in, link_in}
 use Rattle.ring_segments.proofs.Choosing.{clash}
@@ -39,7 +38,7 @@ pub after-requires-clause-short : goal.after-requires-clause-short
 after-requires-clause-short c = let t = c.in_ok-test.ensures c.args.bytes.now in all_short (content c.args.segment.now.saved).rings t.1
 
 pub after-requires-clause-right : goal.after-requires-clause-right
-after-requires-clause-right c = all_replayed (without_remarks c.requires.0.rest) (content c.args.segment.now.saved) c.requires.0.recovered
+after-requires-clause-right c = all_replayed (file_in c.args.bytes.now c.args.segment.now) c.requires.0
 
 pub sums_with-sums-requires : goal.sums_with-sums-requires
 sums_with-sums-requires c =
