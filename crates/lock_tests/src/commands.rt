@@ -177,6 +177,7 @@ const STATE: &str =
 /// The segment with the remarks of its key and its place behind a grant; and as the next start with its lines has it.
 const NOTED: &str =
     "ringsegment 1 1 1\nbehind 0000000000000000000000000000000000000000000000000000000000000000\nbase 0 0 0 0\nringjournal 1\nringfarm 2\nring 0 3 3\nstart 0 0 0\nend 0\ndone 1\n0 p 0 0 77 g 1 77\n# 8 3 did 2 waiting 0 0\n# at 5 0000000000000000000000000000000000000000000000000000000000000000\n";
+
 const NOTED_AGAIN: &str =
     "ringsegment 1 1 1\nbehind 0000000000000000000000000000000000000000000000000000000000000000\nbase 0 0 0 0\nringjournal 1\nringfarm 2\nring 0 3 3\nstart 0 0 0\np 0 0 77 g 1 77\nend 1\ndone 1\n# 8 3 did 2 waiting 0 0\n# at 5 0000000000000000000000000000000000000000000000000000000000000000\n";
 
