@@ -109,3 +109,7 @@ journal_without j f = no_hash_without (journal_text j) (no_hash_journal j f)
 
 pub journal_then : (j : Journal) (rest : List ℕ) → JournalFits j → without_remarks (journal_text j ++ rest) ≡ journal_text j ++ without_remarks rest
 journal_then j rest f = plain_then (journal_text j) rest (inr (journal_ended j f)) (no_hash_journal j f)
+
+-- the lines of calls alone
+pub no_hash_calls : (version rings : ℕ) (rs : List JournalLine) → AllByRecursion (JournalLineFits version rings) rs → HasNoHash (flat_map journal_line rs)
+no_hash_calls version rings rs f = each (JournalLineFits version rings) journal_line (no_hash_call version rings) rs f
