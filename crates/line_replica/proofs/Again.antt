@@ -1,5 +1,5 @@
 -- A line that is sent again is told the first line of its first answer.
-use Rattle.std.proofs.Common.{◌≡◌, ◌≢◌, ℕ, Bool, true, false, cond, List, [], ◌∷◌, Option, Some, None, inl, inr, refl, ap, sym, subst, ◌∙◌}
+use Rattle.std.proofs.Common.{◌≡◌, ◌≢◌, ℕ, Bool, true, false, cond, List, [], ◌∷◌, Option, Some, None, refl, ap, sym, subst, ◌∙◌}
 use Rattle.std.specs.List.{AllByRecursion}
 use Rattle.std.specs.Option.{option_map}
 use Rattle.std.specs.Cmp.{nat_cmp_is}
@@ -14,8 +14,8 @@ use Rattle.line_replica.specs.declared.numbered.Numbered.{Numbered}
 use Rattle.line_replica.specs.declared.replica.Replica.{Replica}
 use Rattle.line_replica.specs.Keys.{ToldView, Table, told_of, forgotten_if, first_line, first_of, turn_by, turn_after}
 use Rattle.line_replica.specs.Laws.{IsTagged, IsNotOf, IsToldAgain, IsAnsweredAsBefore}
-use Rattle.line_replica.specs.Reading.{Heard, Tagged, Place, Digest, Plain, heard, did_at, is_forget, kept_text}
-use Rattle.line_replica.specs.Replies.{IsTold, IsPassedOn, IsReplied, IsHeard, IsAnsweredOnce, IsTagTaken, turn_of, forget_note}
+use Rattle.line_replica.specs.Reading.{Heard, Tagged, Place, Digest, Plain, heard, did_at, is_forget}
+use Rattle.line_replica.specs.Replies.{IsTold, IsReplied, IsHeard, IsAnsweredOnce, IsTagTaken, turn_of, forget_note}
 use Rattle.line_replica.proofs.Entries.{told_other, told_same, told_without}
 use Rattle.line_replica.proofs.Given.{whole_line, whole_at}
 

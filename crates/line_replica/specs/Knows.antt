@@ -9,9 +9,9 @@ use Rattle.line_replica.specs.declared.keys.Turn.TheVariants as turn
 use Rattle.line_replica.specs.declared.reading.Tag.{Tag}
 use Rattle.line_replica.specs.declared.numbered.Numbered.{Numbered}
 use Rattle.line_replica.specs.declared.replica.Replica.{Replica}
-use Rattle.line_replica.specs.Keys.{Table, forgotten_if}
+use Rattle.line_replica.specs.Keys.{forgotten_if}
 use Rattle.line_replica.specs.Reading.{Heard, Tagged, Place, Digest, Plain, heard, did_at, is_forget}
-use Rattle.line_replica.specs.Replies.{IsTold, IsPassedOn, IsLost, IsReplied, IsHeard, IsWhole, IsAnsweredOnce, IsAnsweredOrNot, IsTagTaken, input_of, turn_of, forget_note}
+use Rattle.line_replica.specs.Replies.{IsTold, IsLost, IsReplied, IsHeard, IsWhole, IsAnsweredOnce, IsAnsweredOrNot, IsTagTaken, input_of, turn_of, forget_note}
 
 module _ {S : Type 0} (A : AnsweringWith S) (keeps : KeepsKnown A) (was is : Option Held) (said noted : List ℕ) (some : IsSome was) where
   same : is ≡ was → IsSome is

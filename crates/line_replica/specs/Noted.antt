@@ -16,14 +16,13 @@ IsOwn line =
     ⊎ (((tag : Tag) × (line ≡ forget_line tag))
     ⊎ ((place : ℕ) × (digest : List ℕ) × (line ≡ place_line place digest)))
 
--- What is given of a line was answered inside. All that was noted behind its notes are remarks, and
--- each of them is of such a line.
+-- What is given of a line was answered inside. All that was noted behind its notes are the remarks of
+-- these lines, each of which is of this kind.
 pub record IsGiven {S : Type 0} (A : AnsweringWith S) (Own : List ℕ → Type 0) (old : Stand S)
-    (lines : List (List ℕ)) (noted : List ℕ) (new : Stand S) : Type 0 where
+    (lines own : List (List ℕ)) (noted : List ℕ) (new : Stand S) : Type 0 where
   pub told : List ℕ
   pub notes : List ℕ
   pub answered : Answers (by_stand A) old lines told notes new
-  pub own : List (List ℕ)
   pub each : AllByRecursion Own own
   pub noted_are : noted ≡ notes ++ remarks_of own
 
@@ -34,10 +33,11 @@ abbrev pub AreGiven : {S : Type 0} → AnsweringWith S → (List ℕ → Type 0)
 AreGiven A Own numbers old [] inside noted new = (inside ≡ []) × (noted ≡ []) × (new ≡ old)
 AreGiven A Own numbers old (line ∷ lines) inside noted new =
     (mid : Stand _)
+    × (own : List (List ℕ))
     × (first : List ℕ)
     × (more : List ℕ)
     × (notes : List ℕ)
-    × (given : IsGiven A Own old (given_of (heard line) numbers line) first mid)
+    × (given : IsGiven A Own old (given_of (heard line) numbers line) own first mid)
     × (inside ≡ given.notes ++ notes)
     × (noted ≡ first ++ more)
     × AreGiven A Own (numbers_after (heard line) numbers) mid lines notes more new

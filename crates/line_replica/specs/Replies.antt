@@ -12,7 +12,7 @@ use Rattle.line_replica.specs.declared.numbered.Numbered.{Numbered}
 use Rattle.line_replica.specs.declared.replica.Replica.{Replica}
 use Rattle.line_replica.specs.Keys.{Table, told_of, last_of, with_told, turn_after, first_of, first_line, forgotten_if}
 use Rattle.line_replica.specs.Reading.{Heard, Tagged, Place, Digest, Plain, heard, did_at, is_forget, kept_text}
-use Rattle.line_replica.specs.Running.{RunningView, with_said, next_of, at_place, place_line}
+use Rattle.line_replica.specs.Running.{with_said, next_of, at_place, place_line}
 use Rattle.line_replica.specs.State.{kept_line, forget_line}
 
 -- nothing happens but that this is told, this is kept of keys, and this is noted

@@ -1,5 +1,5 @@
 -- The lines that bring a replica back (this project's own).
-use Rattle.std.specs.Prelude.{◌≡◌, ℕ, Bool, true, false, cond, nat_lt, List, [], ◌∷◌, ◌++◌, length, map, take, Option, codes}
+use Rattle.std.specs.Prelude.{◌≡◌, ℕ, Bool, false, cond, nat_lt, List, [], ◌∷◌, ◌++◌, length, map, take, Option, codes}
 use Rattle.std.specs.List.{flat_map}
 use Rattle.text_lines.specs.Spelling.{spaced, ended}
 use Rattle.text_lines.specs.Reading.{word_at}
@@ -14,7 +14,7 @@ use Rattle.line_replica.specs.declared.replica.Replica.{Replica}
 use Rattle.line_replica.specs.declared.restorable.Restorable.{Restorable}
 use Rattle.line_replica.specs.Keys.{ToldView, Table}
 use Rattle.line_replica.specs.Reading.{on_read, is_none_left}
-use Rattle.line_replica.specs.Running.{RunningView, place_line}
+use Rattle.line_replica.specs.Running.{place_line}
 
 -- the line of a key: its last number, and the first line of its answer
 abbrev pub did_text : List ℕ → List ℕ

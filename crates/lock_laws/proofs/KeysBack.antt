@@ -46,7 +46,7 @@ insert_last (e ∷ es) k v all =
     ap (λ r. match_ordering r ((k, v) ∷ e ∷ es) ((e.0, v) ∷ es) (e ∷ insert_entry nat_cmp es k v)) (sym (nat_cmp_is k e.0 Greater all.0))
     ∙ ap (λ (u : Table). e ∷ u) (insert_last es k v all.1)
 
-same_running : (r : RunningView) → with_said r [] ≡ r
+pub same_running : (r : RunningView) → with_said r [] ≡ r
 same_running r = ap (λ (u : List ℕ). record { place = r.place; since = u }) (none r.since)
   where
     none : (since : List ℕ) → grown since [] ≡ since
@@ -57,7 +57,7 @@ same_running r = ap (λ (u : List ℕ). record { place = r.place; since = u }) (
 
 module _ {S : Type 0} (A : AnsweringWith S) where
   -- nothing has happened but that these are the keys and this is the digest, and this is noted
-  record IsNow (old : Replica S) (was : Option Held) (keys : Table) (running : RunningView) (note said noted : List ℕ) (new : Replica S) (is : Option Held) : Type 0 where
+  pub record IsNow (old : Replica S) (was : Option Held) (keys : Table) (running : RunningView) (note said noted : List ℕ) (new : Replica S) (is : Option Held) : Type 0 where
     pub keys_are : new.numbered.keys ≡ keys
     pub running_is : new.running ≡ running
     pub inner : new.numbered.inner ≡ old.numbered.inner
@@ -66,7 +66,7 @@ module _ {S : Type 0} (A : AnsweringWith S) where
     pub files : is ≡ was
 
   module _ (old new : Replica S) (was is : Option Held) (said noted : List ℕ) where
-    key_line_told : (e : ℕ × ToldView) → IsKept e → IsReplied A old was (key_line e) said noted new is → new.lost ≡ false →
+    pub key_line_told : (e : ℕ × ToldView) → IsKept e → IsReplied A old was (key_line e) said noted new is → new.lost ≡ false →
         IsNow old was (with_told old.numbered.keys e.0 e.1.number e.1.first) old.running (remark_of (key_line e)) said noted new is
     key_line_told e kept r whole =
         let rest = codes "did " ++ did_text e.1.first in
@@ -85,7 +85,7 @@ module _ {S : Type 0} (A : AnsweringWith S) where
           files = t.files;
         }
 
-    place_line_told : (place : ℕ) (digest : List ℕ) → place < 2 ^ 64 → DigestFits digest → IsReplied A old was (place_line place digest) said noted new is → new.lost ≡ false →
+    pub place_line_told : (place : ℕ) (digest : List ℕ) → place < 2 ^ 64 → DigestFits digest → IsReplied A old was (place_line place digest) said noted new is → new.lost ≡ false →
         IsNow old was old.numbered.keys (at_place place digest) (remark_of (place_line place digest)) said noted new is
     place_line_told place digest lt fits r whole =
         let p : IsPlaced place digest [] old was said noted new is =

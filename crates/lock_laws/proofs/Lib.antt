@@ -27,3 +27,4 @@ pub mod StateBack
 pub mod StateStays
 pub mod WholeTexts
 pub mod WithoutRemarks
+pub mod RemarksBack

@@ -117,7 +117,7 @@ none_kept k n few small = record {
 }
 
 -- by the first line of an answer
-answer_kept : (k n : ℕ) → k < 2 ^ 64 → n < 2 ^ 64 → (first : List ℕ) → IsFirst first → length first + 46 ≤ line_limit → IsKept (k, record { number = n; first = first })
+pub answer_kept : (k n : ℕ) → k < 2 ^ 64 → n < 2 ^ 64 → (first : List ℕ) → IsFirst first → length first + 46 ≤ line_limit → IsKept (k, record { number = n; first = first })
 answer_kept k n few small [] is short = none_kept k n few small
 answer_kept k n few small (b ∷ bs) is short = record {
   key = few;
@@ -170,7 +170,7 @@ text_kept k n (b ∷ c ∷ bs) line is of = record {
 
 -- ---- the digest
 
-grown_behind : (since digest told said : List ℕ) → length digest ≡ digest_digits → since ≡ digest ++ told → grown since said ≡ digest ++ (told ++ said)
+pub grown_behind : (since digest told said : List ℕ) → length digest ≡ digest_digits → since ≡ digest ++ told → grown since said ≡ digest ++ (told ++ said)
 grown_behind [] digest told said long e =
     let same : length digest ≡ 64 = long in
     let none : 0 ≡ length digest + length told = ap length e ∙ length-append digest told in

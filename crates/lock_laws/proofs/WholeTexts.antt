@@ -1,5 +1,5 @@
 -- What is told of a line, and what is noted of it, are whole lines.
-use Rattle.std.proofs.Common.{◌≡◌, ℕ, Bool, true, false, cond, eqb, List, [], ◌∷◌, ◌++◌, Option, Some, None, inl, inr, ◌⊎◌, refl, ap, sym, subst, ◌∙◌, append_assoc, append-nil}
+use Rattle.std.proofs.Common.{◌≡◌, ℕ, Bool, true, false, cond, eqb, List, [], ◌∷◌, ◌++◌, Option, Some, None, slice_get, inl, inr, ◌⊎◌, refl, ap, sym, subst, ◌∙◌, append_assoc, append-nil}
 use Rattle.std.specs.Prelude.{codes}
 use Rattle.std.specs.Fmt.{decimal}
 use Rattle.std.specs.List.{flat_map}
@@ -7,7 +7,7 @@ use Rattle.std.proofs.lemmas.Bool.{eqb-true, eqb-false}
 use Rattle.text_lines.specs.Spelling.{spaced, ended}
 use Rattle.disks.specs.Held.{Held}
 use Rattle.line_loop.specs.Answering.{IsLine, Answers}
-use Rattle.line_loop.specs.Stands.{Stand, by_stand, stand}
+use Rattle.line_loop.specs.Stands.{Stand, by_stand}
 use Rattle.ring_segments.specs.Remarks.{IsEnded}
 use Rattle.ring_segments.proofs.Remarked.{IsOfLines}
 use Rattle.ring_saved.specs.declared.saved.SavedEvent.{SavedEvent}
@@ -19,14 +19,13 @@ use Rattle.ring_journal.specs.declared.calls.Call.TheVariants as call
 use Rattle.ring_journal.specs.declared.calls.JournalLine.{JournalLine}
 use Rattle.ring_journal.specs.Spelling.{call_line, journal_line}
 use Rattle.ring_model.specs.declared.events.Event.{Event}
-use Rattle.ring_blocks.specs.Journals.{event_lines, line_of_event, line_of_survey}
+use Rattle.ring_blocks.specs.Journals.{line_of_event, line_of_survey}
 use Rattle.ring_locks.specs.declared.answers.Answer.{Answer}
 use Rattle.ring_locks.specs.declared.answers.Answer.TheVariants as answer
 use Rattle.ring_locks.specs.declared.answers.Refusal.{Refusal}
 use Rattle.ring_locks.specs.declared.answers.Refusal.TheVariants as refusal
 use Rattle.ring_locks.specs.declared.answers.Holder.{Holder}
 use Rattle.ring_locks.specs.declared.answers.HoldEnd.{HoldEnd}
-use Rattle.ring_locks.specs.declared.answers.Left.{Left}
 use Rattle.ring_locks.specs.Kept.{LockView}
 use Rattle.ring_locks.specs.Locks.{Ask}
 use Rattle.lock_lines.specs.declared.answers.Denial.{Denial}
@@ -35,13 +34,13 @@ use Rattle.lock_lines.specs.declared.inputs.Input.{Input}
 use Rattle.lock_lines.specs.declared.inputs.Input.TheVariants as input
 use Rattle.lock_lines.specs.Asks as lines
 use Rattle.lock_lines.specs.Asks.{seen}
-use Rattle.lock_lines.specs.Answers.{refusal_text, holder_text, answer_text, answer_line, denial_text, denial_line}
+use Rattle.lock_lines.specs.Answers.{refusal_text, holder_text, answer_text, answer_line, denial_line}
 use Rattle.lock_serve.specs.declared.service.LockService.{LockService}
 use Rattle.lock_serve.specs.declared.service.Terms.{Terms}
 use Rattle.lock_serve.specs.Asking.{one_ask, is_off}
 use Rattle.lock_serve.specs.Counting.{SegmentView}
-use Rattle.lock_serve.specs.Noting.{lines_about, events_from, end_line, note_about, line_of_left, note_of_left, lines_of_left, notes_of_left}
-use Rattle.lock_serve.specs.Serving.{IsSaid, IsTold, IsAnsweredIf, IsInputAnswered, IsServed}
+use Rattle.lock_serve.specs.Noting.{lines_about, events_at, events_from, end_line, note_about, line_of_left, note_of_left, notes_of_left}
+use Rattle.lock_serve.specs.Serving.{IsTold, IsAnsweredIf, IsInputAnswered, IsServed}
 use Rattle.line_replica.specs.Keys.{first_line}
 use Rattle.lock_laws.proofs.LineParts.{line_more}
 
@@ -55,9 +54,9 @@ of_both : (a b : List ℕ) → IsOfLines a → IsOfLines b → IsOfLines (a ++ b
 of_both a b p (inl e) = subst (λ (u : List ℕ). IsOfLines u) (sym (ap (λ (u : List ℕ). a ++ u) e ∙ append-nil a)) p
 of_both a b p (inr e) = inr (ends_behind a b e)
 
-of_each : {A : Type 0} (line : A → List ℕ) → ((a : A) → IsOfLines (line a)) → (as : List A) → IsOfLines (flat_map line as)
+of_each : {A : Type 0} (line : A → List ℕ) → ((a : A) → IsOfLines (line a)) → (all : List A) → IsOfLines (flat_map line all)
 of_each line each [] = inl refl
-of_each line each (a ∷ as) = of_both (line a) (flat_map line as) (each a) (of_each line each as)
+of_each line each (a ∷ all) = of_both (line a) (flat_map line all) (each a) (of_each line each all)
 
 -- ---- what is told
 
@@ -88,9 +87,9 @@ answer_ends lock (answer.Stats s) =
     ends_behind (codes "stats ") _ (ends_behind (spaced lock) _ (ends_behind (spaced s.machines) _ (ends_behind (spaced s.waiters) _ (ends_behind (spaced s.passes) (holder_text s.holder) (holder_ends s.holder)))))
 answer_ends lock (answer.Refused why) = refusal_ends lock why
 
-about_lines : (lock : ℕ) (as : List (ℕ × Answer)) → IsOfLines (lines_about lock as)
+about_lines : (lock : ℕ) (all : List (ℕ × Answer)) → IsOfLines (lines_about lock all)
 about_lines lock [] = inl refl
-about_lines lock ((c, a) ∷ as) = of_both (answer_line c lock a) (lines_about lock as) (inr (ends_behind (spaced c) (answer_text lock a) (answer_ends lock a))) (about_lines lock as)
+about_lines lock ((c, a) ∷ all) = of_both (answer_line c lock a) (lines_about lock all) (inr (ends_behind (spaced c) (answer_text lock a) (answer_ends lock a))) (about_lines lock all)
 
 denial_ends : (client : ℕ) (why : Denial) → IsEnded (denial_line client why)
 denial_ends client denial.Syntax = ends_behind (spaced client) (codes "refused syntax\n") (codes "refused syntax", refl)
@@ -141,8 +140,8 @@ module _ (old new : SegmentView) (said noted : List ℕ) where
   are text note e f p q = record { told = subst (λ (u : List ℕ). IsOfLines u) (sym e) p; notes = subst (λ (u : List ℕ). IsOfLines u) (sym f) q }
 
   of_told : (strict noting : Bool) (client : ℕ) (x : Option (ℕ × Ask)) → IsTold strict noting client x old said noted new → AreOfLines said noted
-  of_told strict noting client None t = are _ _ t.says t.notes (of_each line_of_left (λ l. about_lines l.lock _) t.left) (noted_if noting (notes_of_left new.locks t.left) (of_each (note_of_left new.locks) (λ l. note_lines l.lock _ (Some l.ended) _) t.left))
-  of_told strict noting client (Some (lock, ask)) t = are _ _ t.says t.notes (about_lines lock _) (noted_if noting (note_about lock old.locks new.locks t.answers.ended) (note_lines lock _ t.answers.ended _))
+  of_told strict noting client None t = are _ _ t.says t.notes (of_each line_of_left (λ l. about_lines l.lock _) t.left) (noted_if noting (notes_of_left new.locks t.left) (of_each (note_of_left new.locks) (λ l. note_lines l.lock l.ended.survey.position (Some l.ended) (slice_get new.locks l.lock)) t.left))
+  of_told strict noting client (Some (lock, ask)) t = are _ _ t.says t.notes (about_lines lock _) (noted_if noting (note_about lock old.locks new.locks t.answers.ended) (note_lines lock (events_at (slice_get old.locks lock)) t.answers.ended (slice_get new.locks lock)))
 
   of_if : (off : Bool) (terms : Terms) (client : ℕ) (ask : lines.Ask) → IsAnsweredIf off terms client ask old said noted new → AreOfLines said noted
   of_if true terms client ask s = are _ _ s.says s.notes (inr (denial_ends client denial.Off)) (inl refl)
@@ -164,13 +163,13 @@ notes_of_lines old new (line ∷ lines) said noted a =
 
 -- ---- the first line
 
+first_by : (b : ℕ) (rest : List ℕ) (t : Bool) → eqb b 10 ≡ t → IsLine (first_line rest) → IsLine (cond t (b ∷ []) (b ∷ first_line rest))
+first_by b rest true e more = eqb-true b 10 e
+first_by b rest false e more = line_more b (first_line rest) (eqb-false b 10 e) more
+
 first_ends : (front : List ℕ) → IsLine (first_line (front ++ 10 ∷ []))
 first_ends [] = refl
-first_ends (b ∷ front) = go (eqb b 10) refl
-  where
-    go : (t : Bool) → eqb b 10 ≡ t → IsLine (cond t (b ∷ []) (b ∷ first_line (front ++ 10 ∷ [])))
-    go true e = eqb-true b 10 e
-    go false e = line_more b (first_line (front ++ 10 ∷ [])) (eqb-false b 10 e) (first_ends front)
+first_ends (b ∷ front) = first_by b (front ++ 10 ∷ []) (eqb b 10) refl (first_ends front)
 
 pub first_of_lines : (said : List ℕ) → IsOfLines said → (first_line said ≡ []) ⊎ IsLine (first_line said)
 first_of_lines said (inl e) = inl (ap first_line e)

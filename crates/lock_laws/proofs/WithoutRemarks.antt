@@ -1,13 +1,12 @@
 -- What is left of a replica's segment without its remarks.
-use Rattle.std.proofs.Common.{◌≡◌, ℕ, ◌<◌, ◌^◌, Bool, true, false, cond, eqb, List, [], ◌∷◌, ◌++◌, length, Some, inl, inr, ◌⊎◌, refl, ap, sym, subst, ◌∙◌, append_assoc, append-nil, arith}
+use Rattle.std.proofs.Common.{◌≡◌, ℕ, Bool, true, false, cond, eqb, List, [], ◌∷◌, ◌++◌, length, inl, inr, ◌⊎◌, refl, ap, sym, subst, ◌∙◌, append_assoc, append-nil, arith}
 use Rattle.std.specs.Prelude.{codes, not, ◌||◌}
 use Rattle.std.specs.List.{filter, flat_map, list_any, AllByRecursion}
 use Rattle.std.proofs.lemmas.Bool.{ne_eqb}
 use Rattle.std.proofs.lemmas.List.Folds.{list_any-append}
 use Rattle.text_lines.specs.Spelling.{spaced, ended}
-use Rattle.disks.specs.Held.{Held}
-use Rattle.line_loop.specs.Answering.{IsLine, HasNoEnd, Answers}
-use Rattle.line_loop.specs.Stands.{Stand, by_stand, stand}
+use Rattle.line_loop.specs.Answering.{IsLine}
+use Rattle.line_loop.specs.Stands.{Stand, stand}
 use Rattle.ring_saved.specs.Versions.{latest_version}
 use Rattle.ring_saved.specs.Content.{Content}
 use Rattle.ring_saved.specs.Spelling.{text, block_text, done_line}
@@ -19,15 +18,15 @@ use Rattle.ring_journal.proofs.LineEnds.{EndsOnce}
 use Rattle.ring_segments.specs.Remarks.{IsEnded, lines_in, is_remark, without_remarks}
 use Rattle.ring_segments.proofs.Remarked.{IsOfLines, HasNoHash, last_line, plain_then, remarks_then}
 use Rattle.ring_segments.proofs.Hashless.{no_hash_append, no_hash_call, no_hash_head}
-use Rattle.line_replica.specs.declared.reading.Tag.{Tag}
 use Rattle.line_replica.specs.declared.replica.Replica.{Replica}
 use Rattle.line_replica.specs.Keys.{first_line}
 use Rattle.line_replica.specs.Log.{Numbers, numbers_of, given, given_of, numbers_after}
-use Rattle.line_replica.specs.Noted.{IsGiven, AreGiven}
-use Rattle.line_replica.specs.Reading.{Heard, Tagged, Place, Digest, heard, did_at, kept_text}
-use Rattle.line_replica.specs.Running.{next_of, place_line}
-use Rattle.line_replica.specs.State.{key_line, did_text, kept_line, forget_line, own_lines, remarks_of}
-use Rattle.line_replica.proofs.Given.{Brings, BringAll, taken, given_inside}
+use Rattle.line_replica.specs.Noted.{AreGiven}
+use Rattle.line_replica.specs.Replies.{IsReplied}
+use Rattle.line_replica.specs.Reading.{Heard, Tagged, Place, Digest, heard, kept_text}
+use Rattle.line_replica.specs.Running.{next_of}
+use Rattle.line_replica.specs.State.{did_text, own_lines, remarks_of}
+use Rattle.line_replica.proofs.Given.{BringAll, taken, given_inside}
 use Rattle.lock_serve.specs.declared.service.LockService.{LockService}
 use Rattle.lock_serve.specs.Serving.{IsServed}
 use Rattle.lock_serve.specs.Segments.{rings_of, content_of}
@@ -104,7 +103,7 @@ back_of : (a b : Bool) → (a || b) ≡ false → b ≡ false
 back_of true b e = absurd cc
 back_of false b e = e
 
-parts : (xs ys : List ℕ) → HasNoHash (xs ++ ys) → HasNoHash xs × HasNoHash ys
+pub parts : (xs ys : List ℕ) → HasNoHash (xs ++ ys) → HasNoHash xs × HasNoHash ys
 parts xs ys h =
     let e = sym (list_any-append (λ b. eqb b 35) xs ys) ∙ h.none in
     (record { none = front_of (list_any (λ b. eqb b 35) xs) (list_any (λ b. eqb b 35) ys) e }, record { none = back_of (list_any (λ b. eqb b 35) xs) (list_any (λ b. eqb b 35) ys) e })
@@ -125,15 +124,15 @@ pub remarks_go : (numbers : Numbers) (old new : Stand LockService) (lines : List
 remarks_go numbers old new [] inside noted rest g none =
     ap (λ (u : List ℕ). without_remarks (u ++ rest)) g.1 ∙ ap (λ (u : List ℕ). u ++ without_remarks rest) (sym g.0)
 remarks_go numbers old new (line ∷ lines) inside noted rest g none =
-    let one = g.4 in
-    let p = parts one.notes g.3 (subst (λ (u : List ℕ). HasNoHash u) g.5 none) in
-    let more = remarks_go (numbers_after (heard line) numbers) g.0 new lines g.3 g.2 rest g.7 p.1 in
-    ap (λ (u : List ℕ). without_remarks (u ++ rest)) g.6
-    ∙ (ap without_remarks (append_assoc g.1 g.2 rest)
-    ∙ (ap (λ (u : List ℕ). without_remarks (u ++ (g.2 ++ rest))) one.noted_are
-    ∙ (one_goes one.notes (g.2 ++ rest) one.own (notes_of_lines old g.0 (given_of (heard line) numbers line) one.told one.notes one.answered) p.0 one.each
+    let one = g.5 in
+    let p = parts one.notes g.4 (subst (λ (u : List ℕ). HasNoHash u) g.6 none) in
+    let more = remarks_go (numbers_after (heard line) numbers) g.0 new lines g.4 g.3 rest g.8 p.1 in
+    ap (λ (u : List ℕ). without_remarks (u ++ rest)) g.7
+    ∙ (ap without_remarks (append_assoc g.2 g.3 rest)
+    ∙ (ap (λ (u : List ℕ). without_remarks (u ++ (g.3 ++ rest))) one.noted_are
+    ∙ (one_goes one.notes (g.3 ++ rest) g.1 (notes_of_lines old g.0 (given_of (heard line) numbers line) one.told one.notes one.answered) p.0 one.each
     ∙ (ap (λ (u : List ℕ). one.notes ++ u) more
-    ∙ (sym (append_assoc one.notes g.3 (without_remarks rest)) ∙ ap (λ (u : List ℕ). u ++ without_remarks rest) (sym g.5))))))
+    ∙ (sym (append_assoc one.notes g.4 (without_remarks rest)) ∙ ap (λ (u : List ℕ). u ++ without_remarks rest) (sym g.6))))))
 
 -- ---- what is torn
 
@@ -153,9 +152,15 @@ head_ends c =
     ends_behind (codes "ringjournal 1\n") (text c)
     (ends_behind (saved.first_line c.version) _ (ends_behind (flat_map block_text c.rings) (done_line c.rings_said) (ends_behind (codes "done ") (ended c.rings_said) (number_ends c.rings_said))))
 
-pub begun_goes : (old : Replica LockService) (rest : List ℕ) → HaveBegun (locks_in old) → IsSound old → without_remarks (begun_with_remarks old ++ rest) ≡ begun_text (locks_in old) ++ without_remarks rest
+pub begun_ends : (r : Replica LockService) → IsOfLines (begun_text (locks_in r))
+begun_ends r = inr (head_ends (content_of (locks_in r)))
+
+pub begun_no_hash : (r : Replica LockService) → HaveBegun (locks_in r) → HasNoHash (begun_text (locks_in r))
+begun_no_hash r begun = no_hash_head (content_of (locks_in r)) begun.text
+
+begun_goes : (old : Replica LockService) (rest : List ℕ) → HaveBegun (locks_in old) → IsSound old → without_remarks (begun_with_remarks old ++ rest) ≡ begun_text (locks_in old) ++ without_remarks rest
 begun_goes old rest begun sound =
-    one_goes (begun_text (locks_in old)) rest (own_lines old) (inr (head_ends (content_of (locks_in old)))) (no_hash_head (content_of (locks_in old)) begun.text) (own_lines_are_lines IsServed old sound)
+    one_goes (begun_text (locks_in old)) rest (own_lines old) (begun_ends old) (begun_no_hash old begun) (own_lines_are_lines IsServed old sound)
 
 -- the notes of locks have no #
 pub no_hash_noted : (old new : LockService) (entries : List (ℕ × ℕ)) (lines : List (List ℕ)) (said noted : List ℕ) → HaveBegun old.segment.locks → AreKept new.segment.locks entries → AreAnswered old.terms old.segment lines said noted new.segment → HasNoHash noted
@@ -173,7 +178,7 @@ pub record IsInside (old : Replica LockService) (lines : List (List ℕ)) (noted
   pub answered : AreAnswered old.numbered.inner.terms old.numbered.inner.segment given_lines told inside new.numbered.inner.segment
   pub left : (rest : List ℕ) → without_remarks (noted ++ rest) ≡ inside ++ without_remarks rest
 
-pub is_inside : (old new : Replica LockService) (entries : List (ℕ × ℕ)) (lines : List (List ℕ)) (said noted : List ℕ) → AreReplied old lines said noted new → AreKept (locks_in new) entries → IsInside old lines noted new
+pub is_inside : (old new : Replica LockService) (entries : List (ℕ × ℕ)) (lines : List (List ℕ)) (said noted : List ℕ) → AreReplied (IsReplied IsServed) old lines said noted new → AreKept (locks_in new) entries → IsInside old lines noted new
 is_inside old new entries lines said noted a kept =
     let s = old.numbered.inner in
     let n = new.numbered.inner in

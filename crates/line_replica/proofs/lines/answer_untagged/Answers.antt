@@ -1,4 +1,4 @@
-use Rattle.std.proofs.Common.{◌≡◌, [], refl, inl, subst, ap}
+use Rattle.std.proofs.Common.{[], refl, inl, subst, ap}
 use Rattle.std.specs.Prelude.{OnErr, Result, Ok, Err}
 use Rattle.std.proofs.lemmas.Result.{on_ok_weaker, on_err_weaker}
 use Rattle.ring_segments.specs.Remarks.{remark_of}

@@ -1,4 +1,3 @@
-use Rattle.std.proofs.Common.{◌≡◌}
 use Rattle.std.specs.Prelude.{OnErr, Result, Ok, Err}
 use Rattle.line_replica.specs.Reading.{did_at}
 use Rattle.line_replica.proofs.Taking.{or_not}
