@@ -28,7 +28,8 @@ how many bytes are left out, from which line on, and why that is refused. If it 
 FILE is refused all the same.
 
 Where FILE is a folder of segments, it is the last of them that is recovered: NEW has its history, which counts by itself,
-and its head, which says what came before it, is printed behind the lines. NEW cannot lie in the folder.
+and its head, which says what came before it, is printed behind the lines. Behind it is printed the last place in a log that
+it tells, as `# at PLACE DIGEST`, if it tells one. NEW cannot lie in the folder.
 
 Example:
   $ ring_tool recover journal.txt saved.txt

@@ -11,6 +11,7 @@ pub mod Keeping
 pub mod Leads
 pub mod Making
 pub mod Parents
+pub mod PlacesFound
 pub mod JoinedLeads
 pub mod ListTexts
 pub mod Recoveries

@@ -12,6 +12,8 @@ use Rattle.ring_segments.specs.Meaning.{BeginsNoHead}
 use Rattle.ring_segments.specs.Files.{File}
 use Rattle.ring_segments.specs.Sums.{capped}
 use Rattle.ring_segments.specs.Chain.{AfterHead, head_lines}
+use Rattle.ring_segments.specs.Remarks.{lines_in, without_remarks, line_among}
+use Rattle.ring_commands.specs.LastPlace.{last_place, kept_lines}
 
 -- ---- a journal
 
@@ -43,33 +45,39 @@ left_line bytes (Some e) =
 
 -- ---- the journal in a file of a chain
 
--- a refusal of a journal after this many lines of a file
-abbrev pub fault_after : ℕ → RecoverError → RecoverError
-fault_after lines Truncated = Truncated
-fault_after lines (Syntax line) = Syntax (capped (line + lines))
-fault_after lines (Bad line kind) = Bad (capped (line + lines)) kind
-fault_after lines OutOfMemory = OutOfMemory
+-- a refusal of a journal, by its line among these ones, which come after this many lines of a file
+abbrev pub fault_in : ℕ → List (List ℕ) → RecoverError → RecoverError
+fault_in before lines Truncated = Truncated
+fault_in before lines (Syntax line) = Syntax (capped (line_among lines line + before))
+fault_in before lines (Bad line kind) = Bad (capped (line_among lines line + before)) kind
+fault_in before lines OutOfMemory = OutOfMemory
 
-abbrev pub bad_after : ℕ → Option RecoverError → Option RecoverError
-bad_after lines None = None
-bad_after lines (Some e) = Some (fault_after lines e)
+abbrev pub bad_in : ℕ → List (List ℕ) → Option RecoverError → Option RecoverError
+bad_in before lines None = None
+bad_in before lines (Some e) = Some (fault_in before lines e)
 
--- The bytes begin with the text of the head, and the content is kept of those after it.
+-- The bytes begin with the text of the head, and the content is kept of those after it, without
+-- their remarks.
 pub record IsFileKept (salvage : Bool) (f : File) : Type 0 where
   pub rest : List ℕ
   pub fits : HeadFits f.head
   pub spelled : f.bytes ≡ head_text f.head ++ rest
   pub many : ℕ
   pub bad : Option RecoverError
-  pub kept : IsKept salvage rest f.content many bad
+  pub kept : IsKept salvage (without_remarks rest) f.content many bad
 
--- the line that tells what of the file is left out, in which its lines are numbered
+-- the line that tells what of the file is left out: its remarks count as lines, not as bytes
 abbrev pub file_left : {salvage : Bool} {f : File} → IsFileKept salvage f → List ℕ
 file_left {salvage} {f} k =
-    left_line (length k.rest - k.many) (bad_after (head_lines f.head) k.bad)
+    left_line (length (without_remarks k.rest) - k.many)
+    (bad_in (head_lines f.head) (lines_in k.rest) k.bad)
+
+-- the last place that is told in front of what is left out
+abbrev pub file_place : {salvage : Bool} {f : File} → IsFileKept salvage f → List ℕ
+file_place k = last_place (kept_lines (lines_in k.rest) k.bad)
 
 -- Nothing can be salvaged of the bytes of a file: its head is refused, or its journal's start.
 abbrev pub IsLostFile : List ℕ → Type 0
 IsLostFile bytes =
     (IsCutShort (Spells HeadFits head_text) bytes ⊎ BeginsNoHead bytes)
-    ⊎ AfterHead bytes (λ h rest. (e : RecoverError) × IsLost rest e)
+    ⊎ AfterHead bytes (λ h rest. (e : RecoverError) × IsLost (without_remarks rest) e)

@@ -19,7 +19,7 @@ use Rattle.ring_segments.specs.Chain.{IsRightRefusal}
 use Rattle.ring_commands.specs.Chained.{IsFolder, IsUnreadSegment, AreNamesRefused}
 use Rattle.ring_commands.specs.CheckText.{legal_line}
 use Rattle.ring_commands.specs.Handed.{IsHanded, IsHandRefusal}
-use Rattle.ring_commands.specs.Kept.{IsFileKept, file_left, IsLostFile}
+use Rattle.ring_commands.specs.Kept.{IsFileKept, file_left, file_place, IsLostFile}
 use Rattle.ring_commands.specs.Named.{IsHeld}
 use Rattle.ring_commands.specs.Outside.{IsOutside, IsOutsideRefusal}
 use Rattle.ring_commands.specs.Ran.{file_of}
@@ -43,39 +43,39 @@ file_of_parts bytes head saved = record {
   content = content saved;
 }
 
--- ---- the head, behind the line of the sums
+-- ---- the head, behind the line of the sums, and the last place
 
--- The text of the head went where the line went: to standard output if the word names a file, else
--- to standard error; and nothing else was written.
-pub record IsHeadTold (word : List ℕ) (h : Head) (was is : World) : Type 0 where
+-- The text of the head and the line of the last place went where the line went: to standard output
+-- if the word names a file, else to standard error; and nothing else was written.
+pub record IsHeadTold (word : List ℕ) (h : Head) (place : List ℕ) (was is : World) : Type 0 where
   pub files : is.files ≡ was.files
-  pub to_file : names_stream word ≡ false → Appends was.out is.out (head_text h)
+  pub to_file : names_stream word ≡ false → Appends was.out is.out (head_text h ++ place)
   pub to_output : names_stream word ≡ true
-      → (is.out ≡ was.out) × Appends was.err is.err (head_text h)
+      → (is.out ≡ was.out) × Appends was.err is.err (head_text h ++ place)
 
 -- the writer there failed, which got a prefix of it
-pub record IsHeadCut (word : List ℕ) (h : Head) (was is : World) : Type 0 where
+pub record IsHeadCut (word : List ℕ) (h : Head) (place : List ℕ) (was is : World) : Type 0 where
   pub files : is.files ≡ was.files
-  pub to_file : names_stream word ≡ false → AppendsFront was.out is.out (head_text h)
+  pub to_file : names_stream word ≡ false → AppendsFront was.out is.out (head_text h ++ place)
   pub to_output : names_stream word ≡ true
-      → (is.out ≡ was.out) × AppendsFront was.err is.err (head_text h)
+      → (is.out ≡ was.out) × AppendsFront was.err is.err (head_text h ++ place)
 
 -- The text of the history, the line of its sums and this line went where the word says, and then the
--- head.
-abbrev pub IsSegmentHanded : List ℕ → File → List ℕ → World → World → Type 0
-IsSegmentHanded word f line was is =
+-- head and the line of the last place.
+abbrev pub IsSegmentHanded : List ℕ → File → List ℕ → List ℕ → World → World → Type 0
+IsSegmentHanded word f line place was is =
     (mid : World)
     × IsHanded word (text f.content) (legal_line (summary_of f.content) ++ line) was mid
-    × IsHeadTold word f.head mid is
+    × IsHeadTold word f.head place mid is
 
 -- The causes that may keep them from there.
-abbrev pub IsSegmentUnhanded : List ℕ → File → List ℕ → World → World → ToolError → Type 0
-IsSegmentUnhanded word f line was is e =
+abbrev pub IsSegmentUnhanded : List ℕ → File → List ℕ → List ℕ → World → World → ToolError → Type 0
+IsSegmentUnhanded word f line place was is e =
     IsHandRefusal word (text f.content) (legal_line (summary_of f.content) ++ line) was is e
     ⊎ ((e ≡ tool.Write)
     × ((mid : World)
     × IsHanded word (text f.content) (legal_line (summary_of f.content) ++ line) was mid
-    × IsHeadCut word f.head mid is))
+    × IsHeadCut word f.head place mid is))
 
 -- ---- the answer
 
@@ -92,7 +92,7 @@ IsFolderRecovered words was is =
     × IsRightNumbers entries (Ok (Some r))
     × IsHeld was.files (segment_file words.file.now r.last) f.bytes
     × IsOutside was.files words.file.now entries (file_of (Some words.new.now))
-    × IsSegmentHanded words.new.now f (file_left k) was is
+    × IsSegmentHanded words.new.now f (file_left k) (file_place k) was is
 
 -- The word FILE names a folder of segments, and something is kept of the last one.
 abbrev pub IsFolderKept : RecoverWords → Option Held → Type 0
@@ -135,4 +135,4 @@ IsFolderUnrecovered words was is e =
     ⊎ ((f : File)
     × (k : IsFileKept words.salvage f)
     × (f.bytes ≡ bytes)
-    × IsSegmentUnhanded words.new.now f (file_left k) was is e)))))))
+    × IsSegmentUnhanded words.new.now f (file_left k) (file_place k) was is e)))))))

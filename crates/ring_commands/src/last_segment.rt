@@ -1,13 +1,15 @@
 //! `recover` of a folder: the history of its last segment, and what came before it.
 
-ghost use Rattle.std.specs.Prelude.{◌≡◌, ◌≢◌, ◌+◌, ◌<◌, ◌^◌, ◌⊎◌, ℕ, List, Option, true, false, None, OnOk, IfOk, IfErr};
+ghost use Rattle.std.specs.Prelude.{◌≡◌, ◌≢◌, ◌+◌, ◌-◌, ◌<◌, ◌^◌, ◌⊎◌, ◌++◌, ℕ, List, length, Option, true, false, None, OnOk, IfOk, IfErr};
+ghost use Rattle.text_lines.specs.Writing.{Writes};
 ghost use Rattle.ring_check.specs.Legal.{summary_of};
 ghost use Rattle.ring_saved.specs.Content.{content};
 ghost use Rattle.ring_journal.specs.Beginnings.{CanBeSaved};
-ghost use Rattle.ring_segments.specs.Spelling.{HeadFits, head_of};
+ghost use Rattle.ring_segments.specs.Spelling.{HeadFits, head_of, head_text};
 ghost use Rattle.ring_segments.specs.Chain.{refused_head, refused_journal, line_in};
+ghost use Rattle.ring_segments.specs.Remarks.{lines_in, without_remarks, line_among};
 ghost use Rattle.ring_commands.specs.Chained.{IsFolder};
-ghost use Rattle.ring_commands.specs.Kept.{IsFileKept, file_left, left_line};
+ghost use Rattle.ring_commands.specs.Kept.{IsKept, IsUnkept, IsFileKept, file_left, file_place, left_line};
 ghost use Rattle.ring_commands.specs.Reading.{names_stream};
 ghost use Rattle.ring_commands.specs.SegmentRecovered.{file_as, file_of_parts, IsFileFault, IsHeadTold, IsHeadCut, IsSegmentHanded, IsSegmentUnhanded, IsFolderRecovered, IsFolderKept, IsFolderUnrecovered, IsSegmentFault};
 ghost use Rattle.ring_commands.specs.Worlds.{world};
@@ -15,8 +17,9 @@ ghost use Rattle.ring_commands.specs.Worlds.{world};
 use crate::chain::{folder_numbers, segment_bytes};
 use crate::faults::ToolError;
 use crate::handing::hand_over_kept;
-use crate::left::{LeftOut, bad_after};
+use crate::left::{LeftOut, bad_in};
 use crate::outside::keep_outside;
+use crate::place_remarks::last_place;
 use crate::reading::names_stream;
 use crate::recover::kept_of;
 use disks::{Disk, FolderEntry};
@@ -24,18 +27,33 @@ use ring_check::{Summary, check_saved};
 use ring_journal::RecoverError;
 use ring_requests::RecoverWords;
 use ring_saved::Saved;
-use ring_segments::{ReadError, SegmentError, SegmentHead, put_head, read_head};
+use ring_segments::{
+    ReadError, SegmentError, SegmentHead, WriteFault, has_remark, line_among, put_head, read_head,
+    without_remarks,
+};
 use std::alloc::Global;
 use std::io::Write;
+use text_lines::put;
 
 /// The file of a segment, as it is recovered.
 #[derive(Drop)]
-pub(crate) struct RecoveredSegment {
+pub(crate) struct RecoveredSegment<'b> {
     pub(crate) head: SegmentHead,
     /// The history, and its sums.
     pub(crate) value: (Saved, Summary),
     /// What of the file is left out.
     pub(crate) left: LeftOut,
+    /// The last place that it tells.
+    pub(crate) place: &'b [u8],
+}
+
+/// The file of a segment, as far as it is kept.
+#[derive(Drop)]
+struct KeptFile<'b> {
+    head: SegmentHead,
+    saved: Saved,
+    left: LeftOut,
+    place: &'b [u8],
 }
 
 /// Why a file is refused, by a refusal of its head.
@@ -49,55 +67,77 @@ fn head_fault(error: ReadError) -> SegmentError
     }
 }
 
-/// Why a file is refused, by a refusal of its journal, which comes after so many lines.
-fn journal_fault(lines: u64, error: RecoverError) -> SegmentError
-    requires { line_in error + lines < 2 ^ 64 }
-    ensures { result ≡ refused_journal lines error }
+/// Why a file is refused, by a refusal of the journal in the text that comes after so many lines.
+fn journal_fault(lines: u64, text: &[u8], error: RecoverError) -> SegmentError
+    requires { line_among (lines_in text.now) (line_in error) + lines < 2 ^ 64 }
+    ensures { result
+        ≡ refused_journal (λ m. line_among (lines_in text.now) m + lines) error }
 {
     match error {
         RecoverError::Truncated => SegmentError::Truncated,
-        RecoverError::Syntax(line) => SegmentError::Syntax(line + lines),
+        RecoverError::Syntax(line) => SegmentError::Syntax(line_among(text, line) + lines),
         RecoverError::Bad { line, kind } => SegmentError::Bad {
-            line: line + lines,
+            line: line_among(text, line) + lines,
             kind,
         },
         RecoverError::OutOfMemory => SegmentError::OutOfMemory,
     }
 }
 
-/// The file with these bytes, as far as it is kept: its head, its history, and what is left out.
+/// The history that is kept of a text without its remarks, and what is left out of it.
+///
+/// # Errors
+///
+/// Those of [`kept_of`].
+fn kept_without_remarks(
+    alloc: Global,
+    text: &[u8],
+    salvage: bool,
+) -> Result<(Saved, LeftOut), RecoverError>
+    ensures ok { IfOk result (λ x. (many : ℕ)
+        × IsKept salvage (without_remarks text.now) (content x.0) many x.1.bad
+        × (x.1.bytes ≡ length (without_remarks text.now) - many)) }
+    ensures err { IfErr result (λ e. IsUnkept salvage (without_remarks text.now) e) }
+{
+    if !has_remark(text) {
+        return kept_of(alloc, text, salvage);
+    }
+    match without_remarks(alloc, text) {
+        Ok(journal) => kept_of(alloc, journal.as_slice(), salvage),
+        Err(_) => Err(RecoverError::OutOfMemory),
+    }
+}
+
+/// The file with these bytes, as far as it is kept: its head, its history, what is left out, and the last place that is told in
+/// front of that.
 ///
 /// # Errors
 ///
 /// The refusal of its head or of its journal.
-fn kept_file(
-    alloc: Global,
-    bytes: &[u8],
-    salvage: bool,
-) -> Result<(SegmentHead, Saved, LeftOut), SegmentError>
-    ensures ok { IfOk result (λ x.
-        (k : IsFileKept salvage (file_of_parts bytes.now x.0 x.1))
-        × (left_line x.2.bytes x.2.bad ≡ file_left k)) }
+fn kept_file(alloc: Global, bytes: &[u8], salvage: bool) -> Result<KeptFile<'_>, SegmentError>
+    ensures ok { IfOk result (λ x. (k : IsFileKept salvage (file_of_parts bytes.now x.head x.saved))
+        × (left_line x.left.bytes x.left.bad ≡ file_left k)
+        × (x.place.now ≡ file_place k)) }
     ensures err { IfErr result (λ e. IsFileFault salvage bytes.now e) }
 {
-    let (head, journal) = match read_head(alloc, bytes) {
+    let (head, text) = match read_head(alloc, bytes) {
         Ok(found) => found,
         Err(error) => return Err(head_fault(error)),
     };
     let lines = 2 + head.bases.len() as u64;
-    match kept_of(alloc, journal, salvage) {
+    match kept_without_remarks(alloc, text, salvage) {
         Ok((saved, left)) => {
-            let bad = bad_after(lines, left.bad);
-            Ok((
+            let place = last_place(text, left.bad);
+            let bad = bad_in(lines, text, left.bad);
+            let bytes = left.bytes;
+            Ok(KeptFile {
                 head,
                 saved,
-                LeftOut {
-                    bytes: left.bytes,
-                    bad,
-                },
-            ))
+                left: LeftOut { bytes, bad },
+                place,
+            })
         }
-        Err(error) => Err(journal_fault(lines, error)),
+        Err(error) => Err(journal_fault(lines, text, error)),
     }
 }
 
@@ -106,20 +146,26 @@ fn kept_file(
 /// # Errors
 ///
 /// `Segment` with the reason why nothing is, and `OutOfMemory`.
-fn recovered_segment<'a>(
+fn recovered_segment<'a, 'b>(
     alloc: Global,
     words: &RecoverWords<'a>,
     number: u64,
-    bytes: &[u8],
-) -> Result<RecoveredSegment, ToolError<'a>>
+    bytes: &'b [u8],
+) -> Result<RecoveredSegment<'b>, ToolError<'a>>
     ensures file { IfOk result (λ r. (k : IsFileKept words.now.salvage (file_as bytes.now r))
-        × (left_line r.left.bytes r.left.bad ≡ file_left k)) }
+        × (left_line r.left.bytes r.left.bad ≡ file_left k)
+        × (r.place.now ≡ file_place k)) }
     ensures sums { IfOk result (λ r. r.value.1 ≡ summary_of (content r.value.0)) }
     ensures saved { IfOk result (λ r. CanBeSaved (content r.value.0)) }
     ensures err { IfErr result (λ e.
         IsSegmentFault words.now.salvage words.now.file.now number bytes.now e) }
 {
-    let (head, saved, left) = match kept_file(alloc, bytes, words.salvage) {
+    let KeptFile {
+        head,
+        saved,
+        left,
+        place,
+    } = match kept_file(alloc, bytes, words.salvage) {
         Ok(found) => found,
         Err(SegmentError::OutOfMemory) => return Err(ToolError::OutOfMemory),
         Err(error) => return Err(ToolError::Segment(words.file, number, error)),
@@ -129,47 +175,66 @@ fn recovered_segment<'a>(
             head,
             value: (saved, sums),
             left,
+            place,
         }),
         // the history that is kept is legal, so this is out of memory
         Err(_) => Err(ToolError::OutOfMemory),
     }
 }
 
-/// Writes the text of a head where the line of the sums went.
+/// Writes the text of a head, and then the line of a place.
+#[tactic(auto, using(text_lines::proofs::Writing::writes_then))]
+fn put_head_and_place<W: Write>(
+    out: &mut W,
+    head: &SegmentHead,
+    place: &[u8],
+) -> Result<(), WriteFault>
+    requires { HeadFits (head_of head.now) }
+    ensures { Writes (W.contents out.old) (W.contents out.new) result
+        (head_text (head_of head.now) ++ place.now) }
+{
+    match put_head(out, head) {
+        Ok(()) => put(out, place),
+        Err(fault) => Err(fault),
+    }
+}
+
+/// Writes the text of a head and the line of a place where the line of the sums went.
 fn tell_head<W: Write, E: Write>(
     head: &SegmentHead,
+    place: &[u8],
     word: &str,
     out: &mut W,
     err: &mut E,
 ) -> Result<(), ToolError<'static>>
     requires { HeadFits (head_of head.now) }
-    ensures ok { OnOk result (IsHeadTold word.now (head_of head.now)
+    ensures ok { OnOk result (IsHeadTold word.now (head_of head.now) place.now
         (world None None (W.contents out.old) (E.contents err.old))
         (world None None (W.contents out.new) (E.contents err.new))) }
     ensures err { IfErr result (λ e. (e ≡ ToolError.Write)
-        × IsHeadCut word.now (head_of head.now)
+        × IsHeadCut word.now (head_of head.now) place.now
         (world None None (W.contents out.old) (E.contents err.old))
         (world None None (W.contents out.new) (E.contents err.new))) }
     ensures silent { names_stream word.now ≡ false → err.new ≡ err.old }
 {
     if names_stream(word) {
-        match put_head(err, head) {
+        match put_head_and_place(err, head, place) {
             Ok(()) => Ok(()),
             Err(_) => Err(ToolError::Write),
         }
     } else {
-        match put_head(out, head) {
+        match put_head_and_place(out, head, place) {
             Ok(()) => Ok(()),
             Err(_) => Err(ToolError::Write),
         }
     }
 }
 
-/// Hands out what is recovered of a segment: the history as `recover` does, and then the head.
+/// Hands out what is recovered of a segment: the history as `recover` does, and then the head and the last place.
 fn hand_out_segment<'a, D: Disk, W: Write, E: Write>(
     alloc: Global,
     disk: &mut D,
-    recovered: &RecoveredSegment,
+    recovered: &RecoveredSegment<'_>,
     word: &'a str,
     out: &mut W,
     err: &mut E,
@@ -179,12 +244,12 @@ fn hand_out_segment<'a, D: Disk, W: Write, E: Write>(
     requires saved { CanBeSaved (content recovered.now.value.0) }
     ensures ok { OnOk result ((bytes : List ℕ) (early late : Option (List ℕ))
         → IsSegmentHanded word.now (file_as bytes recovered.now)
-        (left_line recovered.now.left.bytes recovered.now.left.bad)
+        (left_line recovered.now.left.bytes recovered.now.left.bad) recovered.now.place.now
         (world (D.holds disk.old) early (W.contents out.old) (E.contents err.old))
         (world (D.holds disk.new) late (W.contents out.new) (E.contents err.new))) }
     ensures err { IfErr result (λ e. (bytes : List ℕ) (early late : Option (List ℕ))
         → IsSegmentUnhanded word.now (file_as bytes recovered.now)
-        (left_line recovered.now.left.bytes recovered.now.left.bad)
+        (left_line recovered.now.left.bytes recovered.now.left.bad) recovered.now.place.now
         (world (D.holds disk.old) early (W.contents out.old) (E.contents err.old))
         (world (D.holds disk.new) late (W.contents out.new) (E.contents err.new)) e) }
     ensures kept { IfErr result (λ e. e ≢ ToolError.Write → D.holds disk.new ≡ D.holds disk.old) }
@@ -204,14 +269,14 @@ fn hand_out_segment<'a, D: Disk, W: Write, E: Write>(
         Ok(()) => {}
         Err(fault) => return Err(fault),
     }
-    match tell_head(&recovered.head, word, out, err) {
+    match tell_head(&recovered.head, recovered.place, word, out, err) {
         Ok(()) => Ok(()),
         Err(_) => Err(ToolError::Write),
     }
 }
 
-/// Recovers the last segment of a folder with these entries: reads it, which stays as it is, and hands out its history and its
-/// head.
+/// Recovers the last segment of a folder with these entries: reads it, which stays as it is, and hands out its history, its head,
+/// and the last place that it tells.
 ///
 /// # Errors
 ///

@@ -1,15 +1,18 @@
 //! What of a journal is left out of what is recovered, and the line that tells it.
 
-ghost use Rattle.std.specs.Prelude.{◌≡◌, ◌++◌, None, Some, codes, decimal};
+ghost use Rattle.std.specs.Prelude.{◌≡◌, ◌<◌, ◌^◌, ◌++◌, None, Some, IfSome, codes, decimal};
 ghost use Rattle.text_lines.specs.Writing.{Writes};
 ghost use Rattle.ring_check.specs.Names.{kind_name};
+ghost use Rattle.ring_segments.specs.Chain.{line_in};
+ghost use Rattle.ring_segments.specs.Remarks.{lines_in, line_among};
 ghost use Rattle.ring_commands.specs.CheckText.{legal_line};
-ghost use Rattle.ring_commands.specs.Kept.{left_line, bad_after, fault_after};
+ghost use Rattle.ring_commands.specs.Kept.{left_line, bad_in, fault_in};
 
 use crate::check::tell_sums;
 use itoa::Buffer;
 use ring_check::{Kind, Summary};
 use ring_journal::RecoverError;
+use ring_segments::line_among;
 use std::io::Write;
 use text_lines::{WriteFault, put_all};
 
@@ -34,26 +37,34 @@ impl LeftOut {
     }
 }
 
-/// A refusal of a journal after so many lines of its file.
-fn fault_after(lines: u64, fault: RecoverError) -> RecoverError
-    ensures { result ≡ fault_after lines fault }
+/// A refusal of the journal in a text behind so many lines of a file, by its line in the file.
+fn fault_in(before: u64, text: &[u8], fault: RecoverError) -> RecoverError
+    requires { line_among (lines_in text.now) (line_in fault) < 2 ^ 64 }
+    ensures { result ≡ fault_in before (lines_in text.now) fault }
 {
     match fault {
-        RecoverError::Syntax(line) => RecoverError::Syntax(line.saturating_add(lines)),
+        RecoverError::Syntax(line) => {
+            RecoverError::Syntax(line_among(text, line).saturating_add(before))
+        }
         RecoverError::Bad { line, kind } => RecoverError::Bad {
-            line: line.saturating_add(lines),
+            line: line_among(text, line).saturating_add(before),
             kind,
         },
         other => other,
     }
 }
 
-/// The refusal of a journal's bad line, if it has one, after so many lines of its file.
-pub(crate) fn bad_after(lines: u64, bad: Option<RecoverError>) -> Option<RecoverError>
-    ensures { result ≡ bad_after lines bad }
+/// The refusal of a journal's bad line, if it has one, in the same way.
+pub(crate) fn bad_in(
+    before: u64,
+    text: &[u8],
+    bad: Option<RecoverError>,
+) -> Option<RecoverError>
+    requires { IfSome bad (λ e. line_among (lines_in text.now) (line_in e) < 2 ^ 64) }
+    ensures { result ≡ bad_in before (lines_in text.now) bad }
 {
     match bad {
-        Some(fault) => Some(fault_after(lines, fault)),
+        Some(fault) => Some(fault_in(before, text, fault)),
         None => None,
     }
 }

@@ -20,6 +20,7 @@ pub mod lists;
 mod one_line;
 mod outside;
 pub mod picture;
+mod place_remarks;
 pub mod reading;
 pub mod recover;
 pub mod report;

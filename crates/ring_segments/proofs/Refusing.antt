@@ -30,10 +30,13 @@ module _ (bytes : List ℕ) (h : Head) (rest : List ℕ) (fits : HeadFits h) (sp
   journal_refused lines (recovery.Bad m kind) n r l last = record { head = h; rest = rest; fits = fits; spelled = spelled; holds = (m, ap (λ (x : ℕ). line_among (lines_in rest) m + x) n, r) }
   journal_refused lines recovery.OutOfMemory n r l last = tt
 
-  pub line_room : (e : RecoverError) → IsRightRecovery (without_remarks rest) (Err e) → line_among (lines_in rest) (line_in e) + head_lines h ≤ length bytes
-  line_room e r =
-      let within = among_within rest (line_in e) (recovery_within (without_remarks rest) e r) in
+  pub number_room : (m : ℕ) → m ≤ length (without_remarks rest) + 1 → line_among (lines_in rest) m + head_lines h ≤ length bytes
+  number_room m le =
+      let within = among_within rest m le in
       let long = head_long h in
       let all : length bytes ≡ length (head_text h ++ rest) = ap length spelled in
       let cut = length-append (head_text h) rest in
       omega (arith, within, long, all, cut)
+
+  pub line_room : (e : RecoverError) → IsRightRecovery (without_remarks rest) (Err e) → line_among (lines_in rest) (line_in e) + head_lines h ≤ length bytes
+  line_room e r = number_room (line_in e) (recovery_within (without_remarks rest) e r)

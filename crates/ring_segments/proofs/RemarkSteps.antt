@@ -165,6 +165,13 @@ lines_room (line ∷ lines) =
     let all = length-append line (joined lines) in
     omega (arith, one, all)
 
+pub without_within : (text : List ℕ) → length (without_remarks text) ≤ length text
+unfolding without_remarks
+without_within text =
+    let room = lines_room (lines_in text) in
+    let all : length (joined (lines_in text)) ≡ length text = ap length (lines_joined text) in
+    omega (arith, room, all)
+
 -- what is left out of a text has a byte for each remark
 pub among_within : (text : List ℕ) (n : ℕ) → n ≤ length (without_remarks text) + 1 → line_among (lines_in text) n ≤ length text + 1
 unfolding without_remarks

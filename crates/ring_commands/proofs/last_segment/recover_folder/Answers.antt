@@ -1,9 +1,10 @@
 use Rattle.std.proofs.Common.{List, ℕ, inl, inr, refl, sym, subst}
 use Rattle.segment_folder.specs.Names.{segment_file}
 use Rattle.ring_commands.specs.Named.{IsHeld}
-use Rattle.ring_commands.specs.SegmentRecovered.{file_as, IsSegmentHanded, IsSegmentUnhanded}
+use Rattle.ring_commands.specs.SegmentRecovered.{file_as}
 use Rattle.ring_commands.specs.Worlds.{world}
 use Rattle.ring_commands.proofs.Folders.{entered}
+use Rattle.ring_commands.proofs.HandedLines.{handed_same, unhanded_same}
 use Rattle.ring_commands.proofs.last_segment.recover_folder.Goals as goal
 
 pub keep_outside-requires : goal.keep_outside-requires
@@ -29,10 +30,10 @@ returns-in-Ok-hand_out_segment-clause-ok g c early late =
       c.in-Ok.ensures.ok,
       held,
       c.in-Ok-keep_outside.ensures.ok,
-      subst (λ (line : List ℕ). IsSegmentHanded c.args.words.now.new.now (file_as c.as_slice.result.now c.in-Ok-recovered_segment.recovered) line
+      handed_same c.args.words.now.new.now (file_as c.as_slice.result.now c.in-Ok-recovered_segment.recovered) _ _ _ _
           (world (g.D.Disk.holds c.args.disk.now) early (g.W.Write.contents c.args.out.now) (g.E.Write.contents c.args.err.now))
-          (world (g.D.Disk.holds c.hand_out_segment.new.disk) late (g.W.Write.contents c.hand_out_segment.new.out) (g.E.Write.contents c.hand_out_segment.new.err)))
-          c.in-Ok-recovered_segment.ensures.file.1 (c.in-Ok-hand_out_segment.ensures.ok c.as_slice.result.now early late),
+          (world (g.D.Disk.holds c.hand_out_segment.new.disk) late (g.W.Write.contents c.hand_out_segment.new.out) (g.E.Write.contents c.hand_out_segment.new.err))
+          c.in-Ok-recovered_segment.ensures.file.1 c.in-Ok-recovered_segment.ensures.file.2 (c.in-Ok-hand_out_segment.ensures.ok c.as_slice.result.now early late),
     )
 
 pub returns-clause-err : goal.returns-clause-err
@@ -51,10 +52,10 @@ returns-clause-err g c early late =
                 file_as c.as_slice.result.now c.in-Ok-recovered_segment.recovered,
                 c.in-Ok-recovered_segment.ensures.file.0,
                 refl,
-                subst (λ (line : List ℕ). IsSegmentUnhanded c.args.words.now.new.now (file_as c.as_slice.result.now c.in-Ok-recovered_segment.recovered) line
+                unhanded_same c.args.words.now.new.now (file_as c.as_slice.result.now c.in-Ok-recovered_segment.recovered) _ _ _ _
                     (world (g.D.Disk.holds c.args.disk.now) early (g.W.Write.contents c.args.out.now) (g.E.Write.contents c.args.err.now))
-                    (world (g.D.Disk.holds c.hand_out_segment.new.disk) late (g.W.Write.contents c.hand_out_segment.new.out) (g.E.Write.contents c.hand_out_segment.new.err)) c.in-Err-hand_out_segment.fault)
-                    c.in-Ok-recovered_segment.ensures.file.1 (c.in-Err-hand_out_segment.ensures.err c.as_slice.result.now early late),
+                    (world (g.D.Disk.holds c.hand_out_segment.new.disk) late (g.W.Write.contents c.hand_out_segment.new.out) (g.E.Write.contents c.hand_out_segment.new.err)) c.in-Err-hand_out_segment.fault
+                    c.in-Ok-recovered_segment.ensures.file.1 c.in-Ok-recovered_segment.ensures.file.2 (c.in-Err-hand_out_segment.ensures.err c.as_slice.result.now early late),
               )),
         ),
       ),

@@ -1,12 +1,12 @@
 use Rattle.std.proofs.Common.{arith}
 use Rattle.ring_saved.specs.Content.{content}
-use Rattle.ring_commands.proofs.Keeping.{kept_lines, kept_saved}
+use Rattle.ring_commands.proofs.Keeping.{kept_lines_within, kept_saved}
 use Rattle.ring_commands.proofs.recover.kept_with_sums.Goals as goal
 
 pub check_saved-requires : goal.check_saved-requires
 check_saved-requires c =
     let k = c.in_ok-saved.ensures.ok in
-    let few = kept_lines c.args.salvage c.args.bytes.now (content c.in_ok-saved.saved) k.0 c.in_ok-saved.left.bad k.1 in
+    let few = kept_lines_within c.args.salvage c.args.bytes.now (content c.in_ok-saved.saved) k.0 c.in_ok-saved.left.bad k.1 in
     omega (arith, few)
 
 pub returns-in-Ok-clause-saved : goal.returns-in-Ok-clause-saved
