@@ -199,6 +199,25 @@ remarks_then_remarks (line ∷ lines) rest all =
     ∙ remark_then_remarks line (flat_map remark_of lines ++ rest) all.0
     ∙ ap (λ (u : List (List ℕ)). remark_of line ∷ u) (remarks_then_remarks lines rest all.1)
 
+-- remarks alone
+pub nothing_kept : without_remarks [] ≡ []
+unfolding without_remarks lines_in
+nothing_kept = refl
+
+pub no_remarks : remarks_in [] ≡ []
+unfolding remarks_in lines_in
+no_remarks = refl
+
+pub remarks_alone : (lines : List (List ℕ)) → AllByRecursion IsOneLine lines → without_remarks (flat_map remark_of lines) ≡ []
+remarks_alone lines all = ap without_remarks (sym (append-nil (flat_map remark_of lines))) ∙ remarks_then lines [] all ∙ nothing_kept
+
+pub remarks_told : (lines : List (List ℕ)) → AllByRecursion IsOneLine lines → remarks_in (flat_map remark_of lines) ≡ map remark_of lines
+remarks_told lines all =
+    ap remarks_in (sym (append-nil (flat_map remark_of lines)))
+    ∙ remarks_then_remarks lines [] all
+    ∙ ap (λ (u : List (List ℕ)). map remark_of lines ++ u) no_remarks
+    ∙ append-nil (map remark_of lines)
+
 -- a remark that has begun at the end of a text is left out
 pub begun_remark : (begun : List ℕ) → has_line_end begun ≡ false → without_remarks (35 ∷ begun) ≡ []
 unfolding without_remarks
