@@ -12,9 +12,10 @@ use Rattle.disks.specs.Held.{Held}
 use Rattle.line_parts.specs.Limits.{line_limit}
 use Rattle.line_loop.specs.Answering.{IsLine, Answers}
 use Rattle.line_loop.specs.Stands.{Stand, AnsweringWith, by_stand, stand}
+use Rattle.ring_segments.specs.RemarkLaws.{AreLines}
 use Rattle.ring_segments.specs.Remarks.{remark_of, lines_in, remarks_in}
 use Rattle.ring_segments.specs.Spelling.{DigestFits, digest_digits}
-use Rattle.ring_segments.proofs.Remarked.{IsOfLines, HasNoHash, plain_then_remarks, remarks_then_remarks}
+use Rattle.ring_segments.proofs.Remarked.{HasNoHash, plain_then_remarks, remarks_then_remarks}
 use Rattle.line_replica.specs.declared.replica.Replica.{Replica}
 use Rattle.line_replica.specs.Keys.{ToldView, Table, last_of, with_told, turn_by, turn_after, first_line, forgotten_if}
 use Rattle.line_replica.specs.Log.{Numbers, numbers_of, given, given_of, numbers_after}
@@ -272,7 +273,7 @@ record AreBrought (old new : Replica LockService) (was is : Option Held) (lines 
   pub brings : Brings IsServed old new own
   pub remarks : HasNoHash inside → remarks_in noted ≡ map remark_of own
 
-one_tells : (notes more : List ℕ) (own : List (List ℕ)) → IsOfLines notes → HasNoHash notes → AllByRecursion IsLine own → remarks_in ((notes ++ remarks_of own) ++ more) ≡ map remark_of own ++ remarks_in more
+one_tells : (notes more : List ℕ) (own : List (List ℕ)) → AreLines notes → HasNoHash notes → AllByRecursion IsLine own → remarks_in ((notes ++ remarks_of own) ++ more) ≡ map remark_of own ++ remarks_in more
 one_tells notes more own ends none all =
     ap remarks_in (append_assoc notes (remarks_of own) more)
     ∙ (plain_then_remarks notes (remarks_of own ++ more) ends none ∙ remarks_then_remarks own more (all_end_once own all))

@@ -9,7 +9,7 @@ use Rattle.disks.specs.Held.{Held}
 use Rattle.line_loop.specs.Answering.{IsLine, Answers}
 use Rattle.line_loop.specs.Stands.{Stand, by_stand}
 use Rattle.ring_segments.specs.Remarks.{IsEnded}
-use Rattle.ring_segments.proofs.Remarked.{IsOfLines}
+use Rattle.ring_segments.specs.RemarkLaws.{AreLines}
 use Rattle.ring_saved.specs.declared.saved.SavedEvent.{SavedEvent}
 use Rattle.ring_saved.specs.declared.saved.SavedEvent.TheVariants.{Granted, Refused, Member, Corrupted}
 use Rattle.ring_saved.specs.declared.saved.SavedSurvey.{SavedSurvey}
@@ -50,11 +50,11 @@ ends_behind front xs e = (front ++ e.0, ap (λ (u : List ℕ). front ++ u) e.1 �
 pub number_ends : (n : ℕ) → IsEnded (ended n)
 number_ends n = (decimal n, refl)
 
-of_both : (a b : List ℕ) → IsOfLines a → IsOfLines b → IsOfLines (a ++ b)
-of_both a b p (inl e) = subst (λ (u : List ℕ). IsOfLines u) (sym (ap (λ (u : List ℕ). a ++ u) e ∙ append-nil a)) p
+of_both : (a b : List ℕ) → AreLines a → AreLines b → AreLines (a ++ b)
+of_both a b p (inl e) = subst (λ (u : List ℕ). AreLines u) (sym (ap (λ (u : List ℕ). a ++ u) e ∙ append-nil a)) p
 of_both a b p (inr e) = inr (ends_behind a b e)
 
-of_each : {A : Type 0} (line : A → List ℕ) → ((a : A) → IsOfLines (line a)) → (all : List A) → IsOfLines (flat_map line all)
+of_each : {A : Type 0} (line : A → List ℕ) → ((a : A) → AreLines (line a)) → (all : List A) → AreLines (flat_map line all)
 of_each line each [] = inl refl
 of_each line each (a ∷ all) = of_both (line a) (flat_map line all) (each a) (of_each line each all)
 
@@ -87,7 +87,7 @@ answer_ends lock (answer.Stats s) =
     ends_behind (codes "stats ") _ (ends_behind (spaced lock) _ (ends_behind (spaced s.machines) _ (ends_behind (spaced s.waiters) _ (ends_behind (spaced s.passes) (holder_text s.holder) (holder_ends s.holder)))))
 answer_ends lock (answer.Refused why) = refusal_ends lock why
 
-about_lines : (lock : ℕ) (all : List (ℕ × Answer)) → IsOfLines (lines_about lock all)
+about_lines : (lock : ℕ) (all : List (ℕ × Answer)) → AreLines (lines_about lock all)
 about_lines lock [] = inl refl
 about_lines lock ((c, a) ∷ all) = of_both (answer_line c lock a) (lines_about lock all) (inr (ends_behind (spaced c) (answer_text lock a) (answer_ends lock a))) (about_lines lock all)
 
@@ -114,30 +114,30 @@ journal_line_ends r = ends_behind (spaced r.ring) (call_line r.call) (go r.call)
     go (call.Event e) = event_ends e
     go (call.Survey v) = survey_ends v
 
-hold_end_lines : (lock : ℕ) (e : Option HoldEnd) → IsOfLines (end_line lock e)
+hold_end_lines : (lock : ℕ) (e : Option HoldEnd) → AreLines (end_line lock e)
 hold_end_lines lock None = inl refl
 hold_end_lines lock (Some e) = inr (journal_line_ends (line_of_survey lock e.seat e.survey))
 
-events_lines : (lock place : ℕ) (v : Option LockView) → IsOfLines (events_from lock place v)
+events_lines : (lock place : ℕ) (v : Option LockView) → AreLines (events_from lock place v)
 events_lines lock place None = inl refl
 events_lines lock place (Some v) = of_each (λ (e : Event). journal_line (line_of_event lock e)) (λ e. inr (journal_line_ends (line_of_event lock e))) _
 
-note_lines : (lock place : ℕ) (e : Option HoldEnd) (v : Option LockView) → IsOfLines (end_line lock e ++ events_from lock place v)
+note_lines : (lock place : ℕ) (e : Option HoldEnd) (v : Option LockView) → AreLines (end_line lock e ++ events_from lock place v)
 note_lines lock place e v = of_both (end_line lock e) (events_from lock place v) (hold_end_lines lock e) (events_lines lock place v)
 
-noted_if : (b : Bool) (note : List ℕ) → IsOfLines note → IsOfLines (cond b note [])
+noted_if : (b : Bool) (note : List ℕ) → AreLines note → AreLines (cond b note [])
 noted_if true note is = is
 noted_if false note is = inl refl
 
 -- ---- each line
 
 pub record AreOfLines (said noted : List ℕ) : Type 0 where
-  pub told : IsOfLines said
-  pub notes : IsOfLines noted
+  pub told : AreLines said
+  pub notes : AreLines noted
 
 module _ (old new : SegmentView) (said noted : List ℕ) where
-  are : (text note : List ℕ) → said ≡ text → noted ≡ note → IsOfLines text → IsOfLines note → AreOfLines said noted
-  are text note e f p q = record { told = subst (λ (u : List ℕ). IsOfLines u) (sym e) p; notes = subst (λ (u : List ℕ). IsOfLines u) (sym f) q }
+  are : (text note : List ℕ) → said ≡ text → noted ≡ note → AreLines text → AreLines note → AreOfLines said noted
+  are text note e f p q = record { told = subst (λ (u : List ℕ). AreLines u) (sym e) p; notes = subst (λ (u : List ℕ). AreLines u) (sym f) q }
 
   of_told : (strict noting : Bool) (client : ℕ) (x : Option (ℕ × Ask)) → IsTold strict noting client x old said noted new → AreOfLines said noted
   of_told strict noting client None t = are _ _ t.says t.notes (of_each line_of_left (λ l. about_lines l.lock _) t.left) (noted_if noting (notes_of_left new.locks t.left) (of_each (note_of_left new.locks) (λ l. note_lines l.lock l.ended.survey.position (Some l.ended) (slice_get new.locks l.lock)) t.left))
@@ -155,10 +155,10 @@ module _ (old new : SegmentView) (said noted : List ℕ) where
 pub of_lines : (old new : LockService) (was is : Option Held) (line said noted : List ℕ) → IsServed old was line said noted new is → AreOfLines said noted
 of_lines old new was is line said noted s = of_input old.segment new.segment said noted old.terms s.answered.0 s.answered.2
 
-pub notes_of_lines : (old new : Stand LockService) (lines : List (List ℕ)) (said noted : List ℕ) → Answers (by_stand IsServed) old lines said noted new → IsOfLines noted
+pub notes_of_lines : (old new : Stand LockService) (lines : List (List ℕ)) (said noted : List ℕ) → Answers (by_stand IsServed) old lines said noted new → AreLines noted
 notes_of_lines old new [] said noted a = inl a.1
 notes_of_lines old new (line ∷ lines) said noted a =
-    subst (λ (u : List ℕ). IsOfLines u) (sym a.7)
+    subst (λ (u : List ℕ). AreLines u) (sym a.7)
     (of_both a.3 a.4 (of_lines old.service a.0.service old.files a.0.files line a.1 a.3 a.5).notes (notes_of_lines a.0 new lines a.2 a.4 a.8))
 
 -- ---- the first line
@@ -171,6 +171,6 @@ first_ends : (front : List ℕ) → IsLine (first_line (front ++ 10 ∷ []))
 first_ends [] = refl
 first_ends (b ∷ front) = first_by b (front ++ 10 ∷ []) (eqb b 10) refl (first_ends front)
 
-pub first_of_lines : (said : List ℕ) → IsOfLines said → (first_line said ≡ []) ⊎ IsLine (first_line said)
+pub first_of_lines : (said : List ℕ) → AreLines said → (first_line said ≡ []) ⊎ IsLine (first_line said)
 first_of_lines said (inl e) = inl (ap first_line e)
 first_of_lines said (inr e) = inr (subst (λ (u : List ℕ). IsLine (first_line u)) (sym e.1) (first_ends e.0))

@@ -14,9 +14,9 @@ use Rattle.ring_saved.specs.Spelling as saved
 use Rattle.ring_journal.specs.declared.calls.JournalLine.{JournalLine}
 use Rattle.ring_journal.specs.Spelling.{JournalLineFits, head_text, journal_line}
 use Rattle.ring_journal.specs.Recovery.{has_line_end}
-use Rattle.ring_journal.proofs.LineEnds.{EndsOnce}
+use Rattle.ring_segments.specs.RemarkLaws.{IsOneLine, AreLines}
 use Rattle.ring_segments.specs.Remarks.{IsEnded, lines_in, is_remark, without_remarks}
-use Rattle.ring_segments.proofs.Remarked.{IsOfLines, HasNoHash, last_line, plain_then, remarks_then}
+use Rattle.ring_segments.proofs.Remarked.{HasNoHash, last_line, plain_then, remarks_then}
 use Rattle.ring_segments.proofs.Hashless.{no_hash_append, no_hash_call, no_hash_head}
 use Rattle.line_replica.specs.declared.replica.Replica.{Replica}
 use Rattle.line_replica.specs.Keys.{first_line}
@@ -77,19 +77,19 @@ lines_bring since old new was is line said is_line = record {
     forget_word = ((λ e. omega (arith, e)), ((λ e. omega (arith, e)), ((λ e. omega (arith, e)), ((λ e. omega (arith, e)), ((λ e. omega (arith, e)), ((λ e. omega (arith, e)), refl))))))
 
 -- a line ends once
-one_more : (b : ℕ) (line : List ℕ) → eqb b 10 ≡ false → EndsOnce line → EndsOnce (b ∷ line)
-one_more b line e l = record { body = b ∷ l.body; whole = ap (λ (u : List ℕ). b ∷ u) l.whole; none = both (eqb b 10) (has_line_end l.body) e l.none }
+one_more : (b : ℕ) (line : List ℕ) → eqb b 10 ≡ false → IsOneLine line → IsOneLine (b ∷ line)
+one_more b line e l = (b ∷ l.0, ap (λ (u : List ℕ). b ∷ u) l.1, both (eqb b 10) (has_line_end l.0) e l.2)
   where
     both : (x y : Bool) → x ≡ false → y ≡ false → (x || y) ≡ false
     both true y p q = absurd cc
     both false y p q = q
 
-pub ends_once : (line : List ℕ) → IsLine line → EndsOnce line
+pub ends_once : (line : List ℕ) → IsLine line → IsOneLine line
 ends_once [] is = absurd is
-ends_once (b ∷ []) is = record { body = []; whole = ap (λ (x : ℕ). x ∷ []) is; none = refl }
+ends_once (b ∷ []) is = ([], ap (λ (x : ℕ). x ∷ []) is, refl)
 ends_once (b ∷ c ∷ bs) is = one_more b (c ∷ bs) (ne_eqb b 10 is.0) (ends_once (c ∷ bs) is.1)
 
-pub all_end_once : (lines : List (List ℕ)) → AllByRecursion IsLine lines → AllByRecursion EndsOnce lines
+pub all_end_once : (lines : List (List ℕ)) → AllByRecursion IsLine lines → AllByRecursion IsOneLine lines
 all_end_once [] all = tt
 all_end_once (line ∷ lines) all = (ends_once line all.0, all_end_once lines all.1)
 
@@ -115,7 +115,7 @@ no_hash_calls version rings (r ∷ rs) fits = no_hash_append (journal_line r) (f
 -- ---- the notes
 
 -- behind the notes of a line of the service inside come remarks, which go
-one_goes : (notes rest : List ℕ) (own : List (List ℕ)) → IsOfLines notes → HasNoHash notes → AllByRecursion IsLine own → without_remarks ((notes ++ remarks_of own) ++ rest) ≡ notes ++ without_remarks rest
+one_goes : (notes rest : List ℕ) (own : List (List ℕ)) → AreLines notes → HasNoHash notes → AllByRecursion IsLine own → without_remarks ((notes ++ remarks_of own) ++ rest) ≡ notes ++ without_remarks rest
 one_goes notes rest own ends none all =
     ap without_remarks (append_assoc notes (remarks_of own) rest)
     ∙ (plain_then notes (remarks_of own ++ rest) ends none ∙ ap (λ (u : List ℕ). notes ++ u) (remarks_then own rest (all_end_once own all)))
@@ -152,7 +152,7 @@ head_ends c =
     ends_behind (codes "ringjournal 1\n") (text c)
     (ends_behind (saved.first_line c.version) _ (ends_behind (flat_map block_text c.rings) (done_line c.rings_said) (ends_behind (codes "done ") (ended c.rings_said) (number_ends c.rings_said))))
 
-pub begun_ends : (r : Replica LockService) → IsOfLines (begun_text (locks_in r))
+pub begun_ends : (r : Replica LockService) → AreLines (begun_text (locks_in r))
 begun_ends r = inr (head_ends (content_of (locks_in r)))
 
 pub begun_no_hash : (r : Replica LockService) → HaveBegun (locks_in r) → HasNoHash (begun_text (locks_in r))
