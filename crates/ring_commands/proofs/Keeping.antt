@@ -118,8 +118,8 @@ module _ (salvage : Bool) (bytes : List ℕ) (h : Head) (rest : List ℕ) (fits 
   file_kept c many left bad told place kept is same at = (
     record { rest = rest; fits = fits; spelled = spelled; many = many; bad = bad; kept = kept },
     ap (λ (x : Option RecoverError). left_line left x) same
-    ∙ ap (λ (x : ℕ). left_line x (bad_in lines (lines_in rest) bad)) is
-    ∙ ap (λ (x : ℕ). left_line (length (without_remarks rest) - many) (bad_in x (lines_in rest) bad)) n,
+        ∙ ap (λ (x : ℕ). left_line x (bad_in lines (lines_in rest) bad)) is
+        ∙ ap (λ (x : ℕ). left_line (length (without_remarks rest) - many) (bad_in x (lines_in rest) bad)) n,
     at,
   )
 

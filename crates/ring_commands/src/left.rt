@@ -55,11 +55,7 @@ fn fault_in(before: u64, text: &[u8], fault: RecoverError) -> RecoverError
 }
 
 /// The refusal of a journal's bad line, if it has one, in the same way.
-pub(crate) fn bad_in(
-    before: u64,
-    text: &[u8],
-    bad: Option<RecoverError>,
-) -> Option<RecoverError>
+pub(crate) fn bad_in(before: u64, text: &[u8], bad: Option<RecoverError>) -> Option<RecoverError>
     requires { IfSome bad (λ e. line_among (lines_in text.now) (line_in e) < 2 ^ 64) }
     ensures { result ≡ bad_in before (lines_in text.now) bad }
 {
