@@ -75,11 +75,21 @@ def proved(rt, crate, tests):
 
 
 def tried(rt, crate):
-    """Tries the crate's edits; whether each is refused."""
-    outcomes = rt.must_fail_all(crate, rt.edits_of(crate)[0], ["--jobs", "2"])
-    for _, text in outcomes:
-        print(text, flush=True)
-    return all(is_refused for is_refused, _ in outcomes)
+    """Tries the crate's edits, each over what a check of the crate as it stands proves, as the gate does; whether each is refused."""
+    room = rt.seeded(crate, ["--jobs", "2"])
+    if not room:
+        print(f"{crate.name} is not proved")
+        return False
+    outcomes = []
+    try:
+        for number, edit in enumerate(rt.edits_of(crate)[0]):
+            rt.linked(f"{room}/seed", f"{room}/{number}")
+            kind, text = rt.must_fail(crate, edit, ["--jobs", "1"], f"{room}/{number}")
+            outcomes.append(kind in (rt.REFUSED, rt.AT_LIMIT))
+            print(text, flush=True)
+    finally:
+        shutil.rmtree(room, ignore_errors=True)
+    return all(outcomes)
 
 
 def main(what="", *names):

@@ -122,7 +122,7 @@ def said_of(text):
     with tempfile.TemporaryDirectory() as folder:
         journal = os.path.join(folder, "journal.txt")
         with open(journal, "w", encoding="ascii") as file:
-            file.write(text[text.index("ringjournal"):])
+            file.write(journals.without_remarks(text[text.index("ringjournal"):]))
         judged = subprocess.run([sys.executable, os.path.join(TOP, "bench", "small_recover.py"), journal],
                                 capture_output=True, text=True, check=False)
     return next((line for line in judged.stdout.splitlines() if line.startswith("legal ")), judged.stdout[-200:] + judged.stderr)

@@ -18,6 +18,11 @@ def texts(folder):
             yield file.read()
 
 
+def without_remarks(text):
+    """A segment without its remarks: lines that begin with #, of which a last one may be cut off."""
+    return "".join(line for line in text.splitlines(keepends=True) if not line.startswith("#"))
+
+
 def calls(folder):
     """The calls as lines `RING p ..`, `RING s ..`, `RING c ..`: those of a ring in their order, with the numbers of grants counted
     from the first segment on."""
@@ -26,7 +31,7 @@ def calls(folder):
 
 def calls_of(text):
     """The calls of a segment."""
-    lines = text.split("\n")[:-1]
+    lines = without_remarks(text).split("\n")[:-1]
     done = next(i for i, line in enumerate(lines) if line.startswith("done "))
     grants = [int(line.split()[2]) for line in lines[:done] if line.startswith("base ")]
     found = list(history(lines[:done])) + lines[done + 1:]

@@ -3,9 +3,7 @@
 use crate::segments::{FIRST, FIRST_DIGEST, NONE, changed, digits_of};
 use ring_check::Kind;
 use ring_saved::{SavedEvent, SavedSurvey};
-use ring_segments::{
-    Chain, SegmentError, has_remark, line_among, put_remark, read_segment, without_remarks,
-};
+use ring_segments::{Chain, SegmentError, has_remark, put_remark, read_segment, without_remarks};
 use std::test::Fail;
 
 const REMARKED: &str = "ringsegment 1 1 2\n\
@@ -39,9 +37,6 @@ fn remarks_are_left_out(rt: HostRuntime) -> Result<(), Fail> {
     assert!(rt; has_remark(REMARKED.as_bytes()) && !has_remark(FIRST.as_bytes()));
     let kept = without_remarks(rt.alloc(), REMARKED.as_bytes())?;
     assert!(rt; kept.as_slice() == FIRST.as_bytes());
-    assert!(rt; line_among(REMARKED.as_bytes(), 13) == 13);
-    assert!(rt; line_among(REMARKED.as_bytes(), 14) == 16);
-    assert!(rt; line_among(REMARKED.as_bytes(), 18) == 22);
     let mut text = Vec::new(rt.alloc());
     put_remark(b"8 1 forget\n", &mut text)?;
     assert!(rt; text.as_slice() == b"# 8 1 forget\n".as_slice());
@@ -122,7 +117,8 @@ fn a_remark_may_be_cut_in_the_last_file_alone(rt: HostRuntime) -> Result<(), Fai
         let Ok(segment) = read_segment(rt.alloc(), &bytes) else {
             panic!(rt; "refused");
         };
-        assert!(rt; !segment.whole && segment.saved.rings[1].events.len() == 3);
+        let rings = &segment.saved.rings;
+        assert!(rt; !segment.whole && rings.len() == 2 && rings[1].events.len() == 3);
         let mut chain = Chain::new();
         let added = chain.add(rt.alloc(), &bytes, false);
         assert!(rt; matches!(added, Err(SegmentError::Unfinished)));

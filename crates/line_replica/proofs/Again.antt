@@ -1,5 +1,5 @@
 -- A line that is sent again is told the first line of its first answer.
-use Rattle.std.proofs.Common.{◌≡◌, ◌≢◌, ℕ, Bool, true, false, cond, List, [], ◌∷◌, Option, Some, None, inl, inr, refl, ap, sym, subst, ◌∙◌}
+use Rattle.std.proofs.Common.{◌≡◌, ◌≢◌, ℕ, Bool, true, false, cond, List, [], ◌∷◌, Option, Some, None, refl, ap, sym, subst, ◌∙◌}
 use Rattle.std.specs.List.{AllByRecursion}
 use Rattle.std.specs.Option.{option_map}
 use Rattle.std.specs.Cmp.{nat_cmp_is}
@@ -14,8 +14,8 @@ use Rattle.line_replica.specs.declared.numbered.Numbered.{Numbered}
 use Rattle.line_replica.specs.declared.replica.Replica.{Replica}
 use Rattle.line_replica.specs.Keys.{ToldView, Table, told_of, forgotten_if, first_line, first_of, turn_by, turn_after}
 use Rattle.line_replica.specs.Laws.{IsTagged, IsNotOf, IsToldAgain, IsAnsweredAsBefore}
-use Rattle.line_replica.specs.Reading.{Heard, Tagged, Place, Digest, Plain, heard, did_at, is_forget, kept_text}
-use Rattle.line_replica.specs.Replies.{IsTold, IsPassedOn, IsReplied, IsHeard, IsAnsweredOnce, IsTagTaken, turn_of}
+use Rattle.line_replica.specs.Reading.{Heard, Tagged, Place, Digest, Plain, heard, did_at, is_forget}
+use Rattle.line_replica.specs.Replies.{IsTold, IsReplied, IsHeard, IsAnsweredOnce, IsTagTaken, turn_of, forget_note}
 use Rattle.line_replica.proofs.Entries.{told_other, told_same, told_without}
 use Rattle.line_replica.proofs.Given.{whole_line, whole_at}
 
@@ -33,7 +33,7 @@ module _ {S : Type 0} (A : AnsweringWith S) where
     by_turn (turn.Past last) tag input ne t = ap (λ (t : Table). told_of t key) t.keys_are
 
     by_word : (forgets : Bool) (tag : Tag) (rest : List ℕ) → key ≢ tag.key →
-        cond forgets (IsTold [] (forgotten_if (turn_of old.keys tag) old.keys tag.key) old was said noted new is) (IsAnsweredOnce A (turn_of old.keys tag) tag old was rest said noted new is) → told_of new.keys key ≡ told_of old.keys key
+        cond forgets (IsTold [] (forgotten_if (turn_of old.keys tag) old.keys tag.key) (forget_note (turn_of old.keys tag) tag) old was said noted new is) (IsAnsweredOnce A (turn_of old.keys tag) tag old was rest said noted new is) → told_of new.keys key ≡ told_of old.keys key
     by_word true tag rest ne t = ap (λ (t : Table). told_of t key) t.keys_are ∙ forgotten (turn_of old.keys tag) old.keys tag.key ne
     by_word false tag rest ne a = by_turn (turn_of old.keys tag) tag rest ne a
 
@@ -61,7 +61,7 @@ module _ {S : Type 0} (A : AnsweringWith S) where
   once old new was is tag line said noted t r whole =
       let h : IsHeard A (Tagged tag t.rest) old was line said noted new is = subst (λ (h : Heard). IsHeard A h old was line said noted new is) t.tagged (whole_line A old new was is line said noted r whole) in
       let word : IsTagTaken A None tag old.numbered was t.rest said noted new.numbered is = subst (λ (d : Option (List ℕ)). IsTagTaken A d tag old.numbered was t.rest said noted new.numbered is) t.no_word h.numbered in
-      subst (λ (b : Bool). cond b (IsTold [] (forgotten_if (turn_of old.numbered.keys tag) old.numbered.keys tag.key) old.numbered was said noted new.numbered is) (IsAnsweredOnce A (turn_of old.numbered.keys tag) tag old.numbered was t.rest said noted new.numbered is)) t.kept word
+      subst (λ (b : Bool). cond b (IsTold [] (forgotten_if (turn_of old.numbered.keys tag) old.numbered.keys tag.key) (forget_note (turn_of old.numbered.keys tag) tag) old.numbered was said noted new.numbered is) (IsAnsweredOnce A (turn_of old.numbered.keys tag) tag old.numbered was t.rest said noted new.numbered is)) t.kept word
 
   done : (old new : Numbered S) (was is : Option Held) (tag : Tag) (input said noted : List ℕ) → IsAnsweredOnce A turn.Fresh tag old was input said noted new is → told_of new.keys tag.key ≡ Some (record { number = tag.number; first = first_line said })
   done old new was is tag input said noted p = ap (λ (t : Table). told_of t tag.key) p.keys_are ∙ told_same old.keys tag.key _

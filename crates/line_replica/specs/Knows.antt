@@ -9,9 +9,9 @@ use Rattle.line_replica.specs.declared.keys.Turn.TheVariants as turn
 use Rattle.line_replica.specs.declared.reading.Tag.{Tag}
 use Rattle.line_replica.specs.declared.numbered.Numbered.{Numbered}
 use Rattle.line_replica.specs.declared.replica.Replica.{Replica}
-use Rattle.line_replica.specs.Keys.{Table, forgotten_if}
+use Rattle.line_replica.specs.Keys.{forgotten_if}
 use Rattle.line_replica.specs.Reading.{Heard, Tagged, Place, Digest, Plain, heard, did_at, is_forget}
-use Rattle.line_replica.specs.Replies.{IsTold, IsPassedOn, IsLost, IsReplied, IsHeard, IsWhole, IsAnsweredOnce, IsAnsweredOrNot, IsTagTaken, input_of, turn_of}
+use Rattle.line_replica.specs.Replies.{IsTold, IsLost, IsReplied, IsHeard, IsWhole, IsAnsweredOnce, IsAnsweredOrNot, IsTagTaken, input_of, turn_of, forget_note}
 
 module _ {S : Type 0} (A : AnsweringWith S) (keeps : KeepsKnown A) (was is : Option Held) (said noted : List ℕ) (some : IsSome was) where
   same : is ≡ was → IsSome is
@@ -23,11 +23,11 @@ module _ {S : Type 0} (A : AnsweringWith S) (keeps : KeepsKnown A) (was is : Opt
 
   module _ (old new : Numbered S) where
     at_turn : (r : Turn) (tag : Tag) (input : List ℕ) → IsAnsweredOnce A r tag old was input said noted new is → IsSome is
-    at_turn turn.Fresh tag input p = keeps old.inner new.inner was is input said noted p.answered some
+    at_turn turn.Fresh tag input p = keeps old.inner new.inner was is input said p.inside p.answered some
     at_turn turn.Again tag input t = same t.files
     at_turn (turn.Past last) tag input t = same t.files
 
-    at_word : (b : Bool) (tag : Tag) (rest : List ℕ) → cond b (IsTold [] (forgotten_if (turn_of old.keys tag) old.keys tag.key) old was said noted new is) (IsAnsweredOnce A (turn_of old.keys tag) tag old was rest said noted new is) → IsSome is
+    at_word : (b : Bool) (tag : Tag) (rest : List ℕ) → cond b (IsTold [] (forgotten_if (turn_of old.keys tag) old.keys tag.key) (forget_note (turn_of old.keys tag) tag) old was said noted new is) (IsAnsweredOnce A (turn_of old.keys tag) tag old was rest said noted new is) → IsSome is
     at_word true tag rest t = same t.files
     at_word false tag rest a = at_turn (turn_of old.keys tag) tag rest a
 

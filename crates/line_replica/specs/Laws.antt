@@ -9,19 +9,24 @@ use Rattle.line_replica.specs.declared.reading.Tag.{Tag}
 use Rattle.line_replica.specs.declared.replica.Replica.{Replica}
 use Rattle.line_replica.specs.Keys.{told_of, first_line}
 use Rattle.line_replica.specs.Log.{given, numbers_of}
+use Rattle.line_replica.specs.Noted.{IsOwn, AreGiven}
 use Rattle.line_replica.specs.Reading.{Tagged, heard, did_at, is_forget}
 use Rattle.line_replica.specs.Replies.{IsReplied, turn_of}
 
 -- A log with lines that were sent again has the history of the log without them: the service inside
--- has answered those lines that it got, one after the other, with the same notes.
+-- has answered those lines that it got, one after the other. The notes of each are noted, and behind
+-- them nothing but remarks.
 abbrev pub HasTheHistoryWithoutThem : {S : Type 0} → AnsweringWith S → Type 0
 HasTheHistoryWithoutThem A =
     (old new : Replica _) (was is : Option Held) (lines : List (List ℕ)) (said noted : List ℕ)
     → Answers (by_stand (IsReplied A)) (stand old was) lines said noted (stand new is)
     → new.lost ≡ false
     → (told : List ℕ)
-    × Answers (by_stand A) (stand old.numbered.inner was) (given (numbers_of old.numbered.keys) lines) told noted
-    (stand new.numbered.inner is)
+    × (inside : List ℕ)
+    × Answers (by_stand A) (stand old.numbered.inner was)
+    (given (numbers_of old.numbered.keys) lines) told inside (stand new.numbered.inner is)
+    × AreGiven A IsOwn (numbers_of old.numbered.keys) (stand old.numbered.inner was) lines inside
+    noted (stand new.numbered.inner is)
 
 -- the lines are some and a last one, whose answer was lost: nothing is told of it
 abbrev pub LosesLast : {S : Type 0} → AnsweringWith S → Replica S → Option Held

@@ -6,6 +6,7 @@ pub mod Starts
 pub mod Segmented
 pub mod Knows
 pub mod Log
+pub mod Noted
 pub mod Laws
 pub mod State
 pub mod Restoring

@@ -4,6 +4,7 @@ use Rattle.text_lines.specs.Spelling.{spaced, ended}
 use Rattle.disks.specs.Held.{Held}
 use Rattle.line_loop.specs.declared.pending.Pending.{Pending}
 use Rattle.line_loop.specs.Stands.{AnsweringWith}
+use Rattle.ring_segments.specs.Remarks.{remark_of}
 use Rattle.line_replica.specs.declared.keys.Turn.{Turn}
 use Rattle.line_replica.specs.declared.keys.Turn.TheVariants as turn
 use Rattle.line_replica.specs.declared.reading.Tag.{Tag}
@@ -11,23 +12,33 @@ use Rattle.line_replica.specs.declared.numbered.Numbered.{Numbered}
 use Rattle.line_replica.specs.declared.replica.Replica.{Replica}
 use Rattle.line_replica.specs.Keys.{Table, told_of, last_of, with_told, turn_after, first_of, first_line, forgotten_if}
 use Rattle.line_replica.specs.Reading.{Heard, Tagged, Place, Digest, Plain, heard, did_at, is_forget, kept_text}
-use Rattle.line_replica.specs.Running.{RunningView, with_said, next_of, at_place, place_line}
+use Rattle.line_replica.specs.Running.{with_said, next_of, at_place, place_line}
+use Rattle.line_replica.specs.State.{kept_line, forget_line}
 
--- nothing happens but that this is told, and this is kept of keys
-pub record IsTold {S : Type 0} (text : List ℕ) (keys : Table) (old : Numbered S)
+-- nothing happens but that this is told, this is kept of keys, and this is noted
+pub record IsTold {S : Type 0} (text : List ℕ) (keys : Table) (note : List ℕ) (old : Numbered S)
     (was : Option Held) (said noted : List ℕ) (new : Numbered S) (is : Option Held) : Type 0 where
   pub says : said ≡ text
-  pub notes : noted ≡ []
+  pub notes : noted ≡ note
   pub inner : new.inner ≡ old.inner
   pub keys_are : new.keys ≡ keys
   pub files : is ≡ was
 
--- the service inside answers, and its answer is told; this is kept of keys then
-pub record IsPassedOn {S : Type 0} (A : AnsweringWith S) (keys : List ℕ → Table)
-    (old : Numbered S) (was : Option Held) (line said noted : List ℕ) (new : Numbered S)
-    (is : Option Held) : Type 0 where
+-- the service inside answers, and its answer is told
+pub record IsPassedOn {S : Type 0} (A : AnsweringWith S) (old : Numbered S) (was : Option Held)
+    (line said noted : List ℕ) (new : Numbered S) (is : Option Held) : Type 0 where
   pub answered : A old.inner was line said noted new.inner is
-  pub keys_are : new.keys ≡ keys said
+  pub keys_are : new.keys ≡ old.keys
+
+-- The service inside answers, and its answer is told. The first line of it is kept of the key, and
+-- the remark of the key's line is noted behind the notes of the service inside.
+pub record IsDone {S : Type 0} (A : AnsweringWith S) (tag : Tag) (old : Numbered S)
+    (was : Option Held) (input said noted : List ℕ) (new : Numbered S) (is : Option Held) : Type 0
+  where
+    pub inside : List ℕ
+    pub answered : A old.inner was input said inside new.inner is
+    pub notes : noted ≡ inside ++ remark_of (kept_line tag (first_line said))
+    pub keys_are : new.keys ≡ with_told old.keys tag.key tag.number (first_line said)
 
 -- the last number of a key is above this one
 abbrev pub past_line : ℕ → ℕ → List ℕ
@@ -38,24 +49,30 @@ past_line key last = spaced key ++ (codes "refused past " ++ ended last)
 abbrev pub IsAnsweredOnce : {S : Type 0} → AnsweringWith S → Turn → Tag → Numbered S
     → Option Held → List ℕ → List ℕ → List ℕ → Numbered S → Option Held → Type 0
 IsAnsweredOnce A turn.Fresh tag old was input said noted new is =
-    IsPassedOn A (λ s. with_told old.keys tag.key tag.number (first_line s)) old was input said
-    noted new is
+    IsDone A tag old was input said noted new is
 IsAnsweredOnce A turn.Again tag old was input said noted new is =
-    IsTold (first_of (told_of old.keys tag.key)) old.keys old was said noted new is
+    IsTold (first_of (told_of old.keys tag.key)) old.keys [] old was said noted new is
 IsAnsweredOnce A (turn.Past last) tag old was input said noted new is =
-    IsTold (past_line tag.key last) old.keys old was said noted new is
+    IsTold (past_line tag.key last) old.keys [] old was said noted new is
 
 abbrev pub turn_of : Table → Tag → Turn
 turn_of keys tag = turn_after (last_of keys tag.key) tag.number
+
+-- the remark that a key is forgotten, if its last number is this one
+abbrev pub forget_note : Turn → Tag → List ℕ
+forget_note turn.Again tag = remark_of (forget_line tag)
+forget_note _ tag = []
 
 -- what is kept of keys, with no answer, after a line that says it
 abbrev pub IsTagTaken : {S : Type 0} → AnsweringWith S → Option (List ℕ) → Tag → Numbered S
     → Option Held → List ℕ → List ℕ → List ℕ → Numbered S → Option Held → Type 0
 IsTagTaken A (Some text) tag old was rest said noted new is =
-    IsTold [] (with_told old.keys tag.key tag.number (kept_text text)) old was said noted new is
+    IsTold [] (with_told old.keys tag.key tag.number (kept_text text))
+    (remark_of (kept_line tag (kept_text text))) old was said noted new is
 IsTagTaken A None tag old was rest said noted new is =
     cond (is_forget rest)
-    (IsTold [] (forgotten_if (turn_of old.keys tag) old.keys tag.key) old was said noted new is)
+    (IsTold [] (forgotten_if (turn_of old.keys tag) old.keys tag.key)
+    (forget_note (turn_of old.keys tag) tag) old was said noted new is)
     (IsAnsweredOnce A (turn_of old.keys tag) tag old was rest said noted new is)
 
 -- ---- the replica
@@ -66,11 +83,11 @@ pub record IsTakenIn {S : Type 0} (answered : Numbered S → Numbered S → Type
   pub numbered : answered old.numbered new.numbered
   pub running : new.running ≡ with_said old.running said
 
--- a place in the log has this digest
+-- a place in the log has this digest, and the remark of its line is noted
 pub record IsPlaced {S : Type 0} (place : ℕ) (digest text : List ℕ) (old : Replica S)
     (was : Option Held) (said noted : List ℕ) (new : Replica S) (is : Option Held) : Type 0 where
   pub says : said ≡ text
-  pub notes : noted ≡ []
+  pub notes : noted ≡ remark_of (place_line place digest)
   pub numbered : new.numbered ≡ old.numbered
   pub running : new.running ≡ at_place place digest
   pub files : is ≡ was
@@ -90,7 +107,7 @@ IsHeard A (Digest place digest) old was line said noted new is =
     IsPlaced place digest [] old was said noted new is
 IsHeard A Plain old was line said noted new is =
     IsTakenIn
-    (λ (a b : Numbered _). IsPassedOn A (λ _. a.keys) a was line said noted b is)
+    (λ (a b : Numbered _). IsPassedOn A a was line said noted b is)
     said old new
 
 -- what the service inside may be given of a line

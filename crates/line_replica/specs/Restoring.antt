@@ -1,12 +1,12 @@
 -- How what tells its state lives in segments; and a line that is too long asks no state (this
 -- project's own).
-use Rattle.std.proofs.Common.{◌≡◌, ℕ, ◌<◌, Bool, true, false, cond, List, Option, length, subst, sym, ap, ◌∙◌}
+use Rattle.std.proofs.Common.{◌≡◌, ℕ, ◌<◌, Bool, true, false, cond, List, Option, length, subst, sym, ap}
 use Rattle.std.proofs.lemmas.Bool.{lt-ltb}
 use Rattle.std.specs.Prelude.{codes, IsSome}
 use Rattle.text_lines.specs.Reading.{word_at}
 use Rattle.line_parts.specs.Limits.{line_limit}
 use Rattle.line_loop.specs.Answering.{cut, IsByStart}
-use Rattle.line_loop.specs.Stands.{Stand, AnsweringWith, by_stand, stand}
+use Rattle.line_loop.specs.Stands.{AnsweringWith, by_stand, stand}
 use Rattle.disks.specs.Held.{Held}
 use Rattle.segment_loop.specs.Segmenting.{Segmenting, KeepsKnown}
 use Rattle.line_replica.specs.declared.restorable.Restorable.{Restorable}

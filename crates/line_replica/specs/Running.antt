@@ -1,5 +1,5 @@
 -- The running digest of all that is told (this project's own).
-use Rattle.std.specs.Prelude.{ℕ, List, [], ◌∷◌, ◌++◌, codes, Option, None, Some}
+use Rattle.std.specs.Prelude.{ℕ, List, [], ◌∷◌, ◌++◌, codes}
 use Rattle.text_lines.specs.Spelling.{spaced}
 use Rattle.ring_segments.specs.Spelling.{digest_of, no_digest}
 

@@ -1,5 +1,5 @@
 -- A line that is too long is answered as its start is: inside.
-use Rattle.std.proofs.Common.{◌≡◌, ℕ, ◌+◌, ◌<◌, List, length, take, cond, inl, inr, ◌⊎◌, subst, sym, ap, ◌∙◌, arith}
+use Rattle.std.proofs.Common.{◌≡◌, ℕ, ◌+◌, ◌<◌, List, length, take, cond, inl, inr, ◌⊎◌, subst, sym, ap, arith}
 use Rattle.std.proofs.lemmas.Bool.{lt-ltb}
 use Rattle.std.proofs.lemmas.List.{length-take}
 use Rattle.line_parts.specs.Limits.{line_limit}

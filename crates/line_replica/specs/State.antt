@@ -1,17 +1,20 @@
 -- The lines that bring a replica back (this project's own).
-use Rattle.std.specs.Prelude.{◌≡◌, ℕ, Bool, true, false, cond, nat_lt, List, [], ◌∷◌, ◌++◌, length, map, take, Option, codes}
+use Rattle.std.specs.Prelude.{◌≡◌, ℕ, Bool, false, cond, nat_lt, List, [], ◌∷◌, ◌++◌, length, map, take, Option, codes}
+use Rattle.std.specs.List.{flat_map}
 use Rattle.text_lines.specs.Spelling.{spaced, ended}
 use Rattle.text_lines.specs.Reading.{word_at}
 use Rattle.disks.specs.Held.{Held}
 use Rattle.line_parts.specs.Limits.{line_limit}
 use Rattle.line_loop.specs.Answering.{joined_lines}
 use Rattle.line_loop.specs.Stands.{AnsweringWith}
+use Rattle.ring_segments.specs.Remarks.{remark_of}
 use Rattle.ring_segments.specs.Spelling.{digest_digits}
+use Rattle.line_replica.specs.declared.reading.Tag.{Tag}
 use Rattle.line_replica.specs.declared.replica.Replica.{Replica}
 use Rattle.line_replica.specs.declared.restorable.Restorable.{Restorable}
 use Rattle.line_replica.specs.Keys.{ToldView, Table}
 use Rattle.line_replica.specs.Reading.{on_read, is_none_left}
-use Rattle.line_replica.specs.Running.{RunningView, place_line}
+use Rattle.line_replica.specs.Running.{place_line}
 
 -- the line of a key: its last number, and the first line of its answer
 abbrev pub did_text : List ℕ → List ℕ
@@ -29,11 +32,27 @@ abbrev pub lines_at : ℕ → List ℕ → List (List ℕ)
 lines_at place [] = []
 lines_at place (b ∷ bs) = place_line place (take digest_digits (b ∷ bs)) ∷ []
 
--- the lines of the service inside, and those of the keys, rising, and of the last place
+-- the lines of a replica's own state: those of its keys, rising, and of its last place
+abbrev pub own_lines : {S : Type 0} → Replica S → List (List ℕ)
+own_lines r = key_lines r.numbered.keys ++ lines_at r.running.place r.running.since
+
+-- the lines of the service inside, and the replica's own
 abbrev pub lines_of : {S : Type 0} → (S → List (List ℕ)) → Replica S → List (List ℕ)
-lines_of inner r =
-    inner r.numbered.inner
-    ++ (key_lines r.numbered.keys ++ lines_at r.running.place r.running.since)
+lines_of inner r = inner r.numbered.inner ++ own_lines r
+
+-- ---- the lines of what has changed, and their remarks
+
+-- this number is the last of the key, with this first line
+abbrev pub kept_line : Tag → List ℕ → List ℕ
+kept_line tag first = key_line (tag.key, record { number = tag.number; first = first })
+
+-- nothing is kept of the key any more
+abbrev pub forget_line : Tag → List ℕ
+forget_line tag = spaced tag.key ++ (spaced tag.number ++ codes "forget\n")
+
+-- the remarks of these lines, one after the other
+abbrev pub remarks_of : List (List ℕ) → List ℕ
+remarks_of lines = flat_map remark_of lines
 
 -- ---- how the state is told
 

@@ -2,12 +2,15 @@
 
 ghost use Rattle.std.specs.Prelude.{◌≡◌, ◌++◌, ◌<◌, ◌^◌, [], length, OnOk, OnErr, IfOk};
 ghost use Rattle.line_loop.specs.Answering.{joined_lines};
-ghost use Rattle.line_replica.specs.State.{key_line, key_lines};
+ghost use Rattle.ring_segments.specs.Remarks.{remark_of};
+ghost use Rattle.line_replica.specs.State.{key_line, key_lines, kept_line, forget_line, remarks_of};
 ghost use Rattle.std.specs.Ordering.{nat_cmp};
 ghost use Rattle.line_replica.specs.Keys.{told_of, last_of, with_told, without, turn_by, turn_after, first_of, first_line, forgotten_if};
+ghost use Rattle.line_replica.specs.Replies.{forget_note};
 
 use crate::reading::Tag;
 use line_parts::put_word;
+use ring_segments::put_remark;
 use std::alloc::{AllocError, Global};
 use std::cmp::Ordering;
 use std::collections::BTreeMap;
@@ -89,23 +92,27 @@ fn turn_by(number: u64, last: u64) -> Turn
     }
 }
 
-/// Adds the line of a key.
-fn put_key(key: u64, told: &Told, text: &mut Vec<u8>) -> Result<(), AllocError>
-    ensures { OnOk result (text.new.items ≡ text.old.items ++ key_line (key, told.now)) }
+/// Adds the line of a key, with this last number and first line.
+fn put_key(tag: Tag, first: &[u8], text: &mut Vec<u8>) -> Result<(), AllocError>
+    ensures { OnOk result (text.new.items ≡ text.old.items ++ kept_line tag first.now) }
 {
     let mut line = Line::new();
     put_word(&mut line, b"did ");
     line.byte(b' ');
-    line.number(told.number);
+    line.number(tag.number);
     line.byte(b' ');
-    line.number(key);
+    line.number(tag.key);
     text.extend_from_slice(line.as_bytes())?;
-    let first: &[u8] = if told.first.is_empty() {
-        b"\n"
-    } else {
-        &told.first
-    };
+    let first: &[u8] = if first.is_empty() { b"\n" } else { first };
     text.extend_from_slice(first)
+}
+
+/// Adds the line of a key, with what is kept of it.
+fn put_told(key: u64, told: &Told, text: &mut Vec<u8>) -> Result<(), AllocError>
+    ensures { OnOk result (text.new.items ≡ text.old.items ++ key_line (key, told.now)) }
+{
+    let number = told.number;
+    put_key(Tag { key, number }, &told.first, text)
 }
 
 /// Adds the lines of all keys.
@@ -114,12 +121,64 @@ fn put_keys(keys: &BTreeMap<u64, Told>, text: &mut Vec<u8>) -> Result<(), AllocE
         ≡ text.old.items ++ joined_lines (key_lines keys.now.entries)) }
 {
     for (key, told) in keys {
-        match put_key(*key, told, text) {
+        match put_told(*key, told, text) {
             Ok(()) => {}
             Err(AllocError) => return Err(AllocError),
         }
     }
     Ok(())
+}
+
+/// Adds the remark that this number is the last of its key, with this first line.
+fn note_key(alloc: Global, tag: Tag, first: &[u8], notes: &mut Vec<u8>) -> Result<(), AllocError>
+    ensures { OnOk result (notes.new.items
+        ≡ notes.old.items ++ remark_of (kept_line tag first.now)) }
+{
+    let mut line = Vec::new(alloc);
+    match put_key(tag, first, &mut line) {
+        Ok(()) => put_remark(&line, notes),
+        Err(AllocError) => Err(AllocError),
+    }
+}
+
+/// Adds the remark of the line of a key, with what is kept of it.
+fn note_told(alloc: Global, key: u64, told: &Told, text: &mut Vec<u8>) -> Result<(), AllocError>
+    ensures { OnOk result (text.new.items
+        ≡ text.old.items ++ remark_of (key_line (key, told.now))) }
+{
+    let number = told.number;
+    note_key(alloc, Tag { key, number }, &told.first, text)
+}
+
+/// Adds the remarks of the lines of all keys.
+fn note_keys(
+    alloc: Global,
+    keys: &BTreeMap<u64, Told>,
+    text: &mut Vec<u8>,
+) -> Result<(), AllocError>
+    ensures { OnOk result (text.new.items
+        ≡ text.old.items ++ remarks_of (key_lines keys.now.entries)) }
+{
+    for (key, told) in keys {
+        match note_told(alloc, *key, told, text) {
+            Ok(()) => {}
+            Err(AllocError) => return Err(AllocError),
+        }
+    }
+    Ok(())
+}
+
+/// Adds the remark that nothing is kept of a key any more.
+fn note_forgotten(tag: Tag, notes: &mut Vec<u8>) -> Result<(), AllocError>
+    ensures { OnOk result (notes.new.items ≡ notes.old.items ++ remark_of (forget_line tag)) }
+{
+    let mut line = Line::new();
+    put_word(&mut line, b"forget\n");
+    line.byte(b' ');
+    line.number(tag.number);
+    line.byte(b' ');
+    line.number(tag.key);
+    put_remark(line.as_bytes(), notes)
 }
 
 impl Keys {
@@ -134,6 +193,14 @@ impl Keys {
             Ok(()) => Ok(self.told.len() as u64),
             Err(AllocError) => Err(AllocError),
         }
+    }
+
+    /// Adds the remarks of the lines of all keys.
+    pub(crate) fn note(&self, text: &mut Vec<u8>) -> Result<(), AllocError>
+        ensures { OnOk result (text.new.items
+            ≡ text.old.items ++ remarks_of (key_lines self.now)) }
+    {
+        note_keys(self.alloc, &self.told, text)
     }
 
     /// No key.
@@ -167,10 +234,24 @@ impl Keys {
         }
     }
 
-    /// Keeps this number as the last of its key, with this first line.
-    pub(crate) fn keep(&mut self, tag: Tag, first: &[u8]) -> Result<(), AllocError>
+    /// Keeps this number as the last of its key, with this first line, and notes it.
+    pub(crate) fn keep(
+        &mut self,
+        tag: Tag,
+        first: &[u8],
+        notes: &mut Vec<u8>,
+    ) -> Result<(), AllocError>
+        ensures ok { OnOk result ((self.new ≡ with_told self.old tag.key tag.number first.now)
+            × (notes.new.items ≡ notes.old.items ++ remark_of (kept_line tag first.now))) }
+    {
+        match note_key(self.alloc, tag, first, notes) {
+            Ok(()) => self.insert(tag, first),
+            Err(AllocError) => Err(AllocError),
+        }
+    }
+
+    fn insert(&mut self, tag: Tag, first: &[u8]) -> Result<(), AllocError>
         ensures ok { OnOk result (self.new ≡ with_told self.old tag.key tag.number first.now) }
-        ensures err { OnErr result (self.new ≡ self.old) }
     {
         let mut kept = Vec::new(self.alloc);
         kept.extend_from_slice(first)?;
@@ -184,21 +265,25 @@ impl Keys {
         }
     }
 
-    /// Keeps nothing of a key whose last number is this one.
-    pub(crate) fn forget(&mut self, tag: Tag)
-        ensures { self.new
-            ≡ forgotten_if (turn_after (last_of self.old tag.key) tag.number) self.old tag.key }
+    /// Keeps nothing of a key whose last number is this one, and notes it.
+    pub(crate) fn forget(&mut self, tag: Tag, notes: &mut Vec<u8>) -> Result<(), AllocError>
+        ensures ok { OnOk result ((self.new
+            ≡ forgotten_if (turn_after (last_of self.old tag.key) tag.number) self.old tag.key)
+            × (notes.new.items ≡ notes.old.items
+            ++ forget_note (turn_after (last_of self.old tag.key) tag.number) tag)) }
     {
         match self.turn(tag) {
-            Turn::Again => self.remove(tag.key),
-            Turn::Fresh | Turn::Past { .. } => {}
+            Turn::Again => self.remove(tag, notes),
+            Turn::Fresh | Turn::Past { .. } => Ok(()),
         }
     }
 
-    fn remove(&mut self, key: u64)
-        ensures { self.new ≡ without self.old key }
+    fn remove(&mut self, tag: Tag, notes: &mut Vec<u8>) -> Result<(), AllocError>
+        ensures ok { OnOk result ((self.new ≡ without self.old tag.key)
+            × (notes.new.items ≡ notes.old.items ++ remark_of (forget_line tag))) }
     {
-        self.told.remove(&key);
+        self.told.remove(&tag.key);
+        note_forgotten(tag, notes)
     }
 
     /// The same keys.

@@ -33,7 +33,7 @@ fn answer_untagged<S: AnswersLines, D: Disk>(
     match place(line) {
         Some(place) => tell_place(replica, place, pending),
         None => match place_with_digest(line) {
-            Some((place, digest)) => set_place(replica, place, digest),
+            Some((place, digest)) => set_place(replica, place, digest, pending),
             None => answer_plain(replica, disk, line, pending),
         },
     }

@@ -1,9 +1,8 @@
 //! A service with what is kept of keys: what has a number is answered once.
 
 ghost use Rattle.std.specs.Prelude.{◌≡◌, ◌++◌, ◌≤◌, List, ℕ, [], false, length, codes, OnOk, OnErr};
-ghost use Rattle.line_replica.specs.Keys.{with_told, first_line};
 ghost use Rattle.line_replica.specs.Reading.{did_at};
-ghost use Rattle.line_replica.specs.Replies.{IsPassedOn, IsAnsweredOnce, IsTagTaken, IsAnsweredOrNot, IsAdded, past_line, turn_of};
+ghost use Rattle.line_replica.specs.Replies.{IsPassedOn, IsDone, IsAnsweredOnce, IsTagTaken, IsAnsweredOrNot, IsAdded, past_line, turn_of};
 
 use crate::keys::{Keys, Turn, first_line};
 use crate::reading::{Tag, did, is_forget, kept_text};
@@ -43,8 +42,8 @@ pub(crate) fn answer_inside<S: AnswersLines, D: Disk>(
     requires { S.is_over numbered.old.inner ≡ false }
     ensures ok { OnOk result ((said : List ℕ)
         × (noted : List ℕ)
-        × IsPassedOn S.is_answered (λ _. numbered.old.keys) numbered.old (D.holds disk.old)
-        line.now said noted numbered.new (D.holds disk.new)
+        × IsPassedOn S.is_answered numbered.old (D.holds disk.old) line.now said noted
+        numbered.new (D.holds disk.new)
         × IsAdded pending.old pending.new said noted) }
     ensures err { OnErr result ((noted : List ℕ)
         × IsAnsweredOrNot S.is_answered numbered.old.inner (D.holds disk.old) line.now noted
@@ -53,7 +52,7 @@ pub(crate) fn answer_inside<S: AnswersLines, D: Disk>(
     numbered.inner.answer(disk, line, pending)
 }
 
-/// The service inside answers a line whose number is new, and the first line of its answer is kept.
+/// The service inside answers a line whose number is new, and the first line of its answer is kept and noted.
 fn answer_fresh<S: AnswersLines, D: Disk>(
     numbered: &mut Numbered<S>,
     disk: &mut D,
@@ -64,9 +63,8 @@ fn answer_fresh<S: AnswersLines, D: Disk>(
     requires { S.is_over numbered.old.inner ≡ false }
     ensures ok { OnOk result ((said : List ℕ)
         × (noted : List ℕ)
-        × IsPassedOn S.is_answered
-        (λ s. with_told numbered.old.keys tag.key tag.number (first_line s)) numbered.old
-        (D.holds disk.old) input.now said noted numbered.new (D.holds disk.new)
+        × IsDone S.is_answered tag numbered.old (D.holds disk.old) input.now said noted
+        numbered.new (D.holds disk.new)
         × IsAdded pending.old pending.new said noted) }
     ensures err { OnErr result ((noted : List ℕ)
         × IsAnsweredOrNot S.is_answered numbered.old.inner (D.holds disk.old) input.now noted
@@ -78,7 +76,7 @@ fn answer_fresh<S: AnswersLines, D: Disk>(
         Err(AllocError) => return Err(AllocError),
     }
     let first = first_line(&pending.answers[place..]);
-    numbered.keys.keep(tag, first)
+    numbered.keys.keep(tag, first, &mut pending.notes)
 }
 
 /// Answers what has a number: the service inside does, once.
@@ -125,11 +123,10 @@ pub(crate) fn answer_tagged<S: AnswersLines, D: Disk>(
         numbered.new.inner (D.holds disk.new)) }
 {
     if let Some(text) = did(rest) {
-        return numbered.keys.keep(tag, kept_text(text));
+        return numbered.keys.keep(tag, kept_text(text), &mut pending.notes);
     }
     if is_forget(rest) {
-        numbered.keys.forget(tag);
-        return Ok(());
+        return numbered.keys.forget(tag, &mut pending.notes);
     }
     answer_once(numbered, disk, tag, rest, pending)
 }

@@ -3,6 +3,8 @@
 ghost use Rattle.std.specs.Prelude.{◌≡◌, ◌++◌, List, ℕ, [], false, OnOk, OnErr};
 ghost use Rattle.line_replica.specs.Reading.{did_at};
 ghost use Rattle.line_replica.specs.Replies.{IsPassedOn, IsTagTaken, IsTakenIn, IsPlaced, IsAnsweredOrNot, IsAdded};
+ghost use Rattle.ring_segments.specs.Remarks.{remark_of};
+ghost use Rattle.line_replica.specs.State.{own_lines, remarks_of};
 ghost use Rattle.line_replica.specs.Running.{at_place, next_of, place_line};
 
 use crate::keys::Keys;
@@ -32,8 +34,8 @@ pub(crate) fn answer_plain<S: AnswersLines, D: Disk>(
     requires { S.is_over replica.old.numbered.inner ≡ false }
     ensures ok { OnOk result ((said : List ℕ)
         × (noted : List ℕ)
-        × IsTakenIn (λ a b. IsPassedOn S.is_answered (λ _. a.keys) a (D.holds disk.old) line.now
-        said noted b (D.holds disk.new)) said replica.old replica.new
+        × IsTakenIn (λ a b. IsPassedOn S.is_answered a (D.holds disk.old) line.now said noted b
+        (D.holds disk.new)) said replica.old replica.new
         × IsAdded pending.old pending.new said noted) }
     ensures err { OnErr result ((noted : List ℕ)
         × IsAnsweredOrNot S.is_answered replica.old.numbered.inner (D.holds disk.old) line.now
@@ -73,7 +75,7 @@ pub(crate) fn answer_numbered<S: AnswersLines, D: Disk>(
     }
 }
 
-/// Tells the digest of all that was told up to this place.
+/// Tells the digest of all that was told up to this place, and notes it.
 pub(crate) fn tell_place<S>(
     replica: &mut Replica<S>,
     place: u64,
@@ -82,28 +84,41 @@ pub(crate) fn tell_place<S>(
     ensures ok { OnOk result ((replica.new.running
         ≡ at_place place (next_of replica.old.running.since))
         × IsAdded pending.old pending.new (place_line place (next_of replica.old.running.since))
-        []) }
+        (remark_of (place_line place (next_of replica.old.running.since)))) }
     ensures same { replica.new.numbered ≡ replica.old.numbered }
     ensures lost { replica.new.lost ≡ replica.old.lost }
 {
     let digest = replica.running.next();
-    match replica.running.set(place, &digest) {
+    match replica.running.set(place, &digest, &mut pending.notes) {
         Ok(()) => put_place(&mut pending.answers, place, &digest),
         Err(AllocError) => Err(AllocError),
     }
 }
 
-/// The digest at this place is this one. Nothing is told.
+/// The digest at this place is this one, which is noted. Nothing is told.
 pub(crate) fn set_place<S>(
     replica: &mut Replica<S>,
     place: u64,
     digest: &[u8],
+    pending: &mut Pending,
 ) -> Result<(), AllocError>
-    ensures ok { OnOk result (replica.new.running ≡ at_place place digest.now) }
+    ensures ok { OnOk result ((replica.new.running ≡ at_place place digest.now)
+        × IsAdded pending.old pending.new [] (remark_of (place_line place digest.now))) }
     ensures same { replica.new.numbered ≡ replica.old.numbered }
     ensures lost { replica.new.lost ≡ replica.old.lost }
 {
-    replica.running.set(place, digest)
+    replica.running.set(place, digest, &mut pending.notes)
+}
+
+/// Adds the remarks of the replica's own lines.
+pub(crate) fn note_own<S>(replica: &Replica<S>, text: &mut Vec<u8>) -> Result<(), AllocError>
+    ensures { OnOk result (text.new.items
+        ≡ text.old.items ++ remarks_of (own_lines replica.now)) }
+{
+    match replica.numbered.keys.note(text) {
+        Ok(()) => replica.running.note(text),
+        Err(AllocError) => Err(AllocError),
+    }
 }
 
 impl<S> Replica<S> {

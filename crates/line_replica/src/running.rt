@@ -2,11 +2,12 @@
 
 ghost use Rattle.std.specs.Prelude.{◌≡◌, ◌≤◌, ◌++◌, [], length, take, OnOk, IfOk};
 ghost use Rattle.line_loop.specs.Answering.{joined_lines};
-ghost use Rattle.line_replica.specs.State.{lines_at};
+ghost use Rattle.ring_segments.specs.Remarks.{remark_of};
+ghost use Rattle.line_replica.specs.State.{lines_at, remarks_of};
 ghost use Rattle.line_replica.specs.Running.{with_said, next_of, at_place, grown, place_line};
 
 use itoa::Buffer;
-use ring_segments::{DIGEST_DIGITS, digest};
+use ring_segments::{DIGEST_DIGITS, digest, put_remark};
 use std::alloc::{AllocError, Global};
 use std::marker::Model;
 
@@ -60,6 +61,23 @@ pub(crate) fn put_place(text: &mut Vec<u8>, place: u64, digest: &[u8]) -> Result
     Ok(())
 }
 
+/// Adds the remark of the line of a place and its digest.
+fn note_place(
+    alloc: Global,
+    place: u64,
+    digest: &[u8],
+    notes: &mut Vec<u8>,
+) -> Result<(), AllocError>
+    ensures { OnOk result (notes.new.items
+        ≡ notes.old.items ++ remark_of (place_line place digest.now)) }
+{
+    let mut line = Vec::new(alloc);
+    match put_place(&mut line, place, digest) {
+        Ok(()) => put_remark(&line, notes),
+        Err(AllocError) => Err(AllocError),
+    }
+}
+
 /// The first bytes, so many or all.
 fn first(bytes: &[u8], count: usize) -> &[u8]
     ensures { result.now ≡ take count bytes.now }
@@ -83,6 +101,17 @@ fn put_last(place: u64, since: &[u8], text: &mut Vec<u8>) -> Result<u64, AllocEr
             Ok(()) => Ok(1),
             Err(AllocError) => Err(AllocError),
         },
+    }
+}
+
+/// Adds the remark of the line of a place, if there was one.
+fn note_last(alloc: Global, place: u64, since: &[u8], text: &mut Vec<u8>) -> Result<(), AllocError>
+    ensures { OnOk result (text.new.items
+        ≡ text.old.items ++ remarks_of (lines_at place since.now)) }
+{
+    match since {
+        [] => Ok(()),
+        [_, ..] => note_place(alloc, place, first(since, DIGEST_DIGITS), text),
     }
 }
 
@@ -122,8 +151,31 @@ impl Running {
         put_last(self.place, &self.since, text)
     }
 
-    /// The digest at this place is this one.
-    pub(crate) fn set(&mut self, place: u64, digest: &[u8]) -> Result<(), AllocError>
+    /// Adds the remark of the line of the last place, if there is one.
+    pub(crate) fn note(&self, text: &mut Vec<u8>) -> Result<(), AllocError>
+        ensures { OnOk result (text.new.items
+            ≡ text.old.items ++ remarks_of (lines_at self.now.place self.now.since)) }
+    {
+        note_last(self.alloc, self.place, &self.since, text)
+    }
+
+    /// The digest at this place is this one, which is noted.
+    pub(crate) fn set(
+        &mut self,
+        place: u64,
+        digest: &[u8],
+        notes: &mut Vec<u8>,
+    ) -> Result<(), AllocError>
+        ensures ok { OnOk result ((self.new ≡ at_place place digest.now)
+            × (notes.new.items ≡ notes.old.items ++ remark_of (place_line place digest.now))) }
+    {
+        match note_place(self.alloc, place, digest, notes) {
+            Ok(()) => self.stand_at(place, digest),
+            Err(AllocError) => Err(AllocError),
+        }
+    }
+
+    fn stand_at(&mut self, place: u64, digest: &[u8]) -> Result<(), AllocError>
         ensures ok { OnOk result (self.new ≡ at_place place digest.now) }
     {
         let mut since = Vec::new(self.alloc);

@@ -1,9 +1,9 @@
-//! A replica lives in segments as the service inside does, and goes on with its keys.
+//! A replica lives in segments as the service inside does, and goes on with its keys and its last place.
 
 ghost use Rattle.std.specs.Prelude.{◌≡◌};
 
 use crate::numbered::Numbered;
-use crate::replica::Replica;
+use crate::replica::{Replica, note_own};
 use ring_segments::DIGEST_DIGITS;
 use segment_loop::{EndFault, Segmented};
 use std::alloc::{AllocError, Global};
@@ -49,7 +49,14 @@ impl<S: Segmented> Segmented for Replica<S> {
         number: u64,
         behind: [u8; DIGEST_DIGITS],
     ) -> Result<Vec<u8>, EndFault> {
-        self.numbered.inner.text(alloc, number, behind)
+        let mut text = match self.numbered.inner.text(alloc, number, behind) {
+            Ok(text) => text,
+            Err(why) => return Err(why),
+        };
+        match note_own(self, &mut text) {
+            Ok(()) => Ok(text),
+            Err(AllocError) => Err(EndFault::OutOfMemory),
+        }
     }
 
     fn keep_on(&mut self, why: EndFault) {

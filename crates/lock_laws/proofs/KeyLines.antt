@@ -55,7 +55,7 @@ kept_again (b ∷ []) (inl e) = absurd cc
 kept_again (b ∷ []) (inr f) = absurd (f.1 (ap (λ (x : ℕ). x ∷ []) f.0))
 kept_again (b ∷ c ∷ bs) f = refl
 
-key_tagged : (k n : ℕ) (rest : List ℕ) → k < 2 ^ 64 → n < 2 ^ 64 → tagged_at (spaced k ++ (spaced n ++ rest)) ≡ Some (record { key = k; number = n }, rest)
+pub key_tagged : (k n : ℕ) (rest : List ℕ) → k < 2 ^ 64 → n < 2 ^ 64 → tagged_at (spaced k ++ (spaced n ++ rest)) ≡ Some (record { key = k; number = n }, rest)
 unfolding tagged_at
 key_tagged k n rest few small = ap with_key (number_reads k (spaced n ++ rest) few) ∙ ap (with_number k) (number_reads n rest small)
 

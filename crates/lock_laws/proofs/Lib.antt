@@ -25,3 +25,6 @@ pub mod WaitingLines
 pub mod WaitersBack
 pub mod StateBack
 pub mod StateStays
+pub mod WholeTexts
+pub mod WithoutRemarks
+pub mod RemarksBack

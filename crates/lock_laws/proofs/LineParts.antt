@@ -11,7 +11,7 @@ use Rattle.lock_laws.proofs.KeyLines.{same_text}
 use Rattle.lock_laws.proofs.KeysBack.{all_push}
 
 -- a byte in front of a line
-line_more : (b : ℕ) (line : List ℕ) → b ≢ 10 → IsLine line → IsLine (b ∷ line)
+pub line_more : (b : ℕ) (line : List ℕ) → b ≢ 10 → IsLine line → IsLine (b ∷ line)
 line_more b [] ne is = absurd is
 line_more b (c ∷ cs) ne is = (ne, is)
 

@@ -23,7 +23,7 @@ use Rattle.ring_segments.specs.Spelling.{DigestFits, digest_digits}
 use Rattle.line_replica.specs.declared.replica.Replica.{Replica}
 use Rattle.line_replica.specs.Keys.{ToldView, Table, last_of, with_told, without, turn_by, turn_after, first_line, forgotten_if}
 use Rattle.line_replica.specs.Reading.{Heard, Tagged, Place, Digest, Plain, heard, did_at, is_forget, kept_text, on_read}
-use Rattle.line_replica.specs.Replies.{IsTold, IsTagTaken, IsPlaced, IsHeard, IsAnsweredOnce, turn_of}
+use Rattle.line_replica.specs.Replies.{IsTold, IsTagTaken, IsPlaced, IsHeard, IsAnsweredOnce, turn_of, forget_note}
 use Rattle.line_replica.specs.Running.{RunningView, at_place, with_said, grown, next_of, place_line}
 use Rattle.line_replica.specs.State.{key_line, key_lines, did_text, lines_at}
 use Rattle.line_replica.proofs.Given.{whole_line}
@@ -117,7 +117,7 @@ none_kept k n few small = record {
 }
 
 -- by the first line of an answer
-answer_kept : (k n : ℕ) → k < 2 ^ 64 → n < 2 ^ 64 → (first : List ℕ) → IsFirst first → length first + 46 ≤ line_limit → IsKept (k, record { number = n; first = first })
+pub answer_kept : (k n : ℕ) → k < 2 ^ 64 → n < 2 ^ 64 → (first : List ℕ) → IsFirst first → length first + 46 ≤ line_limit → IsKept (k, record { number = n; first = first })
 answer_kept k n few small [] is short = none_kept k n few small
 answer_kept k n few small (b ∷ bs) is short = record {
   key = few;
@@ -136,7 +136,7 @@ word_is (c ∷ cs) (b ∷ bs) rest e =
       | inr h ↦ absurd cc
     ]
 
-did_is : (rest text : List ℕ) → did_at rest ≡ Some text → rest ≡ codes "did " ++ text
+pub did_is : (rest text : List ℕ) → did_at rest ≡ Some text → rest ≡ codes "did " ++ text
 unfolding did_at
 did_is rest text e = of (word_at (codes "did ") rest) refl e
   where
@@ -151,7 +151,7 @@ parted : (a b c d : List ℕ) → a ++ (b ++ (c ++ d)) ≡ (a ++ (b ++ c)) ++ d
 parted a b c d = sym (append_assoc a (b ++ c) d ∙ ap (λ (u : List ℕ). a ++ u) (append_assoc b c d))
 
 -- by the text that a line gives
-text_kept : (k n : ℕ) (text line : List ℕ) → IsLine line → IsOfKey k n (codes "did " ++ text) line → IsKept (k, record { number = n; first = kept_text text })
+pub text_kept : (k n : ℕ) (text line : List ℕ) → IsLine line → IsOfKey k n (codes "did " ++ text) line → IsKept (k, record { number = n; first = kept_text text })
 text_kept k n [] line is of = none_kept k n of.key_small of.number_small
 text_kept k n (b ∷ []) line is of = by (eqb b 10) refl
   where
@@ -170,7 +170,7 @@ text_kept k n (b ∷ c ∷ bs) line is of = record {
 
 -- ---- the digest
 
-grown_behind : (since digest told said : List ℕ) → length digest ≡ digest_digits → since ≡ digest ++ told → grown since said ≡ digest ++ (told ++ said)
+pub grown_behind : (since digest told said : List ℕ) → length digest ≡ digest_digits → since ≡ digest ++ told → grown since said ≡ digest ++ (told ++ said)
 grown_behind [] digest told said long e =
     let same : length digest ≡ 64 = long in
     let none : 0 ≡ length digest + length told = ap length e ∙ length-append digest told in
@@ -190,7 +190,7 @@ runs_on r said (inr b) = inr (record {
 at_digest : (place : ℕ) (digest : List ℕ) → place < 2 ^ 64 → DigestFits digest → IsBehind (at_place place digest)
 at_digest place digest lt fits = record { place = lt; digest = digest; told = []; since = sym (append-nil digest); digits = fits }
 
-next_fits : (since : List ℕ) → DigestFits (next_of since)
+pub next_fits : (since : List ℕ) → DigestFits (next_of since)
 next_fits [] = no_digest_fits
 next_fits (b ∷ bs) = digest_of_fits (b ∷ bs)
 
@@ -220,7 +220,7 @@ module _ {S : Type 0} (A : AnsweringWith S) (old new : Replica S) (was is : Opti
     forgotten (Some last) = forgotten_at last (nat_cmp n last)
 
     by_word : (b : Bool) →
-        cond b (IsTold [] (forgotten_if (turn_of old.numbered.keys (record { key = k; number = n })) old.numbered.keys k) old.numbered was said noted new.numbered is)
+        cond b (IsTold [] (forgotten_if (turn_of old.numbered.keys (record { key = k; number = n })) old.numbered.keys k) (forget_note (turn_of old.numbered.keys (record { key = k; number = n })) (record { key = k; number = n })) old.numbered was said noted new.numbered is)
         (IsAnsweredOnce A (turn_of old.numbered.keys (record { key = k; number = n })) (record { key = k; number = n }) old.numbered was rest said noted new.numbered is) →
         AreKept new.numbered.keys
     by_word true t = still _ (forgotten (last_of old.numbered.keys k)) t.keys_are
@@ -265,7 +265,7 @@ places_are_last A old new was is place line said noted sound e r whole =
 
 -- ---- the lines of a state
 
-word_ends : HasNoEnd (codes "did ")
+pub word_ends : HasNoEnd (codes "did ")
 word_ends = ((λ e. omega (arith, e)), ((λ e. omega (arith, e)), ((λ e. omega (arith, e)), ((λ e. omega (arith, e)), tt))))
 
 at_ends : HasNoEnd (codes "at ")
@@ -276,7 +276,7 @@ first_is_line [] f = refl
 first_is_line (b ∷ bs) (inl e) = absurd cc
 first_is_line (b ∷ bs) (inr f) = f.0
 
-key_is_line : (e : ℕ × ToldView) → IsKept e → IsLine (key_line e)
+pub key_is_line : (e : ℕ × ToldView) → IsKept e → IsLine (key_line e)
 key_is_line e kept =
     line_behind (spaced e.0) _ (spaced_ends e.0 kept.key)
     (line_behind (spaced e.1.number) _ (spaced_ends e.1.number kept.number)
@@ -286,7 +286,7 @@ keys_are_lines : (keys : Table) (more : List (List ℕ)) → AllByRecursion IsKe
 keys_are_lines [] more kept all = all
 keys_are_lines (e ∷ es) more kept all = (key_is_line e kept.0, keys_are_lines es more kept.1 all)
 
-digest_is_line : (place : ℕ) (digest : List ℕ) → place < 2 ^ 64 → DigestFits digest → IsLine (place_line place digest)
+pub digest_is_line : (place : ℕ) (digest : List ℕ) → place < 2 ^ 64 → DigestFits digest → IsLine (place_line place digest)
 digest_is_line place digest lt fits =
     line_behind (codes "at ") _ at_ends (line_behind (spaced place) _ (spaced_ends place lt) (line_behind digest (codes "\n") (digits_end digest fits.digits) refl))
 

@@ -14,6 +14,7 @@ use Rattle.line_replica.specs.declared.replica.Replica.{Replica}
 use Rattle.line_replica.specs.Reading.{Heard, Plain, heard, with_key, tagged_at, place_at, digest_at}
 use Rattle.line_replica.specs.Replies.{IsReplied, IsHeard}
 use Rattle.line_replica.specs.Running.{RunningView, at_place, with_said}
+use Rattle.line_replica.specs.State.{own_lines}
 use Rattle.line_replica.proofs.Given.{whole_line, whole_at}
 use Rattle.line_replica.proofs.Hearing.{is_untagged, is_plain}
 use Rattle.ring_locks.specs.declared.answers.Waiter.{Waiter}
@@ -21,7 +22,7 @@ use Rattle.ring_locks.specs.Kept.{LockView, lock_limit}
 use Rattle.lock_serve.specs.declared.service.LockService.{LockService}
 use Rattle.lock_serve.specs.Serving.{IsServed}
 use Rattle.lock_serve.specs.State.{holds_from, wait_line, wait_lines, waits_from}
-use Rattle.lock_laws.specs.KeysBack.{own_lines, IsFresh}
+use Rattle.lock_laws.specs.KeysBack.{IsFresh}
 use Rattle.lock_laws.specs.WaitersBack.{IsOfBits, holders_of, waiters_of, waiting_from}
 use Rattle.lock_laws.specs.StateBack.{locks_in, HoldsAreFirst, StateComesBack}
 use Rattle.lock_laws.proofs.KeyLines.{same_text, number_reads}
@@ -149,12 +150,14 @@ state_comes_back source old new was is said noted sound state fresh strict holds
     let k = keys_come_back IsServed source q.mid new q.between is q.later q.notes sound begun q.rest whole in
     let same : locks_in new ≡ locks_in q.mid = ap (λ (s : LockService). s.segment.locks) k.inner in
     record {
+      inside = [];
       locks = record {
         says = q.says ∙ ap (λ (u : List ℕ). u ++ q.later) w.0.says ∙ ap (λ (u : List ℕ). waiting_from 0 vs ++ u) k.says ∙ append-nil (waiting_from 0 vs);
-        notes = q.noted_is ∙ ap (λ (u : List ℕ). u ++ q.notes) w.0.notes ∙ k.notes;
+        notes = refl;
         waiters = subst (λ (u : List LockView). waiters_of u ≡ waiters_of vs) (sym same) w.0.waiters;
         holders = subst (λ (u : List LockView). holders_of u ≡ holders_of vs) (sym same) w.0.holders;
       };
+      notes = q.noted_is ∙ ap (λ (u : List ℕ). u ++ q.notes) w.0.notes ∙ k.notes;
       keys = k.keys;
       running = k.running;
       files = k.files ∙ w.1;

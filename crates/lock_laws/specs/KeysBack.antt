@@ -11,11 +11,7 @@ use Rattle.line_replica.specs.Keys.{ToldView, Table, first_line}
 use Rattle.line_replica.specs.Reading.{Place, heard}
 use Rattle.line_replica.specs.Replies.{IsReplied}
 use Rattle.line_replica.specs.Running.{RunningView, at_place}
-use Rattle.line_replica.specs.State.{key_line, key_lines, lines_at}
-
--- the lines of a replica's own state: those of its keys, rising, and of its last place
-abbrev pub own_lines : {S : Type 0} → Replica S → List (List ℕ)
-own_lines r = key_lines r.numbered.keys ++ lines_at r.running.place r.running.since
+use Rattle.line_replica.specs.State.{key_line, own_lines, remarks_of}
 
 -- a replica has no key, and stands before the first place
 pub record IsFresh {S : Type 0} (r : Replica S) : Type 0 where
@@ -87,15 +83,16 @@ OwnLinesAreLines {S} A = (r : Replica S) → IsSound r → AllByRecursion IsLine
 abbrev pub at_last : RunningView → RunningView
 at_last r = at_place r.place (take digest_digits r.since)
 
--- The replica has the keys of another one and its digest at the last place; nothing is told, no
--- file changes, and the service inside is the one that it was.
+-- The replica has the keys of another one and its digest at the last place; nothing is told, the
+-- remarks of the other's own lines are noted, no file changes, and the service inside is the one
+-- that it was.
 pub record IsBack {S : Type 0} (source old : Replica S) (was : Option Held)
     (said noted : List ℕ) (new : Replica S) (is : Option Held) : Type 0 where
   pub keys : new.numbered.keys ≡ source.numbered.keys
   pub running : new.running ≡ at_last source.running
   pub inner : new.numbered.inner ≡ old.numbered.inner
   pub says : said ≡ []
-  pub notes : noted ≡ []
+  pub notes : noted ≡ remarks_of (own_lines source)
   pub files : is ≡ was
 
 -- A replica with no key, before the first place, that is given the lines of another one's keys and

@@ -5,3 +5,4 @@ pub mod Equal
 pub mod KeysBack
 pub mod WaitersBack
 pub mod StateBack
+pub mod Remarked

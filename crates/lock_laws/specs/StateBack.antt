@@ -5,12 +5,12 @@ use Rattle.line_loop.specs.Answering.{Answers}
 use Rattle.line_loop.specs.Stands.{by_stand, stand}
 use Rattle.line_replica.specs.declared.replica.Replica.{Replica}
 use Rattle.line_replica.specs.Replies.{IsReplied}
-use Rattle.line_replica.specs.State.{lines_of}
+use Rattle.line_replica.specs.State.{lines_of, own_lines, remarks_of}
 use Rattle.ring_locks.specs.Kept.{LockView}
 use Rattle.lock_serve.specs.declared.service.LockService.{LockService}
 use Rattle.lock_serve.specs.Serving.{IsServed}
 use Rattle.lock_serve.specs.State.{holds_from, waits_from, state_lines}
-use Rattle.lock_laws.specs.KeysBack.{own_lines, IsFresh, IsSound, at_last}
+use Rattle.lock_laws.specs.KeysBack.{IsFresh, IsSound, at_last}
 use Rattle.lock_laws.specs.WaitersBack.{HaveState, HaveTheHolds, HaveTheWaiters}
 
 abbrev pub locks_in : Replica LockService → List LockView
@@ -26,10 +26,12 @@ HoldsAreFirst =
     → lines_of state_lines r ≡ holds_from 0 (locks_in r) ++ lines_behind_holds r
 
 -- It has the waiting clients, the holds, the keys and the digest at the last place of another one,
--- and no file has changed.
+-- and no file has changed. What is noted are the remarks of the other's own lines.
 pub record HasTheState (source : Replica LockService) (was : Option Held) (said noted : List ℕ)
     (new : Replica LockService) (is : Option Held) : Type 0 where
-  pub locks : HaveTheWaiters (locks_in source) said noted (locks_in new)
+  pub inside : List ℕ
+  pub locks : HaveTheWaiters (locks_in source) said inside (locks_in new)
+  pub notes : noted ≡ inside ++ remarks_of (own_lines source)
   pub keys : new.numbered.keys ≡ source.numbered.keys
   pub running : new.running ≡ at_last source.running
   pub files : is ≡ was

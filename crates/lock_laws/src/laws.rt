@@ -1,12 +1,14 @@
 //! The laws of locks whose lines are answered with a journal: what is recovered of it. Each law is the contract of a function
-//! that does nothing; the statements are in `specs/Recovered.antt` and `specs/Equal.antt`. And the laws of the lines that bring a
-//! replica back: their statements are in `specs/KeysBack.antt`, `specs/WaitersBack.antt` and `specs/StateBack.antt`.
+//! that does nothing; the statements are in `specs/Recovered.antt`, `specs/Remarked.antt` and `specs/Equal.antt`. And the laws of
+//! the lines that bring a replica back: their statements are in `specs/KeysBack.antt`, `specs/WaitersBack.antt` and
+//! `specs/StateBack.antt`.
 
 ghost use Rattle.lock_laws.specs.Begun.{ServedLinesAreAnswered, AnsweredLinesFollow};
 ghost use Rattle.lock_laws.specs.Equal.{EqualLinesGiveEqualAnswers, EqualSegmentsEndEqually};
 ghost use Rattle.lock_laws.specs.KeysBack.{FreshIsSound, OwnLinesAreLines, SoundStays, KeysComeBack, PlacesAreLast};
 ghost use Rattle.lock_laws.specs.StateBack.{HoldsAreFirst, StateComesBack};
 ghost use Rattle.lock_laws.specs.WaitersBack.{HavingStateStays, WaitersComeBack};
+ghost use Rattle.lock_laws.specs.Remarked.{LocksOfReplicasComeBack, RemarksBringBack};
 ghost use Rattle.lock_laws.specs.Recovered.{LocksComeBack, NothingToldIsLost, AddedLocksBegin, NextLocksBegin, HandedLocksBegin};
 
 use line_loop::AnswersLines;
@@ -23,6 +25,17 @@ pub fn answered_lines_follow()
 /// nobody waits for them, and a hold that is open is client 0's, with its token.
 pub fn locks_come_back()
     ensures { LocksComeBack }
+{}
+
+/// The same of the locks of a replica, in whose journal there are remarks too: it is so without them.
+pub fn locks_of_replicas_come_back()
+    ensures { LocksOfReplicasComeBack }
+{}
+
+/// A replica with no key, before the first place, that is given the lines of the remarks in the journal of a segment has the keys
+/// that stood behind the last line, and the digest at the last place, as long as what is told begins with lines that can be kept.
+pub fn remarks_bring_back()
+    ensures { RemarksBringBack }
 {}
 
 /// Of whatever is kept of a journal, if it has the beginning of a segment and the notes of the lines that were told, rings are

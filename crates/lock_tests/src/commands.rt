@@ -174,6 +174,13 @@ fn hands_an_open_hold_over(rt: HostRuntime) {
 const STATE: &str =
     "hold 0 1 1\n2 acquire 0 78\n8 3 did 2 waiting 0 0\nat 5 0000000000000000000000000000000000000000000000000000000000000000\nstate 4\n";
 
+/// The segment with the remarks of its key and its place behind a grant; and as the next start with its lines has it.
+const NOTED: &str =
+    "ringsegment 1 1 1\nbehind 0000000000000000000000000000000000000000000000000000000000000000\nbase 0 0 0 0\nringjournal 1\nringfarm 2\nring 0 3 3\nstart 0 0 0\nend 0\ndone 1\n0 p 0 0 77 g 1 77\n# 8 3 did 2 waiting 0 0\n# at 5 0000000000000000000000000000000000000000000000000000000000000000\n";
+
+const NOTED_AGAIN: &str =
+    "ringsegment 1 1 1\nbehind 0000000000000000000000000000000000000000000000000000000000000000\nbase 0 0 0 0\nringjournal 1\nringfarm 2\nring 0 3 3\nstart 0 0 0\np 0 0 77 g 1 77\nend 1\ndone 1\n# 8 3 did 2 waiting 0 0\n# at 5 0000000000000000000000000000000000000000000000000000000000000000\n";
+
 // A state is told; a start with its hold and its other lines tells it again.
 #[test]
 fn brings_a_state_back(rt: HostRuntime) {
@@ -187,6 +194,7 @@ fn brings_a_state_back(rt: HostRuntime) {
         "1 granted 0 1\n2 waiting 0 0\nat 5 0000000000000000000000000000000000000000000000000000000000000000\nhold 0 1 1\n2 acquire 0 78\n8 3 did 2 waiting 0 0\nat 5 0000000000000000000000000000000000000000000000000000000000000000\nstate 4\n",
         "total locks 1 events 1 granted 1\n",
     );
+    assert!(rt; has(&disk, "j/0000000001.ring", NOTED));
     put(&rt, &mut disk, "who", "hold 0 1 1\n");
     let mut input: &[u8] =
         b"2 acquire 0 78\n8 3 did 2 waiting 0 0\nat 5 0000000000000000000000000000000000000000000000000000000000000000\nstate\n8 3 2 acquire 0 78\n";
@@ -199,4 +207,5 @@ fn brings_a_state_back(rt: HostRuntime) {
     assert!(rt; out.len() == 2 * first.len() + STATE.len());
     assert!(rt; out[first.len()..].starts_with(STATE.as_bytes()));
     assert!(rt; err.as_slice() == b"total locks 1 events 1 granted 1\n".as_slice());
+    assert!(rt; has(&disk, "j/0000000001.ring", NOTED_AGAIN));
 }

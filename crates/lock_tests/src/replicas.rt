@@ -5,7 +5,7 @@ ghost use Rattle.std.specs.Prelude.{◌≡◌, false};
 use disks::{Disk, MemoryDisk};
 use line_loop::{AnswersLines, Ending, Pending, Unread, serve_part};
 use line_replica::{HasState, Replica, Restorable};
-use ring_segments::DIGEST_DIGITS;
+use ring_segments::{DIGEST_DIGITS, digest};
 use segment_loop::{EndFault, Segmented};
 use std::alloc::{AllocError, Global};
 use std::process::Abort;
@@ -47,12 +47,12 @@ impl AnswersLines for Count {
 }
 
 impl Segmented for Count {
-    ghost use Rattle.std.specs.Prelude.{◌≡◌, refl, nat_lt, [], Option, IsSome};
+    ghost use Rattle.std.specs.Prelude.{◌≡◌, refl, nat_lt, [], ◌∷◌, Option, IsSome};
     ghost use Rattle.std.proofs.Common.{subst, sym};
     ghost use Rattle.disks.specs.Held.{Held};
 
     ghost segmenting = { record {
-      text = λ s number behind. [];
+      text = λ s number behind. 116 ∷ 10 ∷ [];
       is_due = λ s. nat_lt 99 s.lines;
       IsNext = λ old new. new.lines ≡ old.lines;
       IsKept = λ old why new. new.lines ≡ old.lines;
@@ -72,7 +72,11 @@ impl Segmented for Count {
         _number: u64,
         _behind: [u8; DIGEST_DIGITS],
     ) -> Result<Vec<u8>, EndFault> {
-        Ok(Vec::new(alloc))
+        let mut text = Vec::new(alloc);
+        match text.extend_from_slice(b"t\n") {
+            Ok(()) => Ok(text),
+            Err(AllocError) => Err(EndFault::OutOfMemory),
+        }
     }
 
     fn keep_on(&mut self, _why: EndFault) {}
@@ -133,7 +137,8 @@ fn answers_each_number_once(rt: HostRuntime) {
     let mut replica = Replica::new(alloc, Count { lines: 0 });
     let (out, notes) = told(alloc, &mut replica, b"7 1 a\n7 1 a\n");
     assert!(rt; out.as_slice() == b"1\na\n1\n".as_slice());
-    assert!(rt; replica.inner().lines == 1 && notes.as_slice() == b"!\n".as_slice());
+    assert!(rt; replica.inner().lines == 1);
+    assert!(rt; notes.as_slice() == b"!\n# 7 1 did 1\n".as_slice());
     let lines = b"7 5 b\n7 4 c\n8 4 d\n7 e\n7 5 b\n";
     let (out, _) = told(alloc, &mut replica, lines.as_slice());
     let text = b"2\nb\n7 refused past 5\n3\nd\n4\n7 e\n2\n";
@@ -148,15 +153,17 @@ fn keeps_what_it_is_told_of_keys(rt: HostRuntime) {
     let mut replica = Replica::new(alloc, Count { lines: 0 });
     let lines = b"7 5 did 7 granted 0 1\n9 2 did \n";
     let (out, notes) = told(alloc, &mut replica, lines.as_slice());
-    assert!(rt; out.is_empty() && notes.is_empty() && replica.inner().lines == 0);
+    assert!(rt; out.is_empty() && replica.inner().lines == 0);
+    assert!(rt; notes.as_slice() == b"# 7 5 did 7 granted 0 1\n# 9 2 did \n".as_slice());
     let Ok(mut next) = replica.next(alloc) else {
         panic!(rt; "memory suffices");
     };
-    let (out, _) = told(alloc, &mut next, b"7 5 a\n9 2 a\n");
-    assert!(rt; out.as_slice() == b"7 granted 0 1\n".as_slice());
+    let (out, notes) = told(alloc, &mut next, b"7 5 a\n9 2 a\n");
+    assert!(rt; out.as_slice() == b"7 granted 0 1\n".as_slice() && notes.is_empty());
     let lines = b"7 4 forget\n7 4 a\n7 5 forget\n7 4 a\n";
-    let (out, _) = told(alloc, &mut next, lines.as_slice());
+    let (out, notes) = told(alloc, &mut next, lines.as_slice());
     assert!(rt; out.as_slice() == b"7 refused past 5\n1\na\n".as_slice());
+    assert!(rt; notes.as_slice() == b"# 7 5 forget\n!\n# 7 4 did 1\n".as_slice());
 }
 
 // A place is told with the digest of all that was told since the last; what a place tells is not in it. It goes on from a digest that
@@ -170,7 +177,10 @@ fn tells_the_digest_at_a_place(rt: HostRuntime) {
     let second = b"at 6 5b9f57d5c443c4829358f798b86dde0f8b245d66f0c0db2b6296119d86bc5f89\n";
     assert!(rt; out.starts_with(first.as_slice()) && out.ends_with(second.as_slice()));
     assert!(rt; out.len() == first.len() + 6 + second.len());
-    assert!(rt; replica.inner().lines == 1 && notes.as_slice() == b"!\n".as_slice());
+    assert!(rt; replica.inner().lines == 1);
+    let noted =
+        b"# at 5 0000000000000000000000000000000000000000000000000000000000000000\n!\n# at 6 5b9f57d5c443c4829358f798b86dde0f8b245d66f0c0db2b6296119d86bc5f89\n";
+    assert!(rt; notes.as_slice() == noted.as_slice());
     let Ok(mut next) = replica.next(alloc) else {
         panic!(rt; "memory suffices");
     };
@@ -179,8 +189,10 @@ fn tells_the_digest_at_a_place(rt: HostRuntime) {
     assert!(rt; out.as_slice() == third.as_slice());
     let mut other = Replica::new(alloc, Count { lines: 1 });
     let line = b"at 6 5b9f57d5c443c4829358f798b86dde0f8b245d66f0c0db2b6296119d86bc5f89\n";
-    let (out, _) = told(alloc, &mut other, line.as_slice());
+    let (out, notes) = told(alloc, &mut other, line.as_slice());
     assert!(rt; out.is_empty() && other.inner().lines == 1);
+    assert!(rt; notes.starts_with(b"# ") && notes.ends_with(line.as_slice()));
+    assert!(rt; notes.len() == 2 + line.len());
     let (out, _) = told(alloc, &mut other, b"3 1 a\n3 1 a\nat 9\n");
     assert!(rt; out.as_slice() == third.as_slice());
 }
@@ -202,4 +214,27 @@ fn tells_the_lines_that_bring_it_back(rt: HostRuntime) {
     assert!(rt; out.len() == told.len() + place.len() + last.len());
     assert!(rt; out[told.len()..].starts_with(place.as_slice()));
     assert!(rt; replica.inner().inner().lines == 2);
+}
+
+// What brings its own state back is noted in remarks, behind the notes of the service inside, and once; and the next segment begins
+// with all that is kept then.
+#[test]
+fn notes_what_brings_it_back(rt: HostRuntime) {
+    let alloc = rt.alloc();
+    let mut replica = Restorable::new(Replica::new(alloc, Count { lines: 0 }));
+    let lines =
+        b"9 4 a\n9 4 a\n9 3 a\nx\n7 12 did 7 granted 0 1\n8 3 did \n5 1 did \n5 2 forget\n5 1 forget\nat 5\nstate\n9 6 b\n";
+    let (_, notes) = told(alloc, &mut replica, lines.as_slice());
+    let noted =
+        b"!\n# 9 4 did 1\n!\n# 7 12 did 7 granted 0 1\n# 8 3 did \n# 5 1 did \n# 5 1 forget\n# at 5 0000000000000000000000000000000000000000000000000000000000000000\n!\n# 9 6 did 3\n";
+    assert!(rt; notes.as_slice() == noted.as_slice());
+    let Ok(next) = replica.next(alloc) else {
+        panic!(rt; "memory suffices");
+    };
+    let Ok(text) = next.text(alloc, 2, digest(b"")) else {
+        panic!(rt; "memory suffices");
+    };
+    let begun =
+        b"t\n# 7 12 did 7 granted 0 1\n# 8 3 did \n# 9 6 did 3\n# at 5 0000000000000000000000000000000000000000000000000000000000000000\n";
+    assert!(rt; text.as_slice() == begun.as_slice());
 }

@@ -199,3 +199,55 @@ quiet_both b xs ys =
     ∙ ap (λ (q : Bool). quiet_with q (shifted b ys)) (quiet_is xs)
     ∙ quiet-shifted b (is_quiet xs) ys
     ∙ quiet_from (is_quiet xs) ys
+
+-- the tally of the events so far has the grants and the amount of that of all events: no grant comes after them
+
+pub record IsLastGrant (front es : List Event) : Type 0 where
+  pub grants : (tallied empty_tally front).grants ≡ (tallied empty_tally es).grants
+  pub amount : (tallied empty_tally front).amount ≡ (tallied empty_tally es).amount
+
+pub all_last : (es : List Event) → IsLastGrant (take (length es) es) es
+all_last es =
+    let q : take (length es) es ≡ es = take_all (length es) es (omega arith) in
+    record { grants = ap (λ (x : List Event). (tallied empty_tally x).grants) q; amount = ap (λ (x : List Event). (tallied empty_tally x).amount) q }
+
+-- so if they end with a grant, it is the last
+
+pub last_number : (es : List Event) (i : ℕ) (d : Event) (number result : ℕ) → i < length es → IsLastGrant (take (i + 1) es) es → (get_or es i d).reply ≡ Granted number result →
+    (number ≡ (tallied empty_tally es).grants) × (result ≡ (tallied empty_tally es).amount)
+last_number es i d number result l g q =
+    let t : tallied empty_tally (take (i + 1) es) ≡ tally_with (tallied empty_tally (take i es)) (Granted number result) =
+    tallied_more empty_tally es i d l ∙ ap (λ (r : Reply). tally_with (tallied empty_tally (take i es)) r) q in
+    (sym (ap (λ (x : Tally). x.grants) t) ∙ g.grants, sym (ap (λ (x : Tally). x.amount) t) ∙ g.amount)
+
+-- and if they end with another event, it may be left out
+
+no_grant : (t : Tally) (r : Reply) → ((number result : ℕ) → ¬ (r ≡ Granted number result)) → ((tally_with t r).grants ≡ t.grants) × ((tally_with t r).amount ≡ t.amount)
+no_grant t (Granted number result) none = absurd (none number result refl)
+no_grant t NotPrivileged none = (refl, refl)
+no_grant t (Corrupted old) none = (refl, refl)
+
+pub last_before : (es : List Event) (i : ℕ) (d : Event) → i < length es → ((number result : ℕ) → ¬ ((get_or es i d).reply ≡ Granted number result)) → IsLastGrant (take (i + 1) es) es → IsLastGrant (take i es) es
+last_before es i d l none g =
+    let t : tallied empty_tally (take (i + 1) es) ≡ tally_with (tallied empty_tally (take i es)) (get_or es i d).reply = tallied_more empty_tally es i d l in
+    let n = no_grant (tallied empty_tally (take i es)) (get_or es i d).reply none in
+    record {
+      grants = sym n.0 ∙ sym (ap (λ (x : Tally). x.grants) t) ∙ g.grants;
+      amount = sym n.1 ∙ sym (ap (λ (x : Tally). x.amount) t) ∙ g.amount;
+    }
+
+-- whether a corruption came, by the tally
+
+reply_quiet : (t : Tally) (r : Reply) → (tally_with t r).quiet ≡ quiet_next t.quiet r
+reply_quiet t (Granted number result) = refl
+reply_quiet t NotPrivileged = refl
+reply_quiet t (Corrupted old) = refl
+
+tallied_quiet : (t : Tally) (h : List Event) → (tallied t h).quiet ≡ quiet_with t.quiet h
+tallied_quiet t [] = refl
+tallied_quiet t (e ∷ h) = tallied_quiet (tally_with t e.reply) h ∙ ap (λ (q : Bool). quiet_with q h) (reply_quiet t e.reply)
+
+pub tally_is : (h : List Event) (grants amount : ℕ) (q : Bool) → grants ≡ (tallied empty_tally h).grants → amount ≡ (tallied empty_tally h).amount → q ≡ is_quiet h → keeping grants amount q ≡ tallied empty_tally h
+tally_is h grants amount q g a is =
+    let t : Tally = tallied empty_tally h in
+    keeping_is grants t.grants amount t.amount q g a ∙ ap (λ (x : Bool). keeping t.grants t.amount x) (is ∙ sym (quiet_is h) ∙ sym (tallied_quiet empty_tally h))

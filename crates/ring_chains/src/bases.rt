@@ -46,6 +46,7 @@ impl Base {
     }
 
     /// A segment's reply, shifted.
+    #[inline(always)]
     pub fn shift_reply(&self, reply: Reply) -> Reply
         requires base { IsBase self.now }
         requires within { IsInSegment reply }
@@ -61,6 +62,7 @@ impl Base {
     }
 
     /// A segment's receipt, shifted.
+    #[inline(always)]
     pub fn shift_receipt(&self, receipt: Receipt) -> Receipt
         requires base { IsBase self.now }
         requires position { receipt.position ≤ event_limit }

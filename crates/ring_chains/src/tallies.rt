@@ -1,6 +1,7 @@
 //! The tally of a segment: its replies, added up as they come.
 
 ghost use Rattle.std.specs.Prelude.{◌≡◌};
+ghost use Rattle.ring_chains.specs.Bases.{is_quiet};
 ghost use Rattle.ring_chains.specs.Tallies.{empty_tally, tally_with, tallied};
 
 use ring_model::{Event, Reply};
@@ -16,6 +17,21 @@ pub struct Tally {
     pub quiet: bool,
 }
 
+/// The number and the result of the last grant of these events; 0 and 0 if there is none.
+fn last_grant(events: &[Event]) -> (u64, u64)
+    ensures number { result.0 ≡ (tallied empty_tally events.now).grants }
+    ensures result { result.1 ≡ (tallied empty_tally events.now).amount }
+{
+    let mut left = events.len();
+    while left > 0 {
+        left -= 1;
+        if let Reply::Granted { number, result } = events[left].reply {
+            return (number, result);
+        }
+    }
+    (0, 0)
+}
+
 impl Tally {
     /// The tally of no replies.
     pub fn empty() -> Tally
@@ -25,6 +41,19 @@ impl Tally {
             grants: 0,
             amount: 0,
             quiet: true,
+        }
+    }
+
+    /// The tally of these events, of which it is known whether a corruption came. It looks for the last grant from their end.
+    pub fn of(events: &[Event], quiet: bool) -> Tally
+        requires { quiet ≡ is_quiet events.now }
+        ensures { result ≡ tallied empty_tally events.now }
+    {
+        let (grants, amount) = last_grant(events);
+        Tally {
+            grants,
+            amount,
+            quiet,
         }
     }
 

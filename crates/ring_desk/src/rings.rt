@@ -3,7 +3,8 @@ ghost use Rattle.std.specs.Prelude.{◌≡◌, ◌<◌, ◌≤◌, ◌+◌, ◌�
 ghost use Rattle.ring_model.specs.History.{opening};
 ghost use Rattle.ring_model.specs.HistoryLaws.{Settlement};
 ghost use Rattle.ring_model.specs.Limits.{seat_limit};
-ghost use Rattle.ring_model.specs.Surveys.{survey_at};
+ghost use Rattle.ring_model.specs.Ring.{is_privileged, first_privileged};
+ghost use Rattle.ring_model.specs.Surveys.{survey_at, calm as calm_of};
 ghost use Rattle.ring_model.specs.declared.events.Op.TheVariants as op;
 ghost use Rattle.ring_state.specs.Sizes.{IsSize};
 ghost use Rattle.ring_book.specs.BookView.{IsFresh, IsRecorded};
@@ -191,6 +192,28 @@ impl<R: Resource + Drop> OneThreadRing<R> {
         self.book.state().params().k()
     }
 
+    /// Whether a machine, which is below n, is privileged.
+    pub fn is_privileged(&self, machine: u32) -> bool
+        requires { machine < length self.now.book.now.ring.values }
+        ensures { result ≡ is_privileged self.now.book.now.ring.values machine }
+    {
+        self.book.state().is_privileged(machine)
+    }
+
+    /// The least privileged machine.
+    pub fn first(&self) -> u32
+        ensures { result ≡ first_privileged self.now.book.now.ring.values }
+    {
+        self.book.state().first()
+    }
+
+    /// How many passes were granted since the last corruption, or since the start if there was none.
+    pub fn calm(&self) -> u64
+        ensures { result ≡ calm_of self.now.book.history }
+    {
+        self.book.calm()
+    }
+
     /// The state that the ring started from.
     pub fn start(&self) -> &RingState
         ensures is { result.now ≡ self.now.book.start }
@@ -265,6 +288,7 @@ impl<R: Resource + Drop> OneThreadRing<R> {
     /// # Errors
     ///
     /// The first that applies: `NoSeat`, `NoMachine`; `HistoryFull`, `OutOfMemory`. Nothing has changed then.
+    #[inline(always)]
     pub fn pass(&mut self, seat: u32, machine: u32, order: u64) -> Result<Receipt, CallError>
         ensures ok { IfOk result
             (λ r. IsRecorded R.works self.old.book self.new.book seat (op.Pass machine order) r) }

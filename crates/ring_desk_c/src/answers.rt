@@ -70,6 +70,7 @@ pub struct Sums {
 }
 
 /// A reply at a position.
+#[inline(always)]
 fn report_reply(position: u64, reply: Reply, out: &mut Answer) -> u32
     ensures { IsReplyReport position reply result out.new }
 {
@@ -102,6 +103,7 @@ fn report_reply(position: u64, reply: Reply, out: &mut Answer) -> u32
 }
 
 /// The answer of a call.
+#[inline(always)]
 pub(crate) fn report_call(answer: Result<Receipt, CallError>, out: &mut Answer) -> u32
     ensures { IsCallReport answer result out.old out.new }
 {

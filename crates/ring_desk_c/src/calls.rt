@@ -14,29 +14,14 @@ use crate::answers::{
     report_try,
 };
 use crate::codes::CLOSED;
-use crate::handle::{Handle, hold, is_closed, loosen, take};
+use crate::handle::{Handle, is_closed, put_back, take_out};
 use crate::kept;
-use crate::loose::Loose;
-use core::mem::replace_with;
-use ring_book::GroupReceipt;
-use ring_desk::CallError;
-use ring_model::{Event, Receipt, Survey};
 use std::alloc::Global;
-
-/// A pass of a ring that C holds.
-fn pass_by_handle(handle: Handle, call: (u32, u32, u64)) -> (Handle, Result<Receipt, CallError>)
-    requires { handle.full ≡ true }
-    ensures full { result.0.full ≡ true }
-    ensures is { IsPassAnswer handle.value result.0.value call.0 call.1 call.2 result.1 }
-{
-    let mut kept = loosen(handle).into_box();
-    let answer = kept::pass(&mut kept, call.0, call.1, call.2);
-    (hold(Loose::of(kept)), answer)
-}
 
 /// A pass by a machine, for a seat: 0 where it was granted, 1 where the machine is not privileged, else why it was refused.
 #[unsafe(no_mangle)]
 pub extern "C" fn wozgirt_pass(
+    alloc: Global,
     ring: &mut Handle,
     seat: u32,
     machine: u32,
@@ -54,28 +39,17 @@ pub extern "C" fn wozgirt_pass(
     if is_closed(ring) {
         return CLOSED;
     }
-    let answer = replace_with(ring, (seat, machine, order), pass_by_handle);
+    let mut kept = take_out(ring, alloc);
+    let answer = kept::pass(&mut kept, seat, machine, order);
+    put_back(ring, kept);
     report_call(answer, out)
-}
-
-/// A try of a ring that C holds.
-fn try_by_handle(
-    handle: Handle,
-    call: (u32, u32, u64),
-) -> (Handle, Result<Option<Receipt>, CallError>)
-    requires { handle.full ≡ true }
-    ensures full { result.0.full ≡ true }
-    ensures is { IsTryAnswer handle.value result.0.value call.0 call.1 call.2 result.1 }
-{
-    let mut kept = loosen(handle).into_box();
-    let answer = kept::try_pass(&mut kept, call.0, call.1, call.2);
-    (hold(Loose::of(kept)), answer)
 }
 
 /// A pass by a machine, for a seat, if the machine is privileged: 0 where it was granted, 1 where the machine is not privileged,
 /// and then nothing is recorded or written; else why it was refused.
 #[unsafe(no_mangle)]
 pub extern "C" fn wozgirt_try(
+    alloc: Global,
     ring: &mut Handle,
     seat: u32,
     machine: u32,
@@ -93,24 +67,16 @@ pub extern "C" fn wozgirt_try(
     if is_closed(ring) {
         return CLOSED;
     }
-    let answer = replace_with(ring, (seat, machine, order), try_by_handle);
+    let mut kept = take_out(ring, alloc);
+    let answer = kept::try_pass(&mut kept, seat, machine, order);
+    put_back(ring, kept);
     report_try(answer, out)
-}
-
-/// A fault of a ring that C holds.
-fn corrupt_by_handle(handle: Handle, call: (u32, u32, u32)) -> (Handle, Result<Receipt, CallError>)
-    requires { handle.full ≡ true }
-    ensures full { result.0.full ≡ true }
-    ensures is { IsCorruptAnswer handle.value result.0.value call.0 call.1 call.2 result.1 }
-{
-    let mut kept = loosen(handle).into_box();
-    let answer = kept::corrupt(&mut kept, call.0, call.1, call.2);
-    (hold(Loose::of(kept)), answer)
 }
 
 /// A fault, for a seat: a value is written into a machine.
 #[unsafe(no_mangle)]
 pub extern "C" fn wozgirt_corrupt(
+    alloc: Global,
     ring: &mut Handle,
     seat: u32,
     machine: u32,
@@ -128,39 +94,16 @@ pub extern "C" fn wozgirt_corrupt(
     if is_closed(ring) {
         return CLOSED;
     }
-    let answer = replace_with(ring, (seat, machine, value), corrupt_by_handle);
+    let mut kept = take_out(ring, alloc);
+    let answer = kept::corrupt(&mut kept, seat, machine, value);
+    put_back(ring, kept);
     report_call(answer, out)
-}
-
-/// The answer to a group, with the grant of its first member.
-#[derive(Clone, Copy)]
-struct GroupAnswer {
-    answer: Result<GroupReceipt, CallError>,
-    grant: (u64, u64),
-}
-
-/// A group pass of a ring that C holds.
-fn pass_group_by_handle(
-    handle: Handle,
-    seat: u32,
-    machines: &[u32],
-    order: u64,
-) -> (Handle, GroupAnswer)
-    requires { handle.full ≡ true }
-    ensures full { result.0.full ≡ true }
-    ensures is { IsGroupAnswer handle.value result.0.value seat machines.now order
-        result.1.answer }
-    ensures grant { result.1.grant ≡ first_grant result.0.value result.1.answer }
-{
-    let mut kept = loosen(handle).into_box();
-    let answer = kept::pass_group(&mut kept, seat, machines, order);
-    let grant = kept::first_grant(&kept, answer);
-    (hold(Loose::of(kept)), GroupAnswer { answer, grant })
 }
 
 /// A pass by machines whose numbers rise, all at once, for a seat.
 #[unsafe(no_mangle)]
 pub extern "C" fn wozgirt_pass_group(
+    alloc: Global,
     ring: &mut Handle,
     seat: u32,
     machines: &[u32],
@@ -178,26 +121,21 @@ pub extern "C" fn wozgirt_pass_group(
     if is_closed(ring) {
         return CLOSED;
     }
-    let answer = replace_with(ring, (), |handle, _call| {
-        pass_group_by_handle(handle, seat, machines, order)
-    });
-    report_group(answer.answer, answer.grant, out)
-}
-
-/// A survey of a ring that C holds.
-fn survey_by_handle(handle: Handle, seat: u32) -> (Handle, Result<Survey, CallError>)
-    requires { handle.full ≡ true }
-    ensures full { result.0.full ≡ true }
-    ensures is { IsSurveyAnswer handle.value result.0.value seat result.1 }
-{
-    let mut kept = loosen(handle).into_box();
-    let answer = kept::survey(&mut kept, seat);
-    (hold(Loose::of(kept)), answer)
+    let mut kept = take_out(ring, alloc);
+    let answer = kept::pass_group(&mut kept, seat, machines, order);
+    let grant = kept::first_grant(&kept, answer);
+    put_back(ring, kept);
+    report_group(answer, grant, out)
 }
 
 /// A survey, for a seat, whose log keeps it.
 #[unsafe(no_mangle)]
-pub extern "C" fn wozgirt_survey(ring: &mut Handle, seat: u32, out: &mut Sight) -> u32
+pub extern "C" fn wozgirt_survey(
+    alloc: Global,
+    ring: &mut Handle,
+    seat: u32,
+    out: &mut Sight,
+) -> u32
     ensures closed { ring.old.full ≡ false
         → (result ≡ closed) × (ring.new ≡ ring.old) × (out.new ≡ out.old) }
     ensures full { ring.new.full ≡ ring.old.full }
@@ -209,25 +147,15 @@ pub extern "C" fn wozgirt_survey(ring: &mut Handle, seat: u32, out: &mut Sight) 
     if is_closed(ring) {
         return CLOSED;
     }
-    let answer = replace_with(ring, seat, survey_by_handle);
+    let mut kept = take_out(ring, alloc);
+    let answer = kept::survey(&mut kept, seat);
+    put_back(ring, kept);
     report_sight(answer, out)
-}
-
-/// A glance at a ring that C holds.
-fn glance_by_handle(handle: Handle, _call: ()) -> (Handle, Survey)
-    requires { handle.full ≡ true }
-    ensures full { result.0.full ≡ true }
-    ensures same { result.0.value ≡ handle.value }
-    ensures is { IsGlance handle.value result.1 }
-{
-    let kept = loosen(handle).into_box();
-    let answer = kept::glance(&kept);
-    (hold(Loose::of(kept)), answer)
 }
 
 /// The same, and nothing is logged.
 #[unsafe(no_mangle)]
-pub extern "C" fn wozgirt_glance(ring: &mut Handle, out: &mut Sight) -> u32
+pub extern "C" fn wozgirt_glance(alloc: Global, ring: &mut Handle, out: &mut Sight) -> u32
     ensures closed { ring.old.full ≡ false
         → (result ≡ closed) × (ring.new ≡ ring.old) × (out.new ≡ out.old) }
     ensures full { ring.new.full ≡ ring.old.full }
@@ -241,25 +169,15 @@ pub extern "C" fn wozgirt_glance(ring: &mut Handle, out: &mut Sight) -> u32
     if is_closed(ring) {
         return CLOSED;
     }
-    let survey = replace_with(ring, (), glance_by_handle);
+    let kept = take_out(ring, alloc);
+    let survey = kept::glance(&kept);
+    put_back(ring, kept);
     report_sight(Ok(survey), out)
-}
-
-/// How many events a ring that C holds had.
-fn length_by_handle(handle: Handle, _call: ()) -> (Handle, u64)
-    requires { handle.full ≡ true }
-    ensures full { result.0.full ≡ true }
-    ensures same { result.0.value ≡ handle.value }
-    ensures is { result.1 ≡ events_of handle.value }
-{
-    let kept = loosen(handle).into_box();
-    let length = kept::history_length(&kept);
-    (hold(Loose::of(kept)), length)
 }
 
 /// How many events there were, over all segments.
 #[unsafe(no_mangle)]
-pub extern "C" fn wozgirt_history_length(ring: &mut Handle, out: &mut u64) -> u32
+pub extern "C" fn wozgirt_history_length(alloc: Global, ring: &mut Handle, out: &mut u64) -> u32
     ensures closed { ring.old.full ≡ false
         → (result ≡ closed) × (ring.new ≡ ring.old) × (out.new ≡ out.old) }
     ensures full { ring.new.full ≡ ring.old.full }
@@ -270,25 +188,16 @@ pub extern "C" fn wozgirt_history_length(ring: &mut Handle, out: &mut u64) -> u3
     if is_closed(ring) {
         return CLOSED;
     }
-    *out = replace_with(ring, (), length_by_handle);
+    let kept = take_out(ring, alloc);
+    let length = kept::history_length(&kept);
+    put_back(ring, kept);
+    *out = length;
     0
-}
-
-/// How many events are before the segment of a ring that C holds.
-fn before_by_handle(handle: Handle, _call: ()) -> (Handle, u64)
-    requires { handle.full ≡ true }
-    ensures full { result.0.full ≡ true }
-    ensures same { result.0.value ≡ handle.value }
-    ensures is { result.1 ≡ before_of handle.value }
-{
-    let kept = loosen(handle).into_box();
-    let count = kept::events_before(&kept);
-    (hold(Loose::of(kept)), count)
 }
 
 /// How many of the events are before the segment.
 #[unsafe(no_mangle)]
-pub extern "C" fn wozgirt_events_before(ring: &mut Handle, out: &mut u64) -> u32
+pub extern "C" fn wozgirt_events_before(alloc: Global, ring: &mut Handle, out: &mut u64) -> u32
     ensures closed { ring.old.full ≡ false
         → (result ≡ closed) × (ring.new ≡ ring.old) × (out.new ≡ out.old) }
     ensures full { ring.new.full ≡ ring.old.full }
@@ -299,25 +208,21 @@ pub extern "C" fn wozgirt_events_before(ring: &mut Handle, out: &mut u64) -> u32
     if is_closed(ring) {
         return CLOSED;
     }
-    *out = replace_with(ring, (), before_by_handle);
+    let kept = take_out(ring, alloc);
+    let count = kept::events_before(&kept);
+    put_back(ring, kept);
+    *out = count;
     0
-}
-
-/// The event of this number of a ring that C holds.
-fn event_by_handle(handle: Handle, number: u64) -> (Handle, Option<Event>)
-    requires { handle.full ≡ true }
-    ensures full { result.0.full ≡ true }
-    ensures same { result.0.value ≡ handle.value }
-    ensures is { result.1 ≡ event_of handle.value number }
-{
-    let kept = loosen(handle).into_box();
-    let event = kept::event(&kept, number);
-    (hold(Loose::of(kept)), event)
 }
 
 /// The event of this number, from 0 over all segments, if this one has it.
 #[unsafe(no_mangle)]
-pub extern "C" fn wozgirt_event_at(ring: &mut Handle, number: u64, out: &mut EventRow) -> u32
+pub extern "C" fn wozgirt_event_at(
+    alloc: Global,
+    ring: &mut Handle,
+    number: u64,
+    out: &mut EventRow,
+) -> u32
     ensures closed { ring.old.full ≡ false
         → (result ≡ closed) × (ring.new ≡ ring.old) × (out.new ≡ out.old) }
     ensures full { ring.new.full ≡ ring.old.full }
@@ -328,18 +233,10 @@ pub extern "C" fn wozgirt_event_at(ring: &mut Handle, number: u64, out: &mut Eve
     if is_closed(ring) {
         return CLOSED;
     }
-    let answer = replace_with(ring, number, event_by_handle);
+    let kept = take_out(ring, alloc);
+    let answer = kept::event(&kept, number);
+    put_back(ring, kept);
     report_event(answer, out)
-}
-
-/// Frees what C holds.
-fn free_by_handle(handle: Handle, alloc: Global) -> (Handle, ())
-    requires { handle.full ≡ true }
-    ensures { result.0.full ≡ false }
-{
-    let (closed, loose) = take(handle, alloc);
-    let _kept = loose.into_box();
-    (closed, ())
 }
 
 /// Closes what C holds, and frees it; what is closed stays as it is.
@@ -349,6 +246,6 @@ pub extern "C" fn wozgirt_close(alloc: Global, ring: &mut Handle)
     ensures same { ring.old.full ≡ false → ring.new ≡ ring.old }
 {
     if !is_closed(ring) {
-        replace_with(ring, alloc, free_by_handle);
+        let _kept = take_out(ring, alloc);
     }
 }

@@ -39,6 +39,7 @@ impl Model for LockDesk {
 }
 
 /// Puts the grant of a lock behind others, if there is one.
+#[inline(always)]
 fn put(grants: &mut Vec<Grant>, lock: u32, granted: Option<Holder>)
     requires { vec_len grants.old < vec_capacity grants.old }
     ensures put { grants.new.items ≡ grants.old.items ++ grant_at lock granted }
@@ -97,6 +98,7 @@ impl LockDesk {
     }
 
     /// A client acquires a lock, if no grants are left.
+    #[inline(always)]
     pub(crate) fn acquire(&mut self, client: u64, lock: u32, order: u64) -> Option<Answers>
         ensures { IsAsked self.old self.new client lock (Acquire order) result }
     {
@@ -121,6 +123,7 @@ impl LockDesk {
     }
 
     /// A client releases a lock.
+    #[inline(always)]
     pub(crate) fn release(&mut self, client: u64, lock: u32, token: u64) -> Option<Answers>
         ensures { IsDoneAsk self.old self.new client lock (Release token) result }
     {

@@ -8,26 +8,11 @@ ghost use Rattle.ring_desk_c.specs.declared.kept.TextError.{TextError};
 
 use crate::answers::report_text;
 use crate::codes::{CLOSED, HISTORY_FULL, NO_MEMORY, NO_TILL, TOO_SMALL, text_code};
-use crate::handle::{Handle, hold, is_closed, loosen, put_back, take_out};
+use crate::handle::{Handle, is_closed, put_back, take_out};
 use crate::kept::{Kept, TextError, keep};
 use crate::kept_texts::{file_text, put_file, put_lines};
-use crate::loose::Loose;
-use core::mem::replace_with;
 use ring_endless::NextError;
 use std::alloc::Global;
-
-/// The file of a ring that C holds.
-fn file_by_handle(handle: Handle, alloc: Global) -> (Handle, Result<Vec<u8>, TextError>)
-    requires { handle.full ≡ true }
-    ensures full { result.0.full ≡ true }
-    ensures same { result.0.value ≡ handle.value }
-    ensures ok { IfOk result.1 (λ text. IsFileOf handle.value text.items) }
-    ensures err { IfErr result.1 (λ e. IsNotSealed handle.value (text_code e)) }
-{
-    let kept = loosen(handle).into_box();
-    let answer = file_text(&kept, alloc);
-    (hold(Loose::of(kept)), answer)
-}
 
 /// Writes the beginning of the journal of the ring's segment, all of the segment so far, to the front of the caller's bytes, if
 /// there is room, and tells its size. From now on a journal is kept. It takes no memory.
@@ -116,17 +101,6 @@ fn step(kept: &mut Kept, alloc: Global, sealed: &[u8]) -> u32
     }
 }
 
-/// The same of a ring by its handle.
-fn step_by_handle(handle: Handle, alloc: Global, sealed: &[u8]) -> (Handle, u32)
-    requires { handle.full ≡ true }
-    ensures full { result.0.full ≡ true }
-    ensures is { IsStepReport handle.value result.0.value sealed.now result.1 }
-{
-    let mut kept = loosen(handle).into_box();
-    let code = step(&mut kept, alloc, sealed);
-    (hold(Loose::of(kept)), code)
-}
-
 /// Seals a segment whose file has this text.
 fn seal(alloc: Global, ring: &mut Handle, text: &[u8], out: &mut [u8], size: &mut u64) -> u32
     requires full { ring.old.full ≡ true }
@@ -138,9 +112,9 @@ fn seal(alloc: Global, ring: &mut Handle, text: &[u8], out: &mut [u8], size: &mu
         *size = text.len() as u64;
         return TOO_SMALL;
     }
-    let code = replace_with(ring, (), |handle, _call| {
-        step_by_handle(handle, alloc, text)
-    });
+    let mut kept = take_out(ring, alloc);
+    let code = step(&mut kept, alloc, text);
+    put_back(ring, kept);
     if code == 0 {
         report_text(text, out, size)
     } else {
@@ -168,7 +142,10 @@ pub extern "C" fn wozgirt_cut(
     if is_closed(ring) {
         return CLOSED;
     }
-    match replace_with(ring, alloc, file_by_handle) {
+    let kept = take_out(ring, alloc);
+    let text = file_text(&kept, alloc);
+    put_back(ring, kept);
+    match text {
         Ok(text) => seal(alloc, ring, text.as_slice(), out, size),
         Err(error) => text_code(error),
     }

@@ -64,18 +64,6 @@ pub(crate) fn is_closed(ring: &mut Handle) -> bool
     replace_with(ring, (), test_lent)
 }
 
-/// The box that a handle has.
-pub(crate) fn loosen(handle: Handle) -> Loose<Kept, Global>
-    requires { handle.full ≡ true }
-    ensures { (result.full ≡ true) × (result.value ≡ handle.value) }
-{
-    let Handle { at, alloc } = handle;
-    Loose {
-        at: at as *mut Kept,
-        alloc,
-    }
-}
-
 /// A handle that has the box.
 pub(crate) fn hold(loose: Loose<Kept, Global>) -> Handle
     requires { loose.full ≡ true }
@@ -89,7 +77,7 @@ pub(crate) fn hold(loose: Loose<Kept, Global>) -> Handle
 }
 
 /// A handle that has nothing, and the box that this one has.
-pub(crate) fn take(handle: Handle, alloc: Global) -> (Handle, Loose<Kept, Global>)
+fn take(handle: Handle, alloc: Global) -> (Handle, Loose<Kept, Global>)
     requires { handle.full ≡ true }
     ensures { (result.0.full ≡ false)
         × (result.1.full ≡ true)

@@ -16,6 +16,7 @@ pub struct Hold {
 }
 
 /// The code of what a client is told.
+#[inline(always)]
 fn own_code(own: Option<Answer>) -> u32
     ensures { result ≡ Desks.own_code own }
 {
@@ -33,6 +34,7 @@ fn own_code(own: Option<Answer>) -> u32
 }
 
 /// What is written for it.
+#[inline(always)]
 fn own_hold(own: Option<Answer>, old: Hold) -> Hold
     ensures { result ≡ Desks.own_hold own old }
 {
@@ -50,6 +52,7 @@ fn own_hold(own: Option<Answer>, old: Hold) -> Hold
 }
 
 /// The code of an ask.
+#[inline(always)]
 pub(crate) fn asked_code(answers: Option<Answers>) -> u32
     ensures { result ≡ Desks.asked_code answers }
 {
@@ -60,6 +63,7 @@ pub(crate) fn asked_code(answers: Option<Answers>) -> u32
 }
 
 /// What is written for it.
+#[inline(always)]
 pub(crate) fn asked_hold(answers: Option<Answers>, old: Hold) -> Hold
     ensures { result ≡ Desks.asked_hold answers old }
 {

@@ -64,18 +64,6 @@ pub(crate) fn is_closed(locks: &mut LockHandle) -> bool
     replace_with(locks, (), test_lent)
 }
 
-/// The box that a handle has.
-pub(crate) fn loosen(handle: LockHandle) -> Loose<LockDesk, Global>
-    requires { handle.full ≡ true }
-    ensures { (result.full ≡ true) × (result.value ≡ handle.value) }
-{
-    let LockHandle { at, alloc } = handle;
-    Loose {
-        at: at as *mut LockDesk,
-        alloc,
-    }
-}
-
 /// A handle that has the box.
 pub(crate) fn hold(loose: Loose<LockDesk, Global>) -> LockHandle
     requires { loose.full ≡ true }
@@ -89,7 +77,7 @@ pub(crate) fn hold(loose: Loose<LockDesk, Global>) -> LockHandle
 }
 
 /// A handle that has nothing, and the box that this one has.
-pub(crate) fn take(handle: LockHandle, alloc: Global) -> (LockHandle, Loose<LockDesk, Global>)
+fn take(handle: LockHandle, alloc: Global) -> (LockHandle, Loose<LockDesk, Global>)
     requires { handle.full ≡ true }
     ensures { (result.0.full ≡ false)
         × (result.1.full ≡ true)
@@ -106,4 +94,29 @@ pub(crate) fn take(handle: LockHandle, alloc: Global) -> (LockHandle, Loose<Lock
             alloc: own,
         },
     )
+}
+
+/// Takes out the locks that C holds, whose handle is closed then.
+pub(crate) fn take_out(locks: &mut LockHandle, alloc: Global) -> Box<LockDesk>
+    requires { locks.old.full ≡ true }
+    ensures closed { locks.new.full ≡ false }
+    ensures is { result.value ≡ locks.old.value }
+{
+    replace_with(locks, alloc, take).into_box()
+}
+
+/// A handle that has the box, in the place of one that has nothing.
+fn hold_again(_closed: LockHandle, loose: Loose<LockDesk, Global>) -> (LockHandle, ())
+    requires { loose.full ≡ true }
+    ensures { (result.0.full ≡ true) × (result.0.value ≡ loose.value) }
+{
+    (hold(loose), ())
+}
+
+/// Puts them back.
+pub(crate) fn put_back(locks: &mut LockHandle, desk: Box<LockDesk>)
+    requires { locks.old.full ≡ false }
+    ensures { (locks.new.full ≡ true) × (locks.new.value ≡ desk.value) }
+{
+    replace_with(locks, Loose::of(desk), hold_again);
 }

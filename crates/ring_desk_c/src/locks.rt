@@ -10,26 +10,13 @@ ghost use Rattle.ring_desk_c.specs.Desks.{IsAsked, IsDoneAsk, IsDeskLeft, IsNext
 use crate::codes::{CLOSED, GRANTS_LEFT};
 use crate::desks::{Grant, LockDesk};
 use crate::lock_answers::{Hold, asked_code, asked_hold, report_grant};
-use crate::lock_handle::{LockHandle, hold, is_closed, loosen, take};
-use crate::loose::Loose;
-use core::mem::replace_with;
-use ring_locks::Answers;
+use crate::lock_handle::{LockHandle, is_closed, put_back, take_out};
 use std::alloc::Global;
-
-/// A client of locks that C holds acquires one.
-fn acquire_by_handle(handle: LockHandle, call: (u64, u32, u64)) -> (LockHandle, Option<Answers>)
-    requires { handle.full ≡ true }
-    ensures full { result.0.full ≡ true }
-    ensures is { IsAsked handle.value result.0.value call.0 call.1 (Acquire call.2) result.1 }
-{
-    let mut desk = loosen(handle).into_box();
-    let answer = LockDesk::acquire(&mut desk, call.0, call.1, call.2);
-    (hold(Loose::of(desk)), answer)
-}
 
 /// A client acquires a lock: 0 where it holds it now, 1 where it waits, else why it was refused.
 #[unsafe(no_mangle)]
 pub extern "C" fn wozgirt_locks_acquire(
+    alloc: Global,
     locks: &mut LockHandle,
     client: u64,
     lock: u32,
@@ -48,25 +35,17 @@ pub extern "C" fn wozgirt_locks_acquire(
     if is_closed(locks) {
         return CLOSED;
     }
-    let answer = replace_with(locks, (client, lock, order), acquire_by_handle);
+    let mut desk = take_out(locks, alloc);
+    let answer = LockDesk::acquire(&mut desk, client, lock, order);
+    put_back(locks, desk);
     *out = asked_hold(answer, *out);
     asked_code(answer)
-}
-
-/// A client tries to.
-fn try_by_handle(handle: LockHandle, call: (u64, u32, u64)) -> (LockHandle, Option<Answers>)
-    requires { handle.full ≡ true }
-    ensures full { result.0.full ≡ true }
-    ensures is { IsAsked handle.value result.0.value call.0 call.1 (Try call.2) result.1 }
-{
-    let mut desk = loosen(handle).into_box();
-    let answer = LockDesk::try_acquire(&mut desk, call.0, call.1, call.2);
-    (hold(Loose::of(desk)), answer)
 }
 
 /// The same, but it does not wait: 2 where somebody holds the lock.
 #[unsafe(no_mangle)]
 pub extern "C" fn wozgirt_locks_try(
+    alloc: Global,
     locks: &mut LockHandle,
     client: u64,
     lock: u32,
@@ -85,25 +64,17 @@ pub extern "C" fn wozgirt_locks_try(
     if is_closed(locks) {
         return CLOSED;
     }
-    let answer = replace_with(locks, (client, lock, order), try_by_handle);
+    let mut desk = take_out(locks, alloc);
+    let answer = LockDesk::try_acquire(&mut desk, client, lock, order);
+    put_back(locks, desk);
     *out = asked_hold(answer, *out);
     asked_code(answer)
-}
-
-/// A client releases a lock.
-fn release_by_handle(handle: LockHandle, call: (u64, u32, u64)) -> (LockHandle, Option<Answers>)
-    requires { handle.full ≡ true }
-    ensures full { result.0.full ≡ true }
-    ensures is { IsDoneAsk handle.value result.0.value call.0 call.1 (Release call.2) result.1 }
-{
-    let mut desk = loosen(handle).into_box();
-    let answer = LockDesk::release(&mut desk, call.0, call.1, call.2);
-    (hold(Loose::of(desk)), answer)
 }
 
 /// A client ends its hold, which has this token.
 #[unsafe(no_mangle)]
 pub extern "C" fn wozgirt_locks_release(
+    alloc: Global,
     locks: &mut LockHandle,
     client: u64,
     lock: u32,
@@ -120,24 +91,20 @@ pub extern "C" fn wozgirt_locks_release(
     if is_closed(locks) {
         return CLOSED;
     }
-    let answer = replace_with(locks, (client, lock, token), release_by_handle);
+    let mut desk = take_out(locks, alloc);
+    let answer = LockDesk::release(&mut desk, client, lock, token);
+    put_back(locks, desk);
     asked_code(answer)
-}
-
-/// A client goes out of the line.
-fn cancel_by_handle(handle: LockHandle, call: (u64, u32)) -> (LockHandle, Option<Answers>)
-    requires { handle.full ≡ true }
-    ensures full { result.0.full ≡ true }
-    ensures is { IsDoneAsk handle.value result.0.value call.0 call.1 Cancel result.1 }
-{
-    let mut desk = loosen(handle).into_box();
-    let answer = LockDesk::cancel(&mut desk, call.0, call.1);
-    (hold(Loose::of(desk)), answer)
 }
 
 /// A client waits no more.
 #[unsafe(no_mangle)]
-pub extern "C" fn wozgirt_locks_cancel(locks: &mut LockHandle, client: u64, lock: u32) -> u32
+pub extern "C" fn wozgirt_locks_cancel(
+    alloc: Global,
+    locks: &mut LockHandle,
+    client: u64,
+    lock: u32,
+) -> u32
     ensures closed { locks.old.full ≡ false
         → (result ≡ closed) × (locks.new ≡ locks.old) }
     ensures full { locks.new.full ≡ locks.old.full }
@@ -149,28 +116,15 @@ pub extern "C" fn wozgirt_locks_cancel(locks: &mut LockHandle, client: u64, lock
     if is_closed(locks) {
         return CLOSED;
     }
-    let answer = replace_with(locks, (client, lock), cancel_by_handle);
+    let mut desk = take_out(locks, alloc);
+    let answer = LockDesk::cancel(&mut desk, client, lock);
+    put_back(locks, desk);
     asked_code(answer)
-}
-
-/// A client leaves: the code.
-fn leave_by_handle(handle: LockHandle, client: u64) -> (LockHandle, u32)
-    requires { handle.full ≡ true }
-    ensures full { result.0.full ≡ true }
-    ensures is { IsLeaveReport handle.value result.0.value client result.1 }
-{
-    let mut desk = loosen(handle).into_box();
-    let code = if LockDesk::leave(&mut desk, client) {
-        0
-    } else {
-        GRANTS_LEFT
-    };
-    (hold(Loose::of(desk)), code)
 }
 
 /// A client leaves all locks.
 #[unsafe(no_mangle)]
-pub extern "C" fn wozgirt_locks_leave(locks: &mut LockHandle, client: u64) -> u32
+pub extern "C" fn wozgirt_locks_leave(alloc: Global, locks: &mut LockHandle, client: u64) -> u32
     ensures closed { locks.old.full ≡ false
         → (result ≡ closed) × (locks.new ≡ locks.old) }
     ensures full { locks.new.full ≡ locks.old.full }
@@ -180,23 +134,15 @@ pub extern "C" fn wozgirt_locks_leave(locks: &mut LockHandle, client: u64) -> u3
     if is_closed(locks) {
         return CLOSED;
     }
-    replace_with(locks, client, leave_by_handle)
-}
-
-/// A grant of locks that C holds.
-fn next_by_handle(handle: LockHandle, _call: ()) -> (LockHandle, Option<Grant>)
-    requires { handle.full ≡ true }
-    ensures full { result.0.full ≡ true }
-    ensures is { IsNextGrant handle.value result.0.value result.1 }
-{
-    let mut desk = loosen(handle).into_box();
-    let answer = LockDesk::next(&mut desk);
-    (hold(Loose::of(desk)), answer)
+    let mut desk = take_out(locks, alloc);
+    let has_left = LockDesk::leave(&mut desk, client);
+    put_back(locks, desk);
+    if has_left { 0 } else { GRANTS_LEFT }
 }
 
 /// A grant to a client that waited, of those that the last input brought about: 0, or 3 where there is none.
 #[unsafe(no_mangle)]
-pub extern "C" fn wozgirt_locks_next(locks: &mut LockHandle, out: &mut Grant) -> u32
+pub extern "C" fn wozgirt_locks_next(alloc: Global, locks: &mut LockHandle, out: &mut Grant) -> u32
     ensures closed { locks.old.full ≡ false
         → (result ≡ closed) × (locks.new ≡ locks.old) × (out.new ≡ out.old) }
     ensures full { locks.new.full ≡ locks.old.full }
@@ -208,19 +154,10 @@ pub extern "C" fn wozgirt_locks_next(locks: &mut LockHandle, out: &mut Grant) ->
     if is_closed(locks) {
         return CLOSED;
     }
-    let answer = replace_with(locks, (), next_by_handle);
+    let mut desk = take_out(locks, alloc);
+    let answer = LockDesk::next(&mut desk);
+    put_back(locks, desk);
     report_grant(answer, out)
-}
-
-/// Locks that C holds go on in new segments.
-fn cut_by_handle(handle: LockHandle, alloc: Global) -> (LockHandle, u32)
-    requires { handle.full ≡ true }
-    ensures full { result.0.full ≡ true }
-    ensures is { IsCutReport handle.value result.0.value result.1 }
-{
-    let mut desk = loosen(handle).into_box();
-    let code = LockDesk::cut(&mut desk, alloc);
-    (hold(Loose::of(desk)), code)
 }
 
 /// Begins a new segment of each lock's history: who holds, who waits and the tokens go on.
@@ -234,17 +171,10 @@ pub extern "C" fn wozgirt_locks_cut(alloc: Global, locks: &mut LockHandle) -> u3
     if is_closed(locks) {
         return CLOSED;
     }
-    replace_with(locks, alloc, cut_by_handle)
-}
-
-/// Frees the locks that C holds.
-fn free_by_handle(handle: LockHandle, alloc: Global) -> (LockHandle, ())
-    requires { handle.full ≡ true }
-    ensures { result.0.full ≡ false }
-{
-    let (closed, loose) = take(handle, alloc);
-    let _desk = loose.into_box();
-    (closed, ())
+    let mut desk = take_out(locks, alloc);
+    let code = LockDesk::cut(&mut desk, alloc);
+    put_back(locks, desk);
+    code
 }
 
 /// Closes the locks that C holds, and frees them; what is closed stays as it is.
@@ -254,6 +184,6 @@ pub extern "C" fn wozgirt_locks_close(alloc: Global, locks: &mut LockHandle)
     ensures same { locks.old.full ≡ false → locks.new ≡ locks.old }
 {
     if !is_closed(locks) {
-        replace_with(locks, alloc, free_by_handle);
+        let _desk = take_out(locks, alloc);
     }
 }

@@ -1,13 +1,16 @@
 -- The tally of a ring's segment is right, its segments are a chain, and its answers are right.
-use Rattle.std.proofs.Common.{◌≡◌, ℕ, ◌+◌, ◌≤◌, Bool, List, [], ◌∷◌, ◌++◌, length, length-append, take, drop, refl, sym, ◌∙◌, ap, subst, arith}
+use Rattle.std.proofs.Common.{◌≡◌, ℕ, ◌+◌, ◌≤◌, ◌==◌, Bool, true, false, cond, List, [], ◌∷◌, ◌++◌, length, length-append, take, refl, sym, ◌∙◌, ap, subst, arith}
+use Rattle.std.proofs.lemmas.Bool.{ne_eqb}
 use Rattle.std.proofs.lemmas.List.{take_all}
+use Rattle.std.proofs.lemmas.List.Sums.{sum_by-append}
 use Rattle.ring_model.specs.Limits.{event_limit}
 use Rattle.ring_model.specs.Ring.{Ring}
-use Rattle.ring_model.specs.History.{State, StepOf, opening, reply, after}
+use Rattle.ring_model.specs.Numbers.{bit}
+use Rattle.ring_model.specs.History.{State, StepOf, IsLegal, opening, next, reply, after}
 use Rattle.ring_model.specs.Resources.{till}
-use Rattle.ring_model.specs.Groups.{IsHistory, left_after}
+use Rattle.ring_model.specs.Groups.{IsHistory, AreMembers, move_order, left_after}
 use Rattle.ring_model.specs.Logs.{IsSurvey}
-use Rattle.ring_model.specs.Surveys.{granted_count, calm}
+use Rattle.ring_model.specs.Surveys.{is_corrupted, granted_count, corrupted_count, calm}
 use Rattle.ring_model.specs.declared.events.Op.{Op}
 use Rattle.ring_model.specs.declared.events.Op.TheVariants.{Pass, Member, Corrupt}
 use Rattle.ring_model.specs.declared.events.Reply.{Reply}
@@ -16,23 +19,23 @@ use Rattle.ring_model.specs.declared.events.Event.{Event}
 use Rattle.ring_model.specs.declared.events.Receipt.{Receipt}
 use Rattle.ring_model.specs.declared.events.Survey.{Survey}
 use Rattle.ring_model.proofs.Histories.{StepOf-reply, grants-after}
+use Rattle.ring_model.proofs.QuietRuns.{corrupted_count-cons}
 use Rattle.ring_model.proofs.Wholes.{whole_left}
 use Rattle.ring_book.specs.BookView.{IsFresh, IsRecorded}
 use Rattle.ring_book.specs.GroupView.{IsGroupRecorded}
 use Rattle.ring_book.specs.declared.books.groups.GroupReceipt.{GroupReceipt}
 use Rattle.ring_model.specs.declared.events.Entry.TheVariants as entry
-use Rattle.ring_logs.proofs.Groups.{group_events}
 use Rattle.ring_desk.specs.Rings.{RingView, IsOneThreadRing, AreFresh, told_more}
 use Rattle.ring_chains.specs.declared.bases.Base.{Base}
 use Rattle.ring_chains.specs.declared.tallies.Tally.{Tally}
 use Rattle.ring_chains.specs.Bases.{IsBase, is_quiet, shifted_reply, shifted_survey, base_after}
-use Rattle.ring_chains.specs.Tallies.{empty_tally, tally_with, tallied, base_with, IsInSegment}
+use Rattle.ring_chains.specs.Tallies.{empty_tally, tallied, base_with, IsInSegment}
 use Rattle.ring_chains.specs.Chains.{Segment, IsChainFrom, chain_history, IsSurveyAfter}
-use Rattle.ring_chains.proofs.Tallied.{tallied-append, kept_is, few_grants, calm_few, next_bases_are_right}
+use Rattle.ring_chains.proofs.Tallied.{kept_is, few_grants, calm_few, next_bases_are_right}
 use Rattle.ring_chains.proofs.Shifts.{grants_legal}
 use Rattle.ring_chains.proofs.ChainHistories.{Stands, stands, replies_are_right}
 use Rattle.ring_chains.proofs.Seen.{front_size, surveys_are_right}
-use Rattle.ring_endless.specs.Endless.{EndlessView, IsEndless, IsTallied, IsSurveyed, IsNext, EndsChain, segment_of, local_survey, survey_now, ChainsGrow, ReceiptsAreRight, SurveysNowAreRight}
+use Rattle.ring_endless.specs.Endless.{EndlessView, IsEndless, IsKnown, IsSurveyed, IsNext, EndsChain, segment_of, local_survey, survey_now, ChainsGrow, ReceiptsAreRight, SurveysNowAreRight}
 
 -- ---- the end of a segment
 
@@ -51,39 +54,40 @@ taken h = take_all (length h) h (omega arith)
 pub end_is : (d : RingView ℕ) → IsOneThreadRing till 0 d → IsSurvey till (opening d.book.start 0) d.book.history (local_survey d)
 end_is d i = (omega arith, refl, ap (λ (x : List Event). left_after x) (taken d.book.history) ∙ whole_left (length d.book.start.values) d.book.history i.book.whole)
 
-pub tally_quiet : (b : Base) (t : Tally) (d : RingView ℕ) → IsTallied b t d → t.quiet ≡ is_quiet d.book.history
-tally_quiet b t d k = ap (λ (x : Tally). x.quiet) (k.tally ∙ kept_is d.book.start d.book.history k.is.ring.book.legal)
-
-pub end_small : (b : Base) (t : Tally) (d : RingView ℕ) → IsTallied b t d → IsSmall t (local_survey d)
-end_small b t d k =
+pub end_small : (d : RingView ℕ) (t : Tally) → IsOneThreadRing till 0 d → t ≡ tallied empty_tally d.book.history → IsSmall t (local_survey d)
+end_small d t i q =
     let h : List Event = d.book.history in
-    let n : length h ≤ event_limit = few d k.is.ring in
+    let n : length h ≤ event_limit = few d i in
     let g : granted_count h ≤ length h = few_grants h in
-    let is : t.grants ≡ granted_count h = ap (λ (x : Tally). x.grants) (k.tally ∙ kept_is d.book.start h k.is.ring.book.legal) in
+    let is : t.grants ≡ granted_count h = ap (λ (x : Tally). x.grants) (q ∙ kept_is d.book.start h i.book.legal) in
     let c : calm h ≤ granted_count h = calm_few h in
     let same : calm (take (length h) h) ≡ calm h = ap (λ (x : List Event). calm x) (taken h) in
     record { grants = omega arith; position = omega arith; calm = omega arith }
 
+-- the tally is that of the segment
+pub tally_of : (b : Base) (d : RingView ℕ) (e : EndlessView) (t : Tally) → ◌≡◌ {A = EndlessView} (record { base = b; ring = d }) e → t ≡ tallied empty_tally e.ring.book.history → t ≡ tallied empty_tally d.book.history
+tally_of b d e t view q = q ∙ sym (ap (λ (x : EndlessView). tallied empty_tally x.ring.book.history) view)
+
 -- the passes of the segment
-pub grants_now : (b : Base) (t : Tally) (d : RingView ℕ) → IsTallied b t d → t.grants ≡ d.book.now.grants
-grants_now b t d k =
+pub grants_now : (d : RingView ℕ) (t : Tally) → IsOneThreadRing till 0 d → t ≡ tallied empty_tally d.book.history → t.grants ≡ d.book.now.grants
+grants_now d t i q =
     let h : List Event = d.book.history in
-    let is : t.grants ≡ granted_count h = ap (λ (x : Tally). x.grants) (k.tally ∙ kept_is d.book.start h k.is.ring.book.legal) in
-    let g : (after till (opening d.book.start 0) h).grants ≡ 0 + granted_count h = grants_legal till (opening d.book.start 0) h k.is.ring.book.legal in
-    let now : (after till (opening d.book.start 0) h).grants ≡ d.book.now.grants = ap (λ (x : State ℕ). x.grants) k.is.ring.book.current in
+    let is : t.grants ≡ granted_count h = ap (λ (x : Tally). x.grants) (q ∙ kept_is d.book.start h i.book.legal) in
+    let g : (after till (opening d.book.start 0) h).grants ≡ 0 + granted_count h = grants_legal till (opening d.book.start 0) h i.book.legal in
+    let now : (after till (opening d.book.start 0) h).grants ≡ d.book.now.grants = ap (λ (x : State ℕ). x.grants) i.book.current in
     omega arith
 
 -- the next base, of the tally
-pub next_base_is : (b : Base) (t : Tally) (d : RingView ℕ) → IsTallied b t d → base_with b t (local_survey d) ≡ base_after b d.book.start d.book.history
-next_base_is b t d k =
-    ap (λ (x : Tally). base_with b x (local_survey d)) k.tally
-    ∙ next_bases_are_right b d.book.start d.book.history (local_survey d) k.is.ring.book.legal (end_is d k.is.ring) refl
+pub next_base_is : (b : Base) (t : Tally) (d : RingView ℕ) → IsOneThreadRing till 0 d → t ≡ tallied empty_tally d.book.history → base_with b t (local_survey d) ≡ base_after b d.book.start d.book.history
+next_base_is b t d i q =
+    ap (λ (x : Tally). base_with b x (local_survey d)) q
+    ∙ next_bases_are_right b d.book.start d.book.history (local_survey d) i.book.legal (end_is d i) refl
 
 -- and none if there is no room for it
-pub no_next : (b : Base) (t : Tally) (d : RingView ℕ) (v : Survey) (e : EndlessView) → IsTallied b t d → v ≡ local_survey d → ◌≡◌ {A = EndlessView} (record { base = b; ring = d }) e →
-    ¬ IsBase (base_with b t v) → ¬ IsBase (base_after e.base e.ring.book.start e.ring.book.history)
-no_next b t d v e k q view none base =
-    none (subst (λ (x : Base). IsBase x) (sym (ap (λ (x : Survey). base_with b t x) q ∙ next_base_is b t d k))
+pub no_next : (b : Base) (t : Tally) (d : RingView ℕ) (v : Survey) (e : EndlessView) → IsOneThreadRing till 0 d → t ≡ tallied empty_tally d.book.history → v ≡ local_survey d →
+    ◌≡◌ {A = EndlessView} (record { base = b; ring = d }) e → ¬ IsBase (base_with b t v) → ¬ IsBase (base_after e.base e.ring.book.start e.ring.book.history)
+no_next b t d v e i p q view none base =
+    none (subst (λ (x : Base). IsBase x) (sym (ap (λ (x : Survey). base_with b t x) q ∙ next_base_is b t d i p))
     (subst (λ (x : EndlessView). IsBase (base_after x.base x.ring.book.start x.ring.book.history)) (sym view) base))
 
 -- the next segment, of its parts
@@ -122,35 +126,90 @@ receipt_small d e seat o r i j c =
       within = grant_small d.book.now r.event.op r.event.reply e.book.now (length e.book.history) c.step (omega arith) most;
     }
 
--- the tally has it too
-pub tally_more : (b : Base) (t : Tally) (d e : RingView ℕ) (seat : ℕ) (o : Op) (r : Receipt) → IsTallied b t d → IsOneThreadRing till 0 e → IsRecorded till d.book e.book seat o r →
-    IsTallied b (tally_with t r.event.reply) e
-tally_more b t d e seat o r k j c = record {
-  is = record { base = k.is.base; ring = j };
-  tally = ap (λ (x : Tally). tally_with x r.event.reply) k.tally ∙ sym (tallied-append empty_tally d.book.history (r.event ∷ [])) ∙ ap (λ (x : List Event). tallied empty_tally x) (sym c.grown);
+-- ---- whether a corruption came
+
+abbrev corrupts : Op → Bool
+corrupts (Pass i order) = false
+corrupts (Member i order left) = false
+corrupts (Corrupt i v) = true
+
+step_corrupts : (a : State ℕ) (o : Op) (r : Reply) (t : State ℕ) → StepOf till a o r t → is_corrupted r ≡ corrupts o
+step_corrupts a (Pass i order) (Granted number result) t h = refl
+step_corrupts a (Pass i order) NotPrivileged t h = refl
+step_corrupts a (Pass i order) (Corrupted old) t h = absurd h
+step_corrupts a (Member i order left) (Granted number result) t h = refl
+step_corrupts a (Member i order left) NotPrivileged t h = absurd h
+step_corrupts a (Member i order left) (Corrupted old) t h = absurd h
+step_corrupts a (Corrupt i v) (Granted number result) t h = absurd h
+step_corrupts a (Corrupt i v) NotPrivileged t h = absurd h
+step_corrupts a (Corrupt i v) (Corrupted old) t h = refl
+
+joined_count : (xs ys : List Event) → corrupted_count (xs ++ ys) ≡ corrupted_count xs + corrupted_count ys
+joined_count xs ys = sum_by-append (λ (e : Event). cond {A = ℕ} (is_corrupted e.reply) 1 0) xs ys
+
+one_count : (e : Event) → corrupted_count (e ∷ []) ≡ bit (is_corrupted e.reply)
+one_count e = let c : corrupted_count (e ∷ []) ≡ bit (is_corrupted e.reply) + corrupted_count [] = corrupted_count-cons e [] in omega arith
+
+-- the tally of the segment knows it
+pub known_after : (b : Base) (d : RingView ℕ) (t : Tally) → IsBase b → IsOneThreadRing till 0 d → t ≡ tallied empty_tally d.book.history → IsKnown b t.quiet d
+known_after b d t is i q = record {
+  is = record { base = is; ring = i };
+  quiet = ap (λ (x : Tally). x.quiet) (q ∙ kept_is d.book.start d.book.history i.book.legal);
 }
 
--- and a group
-pub tally_group : (b : Base) (t : Tally) (d e : RingView ℕ) (seat order : ℕ) (machines : List ℕ) (r : GroupReceipt) → IsTallied b t d → IsOneThreadRing till 0 e →
-    IsGroupRecorded till d.book e.book seat order machines r → IsTallied b (tallied t (drop r.first e.book.history)) e
-tally_group b t d e seat order machines r k j g =
-    let cut : drop r.first e.book.history ≡ g.moved.events = group_events till d.book e.book seat order machines r g in
+-- no corruption came behind
+known_more : (b : Base) (q : Bool) (d e : RingView ℕ) (es : List Event) → IsKnown b q d → IsOneThreadRing till 0 e → e.book.history ≡ d.book.history ++ es → corrupted_count es ≡ 0 → IsKnown b q e
+known_more b q d e es k j grown none =
+    let more : corrupted_count (d.book.history ++ es) ≡ corrupted_count d.book.history + corrupted_count es = joined_count d.book.history es in
+    let same : corrupted_count d.book.history ≡ corrupted_count (d.book.history ++ es) = omega arith in
     record {
       is = record { base = k.is.base; ring = j };
-      tally = ap (λ (x : List Event). tallied t x) cut ∙ ap (λ (x : Tally). tallied x g.moved.events) k.tally ∙ sym (tallied-append empty_tally d.book.history g.moved.events) ∙ ap (λ (x : List Event). tallied empty_tally x) (sym g.moved.grown);
+      quiet = k.quiet ∙ ap (λ (n : ℕ). n == 0) same ∙ sym (ap (λ (x : List Event). is_quiet x) grown);
     }
+
+reply_corrupts : (d e : RingView ℕ) (seat : ℕ) (o : Op) (r : Receipt) → IsRecorded till d.book e.book seat o r → is_corrupted r.event.reply ≡ corrupts o
+reply_corrupts d e seat o r c = step_corrupts d.book.now r.event.op r.event.reply e.book.now c.step ∙ ap (λ (x : Op). corrupts x) c.of_call
+
+pub known_pass : (b : Base) (q : Bool) (d e : RingView ℕ) (seat machine order : ℕ) (r : Receipt) → IsKnown b q d → IsOneThreadRing till 0 e → IsRecorded till d.book e.book seat (Pass machine order) r → IsKnown b q e
+known_pass b q d e seat machine order r k j c =
+    known_more b q d e (r.event ∷ []) k j c.grown (one_count r.event ∙ ap (λ (x : Bool). bit x) (reply_corrupts d e seat (Pass machine order) r c))
+
+pub known_corrupt : (b : Base) (q : Bool) (d e : RingView ℕ) (seat machine value : ℕ) (r : Receipt) → IsKnown b q d → IsOneThreadRing till 0 e → IsRecorded till d.book e.book seat (Corrupt machine value) r → IsKnown b false e
+known_corrupt b q d e seat machine value r k j c =
+    let h : List Event = d.book.history in
+    let one : corrupted_count (r.event ∷ []) ≡ 1 = one_count r.event ∙ ap (λ (x : Bool). bit x) (reply_corrupts d e seat (Corrupt machine value) r c) in
+    let more : corrupted_count (h ++ r.event ∷ []) ≡ corrupted_count h + corrupted_count (r.event ∷ []) = joined_count h (r.event ∷ []) in
+    record {
+      is = record { base = k.is.base; ring = j };
+      quiet = sym (ne_eqb (corrupted_count (h ++ r.event ∷ [])) 0 (λ z. absurd (omega arith))) ∙ sym (ap (λ (x : List Event). is_quiet x) c.grown);
+    }
+
+members_none : (a : State ℕ) (seat order : ℕ) (ms : List ℕ) (es : List Event) → AreMembers seat order ms es → IsLegal till a es → corrupted_count es ≡ 0
+members_none a seat order [] es m l = ap (λ (x : List Event). corrupted_count x) m
+members_none a seat order (i ∷ ms) [] m l = absurd m
+members_none a seat order (i ∷ ms) (e ∷ es) m l =
+    let no : is_corrupted e.reply ≡ false = step_corrupts a e.op e.reply (next till a e.op) l.0 ∙ ap (λ (x : Op). corrupts x) m.1 in
+    let c : corrupted_count (e ∷ es) ≡ bit (is_corrupted e.reply) + corrupted_count es = corrupted_count-cons e es in
+    let none : bit (is_corrupted e.reply) ≡ 0 = ap (λ (x : Bool). bit x) no in
+    let ih : corrupted_count es ≡ 0 = members_none (next till a e.op) seat order ms es m.2 l.1 in
+    omega arith
+
+pub known_group : (b : Base) (q : Bool) (d e : RingView ℕ) (seat order : ℕ) (machines : List ℕ) (r : GroupReceipt) → IsKnown b q d → IsOneThreadRing till 0 e →
+    IsGroupRecorded till d.book e.book seat order machines r → IsKnown b q e
+known_group b q d e seat order machines r k j g =
+    known_more b q d e g.moved.events k j g.moved.grown (members_none d.book.now seat order (move_order machines) g.moved.events g.moved.block.members g.moved.legal)
 
 -- ---- surveys
 
-pub survey_is : (b : Base) (t : Tally) (d : RingView ℕ) (v made : Survey) → IsTallied b t d → v ≡ local_survey d → made ≡ shifted_survey b t.quiet v → made ≡ survey_now (record { base = b; ring = d })
-survey_is b t d v made k q m =
-    m ∙ ap (λ (x : Survey). shifted_survey b t.quiet x) q ∙ ap (λ (x : Bool). shifted_survey b x (local_survey d)) (tally_quiet b t d k)
+pub survey_is : (b : Base) (q : Bool) (d : RingView ℕ) (v made : Survey) → IsKnown b q d → v ≡ local_survey d → made ≡ shifted_survey b q v → made ≡ survey_now (record { base = b; ring = d })
+survey_is b q d v made k p m =
+    m ∙ ap (λ (x : Survey). shifted_survey b q x) p ∙ ap (λ (x : Bool). shifted_survey b x (local_survey d)) k.quiet
 
-pub surveyed_is : (b : Base) (t : Tally) (d e : RingView ℕ) (seat : ℕ) (v made : Survey) → IsTallied b t d → v ≡ local_survey d → e.clients ≡ told_more d.clients seat (entry.Survey v ∷ []) → e.book ≡ d.book →
-    made ≡ shifted_survey b t.quiet v → IsSurveyed (record { base = b; ring = d }) (record { base = b; ring = e }) seat made
-surveyed_is b t d e seat v made k q logged book m = record {
-  shifted = survey_is b t d v made k q m;
-  logged = logged ∙ ap (λ (x : Survey). told_more d.clients seat (entry.Survey x ∷ [])) q;
+pub surveyed_is : (b : Base) (q : Bool) (d e : RingView ℕ) (seat : ℕ) (v made : Survey) → IsKnown b q d → v ≡ local_survey d → e.clients ≡ told_more d.clients seat (entry.Survey v ∷ []) → e.book ≡ d.book →
+    made ≡ shifted_survey b q v → IsSurveyed (record { base = b; ring = d }) (record { base = b; ring = e }) seat made
+surveyed_is b q d e seat v made k p logged book m = record {
+  shifted = survey_is b q d v made k p m;
+  logged = logged ∙ ap (λ (x : Survey). told_more d.clients seat (entry.Survey x ∷ [])) p;
   book = book;
   base = refl;
 }

@@ -1,5 +1,5 @@
 -- A ring over a till whose history is a chain of segments (this project's own).
-use Rattle.std.specs.Prelude.{◌≡◌, ℕ, ◌+◌, true, false, List, [], ◌∷◌, ◌++◌, length, drop, Option, Some, None}
+use Rattle.std.specs.Prelude.{◌≡◌, ℕ, ◌+◌, Bool, true, false, List, [], ◌∷◌, ◌++◌, length, drop, Option, Some, None}
 use Rattle.ring_model.specs.Ring.{Ring, is_privileged}
 use Rattle.ring_model.specs.History.{opening, reply, after}
 use Rattle.ring_model.specs.Resources.{till}
@@ -15,9 +15,7 @@ use Rattle.ring_book.specs.declared.books.groups.GroupReceipt.{GroupReceipt}
 use Rattle.ring_logs.specs.Seats.{receipts_from}
 use Rattle.ring_desk.specs.Rings.{RingView, IsOneThreadRing, IsSameRing, AreFresh, told_more}
 use Rattle.ring_chains.specs.declared.bases.Base.{Base}
-use Rattle.ring_chains.specs.declared.tallies.Tally.{Tally}
 use Rattle.ring_chains.specs.Bases.{IsBase, IsAmount, state_from, is_quiet, base_after, shifted_receipt, shifted_survey}
-use Rattle.ring_chains.specs.Tallies.{empty_tally, tallied}
 use Rattle.ring_chains.specs.Chains.{Segment, IsChainFrom, chain_history, IsSurveyAfter}
 
 -- the base of its segment, and the segment: a ring on one thread with its clients
@@ -36,10 +34,10 @@ pub record IsSameEndless (old new : EndlessView) : Type 0 where
   pub base : new.base ≡ old.base
   pub ring : IsSameRing old.ring new.ring
 
--- such a ring whose tally is that of its segment
-pub record IsTallied (b : Base) (t : Tally) (d : RingView ℕ) : Type 0 where
+-- such a ring of whose segment it is known whether a corruption came
+pub record IsKnown (b : Base) (q : Bool) (d : RingView ℕ) : Type 0 where
   pub is : IsEndless (record { base = b; ring = d })
-  pub tally : t ≡ tallied empty_tally d.book.history
+  pub quiet : q ≡ is_quiet d.book.history
 
 -- its segment
 abbrev pub segment_of : EndlessView → Segment

@@ -6,6 +6,7 @@ ghost use Rattle.ring_model.specs.declared.events.Op.TheVariants as op;
 ghost use Rattle.ring_desk.specs.Rings.{IsOneThreadRing};
 ghost use Rattle.ring_desk.specs.Refusals.{IsDecided, bounds_of, seat_refusal, reserve_refusal, pass_refusal, try_refusal, corrupt_refusal, group_refusal};
 ghost use Rattle.ring_chains.specs.Bases.{IsBase, base_after};
+ghost use Rattle.ring_chains.specs.Tallies.{empty_tally, tallied};
 ghost use Rattle.ring_endless.specs.declared.rings.NextError.TheVariants as error;
 ghost use Rattle.ring_endless.specs.Endless.{IsEndless, IsSameEndless, IsCalled, IsTried, IsGrouped, IsSurveyed, IsNext, survey_now};
 
@@ -22,18 +23,18 @@ use std::marker::Model;
 #[derive(Drop)]
 pub struct EndlessRing {
     base: Base,
-    tally: Tally,
+    quiet: bool, // whether no corruption came in the segment: all else is in its history
     ring: OneThreadRing<Till>,
 }
 
 impl Model for EndlessRing {
-    ghost use Rattle.ring_endless.specs.Endless.{EndlessView, IsTallied};
+    ghost use Rattle.ring_endless.specs.Endless.{EndlessView, IsKnown};
 
     ghost Value = { EndlessView };
 
     ghost view = { λ e. record { base = e.base; ring = e.ring } };
 
-    ghost invariant = { λ e. IsTallied e.base e.tally e.ring };
+    ghost invariant = { λ e. IsKnown e.base e.quiet e.ring };
 }
 
 /// Why there is no next segment.
@@ -55,7 +56,7 @@ impl EndlessRing {
     {
         EndlessRing {
             base,
-            tally: Tally::empty().with_events(ring.history()),
+            quiet: Tally::empty().with_events(ring.history()).quiet,
             ring,
         }
     }
@@ -76,11 +77,18 @@ impl EndlessRing {
         &self.ring
     }
 
+    /// The tally of the segment.
+    fn tally(&self) -> Tally
+        ensures { result ≡ tallied empty_tally self.now.ring.book.history }
+    {
+        Tally::of(self.ring.history(), self.quiet)
+    }
+
     /// How many passes were granted, over all segments.
     pub fn grants(&self) -> u64
         ensures { result ≡ self.now.base.grants + self.now.ring.book.now.grants }
     {
-        self.base.grants + self.tally.grants
+        self.base.grants + self.tally().grants
     }
 
     /// Takes memory for `more` events of the segment, so that as many calls are not refused for want of it.
@@ -108,6 +116,7 @@ impl EndlessRing {
     /// # Errors
     ///
     /// Those of [`OneThreadRing::pass`]. Nothing has changed then.
+    #[inline(always)]
     pub fn pass(&mut self, seat: u32, machine: u32, order: u64) -> Result<Receipt, CallError>
         ensures ok { IfOk result
             (λ r. IsCalled self.old self.new seat (op.Pass machine order) r) }
@@ -122,7 +131,6 @@ impl EndlessRing {
             Ok(receipt) => receipt,
             Err(error) => return Err(error),
         };
-        self.tally = self.tally.with_reply(receipt.event.reply);
         Ok(self.base.shift_receipt(receipt))
     }
 
@@ -147,7 +155,6 @@ impl EndlessRing {
             Ok(None) => return Ok(None),
             Err(error) => return Err(error),
         };
-        self.tally = self.tally.with_reply(receipt.event.reply);
         Ok(Some(self.base.shift_receipt(receipt)))
     }
 
@@ -174,7 +181,7 @@ impl EndlessRing {
             Ok(receipt) => receipt,
             Err(error) => return Err(error),
         };
-        self.tally = self.tally.with_reply(receipt.event.reply);
+        self.quiet = false;
         Ok(self.base.shift_receipt(receipt))
     }
 
@@ -199,9 +206,6 @@ impl EndlessRing {
             Ok(receipt) => receipt,
             Err(error) => return Err(error),
         };
-        self.tally = self
-            .tally
-            .with_events(&self.ring.history()[receipt.first as usize..]);
         Ok(GroupReceipt {
             first: self.base.events + receipt.first,
             count: receipt.count,
@@ -223,14 +227,14 @@ impl EndlessRing {
             Ok(survey) => survey,
             Err(error) => return Err(error),
         };
-        Ok(self.base.shift_survey(self.tally.quiet, survey))
+        Ok(self.base.shift_survey(self.quiet, survey))
     }
 
     /// The same survey, which no log keeps.
     pub fn glance(&self) -> Survey
         ensures { result ≡ survey_now self.now }
     {
-        self.base.shift_survey(self.tally.quiet, self.ring.glance())
+        self.base.shift_survey(self.quiet, self.ring.glance())
     }
 
     /// The ring with its next segment, which has no events. This one does not change.
@@ -245,7 +249,7 @@ impl EndlessRing {
             → ¬ IsBase (base_after self.now.base self.now.ring.book.start
             self.now.ring.book.history)) }
     {
-        let Some(base) = self.base.next(self.tally, self.ring.glance()) else {
+        let Some(base) = self.base.next(self.tally(), self.ring.glance()) else {
             return Err(NextError::Full);
         };
         let Ok(ring) = self.ring.successor(alloc, Till::new()) else {
@@ -253,7 +257,7 @@ impl EndlessRing {
         };
         Ok(EndlessRing {
             base,
-            tally: Tally::empty(),
+            quiet: true,
             ring,
         })
     }

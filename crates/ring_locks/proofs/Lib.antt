@@ -1,4 +1,5 @@
 pub mod Rings
+pub mod Settled
 pub mod Moves
 pub mod Standing
 pub mod Circles

@@ -4,6 +4,7 @@ use Rattle.std.specs.Prelude.{◌||◌, ◌==◌, slice_get, slice_set, option_m
 use Rattle.std.proofs.lemmas.Bool.{cases_Bool, cases_eq, eqb-true, eq-eqb, ne_eqb, or_cases, or_right, or_parts, both_ways, cond-true, cond-false, false≢true}
 use Rattle.std.proofs.lemmas.List.{map-set, length-map, length-set}
 use Rattle.std.proofs.lemmas.Option.{slice_get-map, slice_get_past, slice_get_read}
+use Rattle.ring_model.specs.Ring.{is_settled}
 use Rattle.ring_locks.specs.declared.answers.Waiter.{Waiter}
 use Rattle.ring_locks.specs.declared.answers.Holder.{Holder}
 use Rattle.ring_locks.specs.declared.answers.Answer.TheVariants as answer
@@ -14,7 +15,7 @@ use Rattle.ring_locks.specs.Lines.{Lock, stands, without, is_held_by}
 use Rattle.ring_locks.specs.Locks.{Ask, Turn, turn, Asked, Step, step, step_at}
 use Rattle.ring_locks.specs.Promises.{AreRight, AreApart}
 use Rattle.ring_locks.specs.Waiting.{lock_in, AreWaits}
-use Rattle.ring_locks.specs.Kept.{LockView, lock_of, locks_of, lock_limit, IsKeptLock, AreKept, AreMade, ended_at, answers_of, IsDone, need, IsWant, IsAnswer}
+use Rattle.ring_locks.specs.Kept.{LockView, state_of, lock_of, locks_of, lock_limit, IsKeptLock, AreKept, AreMade, ended_at, answers_of, IsDone, need, IsWant, IsAnswer}
 use Rattle.ring_locks.specs.Parts.{view_of, views_of, IsEntryOf, WaitsChange, Unchanged, Begun, Passed, Dropped, IsTurnedIn, IsWantingIn}
 use Rattle.ring_locks.proofs.Standing.{Once, get_set, get_set_same, get_set_other, stands_append, stands_without, stands_without_other, stood_before}
 use Rattle.ring_locks.proofs.Right.{right_asked}
@@ -272,6 +273,10 @@ part_at ps i p l e = slice_get_read ps (length ps) i p refl l e
 
 pub lock_kept : (ps : List LockParts) (es : List (ℕ × ℕ)) (i : ℕ) (p : LockParts) → AreKept (views_of ps) es → slice_get ps i ≡ Some p → IsKeptLock (view_of p)
 lock_kept ps es i p k e = k.each i (view_of p) (view_there ps i p e)
+
+-- and its ring is settled
+pub lock_settled : (ps : List LockParts) (es : List (ℕ × ℕ)) (i : ℕ) (p : LockParts) → AreKept (views_of ps) es → slice_get ps i ≡ Some p → is_settled (state_of p.ring).ring.values ≡ true
+lock_settled ps es i p k e = (k.right.each i (lock_of (view_of p)) (lock_there (views_of ps) i (view_of p) (view_there ps i p e))).settled
 
 held_out : (ls : List Lock) (i : ℕ) (l : Lock) (c : ℕ) (h : Option Holder) → AreRight ls → slice_get ls i ≡ Some l → l.holder ≡ h → is_held_by c h ≡ true → stands c l.line ≡ false
 held_out ls i l c None r e f g = absurd (false≢true g)

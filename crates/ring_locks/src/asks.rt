@@ -1,10 +1,11 @@
 //! What a client asks of one lock.
 
 ghost use Rattle.std.specs.Prelude.{◌≡◌, ℕ, ◌+◌, ◌⊎◌, List, [], None};
-ghost use Rattle.std.specs.Prelude.{false, length, IsTrue};
+ghost use Rattle.std.specs.Prelude.{true, false, length, IsTrue};
+ghost use Rattle.ring_model.specs.Ring.{is_settled};
 ghost use Rattle.ring_locks.specs.Lines.{stands, is_held_by, is_held_with};
 ghost use Rattle.ring_locks.specs.Locks.{Release, Cancel, Leave, Corrupt, Stats as Asks_stats, acquired, joined, tried, turn};
-ghost use Rattle.ring_locks.specs.Kept.{lock_of, need, IsKeptLock};
+ghost use Rattle.ring_locks.specs.Kept.{state_of, lock_of, need, IsKeptLock};
 ghost use Rattle.ring_locks.specs.Waiting.{lock_in};
 ghost use Rattle.ring_locks.specs.Parts.{view_of, IsTurnedIn, IsWantingIn};
 
@@ -13,6 +14,7 @@ use crate::parts::{LockParts, drop_waiter, end_hold, fault, grant, refused, told
 use crate::waits::Waits;
 
 /// Whether the client is this holder.
+#[inline(always)]
 pub(crate) fn is_held_by(client: u64, holder: Option<Holder>) -> bool
     ensures { result ≡ is_held_by client holder }
 {
@@ -23,6 +25,7 @@ pub(crate) fn is_held_by(client: u64, holder: Option<Holder>) -> bool
 }
 
 /// Whether the client is this holder, with this token.
+#[inline(always)]
 pub(crate) fn is_held_with(client: u64, token: u64, holder: Option<Holder>) -> bool
     ensures { result ≡ is_held_with client token holder }
 {
@@ -33,8 +36,10 @@ pub(crate) fn is_held_with(client: u64, token: u64, holder: Option<Holder>) -> b
 }
 
 /// A client that may wait acquires the lock.
+#[inline(always)]
 fn join(lock: &mut LockParts, waits: &mut Waits, number: u32, waiter: Waiter) -> Answers
     requires kept { IsKeptLock (view_of lock.old) }
+    requires settled { is_settled (state_of lock.old.ring).ring.values ≡ true }
     requires free { lock_in waits.old waiter.client ≡ None }
     ensures { IsTurnedIn number (view_of lock.old) (view_of lock.new) waits.old waits.new
         waiter.client (joined (lock_of (view_of lock.old)) waiter lock.old.holder) result
@@ -48,6 +53,7 @@ fn join(lock: &mut LockParts, waits: &mut Waits, number: u32, waiter: Waiter) ->
 }
 
 /// A client acquires the lock, if nothing is against it.
+#[inline(always)]
 pub(crate) fn acquire(
     lock: &mut LockParts,
     waits: &mut Waits,
@@ -56,6 +62,7 @@ pub(crate) fn acquire(
     why: Option<Refusal>,
 ) -> Answers
     requires kept { IsKeptLock (view_of lock.old) }
+    requires settled { is_settled (state_of lock.old.ring).ring.values ≡ true }
     requires free { why ≡ None → lock_in waits.old waiter.client ≡ None }
     ensures { IsTurnedIn number (view_of lock.old) (view_of lock.new) waits.old waits.new
         waiter.client (acquired (lock_of (view_of lock.old)) waiter why) result
@@ -70,7 +77,8 @@ pub(crate) fn acquire(
 
 /// A client tries to acquire the lock, if nothing is against it.
 pub(crate) fn try_acquire(lock: &mut LockParts, waiter: Waiter, why: Option<Refusal>) -> Answers
-    requires { IsKeptLock (view_of lock.old) }
+    requires kept { IsKeptLock (view_of lock.old) }
+    requires settled { is_settled (state_of lock.old.ring).ring.values ≡ true }
     ensures { (number : ℕ) (entries : List (ℕ × ℕ))
         → IsTurnedIn number (view_of lock.old) (view_of lock.new) entries entries waiter.client
         (tried (lock_of (view_of lock.old)) waiter why) result
@@ -87,6 +95,7 @@ pub(crate) fn try_acquire(lock: &mut LockParts, waiter: Waiter, why: Option<Refu
 }
 
 /// A client releases the lock.
+#[inline(always)]
 pub(crate) fn release(
     lock: &mut LockParts,
     waits: &mut Waits,
@@ -94,7 +103,8 @@ pub(crate) fn release(
     client: u64,
     token: u64,
 ) -> Answers
-    requires { IsKeptLock (view_of lock.old) }
+    requires kept { IsKeptLock (view_of lock.old) }
+    requires settled { is_settled (state_of lock.old.ring).ring.values ≡ true }
     ensures { IsTurnedIn number (view_of lock.old) (view_of lock.new) waits.old waits.new client
         (turn [] (lock_of (view_of lock.old)) client (Release token)) result }
 {
@@ -133,6 +143,7 @@ pub(crate) fn leave(
     waiting: bool,
 ) -> Answers
     requires kept { IsKeptLock (view_of lock.old) }
+    requires settled { is_settled (state_of lock.old.ring).ring.values ≡ true }
     requires waiting { waiting ≡ stands client lock.old.line.items }
     requires either { IsTrue (is_held_by client lock.old.holder) → waiting ≡ false }
     ensures turned { IsTurnedIn number (view_of lock.old) (view_of lock.new) waits.old waits.new

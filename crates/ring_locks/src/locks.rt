@@ -48,6 +48,7 @@ impl Model for Locks {
 }
 
 /// The client that holds.
+#[inline(always)]
 fn client_of(holder: Option<Holder>) -> Option<u64>
     ensures { result ≡ client_of holder }
 {
@@ -90,6 +91,7 @@ fn comes_back(locks: &[LockParts], waits: &Waits, asker: u64, from: Option<u64>)
 }
 
 /// Why a client may not acquire a lock.
+#[inline(always)]
 fn acquire_refusal(locks: &[LockParts], waits: &Waits, client: u64, lock: usize) -> Option<Refusal>
     requires kept { AreKept (views_of locks.now) waits.now }
     requires lock { lock < length locks.now }
@@ -138,6 +140,7 @@ fn try_refusal(locks: &[LockParts], waits: &Waits, client: u64, lock: u32) -> Op
     None
 }
 
+#[inline(always)]
 fn acquire_among(
     locks: &mut Vec<LockParts>,
     waits: &mut Waits,
@@ -176,6 +179,7 @@ fn try_among(
     asks::try_acquire(&mut locks[lock as usize], waiter, why)
 }
 
+#[inline(always)]
 fn release_among(
     locks: &mut Vec<LockParts>,
     waits: &mut Waits,
@@ -377,6 +381,7 @@ impl Locks {
     /// else the client waits, and is granted once, later, unless it cancels or leaves.
     ///
     /// Refused, the first that applies: `Lock`, `Holds`, `Waits`, `Circle`; `Full` or `Memory`. Nothing has changed then.
+    #[inline(always)]
     pub fn acquire(&mut self, client: u64, lock: u32, order: u64) -> Answers
         ensures { IsAnswer self.old self.new client lock (Acquire order) result }
     {
@@ -395,6 +400,7 @@ impl Locks {
     /// Ends the hold of a client with this token, and grants the head of the line.
     ///
     /// Refused, the first that applies: `Lock`, `Holder`; `Full`, `Memory`. Nothing has changed then.
+    #[inline(always)]
     pub fn release(&mut self, client: u64, lock: u32, token: u64) -> Answers
         ensures { IsDone self.old self.new client lock (Release token) result }
     {

@@ -2,6 +2,7 @@
 
 ghost use Rattle.std.specs.Prelude.{◌≡◌, true, ℕ, ◌+◌, ◌<◌, ◌≤◌, ◌⊎◌, ◌^◌, length, [], ◌∷◌, map, slice_index, Some, IsOk, IfOk, IfErr, OnOk, OnErr};
 ghost use Rattle.ring_model.specs.Ring.{first_privileged, is_settled};
+ghost use Rattle.ring_model.specs.Replay.{machine_of};
 ghost use Rattle.ring_chains.specs.Bases.{IsBase, base_after};
 ghost use Rattle.ring_locks.specs.Grants.{carried, most_passes};
 ghost use Rattle.ring_endless.specs.Endless.{IsSameEndless, IsNext, local_survey};
@@ -13,11 +14,12 @@ ghost use Rattle.ring_locks.specs.Parts.{IsMade, IsWantOf};
 use crate::answers::{HoldEnd, Holder, Refusal};
 use ring_desk::CallError;
 use ring_endless::{EndlessRing, NextError};
-use ring_model::Reply;
 use ring_model::limits::EVENT_LIMIT;
+use ring_model::{Op, Reply, Survey};
 use std::alloc::Global;
 
 /// The number of a grant; 0 of another reply.
+#[inline(always)]
 fn number_of(reply: Reply) -> u64
     ensures { (number : ℕ) → number_of reply ≡ Some number → result ≡ number }
 {
@@ -38,6 +40,7 @@ fn old_of(reply: Reply) -> u32
 }
 
 /// Why a ring refuses a call that has its seat, its machine and its value right.
+#[inline(always)]
 fn want(error: CallError) -> Refusal
     ensures full { error ≡ CallError.HistoryFull → result ≡ Refusal.Full }
     ensures memory { error ≡ CallError.OutOfMemory → result ≡ Refusal.Memory }
@@ -53,7 +56,46 @@ fn first(ring: &EndlessRing) -> u32
     requires { IsKeptRing ring.now }
     ensures { result ≡ first_privileged (state_of ring.now).ring.values }
 {
-    ring.glance().first
+    ring.segment().first()
+}
+
+/// The machine of a call.
+#[inline(always)]
+fn machine_of(op: Op) -> u32
+    ensures { result ≡ machine_of op }
+{
+    match op {
+        Op::Pass { machine, .. } | Op::Member { machine, .. } | Op::Corrupt { machine, .. } =>
+            machine,
+    }
+}
+
+/// The machine behind the one that was called last, which is mostly privileged in a settled ring; machine 0 if there is none.
+#[inline(always)]
+fn likely(ring: &EndlessRing) -> u32
+    requires { IsKeptRing ring.now }
+    ensures { result < length (state_of ring.now).ring.values }
+{
+    let segment = ring.segment();
+    let Some(event) = segment.history().last() else {
+        return 0;
+    };
+    let next = machine_of(event.op).wrapping_add(1);
+    if next < segment.machines() { next } else { 0 }
+}
+
+/// The privileged machine of a settled ring. It is searched for only where the likely one is not privileged.
+#[inline(always)]
+fn privileged(ring: &EndlessRing) -> u32
+    requires kept { IsKeptRing ring.now }
+    requires settled { is_settled (state_of ring.now).ring.values ≡ true }
+    ensures { result ≡ first_privileged (state_of ring.now).ring.values }
+{
+    let likely = likely(ring);
+    if ring.segment().is_privileged(likely) {
+        return likely;
+    }
+    first(ring)
 }
 
 /// Takes memory for so many events, and for one for each client that waits.
@@ -61,6 +103,7 @@ fn first(ring: &EndlessRing) -> u32
 /// # Errors
 ///
 /// `Full`, `Memory`. Nothing has changed then.
+#[inline(always)]
 pub(crate) fn reserve(ring: &mut EndlessRing, waiting: usize, events: u32) -> Result<(), Refusal>
     requires kept { IsKeptRing ring.old }
     requires few { events ≤ 1024 }
@@ -84,6 +127,7 @@ pub(crate) fn reserve(ring: &mut EndlessRing, waiting: usize, events: u32) -> Re
 /// # Errors
 ///
 /// `Full`, `Memory`; neither if there is room for an event. Nothing has changed then.
+#[inline(always)]
 pub(crate) fn pass_first(
     ring: &mut EndlessRing,
     seat: u32,
@@ -129,13 +173,38 @@ pub(crate) fn pass(ring: &mut EndlessRing, seat: u32, order: u64) -> Result<u64,
     pass_first(ring, seat, first, order)
 }
 
-/// A pass of the first privileged machine on seat 0, with room left for an event for each client that waits. Answers its number.
+/// The same, of a ring that is settled.
+///
+/// # Errors
+///
+/// `Full`, `Memory`; neither if there is room for an event. Nothing has changed then.
+#[inline(always)]
+fn pass_settled(ring: &mut EndlessRing, seat: u32, order: u64) -> Result<u64, Refusal>
+    requires kept { IsKeptRing ring.old }
+    requires settled { is_settled (state_of ring.old).ring.values ≡ true }
+    requires seat { seat < seat_count }
+    ensures number { IfOk result (λ number. number ≡ (state_of ring.old).grants + 1) }
+    ensures made { OnOk result
+        (IsMade ring.old ring.new seat (first_pass (state_of ring.old) order)) }
+    ensures kept { IsKeptRing ring.new }
+    ensures err { OnErr result (ring.new ≡ ring.old) }
+    ensures why { IfErr result (λ e. IsWantOf ring.old 1 e) }
+    ensures succeeds { 1 ≤ ring.old.ring.book.room → IsOk result }
+    ensures room { OnOk result (ring.old.ring.book.room ≤ ring.new.ring.book.room + 1) }
+{
+    let first = privileged(ring);
+    pass_first(ring, seat, first, order)
+}
+
+/// A pass of the first privileged machine of a settled ring on seat 0, with room left for an event for each client that waits. Answers its number.
 ///
 /// # Errors
 ///
 /// `Full`, `Memory`. Nothing has changed then.
+#[inline(always)]
 pub(crate) fn grant(ring: &mut EndlessRing, waiting: usize, order: u64) -> Result<u64, Refusal>
     requires kept { IsKeptRing ring.old }
+    requires settled { is_settled (state_of ring.old).ring.values ≡ true }
     requires room { waiting ≤ ring.old.ring.book.room }
     ensures number { IfOk result (λ number. number ≡ (state_of ring.old).grants + 1) }
     ensures made { OnOk result
@@ -149,7 +218,7 @@ pub(crate) fn grant(ring: &mut EndlessRing, waiting: usize, order: u64) -> Resul
         Ok(()) => {}
         Err(why) => return Err(why),
     }
-    match pass(ring, 0, order) {
+    match pass_settled(ring, 0, order) {
         Ok(number) => Ok(number),
         Err(_) => unreachable!(),
     }
@@ -195,15 +264,33 @@ pub(crate) fn carry(ring: &mut EndlessRing, held: Option<Holder>)
     }
 }
 
+/// The survey of a settled ring: one machine is privileged, and no pass is left.
+#[inline(always)]
+fn survey_settled(ring: &EndlessRing) -> Survey
+    requires kept { IsKeptRing ring.now }
+    requires settled { is_settled (state_of ring.now).ring.values ≡ true }
+    ensures { result ≡ local_survey ring.now.ring }
+{
+    Survey {
+        position: ring.segment().history_length(),
+        privileged: 1,
+        first: privileged(ring),
+        calm: ring.segment().calm(),
+        rest: 0,
+    }
+}
+
 /// The end of a hold now, by this seat. It takes no memory.
+#[inline(always)]
 pub(crate) fn end(ring: &EndlessRing, seat: u32) -> HoldEnd
-    requires { IsKeptRing ring.now }
+    requires kept { IsKeptRing ring.now }
+    requires settled { is_settled (state_of ring.now).ring.values ≡ true }
     ensures is { result ≡ record { seat = seat; survey = local_survey ring.now.ring } }
     ensures first { result.survey.first ≡ first_privileged (state_of ring.now).ring.values }
 {
     HoldEnd {
         seat,
-        survey: ring.segment().glance(),
+        survey: survey_settled(ring),
     }
 }
 

@@ -1,7 +1,7 @@
 //! One lock: its ring, who stands in its line, who holds it.
 
-ghost use Rattle.std.specs.Prelude.{◌≡◌, ◌+◌, ◌<◌, ◌⊎◌, List, ◌∷◌, length, Some, None, IsSome};
-ghost use Rattle.ring_model.specs.Ring.{first_privileged};
+ghost use Rattle.std.specs.Prelude.{◌≡◌, ◌+◌, ◌<◌, ◌⊎◌, List, ◌∷◌, length, Some, None, IsSome, true};
+ghost use Rattle.ring_model.specs.Ring.{first_privileged, is_settled};
 ghost use Rattle.ring_endless.specs.Endless.{local_survey};
 ghost use Rattle.ring_locks.specs.Lines.{without};
 ghost use Rattle.ring_locks.specs.Waiting.{lock_in};
@@ -25,6 +25,7 @@ pub(crate) struct LockParts {
 }
 
 /// Only the client that asks is answered.
+#[inline(always)]
 pub(crate) fn told(answer: Answer) -> Answers
     ensures { result ≡ record { own = Some answer; ended = None; granted = None } }
 {
@@ -36,6 +37,7 @@ pub(crate) fn told(answer: Answer) -> Answers
 }
 
 /// A refusal.
+#[inline(always)]
 pub(crate) fn refused(why: Refusal) -> Answers
     ensures { result
         ≡ record { own = Some (Answer.Refused why); ended = None; granted = None } }
@@ -44,8 +46,10 @@ pub(crate) fn refused(why: Refusal) -> Answers
 }
 
 /// Grants the lock to a client.
+#[inline(always)]
 pub(crate) fn grant(lock: &mut LockParts, waiter: Waiter) -> Answers
-    requires { IsKeptLock (view_of lock.old) }
+    requires kept { IsKeptLock (view_of lock.old) }
+    requires settled { is_settled (state_of lock.old.ring).ring.values ≡ true }
     ensures { IsTurned (view_of lock.old) (view_of lock.new) waiter.client
         (granted (state_of lock.old.ring) lock.old.line.items waiter) result
         ⊎ IsWanting (view_of lock.old) (view_of lock.new) (length lock.old.line.items + 1) result }
@@ -92,6 +96,7 @@ pub(crate) fn wait(lock: &mut LockParts, waits: &mut Waits, number: u32, waiter:
 }
 
 /// Ends the hold of a client, with a survey by this seat, and grants the head of the line. It wants neither room nor memory.
+#[inline(always)]
 pub(crate) fn end_hold(
     lock: &mut LockParts,
     waits: &mut Waits,
@@ -100,7 +105,8 @@ pub(crate) fn end_hold(
     seat: u32,
     own: Option<Answer>,
 ) -> Answers
-    requires { IsKeptLock (view_of lock.old) }
+    requires kept { IsKeptLock (view_of lock.old) }
+    requires settled { is_settled (state_of lock.old.ring).ring.values ≡ true }
     ensures turned { IsTurnedIn number (view_of lock.old) (view_of lock.new) waits.old waits.new
         client (ended (state_of lock.old.ring) lock.old.line.items seat (own_answer client own))
         result }

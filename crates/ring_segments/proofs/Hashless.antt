@@ -1,5 +1,5 @@
 -- The text of a journal has no byte that is a #, and is of whole lines.
-use Rattle.std.proofs.Common.{◌≡◌, ℕ, ◌+◌, ◌%◌, ◌^◌, ◌<◌, Bool, true, false, eqb, List, [], ◌∷◌, ◌++◌, length, refl, ◌∙◌, inr, arith}
+use Rattle.std.proofs.Common.{◌≡◌, ℕ, ◌+◌, ◌%◌, ◌^◌, ◌<◌, Bool, true, false, eqb, List, [], ◌∷◌, ◌++◌, length, refl, sym, ap, subst, ◌∙◌, append_assoc, append-nil, inr, arith}
 use Rattle.std.specs.Prelude.{codes, ◌||◌}
 use Rattle.std.specs.List.{flat_map, list_any, AllByRecursion}
 use Rattle.std.specs.Fmt.{decimal}
@@ -17,7 +17,8 @@ use Rattle.ring_journal.specs.declared.calls.Call.TheVariants.{Event, Survey}
 use Rattle.ring_journal.specs.declared.calls.JournalLine.{JournalLine}
 use Rattle.ring_journal.specs.Spelling.{Journal, JournalFits, CallFits, JournalLineFits, call_line, journal_line, head_text, journal_text}
 use Rattle.ring_segments.specs.Remarks.{without_remarks}
-use Rattle.ring_segments.proofs.LineCounts.{journal_ended}
+use Rattle.ring_segments.specs.RemarkLaws.{AreLines}
+use Rattle.ring_segments.proofs.LineCounts.{call_ended, journal_ended}
 use Rattle.ring_segments.proofs.Remarked.{HasNoHash, no_hash_without, plain_then}
 
 neither : (a b : Bool) → a ≡ false → b ≡ false → (a || b) ≡ false
@@ -109,3 +110,25 @@ journal_without j f = no_hash_without (journal_text j) (no_hash_journal j f)
 
 pub journal_then : (j : Journal) (rest : List ℕ) → JournalFits j → without_remarks (journal_text j ++ rest) ≡ journal_text j ++ without_remarks rest
 journal_then j rest f = plain_then (journal_text j) rest (inr (journal_ended j f)) (no_hash_journal j f)
+
+-- the lines of calls alone
+pub no_hash_calls : (version rings : ℕ) (rs : List JournalLine) → AllByRecursion (JournalLineFits version rings) rs → HasNoHash (flat_map journal_line rs)
+no_hash_calls version rings rs f = each (JournalLineFits version rings) journal_line (no_hash_call version rings) rs f
+
+-- ---- what follows a part of a journal
+
+pub head_then : (c : Content) (rest : List ℕ) → Fits c → without_remarks (head_text c ++ rest) ≡ head_text c ++ without_remarks rest
+head_then c rest f =
+    let e = journal_ended (record { began = c; calls = [] }) (record { began = f; calls = tt }) in
+    plain_then (head_text c) rest (subst AreLines (append-nil (head_text c)) (inr e)) (no_hash_head c f)
+
+pub call_then : (version rings : ℕ) (r : JournalLine) (rest : List ℕ) → JournalLineFits version rings r → without_remarks (journal_line r ++ rest) ≡ journal_line r ++ without_remarks rest
+call_then version rings r rest f = plain_then (journal_line r) rest (inr (call_ended version rings r f)) (no_hash_call version rings r f)
+
+pub calls_then : (version rings : ℕ) (rs : List JournalLine) (rest : List ℕ) → AllByRecursion (JournalLineFits version rings) rs → without_remarks (flat_map journal_line rs ++ rest) ≡ flat_map journal_line rs ++ without_remarks rest
+calls_then version rings [] rest f = refl
+calls_then version rings (r ∷ rs) rest f =
+    ap without_remarks (append_assoc (journal_line r) (flat_map journal_line rs) rest)
+    ∙ call_then version rings r (flat_map journal_line rs ++ rest) f.0
+    ∙ ap (λ (u : List ℕ). journal_line r ++ u) (calls_then version rings rs rest f.1)
+    ∙ sym (append_assoc (journal_line r) (flat_map journal_line rs) (without_remarks rest))

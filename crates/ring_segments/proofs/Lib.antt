@@ -20,3 +20,5 @@ pub mod OneFiles
 pub mod Remarked
 pub mod Hashless
 pub mod RemarkSteps
+pub mod RemarkFronts
+pub mod RemarkLaws

@@ -170,6 +170,10 @@ journal_ends j f =
 ended_after : (front xs : List ℕ) → IsEnded xs → IsEnded (front ++ xs)
 ended_after front xs e = (front ++ e.0, ap (λ (u : List ℕ). front ++ u) e.1 ∙ sym (append_assoc front e.0 (10 ∷ [])))
 
+-- the line of a call ends
+pub call_ended : (version rings : ℕ) (r : JournalLine) → JournalLineFits version rings r → IsEnded (journal_line r)
+call_ended version rings r f = let l = call_is version rings r f in (l.body, l.whole)
+
 calls_end : (version rings : ℕ) (xs : List ℕ) (rs : List JournalLine) → IsEnded xs → AllByRecursion (JournalLineFits version rings) rs → IsEnded (xs ++ flat_map journal_line rs)
 calls_end version rings xs [] e f = subst IsEnded (sym (append-nil xs)) e
 calls_end version rings xs (r ∷ rs) e f =

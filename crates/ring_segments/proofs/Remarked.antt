@@ -1,12 +1,13 @@
 -- The lines of a text, and what is left of it without its remarks.
 use Rattle.std.proofs.Common.{◌≡◌, ℕ, ◌<◌, Bool, true, false, cond, eqb, List, [], ◌∷◌, ◌++◌, length, map, refl, sym, ap, subst, ◌∙◌, append_assoc, inl, inr, arith}
-use Rattle.std.specs.Prelude.{not, ◌||◌, ◌⊎◌}
+use Rattle.std.specs.Prelude.{not, ◌||◌}
 use Rattle.std.specs.List.{filter, flat_map, list_any, AllByRecursion}
+use Rattle.std.proofs.lemmas.List.{append-nil}
 use Rattle.std.proofs.lemmas.List.Concat.{flat_map-append}
 use Rattle.std.proofs.lemmas.List.Elements.{filter-append}
 use Rattle.ring_journal.specs.Recovery.{has_line_end}
-use Rattle.ring_journal.proofs.LineEnds.{EndsOnce}
-use Rattle.ring_segments.specs.Remarks.{IsEnded, with_byte, lines_in, is_remark, without_remarks, remarks_in, remark_of}
+use Rattle.ring_segments.specs.Remarks.{with_byte, lines_in, is_remark, without_remarks, remarks_in, remark_of}
+use Rattle.ring_segments.specs.RemarkLaws.{AreLines, IsOneLine}
 
 -- the lines of a text with a byte more in front
 abbrev more : ℕ → List (List ℕ) → List (List ℕ)
@@ -35,13 +36,9 @@ unfolding lines_in
 after_end [] back = refl
 after_end (x ∷ front) back = ap (more x) (after_end front back) ∙ more_append (eqb x 10) x (lines_in (front ++ 10 ∷ [])) (lines_in back) (ended_some front)
 
--- the text is empty, or ends with an LF
-abbrev pub IsOfLines : List ℕ → Type 0
-IsOfLines text = (text ≡ []) ⊎ IsEnded text
-
 -- ---- texts one after the other
 
-pub lines_append : (a b : List ℕ) → IsOfLines a → lines_in (a ++ b) ≡ lines_in a ++ lines_in b
+pub lines_append : (a b : List ℕ) → AreLines a → lines_in (a ++ b) ≡ lines_in a ++ lines_in b
 unfolding lines_in
 lines_append a b w = elim w [
   | inl e ↦ subst (λ (x : List ℕ). lines_in (x ++ b) ≡ lines_in x ++ lines_in b) (sym e) refl
@@ -54,14 +51,14 @@ is_kept line = not (is_remark line)
 abbrev same : List ℕ → List ℕ
 same line = line
 
-pub without_append : (a b : List ℕ) → IsOfLines a → without_remarks (a ++ b) ≡ without_remarks a ++ without_remarks b
+pub without_append : (a b : List ℕ) → AreLines a → without_remarks (a ++ b) ≡ without_remarks a ++ without_remarks b
 unfolding without_remarks
 without_append a b w =
     ap (λ (ls : List (List ℕ)). flat_map same (filter is_kept ls)) (lines_append a b w)
     ∙ ap (flat_map same) (filter-append is_kept (lines_in a) (lines_in b))
     ∙ flat_map-append same (filter is_kept (lines_in a)) (filter is_kept (lines_in b))
 
-pub remarks_append : (a b : List ℕ) → IsOfLines a → remarks_in (a ++ b) ≡ remarks_in a ++ remarks_in b
+pub remarks_append : (a b : List ℕ) → AreLines a → remarks_in (a ++ b) ≡ remarks_in a ++ remarks_in b
 unfolding remarks_in
 remarks_append a b w = ap (filter is_remark) (lines_append a b w) ∙ filter-append is_remark (lines_in a) (lines_in b)
 
@@ -161,48 +158,81 @@ no_hash_without text none = plain_without text (no_hash_lines text none.none)
 pub no_hash_remarks : (text : List ℕ) → HasNoHash text → remarks_in text ≡ []
 no_hash_remarks text none = plain_remarks text (no_hash_lines text none.none)
 
-pub plain_then : (a b : List ℕ) → IsOfLines a → HasNoHash a → without_remarks (a ++ b) ≡ a ++ without_remarks b
+pub plain_then : (a b : List ℕ) → AreLines a → HasNoHash a → without_remarks (a ++ b) ≡ a ++ without_remarks b
 plain_then a b w none = without_append a b w ∙ ap (λ (u : List ℕ). u ++ without_remarks b) (no_hash_without a none)
 
-pub plain_then_remarks : (a b : List ℕ) → IsOfLines a → HasNoHash a → remarks_in (a ++ b) ≡ remarks_in b
+pub plain_then_remarks : (a b : List ℕ) → AreLines a → HasNoHash a → remarks_in (a ++ b) ≡ remarks_in b
 plain_then_remarks a b w none = remarks_append a b w ∙ ap (λ (u : List (List ℕ)). u ++ remarks_in b) (no_hash_remarks a none)
 
 -- ---- remarks
 
-remark_lines : (line rest : List ℕ) → EndsOnce line → lines_in (remark_of line ++ rest) ≡ remark_of line ∷ lines_in rest
+remark_lines : (line rest : List ℕ) → IsOneLine line → lines_in (remark_of line ++ rest) ≡ remark_of line ∷ lines_in rest
 remark_lines line rest l =
-    let body : List ℕ = 35 ∷ 32 ∷ l.body in
-    let is : remark_of line ≡ body ++ 10 ∷ [] = ap remark_of l.whole in
+    let body : List ℕ = 35 ∷ 32 ∷ l.0 in
+    let is : remark_of line ≡ body ++ 10 ∷ [] = ap remark_of l.1 in
     ap (λ (u : List ℕ). lines_in (u ++ rest)) is
     ∙ ap lines_in (append_assoc body (10 ∷ []) rest)
-    ∙ line_then body rest l.none
+    ∙ line_then body rest l.2
     ∙ ap (λ (u : List ℕ). u ∷ lines_in rest) (sym is)
 
 -- a remark is left out, and is there among the remarks
-pub remark_then : (line rest : List ℕ) → EndsOnce line → without_remarks (remark_of line ++ rest) ≡ without_remarks rest
+pub remark_then : (line rest : List ℕ) → IsOneLine line → without_remarks (remark_of line ++ rest) ≡ without_remarks rest
 unfolding without_remarks
 remark_then line rest l = ap (λ (ls : List (List ℕ)). flat_map same (filter is_kept ls)) (remark_lines line rest l)
 
-pub remark_then_remarks : (line rest : List ℕ) → EndsOnce line → remarks_in (remark_of line ++ rest) ≡ remark_of line ∷ remarks_in rest
+pub remark_then_remarks : (line rest : List ℕ) → IsOneLine line → remarks_in (remark_of line ++ rest) ≡ remark_of line ∷ remarks_in rest
 unfolding remarks_in
 remark_then_remarks line rest l = ap (filter is_remark) (remark_lines line rest l)
 
 -- so are several
-pub remarks_then : (lines : List (List ℕ)) (rest : List ℕ) → AllByRecursion EndsOnce lines → without_remarks (flat_map remark_of lines ++ rest) ≡ without_remarks rest
+pub remarks_then : (lines : List (List ℕ)) (rest : List ℕ) → AllByRecursion IsOneLine lines → without_remarks (flat_map remark_of lines ++ rest) ≡ without_remarks rest
 remarks_then [] rest all = refl
 remarks_then (line ∷ lines) rest all =
     ap without_remarks (append_assoc (remark_of line) (flat_map remark_of lines) rest)
     ∙ remark_then line (flat_map remark_of lines ++ rest) all.0
     ∙ remarks_then lines rest all.1
 
-pub remarks_then_remarks : (lines : List (List ℕ)) (rest : List ℕ) → AllByRecursion EndsOnce lines → remarks_in (flat_map remark_of lines ++ rest) ≡ map remark_of lines ++ remarks_in rest
+pub remarks_then_remarks : (lines : List (List ℕ)) (rest : List ℕ) → AllByRecursion IsOneLine lines → remarks_in (flat_map remark_of lines ++ rest) ≡ map remark_of lines ++ remarks_in rest
 remarks_then_remarks [] rest all = refl
 remarks_then_remarks (line ∷ lines) rest all =
     ap remarks_in (append_assoc (remark_of line) (flat_map remark_of lines) rest)
     ∙ remark_then_remarks line (flat_map remark_of lines ++ rest) all.0
     ∙ ap (λ (u : List (List ℕ)). remark_of line ∷ u) (remarks_then_remarks lines rest all.1)
 
+-- remarks alone
+pub nothing_kept : without_remarks [] ≡ []
+unfolding without_remarks lines_in
+nothing_kept = refl
+
+pub no_remarks : remarks_in [] ≡ []
+unfolding remarks_in lines_in
+no_remarks = refl
+
+pub remarks_alone : (lines : List (List ℕ)) → AllByRecursion IsOneLine lines → without_remarks (flat_map remark_of lines) ≡ []
+remarks_alone lines all = ap without_remarks (sym (append-nil (flat_map remark_of lines))) ∙ remarks_then lines [] all ∙ nothing_kept
+
+pub remarks_told : (lines : List (List ℕ)) → AllByRecursion IsOneLine lines → remarks_in (flat_map remark_of lines) ≡ map remark_of lines
+remarks_told lines all =
+    ap remarks_in (sym (append-nil (flat_map remark_of lines)))
+    ∙ remarks_then_remarks lines [] all
+    ∙ ap (λ (u : List (List ℕ)). map remark_of lines ++ u) no_remarks
+    ∙ append-nil (map remark_of lines)
+
 -- a remark that has begun at the end of a text is left out
 pub begun_remark : (begun : List ℕ) → has_line_end begun ≡ false → without_remarks (35 ∷ begun) ≡ []
 unfolding without_remarks
 begun_remark begun none = ap (λ (ls : List (List ℕ)). flat_map same (filter is_kept ls)) (last_line 35 begun none)
+
+-- ---- texts of lines
+
+pub lines_both : (a b : List ℕ) → AreLines a → AreLines b → AreLines (a ++ b)
+lines_both a b v w = elim w [
+  | inl e ↦ subst AreLines (sym (ap (λ (u : List ℕ). a ++ u) e ∙ append-nil a)) v
+  | inr e ↦ inr (a ++ e.0, ap (λ (u : List ℕ). a ++ u) e.1 ∙ sym (append_assoc a e.0 (10 ∷ [])))
+]
+
+pub line_ended : (line : List ℕ) → IsOneLine line → AreLines line
+line_ended line l = inr (l.0, l.1)
+
+pub remark_ended : (line : List ℕ) → IsOneLine line → AreLines (remark_of line)
+remark_ended line l = inr (remark_of l.0, ap remark_of l.1)

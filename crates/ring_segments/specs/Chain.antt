@@ -108,8 +108,8 @@ IsBased l f = IsBehind l f × HasBases l f
 abbrev pub IsStarted : Link → File → Type 0
 IsStarted l f = IsBased l f × AreStarts l.places f.content.rings
 
--- The refusal is right: the head or the journal, without its remarks, is refused so, where a line is
--- named as it is in the file; or it is the first test that fails; memory aside.
+-- The refusal is right: the head or the journal, without its remarks, is refused so, where a line
+-- is named as it is in the file; or it is the first test that fails; memory aside.
 abbrev pub IsRightRefusal : Option State → List ℕ → Bool → SegmentError → Type 0
 IsRightRefusal l bytes last refused.Truncated =
     IsCutShort (Spells HeadFits head_text) bytes

@@ -26,8 +26,8 @@ pub record File : Type 0 where
   pub head : Head
   pub content : Content
 
--- The bytes begin with the text of the head, and the content is recovered of those after it, without
--- their remarks.
+-- The bytes begin with the text of the head, and the content is recovered of those after it,
+-- without their remarks.
 pub record IsFile (f : File) : Type 0 where
   pub rest : List ℕ
   pub fits : HeadFits f.head

@@ -1,5 +1,6 @@
 pub mod Spelling
 pub mod Remarks
+pub mod RemarkLaws
 pub mod Reading
 pub mod Meaning
 pub mod Files

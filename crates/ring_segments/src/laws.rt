@@ -1,6 +1,7 @@
 //! The laws of the files of a chain: each is the contract of a function with an empty body.
 
 ghost use Rattle.ring_segments.specs.Chain.{AddedAreChained, OneFile};
+ghost use Rattle.ring_segments.specs.RemarkLaws.{JournalsAreKept, RemarksAreLeftOut};
 ghost use Rattle.ring_segments.specs.Files.{FilesTellHistories, LaterFilesTellHistories};
 
 /// The files of a chain tell of each ring one history of the one-thread ring.
@@ -19,4 +20,10 @@ pub fn added_are_chained()
 #[tactic(auto, using(crate::proofs::OneFiles::one_file))]
 pub fn one_file()
     ensures { OneFile }
+{}
+
+/// A remark behind whole lines changes nothing of what is recovered, and a journal has none.
+pub fn remarks_are_left_out()
+    ensures left_out { RemarksAreLeftOut }
+    ensures kept { JournalsAreKept }
 {}

@@ -24,7 +24,7 @@ pub use digests::{DIGEST_DIGITS, digest, digits};
 pub use errors::SegmentError;
 pub use heads::SegmentHead;
 pub use last::{LastSegment, read_last};
-pub use laws::{added_are_chained, files_tell_histories, one_file};
+pub use laws::{added_are_chained, files_tell_histories, one_file, remarks_are_left_out};
 pub use read::read_head;
 pub use remarks::{has_remark, is_remark, line_among, put_remark, split_line, without_remarks};
 pub use segments::{Segment, read_segment};

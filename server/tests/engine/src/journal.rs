@@ -1,7 +1,7 @@
 //! The folder with the journal: `locks`, names and sizes, and segments. An engine goes on in the last one, or, with `--strict`, begins
 //! a new one. Grants are counted over all of them, so their bases are 0.
 
-use crate::keys::digest;
+use crate::keys::{digest, Keyed};
 use crate::locks::{Holder, Locks};
 use crate::ring::{HOLD, LEFT, RELEASED};
 use std::fmt::Write as _;
@@ -49,14 +49,14 @@ impl Journal {
             whole = text.rfind('\n').map_or(0, |i| i + 1);
             let calls = text[..whole].split_once("\ndone ").ok_or_else(|| wrong("a segment has no head".into()))?.1;
             lines = 0;
-            for line in calls.lines().skip(1) {
+            for line in calls.lines().skip(1).filter(|line| is_call(line)) {
                 replay(locks, line).ok_or_else(|| wrong(format!("call {lines} of segment {number} is wrong")))?;
                 lines += 1;
             }
         }
         let folder = folder.to_owned();
         if number == 0 {
-            let file = begin(&folder, 1, locks)?;
+            let file = begin(&folder, 1, locks, "")?;
             return Ok(Journal { folder, number: 1, file, lines: 0, most_lines, is_synced, was_there: false });
         }
         let file = OpenOptions::new().append(true).open(path(&folder, number))?;
@@ -65,9 +65,9 @@ impl Journal {
     }
 
     /// Begins the next segment.
-    pub fn turn(&mut self, locks: &Locks) -> io::Result<()> {
+    pub fn turn(&mut self, keyed: &Keyed) -> io::Result<()> {
         self.number += 1;
-        self.file = begin(&self.folder, self.number, locks)?;
+        self.file = begin(&self.folder, self.number, &keyed.locks, &keyed.remarks())?;
         self.lines = 0;
         Ok(())
     }
@@ -76,7 +76,7 @@ impl Journal {
     pub fn write(&mut self, locks: &mut Locks) -> io::Result<()> {
         if !locks.journal.is_empty() {
             self.file.write_all(locks.journal.as_bytes())?;
-            self.lines += locks.journal.lines().count() as u64;
+            self.lines += calls_in(&locks.journal);
             locks.journal.clear();
             if self.is_synced {
                 self.file.sync_data()?;
@@ -86,20 +86,30 @@ impl Journal {
     }
 
     /// Writes the calls if the segment is full with them, and begins the next one.
-    pub fn turn_if_full(&mut self, locks: &mut Locks) -> io::Result<()> {
-        if self.lines + locks.journal.lines().count() as u64 >= self.most_lines {
-            self.write(locks)?;
-            self.turn(locks)?;
+    pub fn turn_if_full(&mut self, keyed: &mut Keyed) -> io::Result<()> {
+        if self.lines + calls_in(&keyed.locks.journal) >= self.most_lines {
+            self.write(&mut keyed.locks)?;
+            self.turn(keyed)?;
         }
         Ok(())
     }
+}
+
+/// Whether a line is no remark, of keys and positions.
+fn is_call(line: &str) -> bool {
+    !line.starts_with('#')
+}
+
+/// A segment is as long as its calls are many, without the remarks.
+fn calls_in(journal: &str) -> u64 {
+    journal.lines().filter(|line| is_call(line)).count() as u64
 }
 
 fn path(folder: &Path, number: u64) -> PathBuf {
     folder.join(format!("{number:010}.ring"))
 }
 
-fn begin(folder: &Path, number: u64, locks: &Locks) -> io::Result<File> {
+fn begin(folder: &Path, number: u64, locks: &Locks, remarks: &str) -> io::Result<File> {
     let before = fs::read(path(folder, number - 1)).map_or("0".repeat(64), |bytes| digest(&bytes));
     let count = locks.locks.len();
     let mut head = format!("ringsegment 1 {number} {count}\nbehind {before}\n");
@@ -110,6 +120,7 @@ fn begin(folder: &Path, number: u64, locks: &Locks) -> io::Result<File> {
         let _ = writeln!(head, "ring {} {n} {k}\nstart{}\nend 0", ring.number, ring.values_text());
     }
     let _ = writeln!(head, "done {count}");
+    head.push_str(remarks);
     let mut file = File::create(path(folder, number))?;
     file.write_all(head.as_bytes())?;
     Ok(file)

@@ -50,18 +50,46 @@ impl Keyed {
         let Some(Ok(number)) = two.map(decimal) else { return self.tell_all(|it| it.locks.line(line)) };
         match (one, decimal(one), rest) {
             ("at", _, None) => self.tell_digest(number),
-            ("at", _, Some(digest)) => self.at = Some((number, digest.into())),
+            ("at", _, Some(digest)) => self.stand_at(number, digest.into()),
             (_, Ok(key), Some("forget")) => {
                 if self.keys.get(&key).is_some_and(|last| last.number == number) {
                     self.keys.remove(&key);
+                    self.note(line);
                 }
             }
             (_, Ok(key), Some(rest)) => match rest.strip_prefix("did ") {
-                Some(answer) => drop(self.keys.insert(key, Last { number, answer: answer.into() })),
+                Some(answer) => self.keep(key, number, answer.into()),
                 None => self.tell_all(|it| it.input(key, number, rest)),
             },
             _ => self.tell_all(|it| it.locks.line(line)),
         }
+    }
+
+    /// The journal gets the remark of a line that brings keys or the position back.
+    fn note(&mut self, line: &str) {
+        let _ = writeln!(self.locks.journal, "# {line}");
+    }
+
+    fn keep(&mut self, key: u64, number: u64, answer: String) {
+        self.note(&format!("{key} {number} did {answer}"));
+        self.keys.insert(key, Last { number, answer });
+    }
+
+    fn stand_at(&mut self, position: u64, digest: String) {
+        self.note(&format!("at {position} {digest}"));
+        self.told.clear();
+        self.at = Some((position, digest));
+    }
+
+    /// The lines that bring the keys and the last position back.
+    fn own_lines(&self) -> Vec<String> {
+        let keys = self.keys.iter().map(|(key, last)| format!("{key} {} did {}", last.number, last.answer));
+        keys.chain(self.at.iter().map(|(position, digest)| format!("at {position} {digest}"))).collect()
+    }
+
+    /// The remarks of these lines.
+    pub fn remarks(&self) -> String {
+        self.own_lines().iter().map(|line| format!("# {line}\n")).collect()
     }
 
     /// What this tells belongs to the next digest.
@@ -85,7 +113,7 @@ impl Keyed {
             _ => {
                 self.locks.line(input);
                 let answer = self.locks.answers.lines().next().unwrap_or("").into();
-                self.keys.insert(key, Last { number, answer });
+                self.keep(key, number, answer);
             }
         }
     }
@@ -95,9 +123,8 @@ impl Keyed {
             None => "0".repeat(64),
             Some((_, last)) => digest(format!("{last}{}", self.told).as_bytes()),
         };
-        self.told.clear();
         let _ = writeln!(self.output, "at {position} {digest}");
-        self.at = Some((position, digest));
+        self.stand_at(position, digest);
     }
 
     fn state(&mut self) {
@@ -108,8 +135,7 @@ impl Keyed {
         for (l, lock) in self.locks.locks.iter().enumerate() {
             lines.extend(lock.line.iter().map(|waiter| format!("{} acquire {l} {}", waiter.client, waiter.label)));
         }
-        lines.extend(self.keys.iter().map(|(key, last)| format!("{key} {} did {}", last.number, last.answer)));
-        lines.extend(self.at.iter().map(|(position, digest)| format!("at {position} {digest}")));
+        lines.extend(self.own_lines());
         for line in &lines {
             let _ = writeln!(self.output, "{line}");
         }
@@ -150,5 +176,17 @@ mod tests {
         assert_eq!(asked(&mut keyed, &format!("at 9 {}", "1".repeat(64))), "");
         let digest = digest("1".repeat(64).as_bytes());
         assert_eq!(asked(&mut keyed, "at 10"), format!("at 10 {digest}\n"));
+    }
+
+    #[test]
+    fn what_brings_keys_and_positions_back_is_noted() {
+        let mut keyed = Keyed::new(Locks::new(&[(8, 8)], false));
+        let lines = "7 1 7 cancel 0\n7 1 7 cancel 0\n9 3 did 9 busy 0\n8 2 did \n9 2 forget\n9 3 forget\nstate\nat 5\n";
+        for line in lines.lines() {
+            keyed.line(line);
+        }
+        let (key, place) = ("# 7 1 did 7 refused waiter 0\n", format!("# at 5 {}\n", "0".repeat(64)));
+        assert_eq!(keyed.locks.journal, format!("{key}# 9 3 did 9 busy 0\n# 8 2 did \n# 9 3 forget\n{place}"));
+        assert_eq!(keyed.remarks(), format!("{key}# 8 2 did \n{place}"));
     }
 }

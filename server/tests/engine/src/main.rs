@@ -89,10 +89,11 @@ fn open(settings: &Settings) -> io::Result<(Keyed, Journal)> {
     if let Some(path) = &settings.holders {
         give_holds(&mut locks, &std::fs::read_to_string(path)?)?;
     }
+    let keyed = Keyed::new(locks);
     if settings.is_strict && journal.was_there {
-        journal.turn(&locks)?;
+        journal.turn(&keyed)?;
     }
-    Ok((Keyed::new(locks), journal))
+    Ok((keyed, journal))
 }
 
 fn run(settings: &Settings) -> io::Result<()> {
@@ -110,7 +111,7 @@ fn run(settings: &Settings) -> io::Result<()> {
         }
         for line in String::from_utf8_lossy(&bytes[..end]).lines() {
             keyed.line(line);
-            journal.turn_if_full(&mut keyed.locks)?;
+            journal.turn_if_full(&mut keyed)?;
         }
         bytes.copy_within(end..have, 0);
         have -= end;

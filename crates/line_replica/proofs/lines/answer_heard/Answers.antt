@@ -1,4 +1,4 @@
-use Rattle.std.proofs.Common.{◌≡◌, sym, subst}
+use Rattle.std.proofs.Common.{sym, subst}
 use Rattle.std.proofs.lemmas.Result.{on_ok_weaker, on_err_weaker}
 use Rattle.line_replica.specs.Reading.{Heard}
 use Rattle.line_replica.specs.Replies.{IsHeard, IsAnsweredOrNot, input_of}

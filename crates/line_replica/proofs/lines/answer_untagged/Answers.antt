@@ -1,8 +1,10 @@
-use Rattle.std.proofs.Common.{◌≡◌, [], refl, inl, sym, subst, append-nil, ap}
+use Rattle.std.proofs.Common.{[], refl, inl, subst, ap}
 use Rattle.std.specs.Prelude.{OnErr, Result, Ok, Err}
 use Rattle.std.proofs.lemmas.Result.{on_ok_weaker, on_err_weaker}
+use Rattle.ring_segments.specs.Remarks.{remark_of}
 use Rattle.line_replica.specs.Reading.{Heard}
 use Rattle.line_replica.specs.Replies.{IsHeard, IsAnsweredOrNot, input_of}
+use Rattle.line_replica.specs.Running.{place_line}
 use Rattle.line_replica.proofs.Hearing.{is_digest, is_plain}
 use Rattle.line_replica.proofs.lines.answer_untagged.Goals as goal
 
@@ -14,12 +16,13 @@ pub returns-in-Some-place_with_digest-clause-ok : goal.returns-in-Some-place_wit
 returns-in-Some-place_with_digest-clause-ok g c =
     let line = c.args.line.now in
     let files = g.D.Disk.holds c.args.disk.now in
+    let note = remark_of (place_line c.in-Some-place_with_digest.place c.in-Some-place_with_digest.digest.now) in
     on_ok_weaker c.set_place.result (λ e. (
       [],
-      [],
-      subst (λ (h : Heard). IsHeard g.S.AnswersLines.is_answered h c.args.replica.now files line [] [] c.set_place.new.replica files) (is_digest line _ _ c.in-None.ensures c.in-Some-place_with_digest.ensures)
-          (record { says = refl; notes = refl; numbered = c.set_place.ensures.same; running = e; files = refl }),
-      (sym (append-nil _), sym (append-nil _)),
+      note,
+      subst (λ (h : Heard). IsHeard g.S.AnswersLines.is_answered h c.args.replica.now files line [] note c.set_place.new.replica files) (is_digest line _ _ c.in-None.ensures c.in-Some-place_with_digest.ensures)
+          (record { says = refl; notes = refl; numbered = c.set_place.ensures.same; running = e.0; files = refl }),
+      e.1,
     )) c.set_place.ensures.ok
 
 pub returns-in-Some-place_with_digest-clause-err : goal.returns-in-Some-place_with_digest-clause-err

@@ -1,4 +1,4 @@
-use Rattle.std.proofs.Common.{◌≡◌, true, false, ◌∙◌, sym, arith}
+use Rattle.std.proofs.Common.{◌∙◌, sym}
 use Rattle.line_replica.proofs.Digits.{digits_more, digits_end, digits_all}
 use Rattle.line_replica.proofs.reading.are_digits.Goals as goal
 

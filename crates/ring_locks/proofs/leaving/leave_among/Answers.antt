@@ -4,7 +4,7 @@ use Rattle.ring_locks.specs.declared.parts.LockParts.{LockParts}
 use Rattle.ring_locks.specs.Locks.{Leave, turn}
 use Rattle.ring_locks.specs.Kept.{lock_of}
 use Rattle.ring_locks.specs.Parts.{view_of}
-use Rattle.ring_locks.proofs.Lifting.{lifted_done, part_at, lock_kept, holder_out}
+use Rattle.ring_locks.proofs.Lifting.{lifted_done, part_at, lock_kept, lock_settled, holder_out}
 use Rattle.ring_locks.proofs.leaving.leave_among.Goals as goal
 
 pub leave-requires-clause-kept : goal.leave-requires-clause-kept
@@ -12,6 +12,12 @@ leave-requires-clause-kept c =
     let below = c.requires.lock in
     let at = part_at c.args.locks.now.items c.args.lock c.index_mut.result.now below c.index_mut.ensures.value in
     lock_kept c.args.locks.now.items c.args.waits.now c.args.lock c.index_mut.result.now c.requires.kept at
+
+pub leave-requires-clause-settled : goal.leave-requires-clause-settled
+leave-requires-clause-settled c =
+    let below = c.requires.lock in
+    let at = part_at c.args.locks.now.items c.args.lock c.index_mut.result.now below c.index_mut.ensures.value in
+    lock_settled c.args.locks.now.items c.args.waits.now c.args.lock c.index_mut.result.now c.requires.kept at
 
 pub leave-requires-clause-waiting : goal.leave-requires-clause-waiting
 leave-requires-clause-waiting c =

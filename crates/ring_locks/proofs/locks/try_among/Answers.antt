@@ -5,14 +5,20 @@ use Rattle.ring_locks.specs.declared.parts.LockParts.{LockParts}
 use Rattle.ring_locks.specs.Locks.{Try, tried}
 use Rattle.ring_locks.specs.Kept.{lock_of}
 use Rattle.ring_locks.specs.Parts.{view_of}
-use Rattle.ring_locks.proofs.Lifting.{lifted_parts, part_at, lock_kept}
+use Rattle.ring_locks.proofs.Lifting.{lifted_parts, part_at, lock_kept, lock_settled}
 use Rattle.ring_locks.proofs.locks.try_among.Goals as goal
 
-pub try_acquire-requires : goal.try_acquire-requires
-try_acquire-requires c =
+pub try_acquire-requires-clause-kept : goal.try_acquire-requires-clause-kept
+try_acquire-requires-clause-kept c =
     let below : c.args.lock < length c.args.locks.now.items = let n = c.len.ensures in let k = c.args.locks.now.ok.0 in let f = c.if-lock-len.false in omega arith in
     let at = part_at c.args.locks.now.items c.args.lock c.index_mut.result.now below c.index_mut.ensures.value in
     lock_kept c.args.locks.now.items c.args.waits.now c.args.lock c.index_mut.result.now c.requires at
+
+pub try_acquire-requires-clause-settled : goal.try_acquire-requires-clause-settled
+try_acquire-requires-clause-settled c =
+    let below : c.args.lock < length c.args.locks.now.items = let n = c.len.ensures in let k = c.args.locks.now.ok.0 in let f = c.if-lock-len.false in omega arith in
+    let at = part_at c.args.locks.now.items c.args.lock c.index_mut.result.now below c.index_mut.ensures.value in
+    lock_settled c.args.locks.now.items c.args.waits.now c.args.lock c.index_mut.result.now c.requires at
 
 pub returns : goal.returns
 returns c =

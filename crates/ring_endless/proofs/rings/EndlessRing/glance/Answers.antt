@@ -5,5 +5,5 @@ use Rattle.ring_endless.proofs.rings.EndlessRing.glance.Goals as goal
 
 pub returns : goal.returns
 returns c =
-    survey_is c.self.inside.base c.self.inside.tally c.self.inside.ring c.glance.result c.shift_survey.result c.self.invariant c.glance.ensures c.shift_survey.ensures
+    survey_is c.self.inside.base c.self.inside.quiet c.self.inside.ring c.glance.result c.shift_survey.result c.self.invariant c.glance.ensures c.shift_survey.ensures
     ∙ ap (λ (x : EndlessView). survey_now x) c.self.view_is

@@ -1,11 +1,11 @@
-use Rattle.std.proofs.Common.{◌≡◌, ℕ, ◌+◌, ◌≤◌, ap, subst, arith}
+use Rattle.std.proofs.Common.{◌≡◌, ℕ, ◌+◌, ap, subst, arith}
 use Rattle.ring_endless.specs.Endless.{EndlessView}
-use Rattle.ring_endless.proofs.Segments.{grants_now, end_small}
+use Rattle.ring_endless.proofs.Segments.{tally_of, grants_now, end_small}
 use Rattle.ring_endless.proofs.rings.EndlessRing.grants.Goals as goal
 
 pub overflow_add-result : goal.overflow_add-result
 overflow_add-result c =
-    let small = end_small c.self.inside.base c.self.inside.tally c.self.inside.ring c.self.invariant in
+    let small = end_small c.self.inside.ring c.tally.result c.self.invariant.is.ring (tally_of c.self.inside.base c.self.inside.ring c.args.self.now c.tally.result c.self.view_is c.tally.ensures) in
     let few = small.grants in
     let room = c.self.invariant.is.base.room in
     let base = c.self.invariant.is.base.grants in
@@ -13,5 +13,5 @@ overflow_add-result c =
 
 pub returns : goal.returns
 returns c =
-    subst (λ (x : EndlessView). c.self.inside.base.grants + c.self.inside.tally.grants ≡ x.base.grants + x.ring.book.now.grants) c.self.view_is
-    (ap (λ (n : ℕ). c.self.inside.base.grants + n) (grants_now c.self.inside.base c.self.inside.tally c.self.inside.ring c.self.invariant))
+    subst (λ (x : EndlessView). c.self.inside.base.grants + c.tally.result.grants ≡ x.base.grants + x.ring.book.now.grants) c.self.view_is
+    (ap (λ (n : ℕ). c.self.inside.base.grants + n) (grants_now c.self.inside.ring c.tally.result c.self.invariant.is.ring (tally_of c.self.inside.base c.self.inside.ring c.args.self.now c.tally.result c.self.view_is c.tally.ensures)))

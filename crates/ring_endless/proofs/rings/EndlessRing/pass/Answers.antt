@@ -1,8 +1,5 @@
-use Rattle.std.proofs.Common.{sym, subst}
 use Rattle.ring_model.specs.declared.events.Op.TheVariants as op
-use Rattle.ring_chains.specs.declared.tallies.Tally.{Tally}
-use Rattle.ring_endless.specs.Endless.{IsTallied}
-use Rattle.ring_endless.proofs.Segments.{receipt_small, tally_more}
+use Rattle.ring_endless.proofs.Segments.{receipt_small, known_pass}
 use Rattle.ring_endless.proofs.rings.EndlessRing.pass.Goals as goal
 
 pub shift_receipt-requires-clause-within : goal.shift_receipt-requires-clause-within
@@ -11,5 +8,4 @@ shift_receipt-requires-clause-within c =
 
 pub invariant_of-self-2 : goal.invariant_of-self-2
 invariant_of-self-2 c =
-    subst (λ (x : Tally). IsTallied c.self.inside.base x c.pass.new.self) (sym c.with_reply-self-inside.ensures)
-    (tally_more c.self.inside.base c.self.inside.tally c.self.inside.ring c.pass.new.self c.args.seat (op.Pass c.args.machine c.args.order) c.in-Ok.receipt c.self.invariant c.in-Ok.ensures.ring c.in-Ok.ensures.ok)
+    known_pass c.self.inside.base c.self.inside.quiet c.self.inside.ring c.pass.new.self c.args.seat c.args.machine c.args.order c.in-Ok.receipt c.self.invariant c.in-Ok.ensures.ring c.in-Ok.ensures.ok

@@ -1,11 +1,8 @@
-use Rattle.std.proofs.Common.{sym, subst}
+use Rattle.std.proofs.Common.{subst}
 use Rattle.ring_model.specs.Resources.{till}
 use Rattle.ring_model.specs.declared.events.Op.TheVariants as op
-use Rattle.ring_book.specs.BookView.{IsRecorded}
 use Rattle.ring_desk.specs.Rings.{IsTried}
-use Rattle.ring_chains.specs.declared.tallies.Tally.{Tally}
-use Rattle.ring_endless.specs.Endless.{IsTallied}
-use Rattle.ring_endless.proofs.Segments.{receipt_small, tally_more}
+use Rattle.ring_endless.proofs.Segments.{receipt_small, known_pass}
 use Rattle.ring_endless.proofs.rings.EndlessRing.try_pass.Goals as goal
 
 pub shift_receipt-requires-clause-within : goal.shift_receipt-requires-clause-within
@@ -16,5 +13,4 @@ shift_receipt-requires-clause-within c =
 pub invariant_of-self-2 : goal.invariant_of-self-2
 invariant_of-self-2 c =
     let tried = subst (λ o. IsTried till c.self.inside.ring c.try_pass.new.self c.args.seat c.args.machine c.args.order o) c.in-Ok-Some.field-0-is c.in-Ok-Some.ensures.ok in
-    subst (λ (x : Tally). IsTallied c.self.inside.base x c.try_pass.new.self) (sym c.with_reply-self-inside.ensures)
-    (tally_more c.self.inside.base c.self.inside.tally c.self.inside.ring c.try_pass.new.self c.args.seat (op.Pass c.args.machine c.args.order) c.in-Ok-Some.receipt c.self.invariant c.in-Ok-Some.ensures.ring tried.1)
+    known_pass c.self.inside.base c.self.inside.quiet c.self.inside.ring c.try_pass.new.self c.args.seat c.args.machine c.args.order c.in-Ok-Some.receipt c.self.invariant c.in-Ok-Some.ensures.ring tried.1
