@@ -28,7 +28,7 @@ use Rattle.std.proofs.alloc.Global.TheLaws as heap_laws
 use Rattle.std.proofs.GlobalToken.{dealloc_token-Testable}
 use Rattle.std.specs.contracts.impls.GlobalAllocator.TheImpl.{ghosts}
 use Rattle.ring_desk_c.specs.Held.{held}
-use Rattle.ring_desk_c.specs.contracts.kept.Kept as kept
+use Rattle.desk_calls.specs.contracts.kept.Kept as kept
 use Rattle.ring_desk_c.specs.contracts.handle.Handle as handle
 use Rattle.ring_desk_c.proofs.Values.{both, both_tt}
 

@@ -1,9 +1,2 @@
-pub mod Answers
-pub mod Codes
-pub mod Desks
 pub mod Held
 pub mod Opened
-pub mod Reports
-pub mod Resumed
-pub mod Trips
-pub mod Sealed

@@ -9,9 +9,9 @@ use Rattle.ring_desk.specs.Rings.{RingView, IsOneThreadRing, IsSeatCount, IsOpen
 use Rattle.ring_desk.specs.declared.errors.OpenError.{OpenError}
 use Rattle.ring_chains.specs.Bases.{no_base}
 use Rattle.ring_files.specs.Files.{first_place, filed_at}
-use Rattle.ring_desk_c.specs.declared.kept.Kept.{Kept}
-use Rattle.ring_desk_c.specs.declared.kept.Kept.TheVariants.{Till, Idle}
-use Rattle.ring_desk_c.specs.Codes.{open_code}
+use Rattle.desk_calls.specs.declared.kept.Kept.{Kept}
+use Rattle.desk_calls.specs.declared.kept.Kept.TheVariants.{Till, Idle}
+use Rattle.desk_calls.specs.Codes.{open_code}
 
 -- a ring with no events that starts so, over the resource's first content, with n clients
 -- that have empty logs

@@ -5,17 +5,17 @@ ghost use Rattle.ring_model.specs.declared.events.Receipt.{Receipt};
 ghost use Rattle.ring_model.specs.declared.events.Survey.{Survey};
 ghost use Rattle.ring_book.specs.declared.books.groups.GroupReceipt.{GroupReceipt};
 ghost use Rattle.ring_desk.specs.declared.errors.CallError.{CallError};
-ghost use Rattle.ring_desk_c.specs.Answers.{IsPassAnswer, IsTryAnswer, IsCorruptAnswer, IsGroupAnswer, IsSurveyAnswer, IsGlance, events_of, before_of, event_of, first_grant};
-ghost use Rattle.ring_desk_c.specs.Codes.{closed};
-ghost use Rattle.ring_desk_c.specs.Reports.{IsCallReport, IsTryReport, IsGroupReport, IsSightReport, IsEventReport, sight_of};
+ghost use Rattle.desk_calls.specs.Answers.{IsPassAnswer, IsTryAnswer, IsCorruptAnswer, IsGroupAnswer, IsSurveyAnswer, IsGlance, events_of, before_of, event_of, first_grant};
+ghost use Rattle.desk_calls.specs.Codes.{closed};
+ghost use Rattle.desk_calls.specs.Reports.{IsCallReport, IsTryReport, IsGroupReport, IsSightReport, IsEventReport, sight_of};
 
-use crate::answers::{
+use crate::handle::{Handle, is_closed, put_back, take_out};
+use desk_calls::answers::{
     Answer, EventRow, Group, Sight, report_call, report_event, report_group, report_sight,
     report_try,
 };
-use crate::codes::CLOSED;
-use crate::handle::{Handle, is_closed, put_back, take_out};
-use crate::kept;
+use desk_calls::codes::CLOSED;
+use desk_calls::kept;
 use std::alloc::Global;
 
 /// A pass by a machine, for a seat: 0 where it was granted, 1 where the machine is not privileged, else why it was refused.

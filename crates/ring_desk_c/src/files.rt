@@ -1,17 +1,16 @@
 //! The file of a ring's segment, its journal, and the next segment, for C.
 
 ghost use Rattle.std.specs.Prelude.{◌≡◌, ◌≢◌, ℕ, List, true, false, Result, IfOk, IfErr};
-ghost use Rattle.ring_desk_c.specs.Codes.{closed, text_code};
-ghost use Rattle.ring_desk_c.specs.Reports.{IsSaveReport};
-ghost use Rattle.ring_desk_c.specs.Sealed.{IsFileOf, IsFileAnswer, IsLinesAnswer, IsNotSealed, IsStepReport, IsCutReport, kept_after};
-ghost use Rattle.ring_desk_c.specs.declared.kept.TextError.{TextError};
+ghost use Rattle.desk_calls.specs.Codes.{closed, text_code};
+ghost use Rattle.desk_calls.specs.Reports.{IsSaveReport};
+ghost use Rattle.desk_calls.specs.Sealed.{IsFileOf, IsFileAnswer, IsLinesAnswer, IsNotSealed, IsCutReport, kept_after};
+ghost use Rattle.desk_calls.specs.declared.kept.TextError.{TextError};
 
-use crate::answers::report_text;
-use crate::codes::{CLOSED, HISTORY_FULL, NO_MEMORY, NO_TILL, TOO_SMALL, text_code};
 use crate::handle::{Handle, is_closed, put_back, take_out};
-use crate::kept::{Kept, TextError, keep};
-use crate::kept_texts::{file_text, put_file, put_lines};
-use ring_endless::NextError;
+use desk_calls::answers::report_text;
+use desk_calls::codes::{CLOSED, TOO_SMALL, text_code};
+use desk_calls::kept::{TextError, keep, step};
+use desk_calls::kept_texts::{file_text, put_file, put_lines};
 use std::alloc::Global;
 
 /// Writes the beginning of the journal of the ring's segment, all of the segment so far, to the front of the caller's bytes, if
@@ -82,23 +81,6 @@ pub extern "C" fn wozgirt_take_journal(
     }
     put_back(ring, kept);
     code
-}
-
-/// The next segment of what C holds, where the file of this one has these bytes: the code.
-fn step(kept: &mut Kept, alloc: Global, sealed: &[u8]) -> u32
-    ensures { IsStepReport kept.old kept.new sealed.now result }
-{
-    match kept {
-        Kept::Till(ring) => match ring.next(alloc, sealed) {
-            Ok(next) => {
-                *ring = next;
-                0
-            }
-            Err(NextError::Full) => HISTORY_FULL,
-            Err(NextError::OutOfMemory) => NO_MEMORY,
-        },
-        Kept::Idle(_) => NO_TILL,
-    }
 }
 
 /// Seals a segment whose file has this text.

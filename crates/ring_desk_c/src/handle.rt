@@ -3,12 +3,12 @@ ghost use Rattle.std.specs.Prelude.{◌≡◌, Bool, true, false, not};
 ghost use Rattle.std_alloc.specs.Box.Ownership.{box_owns};
 ghost use Rattle.ring_desk_c.specs.Held.{held};
 ghost use Rattle.std.specs.contracts.impls.GlobalAllocator.TheImpl.{ghosts};
-ghost use Rattle.ring_desk_c.specs.contracts.kept.Kept as kept;
-ghost use Rattle.ring_desk_c.specs.declared.kept.Kept.{Kept};
+ghost use Rattle.desk_calls.specs.contracts.kept.Kept as kept;
+ghost use Rattle.desk_calls.specs.declared.kept.Kept.{Kept};
 
-use crate::kept::Kept;
 use crate::loose::Loose;
 use core::mem::replace_with;
+use desk_calls::kept::Kept;
 use std::alloc::Global;
 use std::marker::Model;
 use std::ptr::null_mut;

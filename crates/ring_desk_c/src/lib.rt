@@ -5,17 +5,10 @@
 //! which nothing checks, are in the header: nobody else wrote the struct, and no two calls have it at once.
 #![tactic(auto)]
 
-mod answers;
 mod calls;
 mod checks;
-mod codes;
-mod desks;
 mod files;
 mod handle;
-mod kept;
-mod kept_texts;
-pub mod laws;
-mod lock_answers;
 mod lock_handle;
 mod lock_opens;
 mod locks;

@@ -3,14 +3,14 @@
 ghost use Rattle.std.specs.Prelude.{◌≡◌, true, false, Option};
 ghost use Rattle.ring_locks.specs.Locks.{Acquire, Try, Release, Cancel};
 ghost use Rattle.ring_locks.specs.declared.answers.Answers.{Answers};
-ghost use Rattle.ring_desk_c.specs.declared.desks.Grant.{Grant};
-ghost use Rattle.ring_desk_c.specs.Codes.{closed};
-ghost use Rattle.ring_desk_c.specs.Desks.{IsAsked, IsDoneAsk, IsDeskLeft, IsNextGrant, asked_code, asked_hold, IsLeaveReport, IsGrantReport, IsCutReport};
+ghost use Rattle.desk_calls.specs.declared.desks.Grant.{Grant};
+ghost use Rattle.desk_calls.specs.Codes.{closed};
+ghost use Rattle.desk_calls.specs.Desks.{IsAsked, IsDoneAsk, IsDeskLeft, IsNextGrant, asked_code, asked_hold, IsLeaveReport, IsGrantReport, IsCutReport};
 
-use crate::codes::{CLOSED, GRANTS_LEFT};
-use crate::desks::{Grant, LockDesk};
-use crate::lock_answers::{Hold, asked_code, asked_hold, report_grant};
 use crate::lock_handle::{LockHandle, is_closed, put_back, take_out};
+use desk_calls::codes::{CLOSED, GRANTS_LEFT};
+use desk_calls::desks::{Grant, LockDesk};
+use desk_calls::lock_answers::{Hold, asked_code, asked_hold, report_grant};
 use std::alloc::Global;
 
 /// A client acquires a lock: 0 where it holds it now, 1 where it waits, else why it was refused.

@@ -5,14 +5,14 @@ ghost use Rattle.ring_model.specs.Resources.{till};
 ghost use Rattle.ring_chains.specs.Bases.{no_base};
 ghost use Rattle.ring_desk.specs.Rings.{IsOneThreadRing};
 ghost use Rattle.ring_files.specs.Files.{first_place, filed_at};
-ghost use Rattle.ring_desk_c.specs.Codes.{no_memory, still_open};
+ghost use Rattle.desk_calls.specs.Codes.{no_memory, still_open};
 ghost use Rattle.ring_desk_c.specs.Opened.{IsOpenedTill, IsOpenedIdle, IsOpenRefused};
 
-use crate::codes::{NO_MEMORY, STILL_OPEN, open_code};
 use crate::handle::{Handle, hold, is_closed};
-use crate::kept::Kept;
 use crate::loose::Loose;
 use core::mem::replace_with;
+use desk_calls::codes::{NO_MEMORY, STILL_OPEN, open_code};
+use desk_calls::kept::Kept;
 use ring_book::{Idle, Till};
 use ring_chains::Base;
 use ring_desk::OneThreadRing;

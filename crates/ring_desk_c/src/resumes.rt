@@ -1,135 +1,16 @@
 //! How a ring of a saved text is opened for C: the text is checked first.
 
-ghost use Rattle.std.specs.Prelude.{◌≡◌, ◌≢◌, ◌<◌, ◌↔◌, ℕ, true, false, All, IsTrue, IfNone, IfOk, IfErr, IfSome};
-ghost use Rattle.ring_saved.specs.declared.saved.SavedEvent.{SavedEvent};
-ghost use Rattle.ring_saved.specs.declared.saved.SavedSurvey.{SavedSurvey};
-ghost use Rattle.ring_saved.specs.Content.{content, block_of};
-ghost use Rattle.ring_check.specs.Meaning.{IsRightText, IsRightBlock};
-ghost use Rattle.ring_check.specs.Table.{event_of};
-ghost use Rattle.ring_desk_c.specs.Codes.{still_open};
-ghost use Rattle.ring_desk_c.specs.Resumed.{FitsSeats, IsSeatsFault, IsRingRefused, IsResumedAs, IsPlaceRefused, IsResumedAt, IsResumedFrom, IsResumed, IsSavedAnswer};
-ghost use Rattle.ring_desk_c.specs.Reports.{IsVerdict};
+ghost use Rattle.std.specs.Prelude.{◌≡◌, ◌≢◌, true, false};
+ghost use Rattle.desk_calls.specs.Codes.{still_open};
+ghost use Rattle.desk_calls.specs.Resumed.{IsResumed, IsSavedAnswer};
 
-use crate::answers::Sums;
-use crate::checks::legal_text;
-use crate::codes::{BAD_SEATS, HISTORY_FULL, NO_RING, NO_SEAT, STILL_OPEN, resume_code};
 use crate::handle::{Handle, is_closed};
 use crate::opens::fill_first;
 use core::mem::replace_with;
-use ring_book::Till;
-use ring_desk::{OneThreadRing, from_saved};
-use ring_model::limits::{EVENT_LIMIT, SEAT_LIMIT};
-use ring_saved::{Saved, SavedEvent, SavedRing, SavedSurvey};
+use desk_calls::answers::Sums;
+use desk_calls::codes::STILL_OPEN;
+use desk_calls::resumes::resume_text;
 use std::alloc::Global;
-
-/// The seat of an event.
-fn seat_of(event: SavedEvent) -> u32
-    ensures { result ≡ (event_of event).seat }
-{
-    match event {
-        SavedEvent::Granted { seat, .. } => seat,
-        SavedEvent::Member { seat, .. } => seat,
-        SavedEvent::Refused { seat, .. } => seat,
-        SavedEvent::Corrupted { seat, .. } => seat,
-    }
-}
-
-/// Whether each event is a call of a seat below this number.
-fn call_below(events: &[SavedEvent], seats: u32) -> bool
-    ensures { IsTrue result
-        ↔ All (λ (e : SavedEvent). (event_of e).seat < seats) events.now }
-{
-    for event in events {
-        if seat_of(*event) >= seats {
-            return false;
-        }
-    }
-    true
-}
-
-/// Whether each survey is of a seat below this number.
-fn look_below(surveys: &[SavedSurvey], seats: u32) -> bool
-    ensures { IsTrue result ↔ All (λ (s : SavedSurvey). s.seat < seats) surveys.now }
-{
-    for survey in surveys {
-        if survey.seat >= seats {
-            return false;
-        }
-    }
-    true
-}
-
-/// Why no ring of this many seats may resume a saved one that is legal.
-fn seats_fault(ring: &SavedRing, seats: u32) -> Option<u32>
-    ensures some { IfSome result (λ code. IsSeatsFault ring.now seats code) }
-    ensures none { IfNone result (FitsSeats ring.now seats) }
-{
-    if seats == 0 || seats as usize > SEAT_LIMIT {
-        return Some(BAD_SEATS);
-    }
-    if !call_below(&ring.events, seats) || !look_below(&ring.surveys, seats) {
-        return Some(NO_SEAT);
-    }
-    if ring.events.len() > EVENT_LIMIT {
-        return Some(HISTORY_FULL);
-    }
-    None
-}
-
-/// A ring that resumes a saved one of a legal text, or the code of why there is none.
-pub(crate) fn resume(
-    alloc: Global,
-    ring: &SavedRing,
-    seats: u32,
-) -> Result<OneThreadRing<Till>, u32>
-    requires { (version : ℕ) × (place : ℕ) × IsRightBlock version place (block_of ring.now) }
-    ensures ok { IfOk result (λ d. IsResumedAs ring.now seats d) }
-    ensures err { IfErr result (λ code. IsRingRefused ring.now seats code) }
-{
-    match seats_fault(ring, seats) {
-        Some(code) => Err(code),
-        None => match from_saved(alloc, ring, seats) {
-            Ok(resumed) => Ok(resumed),
-            Err(error) => Err(resume_code(error)),
-        },
-    }
-}
-
-/// A ring that resumes the one at this place of a legal text, or the code of why there is none.
-fn resume_at(
-    alloc: Global,
-    saved: &Saved,
-    place: u32,
-    seats: u32,
-) -> Result<OneThreadRing<Till>, u32>
-    requires { IsRightText (content saved.now) }
-    ensures ok { IfOk result (λ d. IsResumedAt saved.now place seats d) }
-    ensures err { IfErr result (λ code. IsPlaceRefused saved.now place seats code) }
-{
-    match saved.rings.get(place as usize) {
-        Some(ring) => resume(alloc, ring, seats),
-        None => Err(NO_RING),
-    }
-}
-
-/// The same for bytes, which are checked first; also the sums of their text, or its first bad line.
-fn resume_text(
-    alloc: Global,
-    bytes: &[u8],
-    place: u32,
-    seats: u32,
-    out: &mut Sums,
-) -> Result<OneThreadRing<Till>, u32>
-    ensures ok { IfOk result (λ d. IsResumedFrom bytes.now place seats d) }
-    ensures legal { IfOk result (λ _. IsVerdict bytes.now 0 out.new) }
-    ensures err { IfErr result (λ code. IsSavedAnswer bytes.now place seats code out.new) }
-    ensures refused { IfErr result (λ code. code ≢ 0) }
-{
-    match legal_text(alloc, bytes, out) {
-        Ok(saved) => resume_at(alloc, &saved, place, seats),
-        Err(code) => Err(code),
-    }
-}
 
 /// Opens a ring over a till that resumes the one at this place of a saved text: 0, or why it was not, and the
 /// struct is as it was then. The sums are those of `wozgirt_check`.

@@ -1,98 +1,16 @@
 //! How a ring of the last file of a chain is opened for C.
 
-ghost use Rattle.std.specs.Prelude.{◌≡◌, ◌≢◌, true, false, length, ◌∷◌, [], All, IfOk, IfErr, IfSome, IfNone, Ok};
-ghost use Rattle.ring_chains.specs.Bases.{IsBase};
-ghost use Rattle.ring_segments.specs.Last.{IsRightLast};
-ghost use Rattle.ring_desk_c.specs.Codes.{still_open};
-ghost use Rattle.ring_desk_c.specs.Sealed.{segment_line, IsGoneOn, IsGoneOnBy, IsLastRefused, IsSegmentAnswer};
+ghost use Rattle.std.specs.Prelude.{◌≡◌, ◌≢◌, true, false};
+ghost use Rattle.desk_calls.specs.Codes.{still_open};
+ghost use Rattle.desk_calls.specs.Sealed.{IsGoneOnBy, IsSegmentAnswer};
 
-use crate::codes::{MANY_RINGS, STILL_OPEN, segment_code};
 use crate::handle::{Handle, is_closed};
-use crate::kept::Kept;
 use crate::opens::fill_handle;
-use crate::resumes::resume;
 use core::mem::replace_with;
-use ring_chains::Base;
-use ring_files::{FilePlace, FileRing};
-use ring_saved::SavedRing;
-use ring_segments::{LastSegment, SegmentError, read_last};
+use desk_calls::codes::STILL_OPEN;
+use desk_calls::kept::Kept;
+use desk_calls::segments::go_on;
 use std::alloc::Global;
-
-/// The line that a refusal names, 0 if it names none.
-fn segment_line(error: SegmentError) -> u64
-    ensures { result ≡ segment_line error }
-{
-    match error {
-        SegmentError::Syntax(line) => line,
-        SegmentError::Bad { line, .. } => line,
-        _ => 0,
-    }
-}
-
-/// The ring, if there is only one.
-fn only_ring(rings: &[SavedRing]) -> Option<&SavedRing>
-    ensures some { IfSome result (λ ring. rings.now ≡ ring.now ∷ []) }
-    ensures none { IfNone result (length rings.now ≢ 1) }
-{
-    match rings {
-        [ring] => Some(ring),
-        _ => None,
-    }
-}
-
-/// The base, if there is only one.
-fn only_base(bases: &[Base]) -> Option<Base>
-    ensures some { IfSome result (λ base. bases.now ≡ base ∷ []) }
-    ensures none { IfNone result (length bases.now ≢ 1) }
-{
-    match bases {
-        [base] => Some(*base),
-        _ => None,
-    }
-}
-
-/// A ring that goes on in the last file of a chain, or the code of why there is none.
-fn go_on_in(alloc: Global, bytes: &[u8], last: &LastSegment, seats: u32) -> Result<FileRing, u32>
-    requires right { IsRightLast bytes.now (Ok last.now) }
-    requires many { length last.now.head.bases.items ≡ length last.now.saved.rings.items }
-    requires bases { All IsBase last.now.head.bases.items }
-    ensures ok { IfOk result (λ d. IsGoneOn bytes.now seats d) }
-    ensures err { IfErr result (λ code. IsLastRefused last.now seats code) }
-    ensures refused { IfErr result (λ code. code ≢ 0) }
-{
-    let Some(saved) = only_ring(last.saved.rings.as_slice()) else {
-        return Err(MANY_RINGS);
-    };
-    let Some(base) = only_base(last.head.bases.as_slice()) else {
-        return Err(MANY_RINGS);
-    };
-    match resume(alloc, saved, seats) {
-        Ok(ring) => {
-            let place = FilePlace::of(last.head.number, last.head.behind);
-            Ok(FileRing::at(alloc, place, base, ring))
-        }
-        Err(code) => Err(code),
-    }
-}
-
-/// The same of the bytes of the file, with the line that a refusal of them names.
-fn go_on(alloc: Global, bytes: &[u8], seats: u32, line: &mut u64) -> Result<FileRing, u32>
-    ensures ok { IfOk result (λ d. IsGoneOn bytes.now seats d) }
-    ensures line { IfOk result (λ _. line.new ≡ 0) }
-    ensures err { IfErr result (λ code. IsSegmentAnswer bytes.now seats code line.new) }
-    ensures refused { IfErr result (λ code. code ≢ 0) }
-{
-    match read_last(alloc, bytes) {
-        Ok(last) => {
-            *line = 0;
-            go_on_in(alloc, bytes, &last, seats)
-        }
-        Err(error) => {
-            *line = segment_line(error);
-            Err(segment_code(error))
-        }
-    }
-}
 
 /// Opens a ring over a till that goes on where the last file of a chain ended: 0, or why it was not, and the struct is as it was
 /// then. A cut end of the file is left out. The line is the first bad one, or 0.

@@ -1,14 +1,14 @@
 //! The saved text of a ring that C holds.
 
 ghost use Rattle.std.specs.Prelude.{◌≡◌, ℕ, List, true, false, Result};
-ghost use Rattle.ring_desk_c.specs.Answers.{IsTextAnswer};
-ghost use Rattle.ring_desk_c.specs.Codes.{closed};
-ghost use Rattle.ring_desk_c.specs.Reports.{IsSaveReport};
-ghost use Rattle.ring_desk_c.specs.declared.kept.TextError.{TextError};
+ghost use Rattle.desk_calls.specs.Answers.{IsTextAnswer};
+ghost use Rattle.desk_calls.specs.Codes.{closed};
+ghost use Rattle.desk_calls.specs.Reports.{IsSaveReport};
+ghost use Rattle.desk_calls.specs.declared.kept.TextError.{TextError};
 
-use crate::codes::CLOSED;
 use crate::handle::{Handle, is_closed, put_back, take_out};
-use crate::kept_texts::save;
+use desk_calls::codes::CLOSED;
+use desk_calls::kept_texts::save;
 use std::alloc::Global;
 
 /// Writes the saved text of the ring as it is now to the front of the caller's bytes, if there is room, and tells its size. The

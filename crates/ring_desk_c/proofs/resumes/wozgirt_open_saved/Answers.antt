@@ -1,6 +1,6 @@
 use Rattle.std.proofs.Common.{rules, ◌≡◌, ◌≢◌, inr}
-use Rattle.ring_desk_c.specs.Codes.{no_memory}
-use Rattle.ring_desk_c.specs.Resumed.{IsResumedFrom}
+use Rattle.desk_calls.specs.Codes.{no_memory}
+use Rattle.desk_calls.specs.Resumed.{IsResumedFrom}
 use Rattle.ring_desk_c.proofs.resumes.wozgirt_open_saved.Goals as goal
 
 pub returns-in-Ok-clause-checked : goal.returns-in-Ok-clause-checked

@@ -13,8 +13,8 @@ use Rattle.std.proofs.Crossing.{frees}
 use Rattle.std.proofs.alloc.Global.TheSendSync as heap
 use Rattle.std_alloc.proofs.SendSync.{quiet, lies}
 use Rattle.ring_desk_c.specs.Held.{held}
-use Rattle.ring_desk_c.specs.contracts.desks.LockDesk as kept
-use Rattle.ring_desk_c.proofs.desks.LockDesk.TheSendSync as kept_sent
+use Rattle.desk_calls.specs.contracts.desks.LockDesk as kept
+use Rattle.desk_calls.proofs.desks.LockDesk.TheSendSync as kept_sent
 use Rattle.ring_desk_c.specs.contracts.lock_handle.LockHandle as handle
 
 ps : IsSend RawPtr

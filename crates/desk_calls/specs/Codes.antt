@@ -1,0 +1,164 @@
+-- The code of each refusal, as the header has them (this project's own).
+use Rattle.std.specs.Prelude.{ℕ, Result, Ok, Err}
+use Rattle.ring_state.specs.declared.sizes.ParamsError.{ParamsError}
+use Rattle.ring_state.specs.declared.sizes.ParamsError.TheVariants as params
+use Rattle.text_lines.specs.declared.answer.ReadError.{ReadError}
+use Rattle.text_lines.specs.declared.answer.ReadError.TheVariants as read
+use Rattle.ring_check.specs.declared.answers.Kind.{Kind}
+use Rattle.ring_check.specs.declared.answers.Kind.TheVariants as kind
+use Rattle.ring_segments.specs.declared.errors.SegmentError.{SegmentError}
+use Rattle.ring_segments.specs.declared.errors.SegmentError.TheVariants as segment
+use Rattle.ring_desk.specs.declared.errors.CallError.{CallError}
+use Rattle.ring_desk.specs.declared.errors.CallError.TheVariants as call
+use Rattle.ring_desk.specs.declared.errors.OpenError.{OpenError}
+use Rattle.ring_desk.specs.declared.errors.OpenError.TheVariants as opens
+use Rattle.ring_desk.specs.declared.resuming.ResumeError.{ResumeError}
+use Rattle.ring_desk.specs.declared.resuming.ResumeError.TheVariants as resume
+use Rattle.ring_locks.specs.declared.answers.Refusal.{Refusal}
+use Rattle.ring_locks.specs.declared.answers.Refusal.TheVariants as refusal
+use Rattle.desk_calls.specs.declared.kept.TextError.{TextError}
+use Rattle.desk_calls.specs.declared.kept.TextError.TheVariants as text
+
+-- out of memory, whoever asks for it
+abbrev pub no_memory : ℕ
+no_memory = 23
+
+-- of a call of what is closed
+abbrev pub closed : ℕ
+closed = 24
+
+-- of opening what is open
+abbrev pub still_open : ℕ
+still_open = 37
+
+-- of a call
+abbrev pub call_code : CallError → ℕ
+call_code call.NoSeat = 16
+call_code call.NoMachine = 17
+call_code call.NoValue = 18
+call_code call.NotRising = 19
+call_code call.WholeRing = 20
+call_code (call.NotPrivileged m) = 21
+call_code call.HistoryFull = 22
+call_code call.OutOfMemory = no_memory
+
+-- of a size: the number of machines, or that of values
+abbrev pub size_code : ParamsError → ℕ
+size_code params.TooFew = 33
+size_code params.TooMany = 33
+size_code params.FewValues = 34
+size_code params.ManyValues = 34
+
+-- of numbers from which no ring is opened
+abbrev pub open_code : OpenError → ℕ
+open_code opens.Seats = 32
+open_code (opens.Size e) = size_code e
+open_code opens.Length = 35
+open_code (opens.Value i) = 36
+open_code opens.OutOfMemory = no_memory
+
+-- of bytes that are not a saved text
+abbrev pub read_code : ReadError → ℕ
+read_code (read.Syntax line) = 48
+read_code read.Truncated = 49
+read_code read.OutOfMemory = no_memory
+
+-- of a saved text that has no ring at a place; of seats that no ring may have; of a saved ring that
+-- names another seat, and of one with more events than a history may have
+abbrev pub no_ring : ℕ
+no_ring = 50
+
+abbrev pub bad_seats : ℕ
+bad_seats = 32
+
+abbrev pub no_seat : ℕ
+no_seat = 16
+
+abbrev pub history_full : ℕ
+history_full = 22
+
+-- of a saved ring that is not resumed
+abbrev pub resume_code : ResumeError → ℕ
+resume_code (resume.Open e) = open_code e
+resume_code (resume.Call e) = call_code e
+resume_code resume.Differs = 51
+resume_code resume.OutOfMemory = no_memory
+
+-- of a text that is not legal
+abbrev pub kind_code : Kind → ℕ
+kind_code kind.Parameter = 64
+kind_code kind.Range = 65
+kind_code kind.Reply = 66
+kind_code kind.Count = 67
+kind_code kind.Survey = 68
+kind_code kind.Group = 69
+
+-- of bytes that are no file of a chain of this ring: it is none with which a chain ends, or it is not
+-- of one ring
+abbrev pub no_chain : ℕ
+no_chain = 52
+
+abbrev pub many_rings : ℕ
+many_rings = 53
+
+abbrev pub segment_code : SegmentError → ℕ
+segment_code segment.Truncated = 49
+segment_code (segment.Syntax line) = 48
+segment_code (segment.Bad line kind) = kind_code kind
+segment_code segment.Number = no_chain
+segment_code segment.Behind = no_chain
+segment_code segment.Base = no_chain
+segment_code segment.Start = no_chain
+segment_code segment.Full = 22
+segment_code segment.Unfinished = no_chain
+segment_code segment.OutOfMemory = no_memory
+
+-- of a ring that is over no till
+abbrev pub no_till : ℕ
+no_till = 80
+
+-- of a ring that has no such text
+abbrev pub text_code : TextError → ℕ
+text_code text.NoTill = no_till
+text_code text.NoJournal = 83
+text_code text.OutOfMemory = no_memory
+
+-- of a buffer that is too small
+abbrev pub too_small : ℕ
+too_small = 81
+
+-- of an event that a history does not have
+abbrev pub no_event : ℕ
+no_event = 82
+
+-- of a number of locks that there may not be, and of one of machines
+abbrev pub bad_locks : ℕ
+bad_locks = 38
+
+abbrev pub bad_machines : ℕ
+bad_machines = 33
+
+-- of grants: there is no further one; some were not handed out
+abbrev pub no_more : ℕ
+no_more = 3
+
+abbrev pub grants_left : ℕ
+grants_left = 102
+
+-- of an input about locks that is refused
+abbrev pub lock_code : Refusal → ℕ
+lock_code refusal.Lock = 96
+lock_code refusal.Holds = 97
+lock_code refusal.Waits = 98
+lock_code refusal.Circle = 99
+lock_code refusal.Holder = 100
+lock_code refusal.Waiter = 101
+lock_code refusal.Machine = 17
+lock_code refusal.Value = 18
+lock_code refusal.Full = history_full
+lock_code refusal.Memory = no_memory
+
+-- of an answer that is a value or the code of why there is none
+abbrev pub code_of : {A : Type 0} → Result A ℕ → ℕ
+code_of (Ok a) = 0
+code_of (Err code) = code

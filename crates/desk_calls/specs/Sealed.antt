@@ -1,0 +1,130 @@
+-- The file of a ring's segment, its journal, and the next segment, for C (this project's own).
+use Rattle.std.specs.Prelude.{◌≡◌, ◌≢◌, ℕ, ◌<◌, ◌≤◌, ◌⊎◌, true, false, List, [], ◌∷◌, ◌++◌, length, drop, Result, Ok, Err}
+use Rattle.ring_saved.specs.declared.saved.SavedRing.{SavedRing}
+use Rattle.ring_chains.specs.declared.bases.Base.{Base}
+use Rattle.ring_segments.specs.declared.errors.SegmentError.{SegmentError}
+use Rattle.ring_segments.specs.declared.errors.SegmentError.TheVariants as segment
+use Rattle.ring_segments.specs.declared.last.LastSegment.{LastSegment}
+use Rattle.ring_segments.specs.Last.{IsRightLast}
+use Rattle.ring_files.specs.Files.{FilesView, file_text, IsFileText, IsNextFile, HasNoNext, new_lines, kept_now, filed_at}
+use Rattle.desk_calls.specs.declared.kept.Kept.{Kept}
+use Rattle.desk_calls.specs.declared.kept.Kept.TheVariants.{Till, Idle}
+use Rattle.desk_calls.specs.declared.kept.TextError.{TextError}
+use Rattle.desk_calls.specs.declared.kept.TextError.TheVariants as text
+use Rattle.desk_calls.specs.Codes.{segment_code, no_memory, history_full, too_small, no_till, many_rings}
+use Rattle.desk_calls.specs.Reports.{HasNoSize}
+use Rattle.desk_calls.specs.Resumed.{IsResumedAs, IsRingRefused}
+
+-- ---- texts
+
+-- the bytes are the text of the file of the ring's segment
+abbrev pub IsFileOf : Kept → List ℕ → Type 0
+IsFileOf (Till d) bytes = IsFileText d bytes
+IsFileOf (Idle d) bytes = ⊥
+
+-- That text; there is none of a ring that is over no till, and no memory for one of 2^64 - 1 bytes
+-- or more.
+abbrev pub IsFileAnswer : Kept → Result (List ℕ) TextError → Type 0
+IsFileAnswer (Till d) (Ok bytes) = IsFileText d bytes
+IsFileAnswer (Till d) (Err text.OutOfMemory) = HasNoSize (file_text d.place d.ring)
+IsFileAnswer (Idle d) (Err text.NoTill) = Unit {0}
+IsFileAnswer _ _ = ⊥
+
+-- The lines that the journal of the segment does not have; there are none where none is kept.
+abbrev pub IsLinesAnswer : Kept → Result (List ℕ) TextError → Type 0
+IsLinesAnswer (Till d) (Ok bytes) = (d.notes.kept ≡ true) × (bytes ≡ new_lines d)
+IsLinesAnswer (Till d) (Err text.NoJournal) = d.notes.kept ≡ false
+IsLinesAnswer (Till d) (Err text.OutOfMemory) = (d.notes.kept ≡ true) × HasNoSize (new_lines d)
+IsLinesAnswer (Idle d) (Err text.NoTill) = Unit {0}
+IsLinesAnswer _ _ = ⊥
+
+-- from now on a journal is kept, which has all of the segment so far
+abbrev pub kept_after : Kept → Kept
+kept_after (Till d) = Till (kept_now d)
+kept_after (Idle d) = Idle d
+
+-- ---- the next segment
+
+-- The segment was sealed: its file's text was written, and the ring goes on in the next one, whose
+-- file comes after these bytes.
+abbrev pub IsSealed : Kept → Kept → List ℕ → Type 0
+IsSealed (Till d) (Till e) bytes = IsFileText d bytes × IsNextFile d bytes e
+IsSealed _ _ bytes = ⊥
+
+-- It was not, for this reason: the ring is over no till; it has no next segment; memory ran out.
+abbrev pub IsNotSealed : Kept → ℕ → Type 0
+IsNotSealed (Till d) code = ((code ≡ history_full) × HasNoNext d) ⊎ (code ≡ no_memory)
+IsNotSealed (Idle d) code = code ≡ no_till
+
+-- of the step to the next segment, where the file of this one has these bytes
+abbrev pub IsStepReport : Kept → Kept → List ℕ → ℕ → Type 0
+IsStepReport (Till d) (Till e) bytes code =
+    ((code ≡ 0) × IsNextFile d bytes e) ⊎ (IsNotSealed (Till d) code × (e ≡ d))
+IsStepReport (Idle d) (Idle e) bytes code = (code ≡ no_till) × (e ≡ d)
+IsStepReport _ _ bytes code = ⊥
+
+-- Of a cut: the sealed segment's text is at the front of the buffer; or the buffer is too small, and
+-- its size is said; or nothing is written. But for a cut that is done the ring is as it was.
+abbrev pub IsCutReport : Kept → Kept → ℕ → List ℕ → List ℕ → ℕ → ℕ → Type 0
+IsCutReport old new code was out size said =
+    ((bytes : List ℕ)
+    × (code ≡ 0)
+    × IsSealed old new bytes
+    × (length bytes ≤ length was)
+    × (out ≡ bytes ++ drop (length bytes) was)
+    × (said ≡ length bytes))
+    ⊎ (((bytes : List ℕ)
+    × (code ≡ too_small)
+    × (length was < length bytes)
+    × (out ≡ was)
+    × (said ≡ length bytes)
+    × (new ≡ old))
+    ⊎ (IsNotSealed old code × (out ≡ was) × (said ≡ size) × (new ≡ old)))
+
+-- ---- the last file of a chain, to go on from
+
+-- the line that a refusal names, 0 if it names none
+abbrev pub segment_line : SegmentError → ℕ
+segment_line (segment.Syntax line) = line
+segment_line (segment.Bad line kind) = line
+segment_line _ = 0
+
+-- a file of one ring, with the ring and its base
+pub record IsOfOne (last : LastSegment) (ring : SavedRing) (base : Base) : Type 0 where
+  pub alone : last.saved.rings.items ≡ ring ∷ []
+  pub based : last.head.bases.items ≡ base ∷ []
+
+-- the bytes are a file with which a chain may end, of one ring; this ring resumes where that ended,
+-- after its base, and its segment is that file
+pub record IsGoneOn (bytes : List ℕ) (seats : ℕ) (d : FilesView) : Type 0 where
+  pub last : LastSegment
+  pub saved : SavedRing
+  pub base : Base
+  pub right : IsRightLast bytes (Ok last)
+  pub one : IsOfOne last saved base
+  pub resumed : IsResumedAs saved seats d.ring.ring
+  pub filed : d
+      ≡ filed_at (record { number = last.head.number; behind = last.head.behind }) base d.ring.ring
+
+abbrev pub IsGoneOnBy : List ℕ → ℕ → Kept → Type 0
+IsGoneOnBy bytes seats (Till d) = IsGoneOn bytes seats d
+IsGoneOnBy bytes seats (Idle d) = ⊥
+
+-- a file that is read is not gone on from: it is not of one ring, or its ring is not resumed
+abbrev pub IsLastRefused : LastSegment → ℕ → ℕ → Type 0
+IsLastRefused last seats code =
+    ((code ≡ many_rings) × (length last.saved.rings.items ≢ 1))
+    ⊎ ((saved : SavedRing) × (last.saved.rings.items ≡ saved ∷ []) × IsRingRefused saved seats code)
+
+-- The bytes are no such file, with the line that is told; or they are, and any code but 0 says why
+-- the ring is not resumed.
+abbrev pub IsSegmentAnswer : List ℕ → ℕ → ℕ → ℕ → Type 0
+IsSegmentAnswer bytes seats code line =
+    ((error : SegmentError)
+    × IsRightLast bytes (Err error)
+    × (code ≡ segment_code error)
+    × (line ≡ segment_line error))
+    ⊎ ((last : LastSegment)
+    × IsRightLast bytes (Ok last)
+    × (line ≡ 0)
+    × (code ≢ 0 → IsLastRefused last seats code))

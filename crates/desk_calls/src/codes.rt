@@ -1,0 +1,183 @@
+//! The code of each refusal.
+
+ghost use Rattle.std.specs.Prelude.{◌≡◌};
+ghost use Rattle.desk_calls.specs.Codes;
+
+use crate::kept::TextError;
+use ring_check::Kind;
+use ring_desk::{CallError, OpenError, ResumeError};
+use ring_locks::Refusal;
+use ring_saved::ReadError;
+use ring_segments::SegmentError;
+use ring_state::ParamsError;
+
+/// Out of memory, whoever asks for it.
+pub const NO_MEMORY: u32 = 23;
+
+/// A call of what is closed.
+pub const CLOSED: u32 = 24;
+
+/// Opening what is open.
+pub const STILL_OPEN: u32 = 37;
+
+/// No seats are asked for, or too many.
+pub(crate) const BAD_SEATS: u32 = 32;
+
+/// A saved ring names a seat that there is not.
+pub(crate) const NO_SEAT: u32 = 16;
+
+/// A saved ring has more events than a history may have.
+pub(crate) const HISTORY_FULL: u32 = 22;
+
+/// A saved text has no ring at this place.
+pub(crate) const NO_RING: u32 = 50;
+
+/// A ring is over no till.
+pub(crate) const NO_TILL: u32 = 80;
+
+/// No chain ends with a file; a file is not of one ring.
+const NO_CHAIN: u32 = 52;
+
+pub(crate) const MANY_RINGS: u32 = 53;
+
+/// A buffer is too small.
+pub const TOO_SMALL: u32 = 81;
+
+/// A history has no event of this number.
+pub(crate) const NO_EVENT: u32 = 82;
+
+/// Locks are asked for that there may not be, or machines.
+pub(crate) const BAD_LOCKS: u32 = 38;
+
+pub(crate) const BAD_MACHINES: u32 = 33;
+
+/// There is no further grant.
+pub(crate) const NO_MORE: u32 = 3;
+
+/// Some grants were not handed out.
+pub const GRANTS_LEFT: u32 = 102;
+
+/// Of a call.
+pub(crate) fn call_code(error: CallError) -> u32
+    ensures { result ≡ Codes.call_code error }
+{
+    match error {
+        CallError::NoSeat => NO_SEAT,
+        CallError::NoMachine => 17,
+        CallError::NoValue => 18,
+        CallError::NotRising => 19,
+        CallError::WholeRing => 20,
+        CallError::NotPrivileged(_) => 21,
+        CallError::HistoryFull => HISTORY_FULL,
+        CallError::OutOfMemory => NO_MEMORY,
+    }
+}
+
+/// Of a size.
+fn size_code(error: ParamsError) -> u32
+    ensures { result ≡ Codes.size_code error }
+{
+    match error {
+        ParamsError::TooFew => 33,
+        ParamsError::TooMany => 33,
+        ParamsError::FewValues => 34,
+        ParamsError::ManyValues => 34,
+    }
+}
+
+/// Of numbers from which no ring is opened.
+pub fn open_code(error: OpenError) -> u32
+    ensures { result ≡ Codes.open_code error }
+{
+    match error {
+        OpenError::Seats => BAD_SEATS,
+        OpenError::Size(error) => size_code(error),
+        OpenError::Length => 35,
+        OpenError::Value(_) => 36,
+        OpenError::OutOfMemory => NO_MEMORY,
+    }
+}
+
+/// Of bytes that are not a saved text.
+pub(crate) fn read_code(error: ReadError) -> u32
+    ensures { result ≡ Codes.read_code error }
+{
+    match error {
+        ReadError::Syntax(_) => 48,
+        ReadError::Truncated => 49,
+        ReadError::OutOfMemory => NO_MEMORY,
+    }
+}
+
+/// Of a saved ring that is not resumed.
+pub(crate) fn resume_code(error: ResumeError) -> u32
+    ensures { result ≡ Codes.resume_code error }
+{
+    match error {
+        ResumeError::Open(error) => open_code(error),
+        ResumeError::Call(error) => call_code(error),
+        ResumeError::Differs => 51,
+        ResumeError::OutOfMemory => NO_MEMORY,
+    }
+}
+
+/// Of a text that is not legal.
+pub(crate) fn kind_code(kind: Kind) -> u32
+    ensures { result ≡ Codes.kind_code kind }
+{
+    match kind {
+        Kind::Parameter => 64,
+        Kind::Range => 65,
+        Kind::Reply => 66,
+        Kind::Count => 67,
+        Kind::Survey => 68,
+        Kind::Group => 69,
+    }
+}
+
+/// Of bytes that are no file with which a chain ends.
+pub(crate) fn segment_code(error: SegmentError) -> u32
+    ensures { result ≡ Codes.segment_code error }
+{
+    match error {
+        SegmentError::Truncated => 49,
+        SegmentError::Syntax(_) => 48,
+        SegmentError::Bad { kind, .. } => kind_code(kind),
+        SegmentError::Number => NO_CHAIN,
+        SegmentError::Behind => NO_CHAIN,
+        SegmentError::Base => NO_CHAIN,
+        SegmentError::Start => NO_CHAIN,
+        SegmentError::Full => HISTORY_FULL,
+        SegmentError::Unfinished => NO_CHAIN,
+        SegmentError::OutOfMemory => NO_MEMORY,
+    }
+}
+
+/// Of a ring that has no such text.
+pub fn text_code(error: TextError) -> u32
+    ensures { result ≡ Codes.text_code error }
+{
+    match error {
+        TextError::NoTill => NO_TILL,
+        TextError::NoJournal => 83,
+        TextError::OutOfMemory => NO_MEMORY,
+    }
+}
+
+/// Of an input about locks that is refused.
+pub(crate) fn lock_code(refusal: Refusal) -> u32
+    ensures { result ≡ Codes.lock_code refusal }
+{
+    match refusal {
+        Refusal::Lock => 96,
+        Refusal::Holds => 97,
+        Refusal::Waits => 98,
+        Refusal::Circle => 99,
+        Refusal::Holder => 100,
+        Refusal::Waiter => 101,
+        Refusal::Machine => 17,
+        Refusal::Value => 18,
+        Refusal::Full => HISTORY_FULL,
+        Refusal::Memory => NO_MEMORY,
+    }
+}
