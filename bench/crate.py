@@ -104,7 +104,8 @@ def main(what="", *names):
         sys.exit(__doc__)
     failed = []
     for crate in chosen:
-        crate.out = sys.stdout
+        for each in crates:
+            each.out = sys.stdout
         if any(below.build_rlib(["--jobs", "2"], anew=False) for below in crate.below()):
             sys.exit(f"a library below {crate.name} is not proved")
         before = resource.getrusage(resource.RUSAGE_CHILDREN)
