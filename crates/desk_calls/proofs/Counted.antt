@@ -1,12 +1,13 @@
--- The number of locks stays the same, and a leave tells of each at most once.
-use Rattle.std.proofs.Common.{◌≡◌, ℕ, zero, suc, ◌+◌, ◌≤◌, List, [], ◌∷◌, ◌++◌, length, drop, get_or, inl, inr, refl, subst, add-one, drop-cons, append_assoc, ◌<◌, sym, ap, ◌∙◌, Option, Some, None, arith}
+-- The number of locks stays the same, a leave tells of each at most once, and what a test of the grants says.
+use Rattle.std.proofs.Common.{◌≡◌, ◌≢◌, ◌==◌, Bool, true, false, ℕ, zero, suc, ◌+◌, ◌≤◌, List, [], ◌∷◌, ◌++◌, length, drop, get_or, inl, inr, refl, subst, add-one, drop-cons, append_assoc, ◌<◌, sym, ap, ◌∙◌, Option, Some, None, arith}
 use Rattle.std.specs.Prelude.{slice_get}
-use Rattle.std.proofs.lemmas.List.{length-map, length-set, length-append}
+use Rattle.std.proofs.lemmas.Bool.{eq-eqb, eqb-true}
+use Rattle.std.proofs.lemmas.List.{length-map, length-set, length-append, nil_from_length}
 use Rattle.ring_locks.specs.declared.answers.Answers.{Answers}
 use Rattle.ring_locks.specs.declared.answers.HoldEnd.{HoldEnd}
 use Rattle.ring_locks.specs.declared.answers.Holder.{Holder}
 use Rattle.ring_locks.specs.declared.answers.Left.{Left}
-use Rattle.desk_calls.specs.declared.desks.Grant.{Grant}
+use Rattle.desk_calls.specs.declared.lock_answers.Grant.{Grant}
 use Rattle.ring_locks.specs.Lines.{Lock}
 use Rattle.ring_locks.specs.Locks.{Ask, Leave, Input, Asked, Restart, Turn, restarted, turn, step, step_at}
 use Rattle.ring_locks.specs.Promises.{locks_after, leaves}
@@ -72,3 +73,13 @@ pub next_long : (old new : List LockView) → AreNext old new → length new ≡
 next_long [] new a = ap length a
 next_long (v ∷ vs) [] a = absurd a
 next_long (v ∷ vs) (w ∷ ws) a = let e = next_long vs ws a.1 in omega (arith, e)
+
+-- what a test of whether grants are left says
+pub none_left : (n : ℕ) (gs : List Grant) (b : Bool) → n ≡ length gs → b ≡ (n == 0) → b ≡ true → gs ≡ []
+none_left n gs b size is empty = nil_from_length gs (sym size ∙ eqb-true n 0 (sym is ∙ empty))
+
+pub some_left : (n : ℕ) (gs : List Grant) (b : Bool) → n ≡ length gs → b ≡ (n == 0) → b ≡ false → gs ≢ []
+some_left n gs b size is more e = let zero = eq-eqb n 0 (size ∙ ap length e) in absurd (cc (sym more ∙ (is ∙ zero)))
+
+pub room_behind : (n few room : ℕ) (gs : List Grant) → n ≡ length gs → gs ≡ [] → few < room → n < room
+room_behind n few room gs size none lt = let zero : n ≡ 0 = size ∙ ap length none in omega (arith, zero, lt)

@@ -15,7 +15,7 @@ use Rattle.ring_desk.specs.declared.errors.CallError.TheVariants as call
 use Rattle.ring_desk.specs.declared.errors.OpenError.TheVariants as opens
 use Rattle.ring_desk.specs.declared.resuming.ResumeError.{ResumeError}
 use Rattle.ring_desk.specs.declared.resuming.ResumeError.TheVariants as resume
-use Rattle.desk_calls.specs.Codes.{resume_code, no_memory}
+use Rattle.desk_codes.specs.Codes.{resume_code, no_memory}
 use Rattle.desk_calls.specs.Resumed.{FitsSeats}
 
 -- each ring of right blocks is right at some place

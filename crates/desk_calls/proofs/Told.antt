@@ -2,7 +2,7 @@
 use Rattle.std.proofs.Common.{◌≡◌, ◌≢◌, ℕ, ◌+◌, ◌-◌, ◌^◌, ◌<◌, ◌≤◌, ◌⊎◌, inl, inr, List, ◌++◌, length, drop, refl, ap, ◌∙◌, arith}
 use Rattle.std.proofs.lemmas.Bool.{cases_lt}
 use Rattle.ring_files.specs.Filling.{Fills}
-use Rattle.desk_calls.specs.Codes.{no_memory, too_small}
+use Rattle.desk_codes.specs.Codes.{no_memory, too_small}
 use Rattle.desk_calls.specs.Reports.{IsTextReport, HasNoSize}
 
 none_before : (n : ℕ) → 0 + n ≡ n

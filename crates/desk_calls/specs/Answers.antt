@@ -24,8 +24,8 @@ use Rattle.ring_files.specs.Calls as files
 use Rattle.desk_calls.specs.Reports.{grant_in, HasNoSize}
 use Rattle.desk_calls.specs.declared.kept.Kept.{Kept}
 use Rattle.desk_calls.specs.declared.kept.Kept.TheVariants.{Till, Idle}
-use Rattle.desk_calls.specs.declared.kept.TextError.{TextError}
-use Rattle.desk_calls.specs.declared.kept.TextError.TheVariants as text
+use Rattle.desk_codes.specs.declared.TextError.{TextError}
+use Rattle.desk_codes.specs.declared.TextError.TheVariants as text
 
 -- A pass by a seat: at Ok it was recorded, and the seat's log has its receipt too; a refusal is the
 -- first that applies, and leaves the ring as it was.

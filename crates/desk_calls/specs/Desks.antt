@@ -4,8 +4,6 @@ use Rattle.ring_model.specs.Limits.{machine_limit}
 use Rattle.ring_chains.specs.Bases.{no_base}
 use Rattle.ring_book.specs.BookView.{IsFresh}
 use Rattle.ring_endless.specs.Endless.{EndlessView}
-use Rattle.ring_locks.specs.declared.answers.Answer.{Answer}
-use Rattle.ring_locks.specs.declared.answers.Answer.TheVariants as answer
 use Rattle.ring_locks.specs.declared.answers.Answers.{Answers}
 use Rattle.ring_locks.specs.declared.answers.Holder.{Holder}
 use Rattle.ring_locks.specs.declared.answers.Left.{Left}
@@ -14,9 +12,8 @@ use Rattle.ring_locks.specs.Cuts.{AreNext, HaveNoNext}
 use Rattle.ring_locks.specs.Locks.{Ask}
 use Rattle.ring_locks.specs.Kept.{LockView, lock_limit, IsAnswer, IsDone, IsLeft}
 use Rattle.ring_locks.specs.Opened.{IsAdded}
-use Rattle.desk_calls.specs.declared.desks.Grant.{Grant}
-use Rattle.desk_calls.specs.declared.lock_answers.Hold.{Hold}
-use Rattle.desk_calls.specs.Codes.{lock_code, no_memory, bad_locks, bad_machines, no_more, grants_left}
+use Rattle.desk_calls.specs.declared.lock_answers.Grant.{Grant}
+use Rattle.desk_codes.specs.Codes.{lock_code, no_memory, bad_locks, bad_machines, grants_left}
 
 -- the locks, and the grants to clients that waited which are not handed out yet
 pub record DeskView : Type 0 where
@@ -97,39 +94,13 @@ IsLocksRefused count machines code =
     ⊎ (((code ≡ bad_machines) × IsLockCount count × (¬ IsMachineCount machines))
     ⊎ ((code ≡ no_memory) × IsLockCount count × IsMachineCount machines))
 
--- ---- the form of an answer for C
-
--- the code of what the client is told who asks, and what is written for it
-abbrev pub own_code : Option Answer → ℕ
-own_code (Some (answer.Waiting ahead)) = 1
-own_code (Some answer.Busy) = 2
-own_code (Some (answer.Refused why)) = lock_code why
-own_code _ = 0
-
-abbrev pub own_hold : Option Answer → Hold → Hold
-own_hold (Some (answer.Granted token)) old = record { token = token; ahead = 0 }
-own_hold (Some (answer.Waiting ahead)) old = record { token = 0; ahead = ahead }
-own_hold _ old = old
-
--- the same where grants may be left
-abbrev pub asked_code : Option Answers → ℕ
-asked_code (Some r) = own_code r.own
-asked_code None = grants_left
-
-abbrev pub asked_hold : Option Answers → Hold → Hold
-asked_hold (Some r) old = own_hold r.own old
-asked_hold None old = old
+-- ---- what is told of an input
 
 -- of a leave
 abbrev pub IsLeaveReport : DeskView → DeskView → ℕ → ℕ → Type 0
 IsLeaveReport old new client code =
     ((code ≡ 0) × IsDeskLeft old new client)
     ⊎ ((code ≡ grants_left) × (old.grants ≢ []) × (new ≡ old))
-
--- of a grant that is handed out, or of none, and then nothing is written
-abbrev pub IsGrantReport : Option Grant → ℕ → Grant → Grant → Type 0
-IsGrantReport (Some g) code old new = (code ≡ 0) × (new ≡ g)
-IsGrantReport None code old new = (code ≡ no_more) × (new ≡ old)
 
 -- of a cut: the locks go on in their next segments; or grants are left; or there is no next segment
 -- of one, or no memory

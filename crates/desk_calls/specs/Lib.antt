@@ -1,7 +1,7 @@
 pub mod Answers
-pub mod Codes
 pub mod Desks
+pub mod LockReports
 pub mod Reports
 pub mod Resumed
-pub mod Trips
 pub mod Sealed
+pub mod Trips

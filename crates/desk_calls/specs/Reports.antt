@@ -27,8 +27,8 @@ use Rattle.desk_calls.specs.declared.answers.EventRow.{EventRow}
 use Rattle.desk_calls.specs.declared.answers.Group.{Group}
 use Rattle.desk_calls.specs.declared.answers.Sight.{Sight}
 use Rattle.desk_calls.specs.declared.answers.Sums.{Sums}
-use Rattle.desk_calls.specs.declared.kept.TextError.{TextError}
-use Rattle.desk_calls.specs.Codes.{call_code, read_code, kind_code, text_code, no_memory, no_event, too_small}
+use Rattle.desk_codes.specs.declared.TextError.{TextError}
+use Rattle.desk_codes.specs.Codes.{call_code, read_code, kind_code, text_code, no_memory, no_event, too_small}
 
 -- of a call that was recorded at this position: 0, or 1 for a machine that is not privileged
 abbrev pub IsReplyReport : ℕ → Reply → ℕ → Answer → Type 0

@@ -16,7 +16,7 @@ use Rattle.ring_files.specs.Files.{first_place, filed_at}
 use Rattle.desk_calls.specs.declared.answers.Sums.{Sums}
 use Rattle.desk_calls.specs.declared.kept.Kept.{Kept}
 use Rattle.desk_calls.specs.declared.kept.Kept.TheVariants.{Till, Idle}
-use Rattle.desk_calls.specs.Codes.{no_memory, no_ring, bad_seats, no_seat, history_full}
+use Rattle.desk_codes.specs.Codes.{no_memory, no_ring, bad_seats, no_seat, history_full}
 use Rattle.desk_calls.specs.Reports.{IsVerdict}
 
 -- each call and each survey of the saved ring is by a seat below this number

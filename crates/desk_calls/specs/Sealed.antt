@@ -9,21 +9,16 @@ use Rattle.ring_segments.specs.Last.{IsRightLast}
 use Rattle.ring_files.specs.Files.{FilesView, file_text, IsFileText, IsNextFile, HasNoNext, new_lines, kept_now, filed_at}
 use Rattle.desk_calls.specs.declared.kept.Kept.{Kept}
 use Rattle.desk_calls.specs.declared.kept.Kept.TheVariants.{Till, Idle}
-use Rattle.desk_calls.specs.declared.kept.TextError.{TextError}
-use Rattle.desk_calls.specs.declared.kept.TextError.TheVariants as text
-use Rattle.desk_calls.specs.Codes.{segment_code, no_memory, history_full, too_small, no_till, many_rings}
+use Rattle.desk_codes.specs.declared.TextError.{TextError}
+use Rattle.desk_codes.specs.declared.TextError.TheVariants as text
+use Rattle.desk_codes.specs.Codes.{segment_code, no_memory, history_full, too_small, no_till, many_rings}
 use Rattle.desk_calls.specs.Reports.{HasNoSize}
 use Rattle.desk_calls.specs.Resumed.{IsResumedAs, IsRingRefused}
 
 -- ---- texts
 
--- the bytes are the text of the file of the ring's segment
-abbrev pub IsFileOf : Kept → List ℕ → Type 0
-IsFileOf (Till d) bytes = IsFileText d bytes
-IsFileOf (Idle d) bytes = ⊥
-
--- That text; there is none of a ring that is over no till, and no memory for one of 2^64 - 1 bytes
--- or more.
+-- The text of the file of the ring's segment; there is none of a ring that is over no till, and no
+-- memory for one of 2^64 - 1 bytes or more.
 abbrev pub IsFileAnswer : Kept → Result (List ℕ) TextError → Type 0
 IsFileAnswer (Till d) (Ok bytes) = IsFileText d bytes
 IsFileAnswer (Till d) (Err text.OutOfMemory) = HasNoSize (file_text d.place d.ring)
@@ -57,11 +52,9 @@ IsNotSealed (Till d) code = ((code ≡ history_full) × HasNoNext d) ⊎ (code �
 IsNotSealed (Idle d) code = code ≡ no_till
 
 -- of the step to the next segment, where the file of this one has these bytes
-abbrev pub IsStepReport : Kept → Kept → List ℕ → ℕ → Type 0
-IsStepReport (Till d) (Till e) bytes code =
+abbrev pub IsStepReport : FilesView → FilesView → List ℕ → ℕ → Type 0
+IsStepReport d e bytes code =
     ((code ≡ 0) × IsNextFile d bytes e) ⊎ (IsNotSealed (Till d) code × (e ≡ d))
-IsStepReport (Idle d) (Idle e) bytes code = (code ≡ no_till) × (e ≡ d)
-IsStepReport _ _ bytes code = ⊥
 
 -- Of a cut: the sealed segment's text is at the front of the buffer; or the buffer is too small, and
 -- its size is said; or nothing is written. But for a cut that is done the ring is as it was.

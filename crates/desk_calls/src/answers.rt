@@ -4,7 +4,7 @@ ghost use Rattle.std.specs.Prelude.{◌≡◌};
 ghost use Rattle.ring_blocks.specs.SavedOf;
 ghost use Rattle.desk_calls.specs.Reports.{IsCallReport, IsTryReport, IsReplyReport, IsGroupReport, IsSightReport, IsEventReport, row_for, grant_in, IsTextReport, IsCheckReport, line_of};
 
-use crate::codes::{NO_EVENT, NO_MEMORY, TOO_SMALL, call_code, kind_code};
+use desk_codes::{NO_EVENT, NO_MEMORY, TOO_SMALL, call_code, kind_code};
 use ring_book::GroupReceipt;
 use ring_check::{CheckError, Summary};
 use ring_desk::CallError;
@@ -187,7 +187,7 @@ fn grant_of(reply: Reply) -> (u64, u64)
 }
 
 /// The same of an event, if there is one.
-pub(crate) fn grant_in(event: Option<Event>) -> (u64, u64)
+pub fn grant_in(event: Option<Event>) -> (u64, u64)
     ensures { result ≡ grant_in event }
 {
     match event {
@@ -282,7 +282,7 @@ pub fn report_text(text: &[u8], out: &mut [u8], size: &mut u64) -> u32
 }
 
 /// No sums, with a line.
-pub(crate) fn no_sums(line: u64) -> Sums
+pub fn no_sums(line: u64) -> Sums
     ensures { result ≡ Rattle.desk_calls.specs.Reports.no_sums line }
 {
     Sums {
@@ -296,7 +296,7 @@ pub(crate) fn no_sums(line: u64) -> Sums
 }
 
 /// The first line that is wrong, or none.
-pub(crate) fn line_of(error: ReadError) -> u64
+pub fn line_of(error: ReadError) -> u64
     ensures { result ≡ line_of error }
 {
     match error {
@@ -307,7 +307,7 @@ pub(crate) fn line_of(error: ReadError) -> u64
 }
 
 /// The answer of the checker.
-pub(crate) fn report_check(answer: Result<Summary, CheckError>, out: &mut Sums) -> u32
+pub fn report_check(answer: Result<Summary, CheckError>, out: &mut Sums) -> u32
     ensures { IsCheckReport answer result out.new }
 {
     match answer {

@@ -4,19 +4,11 @@ ghost use Rattle.std.specs.Prelude.{◌≡◌, ◌≢◌, ◌+◌, ◌<◌, ◌�
 ghost use Rattle.ring_locks.specs.Locks.{Acquire, Try, Release, Cancel};
 ghost use Rattle.desk_calls.specs.Desks.{grant_at, grants_in, IsAsked, IsDoneAsk, IsDeskLeft, IsNextGrant, IsCutReport};
 
-use crate::codes::{GRANTS_LEFT, lock_code};
+use crate::lock_answers::Grant;
+use desk_codes::{GRANTS_LEFT, lock_code};
 use ring_locks::{Answers, Holder, Left, Locks};
 use std::alloc::{AllocError, Global};
 use std::marker::Model;
-
-/// A lock that was granted to a client that waited.
-#[repr(C)]
-#[derive(Clone, Copy)]
-pub struct Grant {
-    pub client: u64,
-    pub token: u64,
-    pub lock: u32,
-}
 
 /// Locks, and the grants to others that the last input brought about and that were not handed out. Contracts see both.
 #[derive(Drop)]
@@ -66,20 +58,151 @@ fn put_all(grants: &mut Vec<Grant>, left: &[Left])
     }
 }
 
-/// The client leaves all locks, and who is granted one behind it stands among the grants.
-fn leave_all(locks: &mut Locks, grants: &mut Vec<Grant>, left: &mut Vec<Left>, client: u64)
-    requires none { grants.old.items ≡ [] }
+/// Room for what may be granted by an input, and for what a leave tells, where there are so many locks.
+fn room_for(alloc: Global, count: u32) -> Result<(Vec<Grant>, Vec<Left>), AllocError>
+    ensures { IfOk result (λ r. (r.0.items ≡ [])
+        × (count < vec_capacity r.0)
+        × (count ≤ vec_capacity r.1)) }
+{
+    let count = count as usize;
+    let grants = match Vec::with_capacity(alloc, count + 1) {
+        Ok(grants) => grants,
+        Err(error) => return Err(error),
+    };
+    match Vec::with_capacity(alloc, count) {
+        Ok(left) => Ok((grants, left)),
+        Err(error) => Err(error),
+    }
+}
+
+/// A client acquires a lock, if no grants are left, and who is granted it stands among them.
+#[inline(always)]
+fn acquire_in(
+    locks: &mut Locks,
+    grants: &mut Vec<Grant>,
+    client: u64,
+    lock: u32,
+    order: u64,
+) -> Option<Answers>
+    requires { length locks.old < vec_capacity grants.old }
+    ensures asked { IsAsked (record { locks = locks.old; grants = grants.old.items })
+        (record { locks = locks.new; grants = grants.new.items }) client lock (Acquire order)
+        result }
+    ensures capacity { vec_capacity grants.new ≡ vec_capacity grants.old }
+    ensures many { length locks.new ≡ length locks.old }
+{
+    if !grants.is_empty() {
+        return None;
+    }
+    let answers = locks.acquire(client, lock, order);
+    put(grants, lock, answers.granted);
+    Some(answers)
+}
+
+/// The same, but it does not wait.
+#[inline(always)]
+fn try_in(
+    locks: &mut Locks,
+    grants: &mut Vec<Grant>,
+    client: u64,
+    lock: u32,
+    order: u64,
+) -> Option<Answers>
+    requires { length locks.old < vec_capacity grants.old }
+    ensures asked { IsAsked (record { locks = locks.old; grants = grants.old.items })
+        (record { locks = locks.new; grants = grants.new.items }) client lock (Try order) result }
+    ensures capacity { vec_capacity grants.new ≡ vec_capacity grants.old }
+    ensures many { length locks.new ≡ length locks.old }
+{
+    if !grants.is_empty() {
+        return None;
+    }
+    let answers = locks.try_acquire(client, lock, order);
+    put(grants, lock, answers.granted);
+    Some(answers)
+}
+
+/// A client releases a lock, if no grants are left, and who is granted it stands among them.
+#[inline(always)]
+fn release_in(
+    locks: &mut Locks,
+    grants: &mut Vec<Grant>,
+    client: u64,
+    lock: u32,
+    token: u64,
+) -> Option<Answers>
+    requires { length locks.old < vec_capacity grants.old }
+    ensures asked { IsDoneAsk (record { locks = locks.old; grants = grants.old.items })
+        (record { locks = locks.new; grants = grants.new.items }) client lock (Release token)
+        result }
+    ensures capacity { vec_capacity grants.new ≡ vec_capacity grants.old }
+    ensures many { length locks.new ≡ length locks.old }
+{
+    if !grants.is_empty() {
+        return None;
+    }
+    let answers = locks.release(client, lock, token);
+    put(grants, lock, answers.granted);
+    Some(answers)
+}
+
+/// A client waits no more.
+#[inline(always)]
+fn cancel_in(locks: &mut Locks, grants: &mut Vec<Grant>, client: u64, lock: u32) -> Option<Answers>
+    requires { length locks.old < vec_capacity grants.old }
+    ensures asked { IsDoneAsk (record { locks = locks.old; grants = grants.old.items })
+        (record { locks = locks.new; grants = grants.new.items }) client lock Cancel result }
+    ensures capacity { vec_capacity grants.new ≡ vec_capacity grants.old }
+    ensures many { length locks.new ≡ length locks.old }
+{
+    if !grants.is_empty() {
+        return None;
+    }
+    let answers = locks.cancel(client, lock);
+    put(grants, lock, answers.granted);
+    Some(answers)
+}
+
+/// The client leaves all locks, if no grants are left, and who is granted one behind it stands among them: whether it left.
+fn leave_in(locks: &mut Locks, grants: &mut Vec<Grant>, left: &mut Vec<Left>, client: u64) -> bool
     requires grants { length locks.old < vec_capacity grants.old }
     requires left { length locks.old ≤ vec_capacity left.old }
-    ensures left { IsDeskLeft (record { locks = locks.old; grants = grants.old.items })
+    ensures left { result ≡ true
+        → IsDeskLeft (record { locks = locks.old; grants = grants.old.items })
         (record { locks = locks.new; grants = grants.new.items }) client }
+    ensures not { result ≡ false
+        → (grants.old.items ≢ [])
+        × (locks.new ≡ locks.old)
+        × (grants.new.items ≡ grants.old.items) }
     ensures grants { vec_capacity grants.new ≡ vec_capacity grants.old }
     ensures room { vec_capacity left.new ≡ vec_capacity left.old }
     ensures many { length locks.new ≡ length locks.old }
 {
+    if !grants.is_empty() {
+        return false;
+    }
     left.clear();
     locks.leave(client, left);
     put_all(grants, left.as_slice());
+    true
+}
+
+/// The locks go on in new segments of their histories, if no grants are left: the code.
+fn cut_in(locks: &mut Locks, grants: &Vec<Grant>, alloc: Global) -> u32
+    ensures is { IsCutReport (record { locks = locks.old; grants = grants.now.items })
+        (record { locks = locks.new; grants = grants.now.items }) result }
+    ensures many { length locks.new ≡ length locks.old }
+{
+    if !grants.is_empty() {
+        return GRANTS_LEFT;
+    }
+    match locks.next(alloc) {
+        Ok(next) => {
+            *locks = next;
+            0
+        }
+        Err(why) => lock_code(why),
+    }
 }
 
 impl LockDesk {
@@ -87,14 +210,14 @@ impl LockDesk {
     pub(crate) fn of(alloc: Global, locks: Locks) -> Result<LockDesk, AllocError>
         ensures { IfOk result (λ d. d ≡ record { locks = locks; grants = [] }) }
     {
-        let count = locks.count() as usize;
-        let grants = Vec::with_capacity(alloc, count + 1)?;
-        let left = Vec::with_capacity(alloc, count)?;
-        Ok(LockDesk {
-            locks,
-            grants,
-            left,
-        })
+        match room_for(alloc, locks.count()) {
+            Ok((grants, left)) => Ok(LockDesk {
+                locks,
+                grants,
+                left,
+            }),
+            Err(error) => Err(error),
+        }
     }
 
     /// A client acquires a lock, if no grants are left.
@@ -102,24 +225,14 @@ impl LockDesk {
     pub fn acquire(&mut self, client: u64, lock: u32, order: u64) -> Option<Answers>
         ensures { IsAsked self.old self.new client lock (Acquire order) result }
     {
-        if !self.grants.is_empty() {
-            return None;
-        }
-        let answers = self.locks.acquire(client, lock, order);
-        put(&mut self.grants, lock, answers.granted);
-        Some(answers)
+        acquire_in(&mut self.locks, &mut self.grants, client, lock, order)
     }
 
     /// The same, but it does not wait.
     pub fn try_acquire(&mut self, client: u64, lock: u32, order: u64) -> Option<Answers>
         ensures { IsAsked self.old self.new client lock (Try order) result }
     {
-        if !self.grants.is_empty() {
-            return None;
-        }
-        let answers = self.locks.try_acquire(client, lock, order);
-        put(&mut self.grants, lock, answers.granted);
-        Some(answers)
+        try_in(&mut self.locks, &mut self.grants, client, lock, order)
     }
 
     /// A client releases a lock.
@@ -127,24 +240,14 @@ impl LockDesk {
     pub fn release(&mut self, client: u64, lock: u32, token: u64) -> Option<Answers>
         ensures { IsDoneAsk self.old self.new client lock (Release token) result }
     {
-        if !self.grants.is_empty() {
-            return None;
-        }
-        let answers = self.locks.release(client, lock, token);
-        put(&mut self.grants, lock, answers.granted);
-        Some(answers)
+        release_in(&mut self.locks, &mut self.grants, client, lock, token)
     }
 
     /// A client waits no more.
     pub fn cancel(&mut self, client: u64, lock: u32) -> Option<Answers>
         ensures { IsDoneAsk self.old self.new client lock Cancel result }
     {
-        if !self.grants.is_empty() {
-            return None;
-        }
-        let answers = self.locks.cancel(client, lock);
-        put(&mut self.grants, lock, answers.granted);
-        Some(answers)
+        cancel_in(&mut self.locks, &mut self.grants, client, lock)
     }
 
     /// A client leaves all locks: whether it did.
@@ -152,28 +255,14 @@ impl LockDesk {
         ensures left { result ≡ true → IsDeskLeft self.old self.new client }
         ensures not { result ≡ false → (self.old.grants ≢ []) × (self.new ≡ self.old) }
     {
-        if !self.grants.is_empty() {
-            return false;
-        }
-        leave_all(&mut self.locks, &mut self.grants, &mut self.left, client);
-        true
+        leave_in(&mut self.locks, &mut self.grants, &mut self.left, client)
     }
 
-    /// The locks go on in new segments of their histories: the code.
-    #[tactic(auto, using(crate::proofs::Counted::next_long))]
+    /// The locks go on in new segments of their histories, if no grants are left: the code.
     pub fn cut(&mut self, alloc: Global) -> u32
         ensures { IsCutReport self.old self.new result }
     {
-        if !self.grants.is_empty() {
-            return GRANTS_LEFT;
-        }
-        match self.locks.next(alloc) {
-            Ok(next) => {
-                self.locks = next;
-                0
-            }
-            Err(why) => lock_code(why),
-        }
+        cut_in(&mut self.locks, &self.grants, alloc)
     }
 
     /// A grant that was not handed out.

@@ -1,15 +1,20 @@
 //! The ring that C holds, over one of the two resources.
 
+ghost use Rattle.ring_model.specs.Resources.{till};
+ghost use Rattle.ring_chains.specs.Bases.{no_base};
+ghost use Rattle.ring_desk.specs.Rings.{IsOneThreadRing};
+ghost use Rattle.ring_files.specs.Files.{first_place, filed_at};
 ghost use Rattle.desk_calls.specs.Answers.{IsPassAnswer, IsTryAnswer, IsCorruptAnswer, IsGroupAnswer, IsSurveyAnswer, IsGlance, events_of, before_of, event_of, first_grant};
 ghost use Rattle.desk_calls.specs.Sealed.{kept_after, IsStepReport};
 ghost use Rattle.std.specs.Prelude.{◌≡◌};
 
 use crate::answers::grant_in;
-use crate::codes::{HISTORY_FULL, NO_MEMORY, NO_TILL};
-use ring_book::{GroupReceipt, Idle};
+use desk_codes::{HISTORY_FULL, NO_MEMORY};
+use ring_book::{GroupReceipt, Idle, Till};
+use ring_chains::Base;
 use ring_desk::{CallError, OneThreadRing};
 use ring_endless::NextError;
-use ring_files::FileRing;
+use ring_files::{FilePlace, FileRing};
 use ring_model::{Event, Receipt, Survey};
 use std::alloc::Global;
 
@@ -20,14 +25,12 @@ pub enum Kept {
     Idle(OneThreadRing<Idle>),
 }
 
-/// The reason why a text of a ring is missing.
-#[derive(Clone, Copy, Drop)]
-pub enum TextError {
-    /// The ring is not over a till, and texts are of tills.
-    NoTill,
-    /// No journal is kept of the ring.
-    NoJournal,
-    OutOfMemory,
+/// A ring over a till whose segment is the first file of a chain.
+pub fn first_file(alloc: Global, ring: OneThreadRing<Till>) -> Kept
+    requires { IsOneThreadRing till 0 ring }
+    ensures { result ≡ Kept.Till (filed_at first_place no_base ring) }
+{
+    Kept::Till(FileRing::at(alloc, FilePlace::first(), Base::none(), ring))
 }
 
 /// A pass.
@@ -141,7 +144,7 @@ pub fn event(kept: &Kept, number: u64) -> Option<Event>
 }
 
 /// From now on a journal is kept, which has all of the segment so far.
-pub fn keep(kept: &mut Kept)
+pub(crate) fn keep(kept: &mut Kept)
     ensures { kept.new ≡ kept_after kept.old }
 {
     match kept {
@@ -150,19 +153,16 @@ pub fn keep(kept: &mut Kept)
     }
 }
 
-/// The next segment of what C holds, where the file of this one has these bytes: the code.
-pub fn step(kept: &mut Kept, alloc: Global, sealed: &[u8]) -> u32
-    ensures { IsStepReport kept.old kept.new sealed.now result }
+/// The next segment of a ring without end, where the file of this one has these bytes: the code.
+pub(crate) fn step(ring: &mut FileRing, alloc: Global, sealed: &[u8]) -> u32
+    ensures { IsStepReport ring.old ring.new sealed.now result }
 {
-    match kept {
-        Kept::Till(ring) => match ring.next(alloc, sealed) {
-            Ok(next) => {
-                *ring = next;
-                0
-            }
-            Err(NextError::Full) => HISTORY_FULL,
-            Err(NextError::OutOfMemory) => NO_MEMORY,
-        },
-        Kept::Idle(_) => NO_TILL,
+    match ring.next(alloc, sealed) {
+        Ok(next) => {
+            *ring = next;
+            0
+        }
+        Err(NextError::Full) => HISTORY_FULL,
+        Err(NextError::OutOfMemory) => NO_MEMORY,
     }
 }

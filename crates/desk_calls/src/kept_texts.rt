@@ -1,14 +1,16 @@
 //! The texts of the ring that C holds.
 
-ghost use Rattle.std.specs.Prelude.{◌≡◌, ℕ, ◌<◌, ◌≤◌, ◌-◌, ◌^◌, List, Result, IfOk, IfErr};
+ghost use Rattle.std.specs.Prelude.{◌≡◌, ◌≢◌, ℕ, ◌<◌, ◌≤◌, ◌-◌, ◌^◌, List, Result};
+ghost use Rattle.ring_files.specs.Files.{IsFileText};
 ghost use Rattle.desk_calls.specs.Answers.{IsTextAnswer};
-ghost use Rattle.desk_calls.specs.Codes.{no_memory, too_small, text_code};
+ghost use Rattle.desk_codes.specs.Codes.{no_memory, too_small};
 ghost use Rattle.desk_calls.specs.Reports.{IsSaveReport};
-ghost use Rattle.desk_calls.specs.Sealed.{IsFileOf, IsFileAnswer, IsLinesAnswer, IsNotSealed};
-ghost use Rattle.desk_calls.specs.declared.kept.TextError.{TextError};
+ghost use Rattle.desk_calls.specs.Sealed.{IsFileAnswer, IsLinesAnswer, IsCutReport, kept_after};
+ghost use Rattle.desk_codes.specs.declared.TextError.{TextError};
 
-use crate::codes::{NO_MEMORY, TOO_SMALL, text_code};
-use crate::kept::{Kept, TextError};
+use crate::answers::report_text;
+use crate::kept::{Kept, keep, step};
+use desk_codes::{NO_MEMORY, NO_TILL, TOO_SMALL, TextError, text_code};
 use ring_files::FileRing;
 use std::alloc::Global;
 
@@ -68,7 +70,7 @@ fn put_ring_file(ring: &FileRing, out: &mut [u8], size: &mut u64) -> u32
 }
 
 /// The same of what C holds, if it is a ring over a till.
-pub fn put_file(kept: &Kept, out: &mut [u8], size: &mut u64) -> u32
+fn put_file(kept: &Kept, out: &mut [u8], size: &mut u64) -> u32
     ensures { (answer : Result (List ℕ) TextError)
         × IsFileAnswer kept.now answer
         × IsSaveReport answer result out.old out.new size.old size.new }
@@ -76,20 +78,6 @@ pub fn put_file(kept: &Kept, out: &mut [u8], size: &mut u64) -> u32
     match kept {
         Kept::Till(ring) => put_ring_file(ring, out, size),
         Kept::Idle(_) => text_code(TextError::NoTill),
-    }
-}
-
-/// The same text by itself.
-pub fn file_text(kept: &Kept, alloc: Global) -> Result<Vec<u8>, TextError>
-    ensures ok { IfOk result (λ text. IsFileOf kept.now text.items) }
-    ensures err { IfErr result (λ e. IsNotSealed kept.now (text_code e)) }
-{
-    match kept {
-        Kept::Till(ring) => match ring.file_text(alloc) {
-            Ok(text) => Ok(text),
-            Err(_) => Err(TextError::OutOfMemory),
-        },
-        Kept::Idle(_) => Err(TextError::NoTill),
     }
 }
 
@@ -111,7 +99,7 @@ fn put_ring_lines(ring: &FileRing, out: &mut [u8], size: &mut u64) -> u32
 }
 
 /// The same of what C holds.
-pub fn put_lines(kept: &Kept, out: &mut [u8], size: &mut u64) -> u32
+fn put_lines(kept: &Kept, out: &mut [u8], size: &mut u64) -> u32
     ensures { (answer : Result (List ℕ) TextError)
         × IsLinesAnswer kept.now answer
         × IsSaveReport answer result out.old out.new size.old size.new }
@@ -119,5 +107,74 @@ pub fn put_lines(kept: &Kept, out: &mut [u8], size: &mut u64) -> u32
     match kept {
         Kept::Till(ring) => put_ring_lines(ring, out, size),
         Kept::Idle(_) => text_code(TextError::NoTill),
+    }
+}
+
+/// Hands out the text of the file of the segment, all of it so far, as the beginning of its journal. From now on a journal is kept.
+pub fn begin_journal(kept: &mut Kept, out: &mut [u8], size: &mut u64) -> u32
+    ensures kept { result ≡ 0 → kept.new ≡ kept_after kept.old }
+    ensures same { result ≢ 0 → kept.new ≡ kept.old }
+    ensures reported { (answer : Result (List ℕ) TextError)
+        × IsFileAnswer kept.old answer
+        × IsSaveReport answer result out.old out.new size.old size.new }
+{
+    let code = put_file(kept, out, size);
+    if code == 0 {
+        keep(kept);
+    }
+    code
+}
+
+/// Hands out the lines that the journal of the segment does not have, which it has then.
+pub fn take_lines(kept: &mut Kept, out: &mut [u8], size: &mut u64) -> u32
+    ensures kept { result ≡ 0 → kept.new ≡ kept_after kept.old }
+    ensures same { result ≢ 0 → kept.new ≡ kept.old }
+    ensures reported { (answer : Result (List ℕ) TextError)
+        × IsLinesAnswer kept.old answer
+        × IsSaveReport answer result out.old out.new size.old size.new }
+{
+    let code = put_lines(kept, out, size);
+    if code == 0 {
+        keep(kept);
+    }
+    code
+}
+
+/// Seals a segment whose file has this text.
+fn seal(ring: &mut FileRing, alloc: Global, text: &[u8], out: &mut [u8], size: &mut u64) -> u32
+    requires { IsFileText ring.old text.now }
+    ensures { IsCutReport (Kept.Till ring.old) (Kept.Till ring.new) result out.old out.new
+        size.old size.new }
+{
+    if text.len() > out.len() {
+        *size = text.len() as u64;
+        return TOO_SMALL;
+    }
+    let code = step(ring, alloc, text);
+    if code == 0 {
+        report_text(text, out, size);
+    }
+    code
+}
+
+/// Seals the segment of a ring without end, which goes on in the next one.
+fn cut_ring(ring: &mut FileRing, alloc: Global, out: &mut [u8], size: &mut u64) -> u32
+    ensures { IsCutReport (Kept.Till ring.old) (Kept.Till ring.new) result out.old out.new
+        size.old size.new }
+{
+    match ring.file_text(alloc) {
+        Ok(text) => seal(ring, alloc, text.as_slice(), out, size),
+        Err(_) => NO_MEMORY,
+    }
+}
+
+/// Seals the segment: the text of its file is at the front of the bytes, if there is room, and its size is told. What C holds goes
+/// on in the next segment, with its numbers; no journal of that is kept.
+pub fn cut(kept: &mut Kept, alloc: Global, out: &mut [u8], size: &mut u64) -> u32
+    ensures { IsCutReport kept.old kept.new result out.old out.new size.old size.new }
+{
+    match kept {
+        Kept::Till(ring) => cut_ring(ring, alloc, out, size),
+        Kept::Idle(_) => NO_TILL,
     }
 }

@@ -4,7 +4,6 @@
 
 pub mod answers;
 pub mod checks;
-pub mod codes;
 pub mod desks;
 pub mod kept;
 pub mod kept_texts;

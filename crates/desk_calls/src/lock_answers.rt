@@ -1,10 +1,9 @@
 //! The answers to C about locks.
 
 ghost use Rattle.std.specs.Prelude.{◌≡◌};
-ghost use Rattle.desk_calls.specs.Desks;
+ghost use Rattle.desk_calls.specs.LockReports;
 
-use crate::codes::{GRANTS_LEFT, NO_MORE, lock_code};
-use crate::desks::Grant;
+use desk_codes::{GRANTS_LEFT, NO_MORE, lock_code};
 use ring_locks::{Answer, Answers};
 
 /// The answer to a client that acquires a lock: its token, or how many stand before it.
@@ -15,10 +14,19 @@ pub struct Hold {
     pub ahead: u64,
 }
 
+/// A lock that was granted to a client that waited.
+#[repr(C)]
+#[derive(Clone, Copy)]
+pub struct Grant {
+    pub client: u64,
+    pub token: u64,
+    pub lock: u32,
+}
+
 /// The code of what a client is told.
 #[inline(always)]
 fn own_code(own: Option<Answer>) -> u32
-    ensures { result ≡ Desks.own_code own }
+    ensures { result ≡ LockReports.own_code own }
 {
     match own {
         Some(Answer::Granted(_)) => 0,
@@ -36,7 +44,7 @@ fn own_code(own: Option<Answer>) -> u32
 /// What is written for it.
 #[inline(always)]
 fn own_hold(own: Option<Answer>, old: Hold) -> Hold
-    ensures { result ≡ Desks.own_hold own old }
+    ensures { result ≡ LockReports.own_hold own old }
 {
     match own {
         Some(Answer::Granted(token)) => Hold { token, ahead: 0 },
@@ -54,7 +62,7 @@ fn own_hold(own: Option<Answer>, old: Hold) -> Hold
 /// The code of an ask.
 #[inline(always)]
 pub fn asked_code(answers: Option<Answers>) -> u32
-    ensures { result ≡ Desks.asked_code answers }
+    ensures { result ≡ LockReports.asked_code answers }
 {
     match answers {
         Some(answers) => own_code(answers.own),
@@ -65,7 +73,7 @@ pub fn asked_code(answers: Option<Answers>) -> u32
 /// What is written for it.
 #[inline(always)]
 pub fn asked_hold(answers: Option<Answers>, old: Hold) -> Hold
-    ensures { result ≡ Desks.asked_hold answers old }
+    ensures { result ≡ LockReports.asked_hold answers old }
 {
     match answers {
         Some(answers) => own_hold(answers.own, old),
@@ -75,7 +83,7 @@ pub fn asked_hold(answers: Option<Answers>, old: Hold) -> Hold
 
 /// The answer to who asks for a grant.
 pub fn report_grant(answer: Option<Grant>, out: &mut Grant) -> u32
-    ensures { Desks.IsGrantReport answer result out.old out.new }
+    ensures { LockReports.IsGrantReport answer result out.old out.new }
 {
     match answer {
         Some(grant) => {

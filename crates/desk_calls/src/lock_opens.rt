@@ -4,8 +4,8 @@ ghost use Rattle.std.specs.Prelude.{◌≡◌, All, length, replicate, IfOk, IfE
 ghost use Rattle.ring_locks.specs.Kept.{IsKeptRing};
 ghost use Rattle.desk_calls.specs.Desks.{IsNewRing, IsFree, AreFreeLocks, IsLockCount, IsMachineCount, IsLocksRefused};
 
-use crate::codes::{BAD_LOCKS, BAD_MACHINES, NO_MEMORY};
 use crate::desks::LockDesk;
+use desk_codes::{BAD_LOCKS, BAD_MACHINES, NO_MEMORY};
 use ring_book::Till;
 use ring_chains::Base;
 use ring_desk::OneThreadRing;

@@ -11,7 +11,7 @@ ghost use Rattle.desk_calls.specs.Reports.{IsVerdict};
 
 use crate::answers::Sums;
 use crate::checks::legal_text;
-use crate::codes::{BAD_SEATS, HISTORY_FULL, NO_RING, NO_SEAT, resume_code};
+use desk_codes::{BAD_SEATS, HISTORY_FULL, NO_RING, NO_SEAT, resume_code};
 use ring_book::Till;
 use ring_desk::{OneThreadRing, from_saved};
 use ring_model::limits::{EVENT_LIMIT, SEAT_LIMIT};

@@ -5,8 +5,8 @@ ghost use Rattle.ring_chains.specs.Bases.{IsBase};
 ghost use Rattle.ring_segments.specs.Last.{IsRightLast};
 ghost use Rattle.desk_calls.specs.Sealed.{segment_line, IsGoneOn, IsLastRefused, IsSegmentAnswer};
 
-use crate::codes::{MANY_RINGS, segment_code};
 use crate::resumes::resume;
+use desk_codes::{MANY_RINGS, segment_code};
 use ring_chains::Base;
 use ring_files::{FilePlace, FileRing};
 use ring_saved::SavedRing;

@@ -11,7 +11,7 @@ use Rattle.ring_chains.specs.Bases.{no_base}
 use Rattle.ring_files.specs.Files.{first_place, filed_at}
 use Rattle.desk_calls.specs.declared.kept.Kept.{Kept}
 use Rattle.desk_calls.specs.declared.kept.Kept.TheVariants.{Till, Idle}
-use Rattle.desk_calls.specs.Codes.{open_code}
+use Rattle.desk_codes.specs.Codes.{open_code}
 
 -- a ring with no events that starts so, over the resource's first content, with n clients
 -- that have empty logs

@@ -6,16 +6,16 @@ ghost use Rattle.ring_model.specs.declared.events.Survey.{Survey};
 ghost use Rattle.ring_book.specs.declared.books.groups.GroupReceipt.{GroupReceipt};
 ghost use Rattle.ring_desk.specs.declared.errors.CallError.{CallError};
 ghost use Rattle.desk_calls.specs.Answers.{IsPassAnswer, IsTryAnswer, IsCorruptAnswer, IsGroupAnswer, IsSurveyAnswer, IsGlance, events_of, before_of, event_of, first_grant};
-ghost use Rattle.desk_calls.specs.Codes.{closed};
+ghost use Rattle.desk_codes.specs.Codes.{closed};
 ghost use Rattle.desk_calls.specs.Reports.{IsCallReport, IsTryReport, IsGroupReport, IsSightReport, IsEventReport, sight_of};
 
-use crate::handle::{Handle, is_closed, put_back, take_out};
+use crate::handle::{Handle, put_back, take_out};
 use desk_calls::answers::{
     Answer, EventRow, Group, Sight, report_call, report_event, report_group, report_sight,
     report_try,
 };
-use desk_calls::codes::CLOSED;
 use desk_calls::kept;
+use desk_codes::CLOSED;
 use std::alloc::Global;
 
 /// A pass by a machine, for a seat: 0 where it was granted, 1 where the machine is not privileged, else why it was refused.
@@ -36,10 +36,9 @@ pub extern "C" fn wozgirt_pass(
         × IsPassAnswer ring.old.value ring.new.value seat machine order answer
         × IsCallReport answer result out.old out.new }
 {
-    if is_closed(ring) {
+    let Some(mut kept) = take_out(ring, alloc) else {
         return CLOSED;
-    }
-    let mut kept = take_out(ring, alloc);
+    };
     let answer = kept::pass(&mut kept, seat, machine, order);
     put_back(ring, kept);
     report_call(answer, out)
@@ -64,10 +63,9 @@ pub extern "C" fn wozgirt_try(
         × IsTryAnswer ring.old.value ring.new.value seat machine order answer
         × IsTryReport answer result out.old out.new }
 {
-    if is_closed(ring) {
+    let Some(mut kept) = take_out(ring, alloc) else {
         return CLOSED;
-    }
-    let mut kept = take_out(ring, alloc);
+    };
     let answer = kept::try_pass(&mut kept, seat, machine, order);
     put_back(ring, kept);
     report_try(answer, out)
@@ -91,10 +89,9 @@ pub extern "C" fn wozgirt_corrupt(
         × IsCorruptAnswer ring.old.value ring.new.value seat machine value answer
         × IsCallReport answer result out.old out.new }
 {
-    if is_closed(ring) {
+    let Some(mut kept) = take_out(ring, alloc) else {
         return CLOSED;
-    }
-    let mut kept = take_out(ring, alloc);
+    };
     let answer = kept::corrupt(&mut kept, seat, machine, value);
     put_back(ring, kept);
     report_call(answer, out)
@@ -118,10 +115,9 @@ pub extern "C" fn wozgirt_pass_group(
         × IsGroupAnswer ring.old.value ring.new.value seat machines.now order answer
         × IsGroupReport answer (first_grant ring.new.value answer) result out.old out.new }
 {
-    if is_closed(ring) {
+    let Some(mut kept) = take_out(ring, alloc) else {
         return CLOSED;
-    }
-    let mut kept = take_out(ring, alloc);
+    };
     let answer = kept::pass_group(&mut kept, seat, machines, order);
     let grant = kept::first_grant(&kept, answer);
     put_back(ring, kept);
@@ -144,10 +140,9 @@ pub extern "C" fn wozgirt_survey(
         × IsSurveyAnswer ring.old.value ring.new.value seat answer
         × IsSightReport answer result out.old out.new }
 {
-    if is_closed(ring) {
+    let Some(mut kept) = take_out(ring, alloc) else {
         return CLOSED;
-    }
-    let mut kept = take_out(ring, alloc);
+    };
     let answer = kept::survey(&mut kept, seat);
     put_back(ring, kept);
     report_sight(answer, out)
@@ -166,10 +161,9 @@ pub extern "C" fn wozgirt_glance(alloc: Global, ring: &mut Handle, out: &mut Sig
         × (result ≡ 0)
         × (out.new ≡ sight_of survey) }
 {
-    if is_closed(ring) {
+    let Some(kept) = take_out(ring, alloc) else {
         return CLOSED;
-    }
-    let kept = take_out(ring, alloc);
+    };
     let survey = kept::glance(&kept);
     put_back(ring, kept);
     report_sight(Ok(survey), out)
@@ -185,10 +179,9 @@ pub extern "C" fn wozgirt_history_length(alloc: Global, ring: &mut Handle, out: 
     ensures reported { ring.old.full ≡ true
         → (result ≡ 0) × (out.new ≡ events_of ring.old.value) }
 {
-    if is_closed(ring) {
+    let Some(kept) = take_out(ring, alloc) else {
         return CLOSED;
-    }
-    let kept = take_out(ring, alloc);
+    };
     let length = kept::history_length(&kept);
     put_back(ring, kept);
     *out = length;
@@ -205,10 +198,9 @@ pub extern "C" fn wozgirt_events_before(alloc: Global, ring: &mut Handle, out: &
     ensures reported { ring.old.full ≡ true
         → (result ≡ 0) × (out.new ≡ before_of ring.old.value) }
 {
-    if is_closed(ring) {
+    let Some(kept) = take_out(ring, alloc) else {
         return CLOSED;
-    }
-    let kept = take_out(ring, alloc);
+    };
     let count = kept::events_before(&kept);
     put_back(ring, kept);
     *out = count;
@@ -230,10 +222,9 @@ pub extern "C" fn wozgirt_event_at(
     ensures reported { ring.old.full ≡ true
         → IsEventReport (event_of ring.old.value number) result out.old out.new }
 {
-    if is_closed(ring) {
+    let Some(kept) = take_out(ring, alloc) else {
         return CLOSED;
-    }
-    let kept = take_out(ring, alloc);
+    };
     let answer = kept::event(&kept, number);
     put_back(ring, kept);
     report_event(answer, out)
@@ -245,7 +236,5 @@ pub extern "C" fn wozgirt_close(alloc: Global, ring: &mut Handle)
     ensures empty { ring.new.full ≡ false }
     ensures same { ring.old.full ≡ false → ring.new ≡ ring.old }
 {
-    if !is_closed(ring) {
-        let _kept = take_out(ring, alloc);
-    }
+    let _kept = take_out(ring, alloc);
 }

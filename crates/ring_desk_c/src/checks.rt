@@ -4,7 +4,7 @@ ghost use Rattle.std.specs.Prelude.{◌≡◌};
 ghost use Rattle.desk_calls.specs.Reports.{IsVerdict};
 
 use desk_calls::answers::Sums;
-use desk_calls::checks::legal_text;
+use desk_calls::checks::check_text;
 use std::alloc::Global;
 
 /// Whether the bytes are a legal saved text: 0 and its sums, or why they are not, with the first bad line.
@@ -12,10 +12,7 @@ use std::alloc::Global;
 pub extern "C" fn wozgirt_check(alloc: Global, bytes: &[u8], out: &mut Sums) -> u32
     ensures { IsVerdict bytes.now result out.new }
 {
-    match legal_text(alloc, bytes, out) {
-        Ok(_) => 0,
-        Err(code) => code,
-    }
+    check_text(alloc, bytes, out)
 }
 
 /// The library's version: 10,000 times the first number, 100 times the second, and the third.

@@ -1,14 +1,16 @@
 //! The handle that C holds: a pointer whose type says nothing.
-ghost use Rattle.std.specs.Prelude.{◌≡◌, Bool, true, false, not};
+ghost use Rattle.std.specs.Prelude.{◌≡◌, ◌≢◌, Bool, true, false, not, IfSome, IfNone};
 ghost use Rattle.std_alloc.specs.Box.Ownership.{box_owns};
 ghost use Rattle.ring_desk_c.specs.Held.{held};
 ghost use Rattle.std.specs.contracts.impls.GlobalAllocator.TheImpl.{ghosts};
+ghost use Rattle.desk_codes.specs.Codes.{no_memory};
 ghost use Rattle.desk_calls.specs.contracts.kept.Kept as kept;
 ghost use Rattle.desk_calls.specs.declared.kept.Kept.{Kept};
 
-use crate::loose::Loose;
+use crate::loose::{Loose, boxed, send};
 use core::mem::replace_with;
 use desk_calls::kept::Kept;
+use desk_codes::NO_MEMORY;
 use std::alloc::Global;
 use std::marker::Model;
 use std::ptr::null_mut;
@@ -30,9 +32,6 @@ impl Model for Handle {
 
 // C may give a handle to another thread, one call at a time.
 unsafe impl Send for Handle {}
-
-/// Takes what another thread may have.
-fn send<T: Send>(_value: &T) {}
 
 /// A handle may go to another thread: without a proof of that, this is no program.
 pub(crate) fn handles_are_sent(handle: &Handle) {
@@ -96,13 +95,16 @@ fn take(handle: Handle, alloc: Global) -> (Handle, Loose<Kept, Global>)
     )
 }
 
-/// Takes out what C holds, whose handle is closed then.
-pub(crate) fn take_out(ring: &mut Handle, alloc: Global) -> Box<Kept>
-    requires { ring.old.full ≡ true }
+/// Takes out what C holds, whose handle is closed then; none where it is closed already.
+pub(crate) fn take_out(ring: &mut Handle, alloc: Global) -> Option<Box<Kept>>
+    ensures some { IfSome result (λ b. (ring.old.full ≡ true) × (b.value ≡ ring.old.value)) }
+    ensures none { IfNone result ((ring.old.full ≡ false) × (ring.new ≡ ring.old)) }
     ensures closed { ring.new.full ≡ false }
-    ensures is { result.value ≡ ring.old.value }
 {
-    replace_with(ring, alloc, take).into_box()
+    if is_closed(ring) {
+        return None;
+    }
+    Some(replace_with(ring, alloc, take).into_box())
 }
 
 /// A handle that has the box, in the place of one that has nothing.
@@ -119,4 +121,17 @@ pub(crate) fn put_back(ring: &mut Handle, kept: Box<Kept>)
     ensures { (ring.new.full ≡ true) × (ring.new.value ≡ kept.value) }
 {
     replace_with(ring, Loose::of(kept), hold_again);
+}
+
+/// Puts a ring into a handle that is closed: 0, or the code of that there is no memory for it.
+pub(crate) fn put(ring: &mut Handle, alloc: Global, kept: Kept) -> u32
+    requires { ring.old.full ≡ false }
+    ensures ok { result ≡ 0 → (ring.new.full ≡ true) × (ring.new.value ≡ kept) }
+    ensures err { result ≢ 0 → (result ≡ no_memory) × (ring.new ≡ ring.old) }
+{
+    let Some(kept) = boxed(alloc, kept) else {
+        return NO_MEMORY;
+    };
+    put_back(ring, kept);
+    0
 }

@@ -1,14 +1,16 @@
 //! The handle of locks that C holds, as that of a ring (`handle.rt`).
-ghost use Rattle.std.specs.Prelude.{◌≡◌, Bool, true, false, not};
+ghost use Rattle.std.specs.Prelude.{◌≡◌, ◌≢◌, Bool, true, false, not, IfSome, IfNone};
 ghost use Rattle.std_alloc.specs.Box.Ownership.{box_owns};
 ghost use Rattle.ring_desk_c.specs.Held.{held};
 ghost use Rattle.std.specs.contracts.impls.GlobalAllocator.TheImpl.{ghosts};
+ghost use Rattle.desk_codes.specs.Codes.{no_memory};
 ghost use Rattle.desk_calls.specs.contracts.desks.LockDesk as desk;
 ghost use Rattle.desk_calls.specs.declared.desks.LockDesk.{LockDesk};
 
-use crate::loose::Loose;
+use crate::loose::{Loose, boxed, send};
 use core::mem::replace_with;
 use desk_calls::desks::LockDesk;
+use desk_codes::NO_MEMORY;
 use std::alloc::Global;
 use std::marker::Model;
 use std::ptr::null_mut;
@@ -30,9 +32,6 @@ impl Model for LockHandle {
 
 // C may give a handle to another thread, one call at a time.
 unsafe impl Send for LockHandle {}
-
-/// Takes what another thread may have.
-fn send<T: Send>(_value: &T) {}
 
 /// A handle may go to another thread: without a proof of that, this is no program.
 pub(crate) fn lock_handles_are_sent(handle: &LockHandle) {
@@ -96,13 +95,16 @@ fn take(handle: LockHandle, alloc: Global) -> (LockHandle, Loose<LockDesk, Globa
     )
 }
 
-/// Takes out the locks that C holds, whose handle is closed then.
-pub(crate) fn take_out(locks: &mut LockHandle, alloc: Global) -> Box<LockDesk>
-    requires { locks.old.full ≡ true }
+/// Takes out the locks that C holds, whose handle is closed then; none where it is closed already.
+pub(crate) fn take_out(locks: &mut LockHandle, alloc: Global) -> Option<Box<LockDesk>>
+    ensures some { IfSome result (λ b. (locks.old.full ≡ true) × (b.value ≡ locks.old.value)) }
+    ensures none { IfNone result ((locks.old.full ≡ false) × (locks.new ≡ locks.old)) }
     ensures closed { locks.new.full ≡ false }
-    ensures is { result.value ≡ locks.old.value }
 {
-    replace_with(locks, alloc, take).into_box()
+    if is_closed(locks) {
+        return None;
+    }
+    Some(replace_with(locks, alloc, take).into_box())
 }
 
 /// A handle that has the box, in the place of one that has nothing.
@@ -119,4 +121,17 @@ pub(crate) fn put_back(locks: &mut LockHandle, desk: Box<LockDesk>)
     ensures { (locks.new.full ≡ true) × (locks.new.value ≡ desk.value) }
 {
     replace_with(locks, Loose::of(desk), hold_again);
+}
+
+/// Puts locks into a handle that is closed: 0, or the code of that there is no memory for them.
+pub(crate) fn put(locks: &mut LockHandle, alloc: Global, desk: LockDesk) -> u32
+    requires { locks.old.full ≡ false }
+    ensures ok { result ≡ 0 → (locks.new.full ≡ true) × (locks.new.value ≡ desk) }
+    ensures err { result ≢ 0 → (result ≡ no_memory) × (locks.new ≡ locks.old) }
+{
+    let Some(desk) = boxed(alloc, desk) else {
+        return NO_MEMORY;
+    };
+    put_back(locks, desk);
+    0
 }

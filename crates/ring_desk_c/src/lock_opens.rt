@@ -1,27 +1,13 @@
 //! How locks are opened for C.
 
 ghost use Rattle.std.specs.Prelude.{◌≡◌, ◌≢◌, true, false};
-ghost use Rattle.desk_calls.specs.Codes.{no_memory, still_open};
+ghost use Rattle.desk_codes.specs.Codes.{still_open};
 ghost use Rattle.desk_calls.specs.Desks.{AreFreeLocks, IsLocksRefused};
 
-use crate::lock_handle::{LockHandle, hold, is_closed};
-use crate::loose::Loose;
-use core::mem::replace_with;
-use desk_calls::codes::{NO_MEMORY, STILL_OPEN};
-use desk_calls::desks::LockDesk;
+use crate::lock_handle::{LockHandle, is_closed, put};
 use desk_calls::lock_opens::open_desk;
+use desk_codes::STILL_OPEN;
 use std::alloc::Global;
-
-/// Puts locks into a handle that holds none.
-fn fill_handle(handle: LockHandle, given: (LockDesk, Global)) -> (LockHandle, u32)
-    ensures ok { result.1 ≡ 0 → (result.0.full ≡ true) × (result.0.value ≡ given.0) }
-    ensures err { result.1 ≢ 0 → (result.1 ≡ no_memory) × (result.0 ≡ handle) }
-{
-    match Box::new(given.1, given.0) {
-        Ok(desk) => (hold(Loose::of(desk)), 0),
-        Err(_) => (handle, NO_MEMORY),
-    }
-}
 
 /// Opens locks that nobody holds: 0, or why they were not, and the struct is as it was then.
 #[unsafe(no_mangle)]
@@ -40,7 +26,7 @@ pub extern "C" fn wozgirt_locks_open(
         return STILL_OPEN;
     }
     match open_desk(alloc, count, machines) {
-        Ok(opened) => replace_with(locks, (opened, alloc), fill_handle),
+        Ok(opened) => put(locks, alloc, opened),
         Err(code) => code,
     }
 }

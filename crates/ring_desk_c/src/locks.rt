@@ -3,14 +3,15 @@
 ghost use Rattle.std.specs.Prelude.{◌≡◌, true, false, Option};
 ghost use Rattle.ring_locks.specs.Locks.{Acquire, Try, Release, Cancel};
 ghost use Rattle.ring_locks.specs.declared.answers.Answers.{Answers};
-ghost use Rattle.desk_calls.specs.declared.desks.Grant.{Grant};
-ghost use Rattle.desk_calls.specs.Codes.{closed};
-ghost use Rattle.desk_calls.specs.Desks.{IsAsked, IsDoneAsk, IsDeskLeft, IsNextGrant, asked_code, asked_hold, IsLeaveReport, IsGrantReport, IsCutReport};
+ghost use Rattle.desk_calls.specs.declared.lock_answers.Grant.{Grant};
+ghost use Rattle.desk_codes.specs.Codes.{closed};
+ghost use Rattle.desk_calls.specs.Desks.{IsAsked, IsDoneAsk, IsDeskLeft, IsNextGrant, IsLeaveReport, IsCutReport};
+ghost use Rattle.desk_calls.specs.LockReports.{asked_code, asked_hold, IsGrantReport};
 
-use crate::lock_handle::{LockHandle, is_closed, put_back, take_out};
-use desk_calls::codes::{CLOSED, GRANTS_LEFT};
-use desk_calls::desks::{Grant, LockDesk};
-use desk_calls::lock_answers::{Hold, asked_code, asked_hold, report_grant};
+use crate::lock_handle::{LockHandle, put_back, take_out};
+use desk_calls::desks::LockDesk;
+use desk_calls::lock_answers::{Grant, Hold, asked_code, asked_hold, report_grant};
+use desk_codes::{CLOSED, GRANTS_LEFT};
 use std::alloc::Global;
 
 /// A client acquires a lock: 0 where it holds it now, 1 where it waits, else why it was refused.
@@ -32,10 +33,9 @@ pub extern "C" fn wozgirt_locks_acquire(
         × (result ≡ asked_code answer)
         × (out.new ≡ asked_hold answer out.old) }
 {
-    if is_closed(locks) {
+    let Some(mut desk) = take_out(locks, alloc) else {
         return CLOSED;
-    }
-    let mut desk = take_out(locks, alloc);
+    };
     let answer = LockDesk::acquire(&mut desk, client, lock, order);
     put_back(locks, desk);
     *out = asked_hold(answer, *out);
@@ -61,10 +61,9 @@ pub extern "C" fn wozgirt_locks_try(
         × (result ≡ asked_code answer)
         × (out.new ≡ asked_hold answer out.old) }
 {
-    if is_closed(locks) {
+    let Some(mut desk) = take_out(locks, alloc) else {
         return CLOSED;
-    }
-    let mut desk = take_out(locks, alloc);
+    };
     let answer = LockDesk::try_acquire(&mut desk, client, lock, order);
     put_back(locks, desk);
     *out = asked_hold(answer, *out);
@@ -88,10 +87,9 @@ pub extern "C" fn wozgirt_locks_release(
         × IsDoneAsk locks.old.value locks.new.value client lock (Release token) answer
         × (result ≡ asked_code answer) }
 {
-    if is_closed(locks) {
+    let Some(mut desk) = take_out(locks, alloc) else {
         return CLOSED;
-    }
-    let mut desk = take_out(locks, alloc);
+    };
     let answer = LockDesk::release(&mut desk, client, lock, token);
     put_back(locks, desk);
     asked_code(answer)
@@ -113,10 +111,9 @@ pub extern "C" fn wozgirt_locks_cancel(
         × IsDoneAsk locks.old.value locks.new.value client lock Cancel answer
         × (result ≡ asked_code answer) }
 {
-    if is_closed(locks) {
+    let Some(mut desk) = take_out(locks, alloc) else {
         return CLOSED;
-    }
-    let mut desk = take_out(locks, alloc);
+    };
     let answer = LockDesk::cancel(&mut desk, client, lock);
     put_back(locks, desk);
     asked_code(answer)
@@ -131,10 +128,9 @@ pub extern "C" fn wozgirt_locks_leave(alloc: Global, locks: &mut LockHandle, cli
     ensures reported { locks.old.full ≡ true
         → IsLeaveReport locks.old.value locks.new.value client result }
 {
-    if is_closed(locks) {
+    let Some(mut desk) = take_out(locks, alloc) else {
         return CLOSED;
-    }
-    let mut desk = take_out(locks, alloc);
+    };
     let has_left = LockDesk::leave(&mut desk, client);
     put_back(locks, desk);
     if has_left { 0 } else { GRANTS_LEFT }
@@ -151,10 +147,9 @@ pub extern "C" fn wozgirt_locks_next(alloc: Global, locks: &mut LockHandle, out:
         × IsNextGrant locks.old.value locks.new.value grant
         × IsGrantReport grant result out.old out.new }
 {
-    if is_closed(locks) {
+    let Some(mut desk) = take_out(locks, alloc) else {
         return CLOSED;
-    }
-    let mut desk = take_out(locks, alloc);
+    };
     let answer = LockDesk::next(&mut desk);
     put_back(locks, desk);
     report_grant(answer, out)
@@ -168,10 +163,9 @@ pub extern "C" fn wozgirt_locks_cut(alloc: Global, locks: &mut LockHandle) -> u3
     ensures reported { locks.old.full ≡ true
         → IsCutReport locks.old.value locks.new.value result }
 {
-    if is_closed(locks) {
+    let Some(mut desk) = take_out(locks, alloc) else {
         return CLOSED;
-    }
-    let mut desk = take_out(locks, alloc);
+    };
     let code = LockDesk::cut(&mut desk, alloc);
     put_back(locks, desk);
     code
@@ -183,7 +177,5 @@ pub extern "C" fn wozgirt_locks_close(alloc: Global, locks: &mut LockHandle)
     ensures empty { locks.new.full ≡ false }
     ensures same { locks.old.full ≡ false → locks.new ≡ locks.old }
 {
-    if !is_closed(locks) {
-        let _desk = take_out(locks, alloc);
-    }
+    let _desk = take_out(locks, alloc);
 }

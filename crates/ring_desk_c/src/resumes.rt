@@ -1,15 +1,14 @@
 //! How a ring of a saved text is opened for C: the text is checked first.
 
 ghost use Rattle.std.specs.Prelude.{◌≡◌, ◌≢◌, true, false};
-ghost use Rattle.desk_calls.specs.Codes.{still_open};
+ghost use Rattle.desk_codes.specs.Codes.{still_open};
 ghost use Rattle.desk_calls.specs.Resumed.{IsResumed, IsSavedAnswer};
 
-use crate::handle::{Handle, is_closed};
-use crate::opens::fill_first;
-use core::mem::replace_with;
+use crate::handle::{Handle, is_closed, put};
 use desk_calls::answers::Sums;
-use desk_calls::codes::STILL_OPEN;
+use desk_calls::kept::first_file;
 use desk_calls::resumes::resume_text;
+use desk_codes::STILL_OPEN;
 use std::alloc::Global;
 
 /// Opens a ring over a till that resumes the one at this place of a saved text: 0, or why it was not, and the
@@ -34,7 +33,7 @@ pub extern "C" fn wozgirt_open_saved(
         return STILL_OPEN;
     }
     match resume_text(alloc, bytes, place, seats, out) {
-        Ok(opened) => replace_with(ring, (opened, alloc), fill_first),
+        Ok(opened) => put(ring, alloc, first_file(alloc, opened)),
         Err(code) => code,
     }
 }

@@ -1,15 +1,13 @@
 //! How a ring of the last file of a chain is opened for C.
 
 ghost use Rattle.std.specs.Prelude.{◌≡◌, ◌≢◌, true, false};
-ghost use Rattle.desk_calls.specs.Codes.{still_open};
+ghost use Rattle.desk_codes.specs.Codes.{still_open};
 ghost use Rattle.desk_calls.specs.Sealed.{IsGoneOnBy, IsSegmentAnswer};
 
-use crate::handle::{Handle, is_closed};
-use crate::opens::fill_handle;
-use core::mem::replace_with;
-use desk_calls::codes::STILL_OPEN;
+use crate::handle::{Handle, is_closed, put};
 use desk_calls::kept::Kept;
 use desk_calls::segments::go_on;
+use desk_codes::STILL_OPEN;
 use std::alloc::Global;
 
 /// Opens a ring over a till that goes on where the last file of a chain ended: 0, or why it was not, and the struct is as it was
@@ -33,7 +31,7 @@ pub extern "C" fn wozgirt_open_segment(
         return STILL_OPEN;
     }
     match go_on(alloc, bytes, seats, line) {
-        Ok(opened) => replace_with(ring, (Kept::Till(opened), alloc), fill_handle),
+        Ok(opened) => put(ring, alloc, Kept::Till(opened)),
         Err(code) => code,
     }
 }

@@ -2,13 +2,13 @@
 
 ghost use Rattle.std.specs.Prelude.{◌≡◌, ℕ, List, true, false, Result};
 ghost use Rattle.desk_calls.specs.Answers.{IsTextAnswer};
-ghost use Rattle.desk_calls.specs.Codes.{closed};
+ghost use Rattle.desk_codes.specs.Codes.{closed};
 ghost use Rattle.desk_calls.specs.Reports.{IsSaveReport};
-ghost use Rattle.desk_calls.specs.declared.kept.TextError.{TextError};
+ghost use Rattle.desk_codes.specs.declared.TextError.{TextError};
 
-use crate::handle::{Handle, is_closed, put_back, take_out};
-use desk_calls::codes::CLOSED;
+use crate::handle::{Handle, put_back, take_out};
 use desk_calls::kept_texts::save;
+use desk_codes::CLOSED;
 use std::alloc::Global;
 
 /// Writes the saved text of the ring as it is now to the front of the caller's bytes, if there is room, and tells its size. The
@@ -31,10 +31,9 @@ pub extern "C" fn wozgirt_save(
         × IsTextAnswer ring.old.value answer
         × IsSaveReport answer result out.old out.new size.old size.new }
 {
-    if is_closed(ring) {
+    let Some(kept) = take_out(ring, alloc) else {
         return CLOSED;
-    }
-    let kept = take_out(ring, alloc);
+    };
     let code = save(&kept, out, size);
     put_back(ring, kept);
     code

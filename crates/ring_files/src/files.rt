@@ -1,6 +1,6 @@
 //! A ring without end whose segments are files.
 
-ghost use Rattle.std.specs.Prelude.{◌≡◌, ◌+◌, ◌≤◌, ◌<◌, ◌++◌, ◌∷◌, [], cond, length, slice_get, vec_len, vec_capacity, IfOk, IfErr};
+ghost use Rattle.std.specs.Prelude.{◌≡◌, ◌+◌, ◌≤◌, ◌<◌, ◌++◌, ◌∷◌, [], cond, length, slice_get, vec_len, vec_capacity, IfOk, IfErr, OnErr};
 ghost use Rattle.ring_model.specs.Resources.{till};
 ghost use Rattle.ring_chains.specs.Bases.{IsBase, shifted_event};
 ghost use Rattle.ring_chains.specs.Tallies.{IsInSegment};
@@ -9,7 +9,8 @@ ghost use Rattle.ring_desk.specs.Rings.{IsOneThreadRing};
 ghost use Rattle.ring_check.specs.Legal.{IsLegalText};
 ghost use Rattle.ring_desk.specs.Texts.{saved_alone};
 ghost use Rattle.ring_saved.specs.Spelling.{text, Fits};
-ghost use Rattle.ring_endless.specs.Endless.{survey_now};
+ghost use Rattle.ring_desk.specs.Refusals.{IsDecided, bounds_of, seat_refusal};
+ghost use Rattle.ring_endless.specs.Endless.{IsEndless, IsSurveyed, local_survey, survey_now};
 ghost use Rattle.ring_endless.specs.declared.rings.NextError.TheVariants as error;
 ghost use Rattle.ring_files.specs.Files.{IsFiled, IsFileText, file_text, IsNextFile, HasNoNext, filed_at, kept_now, new_lines};
 ghost use Rattle.ring_files.specs.Filling.{Fills};
@@ -87,6 +88,36 @@ fn note(looked: &mut Vec<Looked>, kept: bool, one: Looked)
     }
 }
 
+/// A survey of a ring, for a seat. As the segment counts, it is put behind others, if a journal is kept.
+fn survey_noted(
+    ring: &mut EndlessRing,
+    looked: &mut Vec<Looked>,
+    kept: bool,
+    seat: u32,
+) -> Result<Survey, CallError>
+    ensures ok { IfOk result (λ s. IsSurveyed ring.old ring.new seat s) }
+    ensures noted { IfOk result (λ s. looked.new.items ≡ cond kept (looked.old.items
+        ++ record { seat = seat; survey = local_survey ring.old.ring } ∷ []) looked.old.items) }
+    ensures endless { IsEndless ring.new }
+    ensures same { OnErr result (ring.new ≡ ring.old) }
+    ensures unnoted { OnErr result (looked.new.items ≡ looked.old.items) }
+    ensures refused { IsDecided (seat_refusal (bounds_of ring.old.ring) seat) result }
+{
+    if seat as usize >= ring.segment().clients().len() {
+        return Err(CallError::NoSeat);
+    }
+    let Ok(()) = looked.reserve(1) else {
+        return Err(CallError::OutOfMemory);
+    };
+    let survey = ring.segment().glance();
+    let shifted = match ring.survey(seat) {
+        Ok(shifted) => shifted,
+        Err(error) => return Err(error),
+    };
+    note(looked, kept, Looked { seat, survey });
+    Ok(shifted)
+}
+
 impl FileRing {
     /// A ring in the file at this place, after this base. No journal of it is kept.
     pub fn at(alloc: Global, place: FilePlace, base: Base, ring: OneThreadRing<Till>) -> FileRing
@@ -123,7 +154,6 @@ impl FileRing {
     /// # Errors
     ///
     /// Those of [`OneThreadRing::pass`]. Nothing has changed then.
-    #[tactic(auto, using(crate::proofs::Settled::settled))]
     pub fn pass(&mut self, seat: u32, machine: u32, order: u64) -> Result<Receipt, CallError>
         ensures { IsPassed self.old self.new seat machine order result }
     {
@@ -173,13 +203,6 @@ impl FileRing {
         self.ring.pass_group(seat, machines, order)
     }
 
-    /// How many seats there are.
-    fn seats(&self) -> usize
-        ensures { result ≡ length self.now.ring.ring.clients }
-    {
-        self.ring.segment().clients().len()
-    }
-
     /// A survey, for a seat, whose log keeps it. If a journal is kept, its next lines have it.
     ///
     /// # Errors
@@ -188,19 +211,7 @@ impl FileRing {
     pub fn survey(&mut self, seat: u32) -> Result<Survey, CallError>
         ensures { IsSurveyedBy self.old self.new seat result }
     {
-        if seat as usize >= self.seats() {
-            return Err(CallError::NoSeat);
-        }
-        let Ok(()) = self.looked.reserve(1) else {
-            return Err(CallError::OutOfMemory);
-        };
-        let survey = self.ring.segment().glance();
-        let shifted = match self.ring.survey(seat) {
-            Ok(shifted) => shifted,
-            Err(error) => return Err(error),
-        };
-        note(&mut self.looked, self.kept, Looked { seat, survey });
-        Ok(shifted)
+        survey_noted(&mut self.ring, &mut self.looked, self.kept, seat)
     }
 
     /// The same survey, which nothing keeps.

@@ -1,7 +1,7 @@
 //! Pieces of a saved text, written into bytes of a caller. A piece that has no room there is counted, and not written. Nothing
 //! takes memory, and nothing fails.
 
-ghost use Rattle.std.specs.Prelude.{◌≡◌, ◌++◌, ◌∷◌, [], length, map};
+ghost use Rattle.std.specs.Prelude.{◌≡◌, ◌≤◌, ◌++◌, ◌∷◌, [], length, map};
 ghost use Rattle.std.specs.List.{flat_map, AllByRecursion};
 ghost use Rattle.std.specs.Fmt.{decimal};
 ghost use Rattle.text_lines.specs.Spelling.{spaced, ended, stop_text};
@@ -40,15 +40,24 @@ pub(crate) fn put_word(out: &mut [u8], place: usize, word: &[u8], number: u64) -
     put(out, behind, line.as_bytes())
 }
 
+/// The last two numbers on a line.
+pub(crate) fn last_two(number: u64, last: u64) -> Line
+    ensures is { result ≡ spaced number ++ ended last }
+    ensures short { length result ≤ 42 }
+{
+    let mut line = Line::new();
+    line.byte(b'\n');
+    line.number(last);
+    line.byte(b' ');
+    line.number(number);
+    line
+}
+
 /// The numbers on the first line of a ring: its place in the text, its number of machines and its number of values.
 fn size_line(index: u32, n: u32, k: u32) -> Line
     ensures { result ≡ spaced index ++ (spaced n ++ ended k) }
 {
-    let mut line = Line::new();
-    line.byte(b'\n');
-    line.number(k as u64);
-    line.byte(b' ');
-    line.number(n as u64);
+    let mut line = last_two(n as u64, k as u64);
     line.byte(b' ');
     line.number(index as u64);
     line

@@ -2,16 +2,13 @@
 
 ghost use Rattle.std.specs.Prelude.{◌≡◌, ◌<◌, ◌++◌, drop, IfOk};
 ghost use Rattle.text_lines.specs.Spelling.{spaced, ended};
-ghost use Rattle.ring_saved.specs.Spelling.{Fits};
-ghost use Rattle.ring_check.specs.Legal.{IsLegalText};
-ghost use Rattle.ring_segments.specs.Spelling.{number_line, behind_line, base_line, head_text, BaseFits, HeadFits};
+ghost use Rattle.ring_segments.specs.Spelling.{number_line, behind_line, head_text, BaseFits, HeadFits};
 ghost use Rattle.ring_blocks.specs.Journals.{event_lines};
-ghost use Rattle.ring_desk.specs.Texts.{saved_alone};
 ghost use Rattle.ring_files.specs.Files.{head_at, file_text, IsTextAt, survey_lines};
 ghost use Rattle.ring_files.specs.Filling.{Fills};
 
 use crate::files::Looked;
-use crate::fills::put;
+use crate::fills::{last_two, put};
 use crate::places::FilePlace;
 use crate::saves::put_text;
 use ring_blocks::{saved_event, saved_survey};
@@ -22,24 +19,12 @@ use ring_saved::{event_line, survey_line};
 use std::alloc::{AllocError, Global};
 use text_lines::Line;
 
-/// Two numbers on one line.
-fn counts(number: u64, rings: u64) -> Line
-    ensures { result ≡ spaced number ++ ended rings }
-{
-    let mut line = Line::new();
-    line.byte(b'\n');
-    line.number(rings);
-    line.byte(b' ');
-    line.number(number);
-    line
-}
-
 /// Puts the first line of a file of one ring.
 fn put_number(out: &mut [u8], place: usize, number: u64) -> usize
     ensures { Fills out.old out.new place result (number_line number 1) }
 {
     let behind = put(out, place, b"ringsegment 1 ");
-    put(out, behind, counts(number, 1).as_bytes())
+    put(out, behind, last_two(number, 1).as_bytes())
 }
 
 /// Puts the line of the digest of the file before.
@@ -51,25 +36,17 @@ fn put_behind(out: &mut [u8], place: usize, digits: &[u8]) -> usize
     put(out, told, b"\n")
 }
 
-/// The line of what came before, each of whose numbers is within its range by its type.
-fn base_line(base: Base) -> Line
-    ensures is { result ≡ base_line base }
+/// The numbers of what came before, each of which is within its range by its type.
+fn base_numbers(base: Base) -> Line
+    ensures is { result ≡ spaced base.events ++ (spaced base.grants
+        ++ (spaced base.amount ++ ended base.calm)) }
     ensures fits { BaseFits base }
 {
-    let mut line = Line::new();
-    line.byte(b'\n');
-    line.number(base.calm);
-    line.byte(b' ');
-    line.number(base.amount);
+    let mut line = last_two(base.amount, base.calm);
     line.byte(b' ');
     line.number(base.grants);
     line.byte(b' ');
     line.number(base.events);
-    line.byte(b' ');
-    line.byte(b'e');
-    line.byte(b's');
-    line.byte(b'a');
-    line.byte(b'b');
     line
 }
 
@@ -81,16 +58,15 @@ fn put_head(out: &mut [u8], file: &FilePlace, base: Base) -> usize
     let digits = file.behind();
     let numbered = put_number(out, 0, file.number());
     let linked = put_behind(out, numbered, &digits);
-    put(out, linked, base_line(base).as_bytes())
+    let named = put(out, linked, b"base ");
+    put(out, named, base_numbers(base).as_bytes())
 }
 
 /// Puts the text of the file at this place of a chain, of this ring, at the front of the bytes, if they have room for it. Returns
 /// its size.
 pub(crate) fn put_file(out: &mut [u8], file: &FilePlace, ring: &EndlessRing) -> usize
     ensures written { Fills out.old out.new 0 result (file_text file.now ring.now) }
-    ensures head { HeadFits (head_at file.now ring.now.base) }
-    ensures fits { Fits (saved_alone ring.now.ring) }
-    ensures legal { IsLegalText (saved_alone ring.now.ring) }
+    ensures is { IsTextAt file.now ring.now (file_text file.now ring.now) }
 {
     let headed = put_head(out, file, *ring.base());
     let begun = put(out, headed, b"ringjournal 1\n");

@@ -1,6 +1,6 @@
 use Rattle.std.proofs.Common.{Ok, Err, refl, inl, inr, ◌≡◌, ◌≢◌, true, false, rules}
 use Rattle.ring_files.specs.Files.{new_lines}
-use Rattle.desk_calls.specs.declared.kept.TextError.TheVariants as error
+use Rattle.desk_codes.specs.declared.TextError.TheVariants as error
 use Rattle.desk_calls.proofs.Told.{done, not_done}
 use Rattle.desk_calls.proofs.kept_texts.put_ring_lines.Goals as goal
 

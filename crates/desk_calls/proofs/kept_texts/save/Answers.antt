@@ -1,5 +1,5 @@
 use Rattle.std.proofs.Common.{Err, refl}
-use Rattle.desk_calls.specs.declared.kept.TextError.TheVariants as error
+use Rattle.desk_codes.specs.declared.TextError.TheVariants as error
 use Rattle.desk_calls.proofs.kept_texts.save.Goals as goal
 
 pub returns-in-Idle : goal.returns-in-Idle

@@ -2,7 +2,7 @@ use Rattle.std.proofs.Common.{Ok, Err, refl, inl, inr, ◌≢◌, rules}
 use Rattle.ring_saved.specs.Spelling.{text}
 use Rattle.ring_desk.specs.Texts.{saved_alone}
 use Rattle.desk_calls.specs.Answers.{IsSavedText}
-use Rattle.desk_calls.specs.declared.kept.TextError.TheVariants as error
+use Rattle.desk_codes.specs.declared.TextError.TheVariants as error
 use Rattle.desk_calls.proofs.Told.{done, not_done}
 use Rattle.desk_calls.proofs.kept_texts.save_ring.Goals as goal
 

@@ -10,7 +10,7 @@ returns c =
     let room : length c.as_mut_slice.result.now ≡ c.in_ok-text.text.len = search rules in
     record {
       spelled = whole_filled (file_text c.args.file.now c.args.ring.now) _ _ c.put_file-size.ensures.written is small room c.put_file.ensures.written;
-      head = c.put_file-size.ensures.head;
-      fits = c.put_file-size.ensures.fits;
-      legal = c.put_file-size.ensures.legal;
+      head = c.put_file-size.ensures.is.head;
+      fits = c.put_file-size.ensures.is.fits;
+      legal = c.put_file-size.ensures.is.legal;
     }

@@ -1,3 +1,4 @@
+use Rattle.std.proofs.Common.{refl}
 use Rattle.ring_desk.specs.Texts.{saved_alone}
 use Rattle.ring_files.specs.Files.{head_at}
 use Rattle.ring_files.proofs.Texted.{file_filled}
@@ -8,3 +9,11 @@ returns-clause-written c =
     let head = rw c.base.ensures.is at c.put_head-headed.ensures.written in
     let began = rw c.segment.ensures.is at c.put_text.ensures.written in
     file_filled (head_at c.args.file.now c.args.ring.now.base) (saved_alone c.args.ring.now.ring) head c.put-begun.ensures began
+
+pub returns-clause-is : goal.returns-clause-is
+returns-clause-is c = record {
+  spelled = refl;
+  head = rw c.base.ensures.is at c.put_head-headed.ensures.fits;
+  fits = rw c.segment.ensures.is at c.put_text.ensures.fits;
+  legal = rw c.segment.ensures.is at c.put_text.ensures.legal;
+}

@@ -6,5 +6,5 @@ use Rattle.ring_files.proofs.texts.put_number.Goals as goal
 
 pub returns : goal.returns
 returns c =
-    let line = fills_same _ (spaced c.args.number ++ ended 1) (c.as_bytes.ensures ∙ c.counts.ensures) c.put.ensures in
+    let line = fills_same _ (spaced c.args.number ++ ended 1) (c.as_bytes.ensures ∙ c.last_two.ensures.is) c.put.ensures in
     fills_then (codes "ringsegment 1 ") (spaced c.args.number ++ ended 1) c.put-behind.ensures line

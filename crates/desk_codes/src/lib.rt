@@ -1,9 +1,9 @@
-//! The code of each refusal.
+//! The code of each refusal, for other languages.
+#![tactic(auto)]
 
 ghost use Rattle.std.specs.Prelude.{◌≡◌};
-ghost use Rattle.desk_calls.specs.Codes;
+ghost use Rattle.desk_codes.specs.Codes;
 
-use crate::kept::TextError;
 use ring_check::Kind;
 use ring_desk::{CallError, OpenError, ResumeError};
 use ring_locks::Refusal;
@@ -21,44 +21,54 @@ pub const CLOSED: u32 = 24;
 pub const STILL_OPEN: u32 = 37;
 
 /// No seats are asked for, or too many.
-pub(crate) const BAD_SEATS: u32 = 32;
+pub const BAD_SEATS: u32 = 32;
 
 /// A saved ring names a seat that there is not.
-pub(crate) const NO_SEAT: u32 = 16;
+pub const NO_SEAT: u32 = 16;
 
 /// A saved ring has more events than a history may have.
-pub(crate) const HISTORY_FULL: u32 = 22;
+pub const HISTORY_FULL: u32 = 22;
 
 /// A saved text has no ring at this place.
-pub(crate) const NO_RING: u32 = 50;
+pub const NO_RING: u32 = 50;
 
 /// A ring is over no till.
-pub(crate) const NO_TILL: u32 = 80;
+pub const NO_TILL: u32 = 80;
 
 /// No chain ends with a file; a file is not of one ring.
 const NO_CHAIN: u32 = 52;
 
-pub(crate) const MANY_RINGS: u32 = 53;
+pub const MANY_RINGS: u32 = 53;
 
 /// A buffer is too small.
 pub const TOO_SMALL: u32 = 81;
 
 /// A history has no event of this number.
-pub(crate) const NO_EVENT: u32 = 82;
+pub const NO_EVENT: u32 = 82;
 
 /// Locks are asked for that there may not be, or machines.
-pub(crate) const BAD_LOCKS: u32 = 38;
+pub const BAD_LOCKS: u32 = 38;
 
-pub(crate) const BAD_MACHINES: u32 = 33;
+pub const BAD_MACHINES: u32 = 33;
 
 /// There is no further grant.
-pub(crate) const NO_MORE: u32 = 3;
+pub const NO_MORE: u32 = 3;
 
 /// Some grants were not handed out.
 pub const GRANTS_LEFT: u32 = 102;
 
+/// The reason why a text of a ring is missing.
+#[derive(Clone, Copy, Drop)]
+pub enum TextError {
+    /// The ring is not over a till, and texts are of tills.
+    NoTill,
+    /// No journal is kept of the ring.
+    NoJournal,
+    OutOfMemory,
+}
+
 /// Of a call.
-pub(crate) fn call_code(error: CallError) -> u32
+pub fn call_code(error: CallError) -> u32
     ensures { result ≡ Codes.call_code error }
 {
     match error {
@@ -99,7 +109,7 @@ pub fn open_code(error: OpenError) -> u32
 }
 
 /// Of bytes that are not a saved text.
-pub(crate) fn read_code(error: ReadError) -> u32
+pub fn read_code(error: ReadError) -> u32
     ensures { result ≡ Codes.read_code error }
 {
     match error {
@@ -110,7 +120,7 @@ pub(crate) fn read_code(error: ReadError) -> u32
 }
 
 /// Of a saved ring that is not resumed.
-pub(crate) fn resume_code(error: ResumeError) -> u32
+pub fn resume_code(error: ResumeError) -> u32
     ensures { result ≡ Codes.resume_code error }
 {
     match error {
@@ -122,7 +132,7 @@ pub(crate) fn resume_code(error: ResumeError) -> u32
 }
 
 /// Of a text that is not legal.
-pub(crate) fn kind_code(kind: Kind) -> u32
+pub fn kind_code(kind: Kind) -> u32
     ensures { result ≡ Codes.kind_code kind }
 {
     match kind {
@@ -136,7 +146,7 @@ pub(crate) fn kind_code(kind: Kind) -> u32
 }
 
 /// Of bytes that are no file with which a chain ends.
-pub(crate) fn segment_code(error: SegmentError) -> u32
+pub fn segment_code(error: SegmentError) -> u32
     ensures { result ≡ Codes.segment_code error }
 {
     match error {
@@ -165,7 +175,7 @@ pub fn text_code(error: TextError) -> u32
 }
 
 /// Of an input about locks that is refused.
-pub(crate) fn lock_code(refusal: Refusal) -> u32
+pub fn lock_code(refusal: Refusal) -> u32
     ensures { result ≡ Codes.lock_code refusal }
 {
     match refusal {

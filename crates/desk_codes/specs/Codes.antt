@@ -16,8 +16,8 @@ use Rattle.ring_desk.specs.declared.resuming.ResumeError.{ResumeError}
 use Rattle.ring_desk.specs.declared.resuming.ResumeError.TheVariants as resume
 use Rattle.ring_locks.specs.declared.answers.Refusal.{Refusal}
 use Rattle.ring_locks.specs.declared.answers.Refusal.TheVariants as refusal
-use Rattle.desk_calls.specs.declared.kept.TextError.{TextError}
-use Rattle.desk_calls.specs.declared.kept.TextError.TheVariants as text
+use Rattle.desk_codes.specs.declared.TextError.{TextError}
+use Rattle.desk_codes.specs.declared.TextError.TheVariants as text
 
 -- out of memory, whoever asks for it
 abbrev pub no_memory : ℕ

@@ -1,0 +1,35 @@
+-- The form of an answer about locks for C: a code, and the values written to the struct that C lends
+-- (this project's own).
+use Rattle.std.specs.Prelude.{◌≡◌, ℕ, Option, Some, None}
+use Rattle.ring_locks.specs.declared.answers.Answer.{Answer}
+use Rattle.ring_locks.specs.declared.answers.Answer.TheVariants as answer
+use Rattle.ring_locks.specs.declared.answers.Answers.{Answers}
+use Rattle.desk_calls.specs.declared.lock_answers.Grant.{Grant}
+use Rattle.desk_calls.specs.declared.lock_answers.Hold.{Hold}
+use Rattle.desk_codes.specs.Codes.{lock_code, no_more, grants_left}
+
+-- the code of what the client is told who asks, and what is written for it
+abbrev pub own_code : Option Answer → ℕ
+own_code (Some (answer.Waiting ahead)) = 1
+own_code (Some answer.Busy) = 2
+own_code (Some (answer.Refused why)) = lock_code why
+own_code _ = 0
+
+abbrev pub own_hold : Option Answer → Hold → Hold
+own_hold (Some (answer.Granted token)) old = record { token = token; ahead = 0 }
+own_hold (Some (answer.Waiting ahead)) old = record { token = 0; ahead = ahead }
+own_hold _ old = old
+
+-- the same where grants may be left
+abbrev pub asked_code : Option Answers → ℕ
+asked_code (Some r) = own_code r.own
+asked_code None = grants_left
+
+abbrev pub asked_hold : Option Answers → Hold → Hold
+asked_hold (Some r) old = own_hold r.own old
+asked_hold None old = old
+
+-- of a grant that is handed out, or of none, and then nothing is written
+abbrev pub IsGrantReport : Option Grant → ℕ → Grant → Grant → Type 0
+IsGrantReport (Some g) code old new = (code ≡ 0) × (new ≡ g)
+IsGrantReport None code old new = (code ≡ no_more) × (new ≡ old)
