@@ -51,11 +51,6 @@ abbrev pub IsNotSealed : Kept → ℕ → Type 0
 IsNotSealed (Till d) code = ((code ≡ history_full) × HasNoNext d) ⊎ (code ≡ no_memory)
 IsNotSealed (Idle d) code = code ≡ no_till
 
--- of the step to the next segment, where the file of this one has these bytes
-abbrev pub IsStepReport : FilesView → FilesView → List ℕ → ℕ → Type 0
-IsStepReport d e bytes code =
-    ((code ≡ 0) × IsNextFile d bytes e) ⊎ (IsNotSealed (Till d) code × (e ≡ d))
-
 -- Of a cut: the sealed segment's text is at the front of the buffer; or the buffer is too small, and
 -- its size is said; or nothing is written. But for a cut that is done the ring is as it was.
 abbrev pub IsCutReport : Kept → Kept → ℕ → List ℕ → List ℕ → ℕ → ℕ → Type 0

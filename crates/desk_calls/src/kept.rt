@@ -5,15 +5,13 @@ ghost use Rattle.ring_chains.specs.Bases.{no_base};
 ghost use Rattle.ring_desk.specs.Rings.{IsOneThreadRing};
 ghost use Rattle.ring_files.specs.Files.{first_place, filed_at};
 ghost use Rattle.desk_calls.specs.Answers.{IsPassAnswer, IsTryAnswer, IsCorruptAnswer, IsGroupAnswer, IsSurveyAnswer, IsGlance, events_of, before_of, event_of, first_grant};
-ghost use Rattle.desk_calls.specs.Sealed.{kept_after, IsStepReport};
+ghost use Rattle.desk_calls.specs.Sealed.{kept_after};
 ghost use Rattle.std.specs.Prelude.{◌≡◌};
 
 use crate::answers::grant_in;
-use desk_codes::{HISTORY_FULL, NO_MEMORY};
 use ring_book::{GroupReceipt, Idle, Till};
 use ring_chains::Base;
 use ring_desk::{CallError, OneThreadRing};
-use ring_endless::NextError;
 use ring_files::{FilePlace, FileRing};
 use ring_model::{Event, Receipt, Survey};
 use std::alloc::Global;
@@ -150,19 +148,5 @@ pub(crate) fn keep(kept: &mut Kept)
     match kept {
         Kept::Till(ring) => ring.keep(),
         Kept::Idle(_) => {}
-    }
-}
-
-/// The next segment of a ring without end, where the file of this one has these bytes: the code.
-pub(crate) fn step(ring: &mut FileRing, alloc: Global, sealed: &[u8]) -> u32
-    ensures { IsStepReport ring.old ring.new sealed.now result }
-{
-    match ring.next(alloc, sealed) {
-        Ok(next) => {
-            *ring = next;
-            0
-        }
-        Err(NextError::Full) => HISTORY_FULL,
-        Err(NextError::OutOfMemory) => NO_MEMORY,
     }
 }

@@ -9,8 +9,9 @@ ghost use Rattle.desk_calls.specs.Sealed.{IsFileAnswer, IsLinesAnswer, IsCutRepo
 ghost use Rattle.desk_codes.specs.declared.TextError.{TextError};
 
 use crate::answers::report_text;
-use crate::kept::{Kept, keep, step};
-use desk_codes::{NO_MEMORY, NO_TILL, TOO_SMALL, TextError, text_code};
+use crate::kept::{Kept, keep};
+use desk_codes::{HISTORY_FULL, NO_MEMORY, NO_TILL, TOO_SMALL, TextError, text_code};
+use ring_endless::NextError;
 use ring_files::FileRing;
 use std::alloc::Global;
 
@@ -150,11 +151,14 @@ fn seal(ring: &mut FileRing, alloc: Global, text: &[u8], out: &mut [u8], size: &
         *size = text.len() as u64;
         return TOO_SMALL;
     }
-    let code = step(ring, alloc, text);
-    if code == 0 {
-        report_text(text, out, size);
+    match ring.next(alloc, text) {
+        Ok(next) => {
+            *ring = next;
+            report_text(text, out, size)
+        }
+        Err(NextError::Full) => HISTORY_FULL,
+        Err(NextError::OutOfMemory) => NO_MEMORY,
     }
-    code
 }
 
 /// Seals the segment of a ring without end, which goes on in the next one.

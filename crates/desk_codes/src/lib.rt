@@ -7,9 +7,9 @@ ghost use Rattle.desk_codes.specs.Codes;
 use ring_check::Kind;
 use ring_desk::{CallError, OpenError, ResumeError};
 use ring_locks::Refusal;
-use ring_saved::ReadError;
 use ring_segments::SegmentError;
 use ring_state::ParamsError;
+use text_lines::ReadError;
 
 /// Out of memory, whoever asks for it.
 pub const NO_MEMORY: u32 = 23;
