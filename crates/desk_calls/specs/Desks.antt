@@ -13,7 +13,8 @@ use Rattle.ring_locks.specs.Locks.{Ask}
 use Rattle.ring_locks.specs.Kept.{LockView, lock_limit, IsAnswer, IsDone, IsLeft}
 use Rattle.ring_locks.specs.Opened.{IsAdded}
 use Rattle.desk_calls.specs.declared.lock_answers.Grant.{Grant}
-use Rattle.desk_codes.specs.Codes.{lock_code, no_memory, bad_locks, bad_machines, grants_left}
+use Rattle.desk_codes.specs.Codes.{no_memory, bad_locks, bad_machines, grants_left}
+use Rattle.desk_calls.specs.LockReports.{lock_code}
 
 -- the locks, and the grants to clients that waited which are not handed out yet
 pub record DeskView : Type 0 where

@@ -4,9 +4,24 @@ use Rattle.std.specs.Prelude.{◌≡◌, ℕ, Option, Some, None}
 use Rattle.ring_locks.specs.declared.answers.Answer.{Answer}
 use Rattle.ring_locks.specs.declared.answers.Answer.TheVariants as answer
 use Rattle.ring_locks.specs.declared.answers.Answers.{Answers}
+use Rattle.ring_locks.specs.declared.answers.Refusal.{Refusal}
+use Rattle.ring_locks.specs.declared.answers.Refusal.TheVariants as refusal
 use Rattle.desk_calls.specs.declared.lock_answers.Grant.{Grant}
 use Rattle.desk_calls.specs.declared.lock_answers.Hold.{Hold}
-use Rattle.desk_codes.specs.Codes.{lock_code, no_more, grants_left}
+use Rattle.desk_codes.specs.Codes.{no_memory, history_full, no_more, grants_left}
+
+-- the code of an input about locks that is refused
+abbrev pub lock_code : Refusal → ℕ
+lock_code refusal.Lock = 96
+lock_code refusal.Holds = 97
+lock_code refusal.Waits = 98
+lock_code refusal.Circle = 99
+lock_code refusal.Holder = 100
+lock_code refusal.Waiter = 101
+lock_code refusal.Machine = 17
+lock_code refusal.Value = 18
+lock_code refusal.Full = history_full
+lock_code refusal.Memory = no_memory
 
 -- the code of what the client is told who asks, and what is written for it
 abbrev pub own_code : Option Answer → ℕ

@@ -11,7 +11,7 @@ use Rattle.desk_calls.specs.declared.kept.Kept.{Kept}
 use Rattle.desk_calls.specs.declared.kept.Kept.TheVariants.{Till, Idle}
 use Rattle.desk_codes.specs.declared.TextError.{TextError}
 use Rattle.desk_codes.specs.declared.TextError.TheVariants as text
-use Rattle.desk_codes.specs.Codes.{segment_code, no_memory, history_full, too_small, no_till, many_rings}
+use Rattle.desk_codes.specs.Codes.{kind_code, no_memory, history_full, too_small, no_till, many_rings}
 use Rattle.desk_calls.specs.Reports.{HasNoSize}
 use Rattle.desk_calls.specs.Resumed.{IsResumedAs, IsRingRefused}
 
@@ -70,6 +70,22 @@ IsCutReport old new code was out size said =
     ⊎ (IsNotSealed old code × (out ≡ was) × (said ≡ size) × (new ≡ old)))
 
 -- ---- the last file of a chain, to go on from
+
+-- the code of bytes that are no file with which a chain ends
+abbrev pub no_chain : ℕ
+no_chain = 52
+
+abbrev pub segment_code : SegmentError → ℕ
+segment_code segment.Truncated = 49
+segment_code (segment.Syntax line) = 48
+segment_code (segment.Bad line kind) = kind_code kind
+segment_code segment.Number = no_chain
+segment_code segment.Behind = no_chain
+segment_code segment.Base = no_chain
+segment_code segment.Start = no_chain
+segment_code segment.Full = history_full
+segment_code segment.Unfinished = no_chain
+segment_code segment.OutOfMemory = no_memory
 
 -- the line that a refusal names, 0 if it names none
 abbrev pub segment_line : SegmentError → ℕ

@@ -4,8 +4,8 @@ ghost use Rattle.std.specs.Prelude.{◌≡◌, ◌≢◌, ◌+◌, ◌<◌, ◌�
 ghost use Rattle.ring_locks.specs.Locks.{Acquire, Try, Release, Cancel};
 ghost use Rattle.desk_calls.specs.Desks.{grant_at, grants_in, IsAsked, IsDoneAsk, IsDeskLeft, IsNextGrant, IsCutReport};
 
-use crate::lock_answers::Grant;
-use desk_codes::{GRANTS_LEFT, lock_code};
+use crate::lock_answers::{Grant, lock_code};
+use desk_codes::GRANTS_LEFT;
 use ring_locks::{Answers, Holder, Left, Locks};
 use std::alloc::{AllocError, Global};
 use std::marker::Model;

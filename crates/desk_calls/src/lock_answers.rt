@@ -3,8 +3,8 @@
 ghost use Rattle.std.specs.Prelude.{◌≡◌};
 ghost use Rattle.desk_calls.specs.LockReports;
 
-use desk_codes::{GRANTS_LEFT, NO_MORE, lock_code};
-use ring_locks::{Answer, Answers};
+use desk_codes::{GRANTS_LEFT, HISTORY_FULL, NO_MEMORY, NO_MORE};
+use ring_locks::{Answer, Answers, Refusal};
 
 /// The answer to a client that acquires a lock: its token, or how many stand before it.
 #[repr(C)]
@@ -21,6 +21,24 @@ pub struct Grant {
     pub client: u64,
     pub token: u64,
     pub lock: u32,
+}
+
+/// The code of an input about locks that is refused.
+pub(crate) fn lock_code(refusal: Refusal) -> u32
+    ensures { result ≡ LockReports.lock_code refusal }
+{
+    match refusal {
+        Refusal::Lock => 96,
+        Refusal::Holds => 97,
+        Refusal::Waits => 98,
+        Refusal::Circle => 99,
+        Refusal::Holder => 100,
+        Refusal::Waiter => 101,
+        Refusal::Machine => 17,
+        Refusal::Value => 18,
+        Refusal::Full => HISTORY_FULL,
+        Refusal::Memory => NO_MEMORY,
+    }
 }
 
 /// The code of what a client is told.

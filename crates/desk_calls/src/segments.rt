@@ -3,15 +3,36 @@
 ghost use Rattle.std.specs.Prelude.{◌≡◌, ◌≢◌, length, ◌∷◌, [], All, IfOk, IfErr, IfSome, IfNone, Ok};
 ghost use Rattle.ring_chains.specs.Bases.{IsBase};
 ghost use Rattle.ring_segments.specs.Last.{IsRightLast};
-ghost use Rattle.desk_calls.specs.Sealed.{segment_line, IsGoneOn, IsLastRefused, IsSegmentAnswer};
+ghost use Rattle.desk_calls.specs.Sealed.{segment_code, segment_line, IsGoneOn, IsLastRefused, IsSegmentAnswer};
 
 use crate::resumes::resume;
-use desk_codes::{MANY_RINGS, segment_code};
+use desk_codes::{HISTORY_FULL, MANY_RINGS, NO_MEMORY, kind_code};
 use ring_chains::Base;
 use ring_files::{FilePlace, FileRing};
 use ring_saved::SavedRing;
 use ring_segments::{LastSegment, SegmentError, read_last};
 use std::alloc::Global;
+
+/// The code of bytes that are no file with which a chain ends.
+const NO_CHAIN: u32 = 52;
+
+/// The code of why bytes are no file with which a chain ends.
+fn segment_code(error: SegmentError) -> u32
+    ensures { result ≡ segment_code error }
+{
+    match error {
+        SegmentError::Truncated => 49,
+        SegmentError::Syntax(_) => 48,
+        SegmentError::Bad { kind, .. } => kind_code(kind),
+        SegmentError::Number => NO_CHAIN,
+        SegmentError::Behind => NO_CHAIN,
+        SegmentError::Base => NO_CHAIN,
+        SegmentError::Start => NO_CHAIN,
+        SegmentError::Full => HISTORY_FULL,
+        SegmentError::Unfinished => NO_CHAIN,
+        SegmentError::OutOfMemory => NO_MEMORY,
+    }
+}
 
 /// The line that a refusal names, 0 if it names none.
 fn segment_line(error: SegmentError) -> u64

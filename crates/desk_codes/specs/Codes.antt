@@ -6,16 +6,12 @@ use Rattle.text_lines.specs.declared.answer.ReadError.{ReadError}
 use Rattle.text_lines.specs.declared.answer.ReadError.TheVariants as read
 use Rattle.ring_check.specs.declared.answers.Kind.{Kind}
 use Rattle.ring_check.specs.declared.answers.Kind.TheVariants as kind
-use Rattle.ring_segments.specs.declared.errors.SegmentError.{SegmentError}
-use Rattle.ring_segments.specs.declared.errors.SegmentError.TheVariants as segment
 use Rattle.ring_desk.specs.declared.errors.CallError.{CallError}
 use Rattle.ring_desk.specs.declared.errors.CallError.TheVariants as call
 use Rattle.ring_desk.specs.declared.errors.OpenError.{OpenError}
 use Rattle.ring_desk.specs.declared.errors.OpenError.TheVariants as opens
 use Rattle.ring_desk.specs.declared.resuming.ResumeError.{ResumeError}
 use Rattle.ring_desk.specs.declared.resuming.ResumeError.TheVariants as resume
-use Rattle.ring_locks.specs.declared.answers.Refusal.{Refusal}
-use Rattle.ring_locks.specs.declared.answers.Refusal.TheVariants as refusal
 use Rattle.desk_codes.specs.declared.TextError.{TextError}
 use Rattle.desk_codes.specs.declared.TextError.TheVariants as text
 
@@ -93,25 +89,9 @@ kind_code kind.Count = 67
 kind_code kind.Survey = 68
 kind_code kind.Group = 69
 
--- of bytes that are no file of a chain of this ring: it is none with which a chain ends, or it is not
--- of one ring
-abbrev pub no_chain : ℕ
-no_chain = 52
-
+-- of a file that is not of one ring
 abbrev pub many_rings : ℕ
 many_rings = 53
-
-abbrev pub segment_code : SegmentError → ℕ
-segment_code segment.Truncated = 49
-segment_code (segment.Syntax line) = 48
-segment_code (segment.Bad line kind) = kind_code kind
-segment_code segment.Number = no_chain
-segment_code segment.Behind = no_chain
-segment_code segment.Base = no_chain
-segment_code segment.Start = no_chain
-segment_code segment.Full = 22
-segment_code segment.Unfinished = no_chain
-segment_code segment.OutOfMemory = no_memory
 
 -- of a ring that is over no till
 abbrev pub no_till : ℕ
@@ -144,19 +124,6 @@ no_more = 3
 
 abbrev pub grants_left : ℕ
 grants_left = 102
-
--- of an input about locks that is refused
-abbrev pub lock_code : Refusal → ℕ
-lock_code refusal.Lock = 96
-lock_code refusal.Holds = 97
-lock_code refusal.Waits = 98
-lock_code refusal.Circle = 99
-lock_code refusal.Holder = 100
-lock_code refusal.Waiter = 101
-lock_code refusal.Machine = 17
-lock_code refusal.Value = 18
-lock_code refusal.Full = history_full
-lock_code refusal.Memory = no_memory
 
 -- of an answer that is a value or the code of why there is none
 abbrev pub code_of : {A : Type 0} → Result A ℕ → ℕ

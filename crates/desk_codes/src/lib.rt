@@ -1,4 +1,4 @@
-//! The code of each refusal, for other languages.
+//! The code of each refusal of a ring and of a saved text, for other languages, and those that need no refusal of a library below.
 #![tactic(auto)]
 
 ghost use Rattle.std.specs.Prelude.{◌≡◌};
@@ -6,8 +6,6 @@ ghost use Rattle.desk_codes.specs.Codes;
 
 use ring_check::Kind;
 use ring_desk::{CallError, OpenError, ResumeError};
-use ring_locks::Refusal;
-use ring_segments::SegmentError;
 use ring_state::ParamsError;
 use text_lines::ReadError;
 
@@ -35,9 +33,7 @@ pub const NO_RING: u32 = 50;
 /// A ring is over no till.
 pub const NO_TILL: u32 = 80;
 
-/// No chain ends with a file; a file is not of one ring.
-const NO_CHAIN: u32 = 52;
-
+/// A file is not of one ring.
 pub const MANY_RINGS: u32 = 53;
 
 /// A buffer is too small.
@@ -145,24 +141,6 @@ pub fn kind_code(kind: Kind) -> u32
     }
 }
 
-/// Of bytes that are no file with which a chain ends.
-pub fn segment_code(error: SegmentError) -> u32
-    ensures { result ≡ Codes.segment_code error }
-{
-    match error {
-        SegmentError::Truncated => 49,
-        SegmentError::Syntax(_) => 48,
-        SegmentError::Bad { kind, .. } => kind_code(kind),
-        SegmentError::Number => NO_CHAIN,
-        SegmentError::Behind => NO_CHAIN,
-        SegmentError::Base => NO_CHAIN,
-        SegmentError::Start => NO_CHAIN,
-        SegmentError::Full => HISTORY_FULL,
-        SegmentError::Unfinished => NO_CHAIN,
-        SegmentError::OutOfMemory => NO_MEMORY,
-    }
-}
-
 /// Of a ring that has no such text.
 pub fn text_code(error: TextError) -> u32
     ensures { result ≡ Codes.text_code error }
@@ -171,23 +149,5 @@ pub fn text_code(error: TextError) -> u32
         TextError::NoTill => NO_TILL,
         TextError::NoJournal => 83,
         TextError::OutOfMemory => NO_MEMORY,
-    }
-}
-
-/// Of an input about locks that is refused.
-pub fn lock_code(refusal: Refusal) -> u32
-    ensures { result ≡ Codes.lock_code refusal }
-{
-    match refusal {
-        Refusal::Lock => 96,
-        Refusal::Holds => 97,
-        Refusal::Waits => 98,
-        Refusal::Circle => 99,
-        Refusal::Holder => 100,
-        Refusal::Waiter => 101,
-        Refusal::Machine => 17,
-        Refusal::Value => 18,
-        Refusal::Full => HISTORY_FULL,
-        Refusal::Memory => NO_MEMORY,
     }
 }

@@ -9,7 +9,7 @@ ghost use Rattle.desk_calls.specs.Answers.{IsPassAnswer, IsTryAnswer, IsCorruptA
 ghost use Rattle.desk_codes.specs.Codes.{closed};
 ghost use Rattle.desk_calls.specs.Reports.{IsCallReport, IsTryReport, IsGroupReport, IsSightReport, IsEventReport, sight_of};
 
-use crate::handle::{Handle, put_back, take_out};
+use crate::handle::{Handle, opened, take_out};
 use desk_calls::answers::{
     Answer, EventRow, Group, Sight, report_call, report_event, report_group, report_sight,
     report_try,
@@ -21,7 +21,6 @@ use std::alloc::Global;
 /// A pass by a machine, for a seat: 0 where it was granted, 1 where the machine is not privileged, else why it was refused.
 #[unsafe(no_mangle)]
 pub extern "C" fn wozgirt_pass(
-    alloc: Global,
     ring: &mut Handle,
     seat: u32,
     machine: u32,
@@ -36,11 +35,10 @@ pub extern "C" fn wozgirt_pass(
         × IsPassAnswer ring.old.value ring.new.value seat machine order answer
         × IsCallReport answer result out.old out.new }
 {
-    let Some(mut kept) = take_out(ring, alloc) else {
+    let Some(kept) = opened(ring) else {
         return CLOSED;
     };
-    let answer = kept::pass(&mut kept, seat, machine, order);
-    put_back(ring, kept);
+    let answer = kept::pass(kept, seat, machine, order);
     report_call(answer, out)
 }
 
@@ -48,7 +46,6 @@ pub extern "C" fn wozgirt_pass(
 /// and then nothing is recorded or written; else why it was refused.
 #[unsafe(no_mangle)]
 pub extern "C" fn wozgirt_try(
-    alloc: Global,
     ring: &mut Handle,
     seat: u32,
     machine: u32,
@@ -63,18 +60,16 @@ pub extern "C" fn wozgirt_try(
         × IsTryAnswer ring.old.value ring.new.value seat machine order answer
         × IsTryReport answer result out.old out.new }
 {
-    let Some(mut kept) = take_out(ring, alloc) else {
+    let Some(kept) = opened(ring) else {
         return CLOSED;
     };
-    let answer = kept::try_pass(&mut kept, seat, machine, order);
-    put_back(ring, kept);
+    let answer = kept::try_pass(kept, seat, machine, order);
     report_try(answer, out)
 }
 
 /// A fault, for a seat: a value is written into a machine.
 #[unsafe(no_mangle)]
 pub extern "C" fn wozgirt_corrupt(
-    alloc: Global,
     ring: &mut Handle,
     seat: u32,
     machine: u32,
@@ -89,18 +84,16 @@ pub extern "C" fn wozgirt_corrupt(
         × IsCorruptAnswer ring.old.value ring.new.value seat machine value answer
         × IsCallReport answer result out.old out.new }
 {
-    let Some(mut kept) = take_out(ring, alloc) else {
+    let Some(kept) = opened(ring) else {
         return CLOSED;
     };
-    let answer = kept::corrupt(&mut kept, seat, machine, value);
-    put_back(ring, kept);
+    let answer = kept::corrupt(kept, seat, machine, value);
     report_call(answer, out)
 }
 
 /// A pass by machines whose numbers rise, all at once, for a seat.
 #[unsafe(no_mangle)]
 pub extern "C" fn wozgirt_pass_group(
-    alloc: Global,
     ring: &mut Handle,
     seat: u32,
     machines: &[u32],
@@ -115,23 +108,17 @@ pub extern "C" fn wozgirt_pass_group(
         × IsGroupAnswer ring.old.value ring.new.value seat machines.now order answer
         × IsGroupReport answer (first_grant ring.new.value answer) result out.old out.new }
 {
-    let Some(mut kept) = take_out(ring, alloc) else {
+    let Some(kept) = opened(ring) else {
         return CLOSED;
     };
-    let answer = kept::pass_group(&mut kept, seat, machines, order);
-    let grant = kept::first_grant(&kept, answer);
-    put_back(ring, kept);
+    let answer = kept::pass_group(kept, seat, machines, order);
+    let grant = kept::first_grant(kept, answer);
     report_group(answer, grant, out)
 }
 
 /// A survey, for a seat, whose log keeps it.
 #[unsafe(no_mangle)]
-pub extern "C" fn wozgirt_survey(
-    alloc: Global,
-    ring: &mut Handle,
-    seat: u32,
-    out: &mut Sight,
-) -> u32
+pub extern "C" fn wozgirt_survey(ring: &mut Handle, seat: u32, out: &mut Sight) -> u32
     ensures closed { ring.old.full ≡ false
         → (result ≡ closed) × (ring.new ≡ ring.old) × (out.new ≡ out.old) }
     ensures full { ring.new.full ≡ ring.old.full }
@@ -140,17 +127,16 @@ pub extern "C" fn wozgirt_survey(
         × IsSurveyAnswer ring.old.value ring.new.value seat answer
         × IsSightReport answer result out.old out.new }
 {
-    let Some(mut kept) = take_out(ring, alloc) else {
+    let Some(kept) = opened(ring) else {
         return CLOSED;
     };
-    let answer = kept::survey(&mut kept, seat);
-    put_back(ring, kept);
+    let answer = kept::survey(kept, seat);
     report_sight(answer, out)
 }
 
 /// The same, and nothing is logged.
 #[unsafe(no_mangle)]
-pub extern "C" fn wozgirt_glance(alloc: Global, ring: &mut Handle, out: &mut Sight) -> u32
+pub extern "C" fn wozgirt_glance(ring: &mut Handle, out: &mut Sight) -> u32
     ensures closed { ring.old.full ≡ false
         → (result ≡ closed) × (ring.new ≡ ring.old) × (out.new ≡ out.old) }
     ensures full { ring.new.full ≡ ring.old.full }
@@ -161,17 +147,16 @@ pub extern "C" fn wozgirt_glance(alloc: Global, ring: &mut Handle, out: &mut Sig
         × (result ≡ 0)
         × (out.new ≡ sight_of survey) }
 {
-    let Some(kept) = take_out(ring, alloc) else {
+    let Some(kept) = opened(ring) else {
         return CLOSED;
     };
-    let survey = kept::glance(&kept);
-    put_back(ring, kept);
+    let survey = kept::glance(kept);
     report_sight(Ok(survey), out)
 }
 
 /// How many events there were, over all segments.
 #[unsafe(no_mangle)]
-pub extern "C" fn wozgirt_history_length(alloc: Global, ring: &mut Handle, out: &mut u64) -> u32
+pub extern "C" fn wozgirt_history_length(ring: &mut Handle, out: &mut u64) -> u32
     ensures closed { ring.old.full ≡ false
         → (result ≡ closed) × (ring.new ≡ ring.old) × (out.new ≡ out.old) }
     ensures full { ring.new.full ≡ ring.old.full }
@@ -179,18 +164,16 @@ pub extern "C" fn wozgirt_history_length(alloc: Global, ring: &mut Handle, out: 
     ensures reported { ring.old.full ≡ true
         → (result ≡ 0) × (out.new ≡ events_of ring.old.value) }
 {
-    let Some(kept) = take_out(ring, alloc) else {
+    let Some(kept) = opened(ring) else {
         return CLOSED;
     };
-    let length = kept::history_length(&kept);
-    put_back(ring, kept);
-    *out = length;
+    *out = kept::history_length(kept);
     0
 }
 
 /// How many of the events are before the segment.
 #[unsafe(no_mangle)]
-pub extern "C" fn wozgirt_events_before(alloc: Global, ring: &mut Handle, out: &mut u64) -> u32
+pub extern "C" fn wozgirt_events_before(ring: &mut Handle, out: &mut u64) -> u32
     ensures closed { ring.old.full ≡ false
         → (result ≡ closed) × (ring.new ≡ ring.old) × (out.new ≡ out.old) }
     ensures full { ring.new.full ≡ ring.old.full }
@@ -198,23 +181,16 @@ pub extern "C" fn wozgirt_events_before(alloc: Global, ring: &mut Handle, out: &
     ensures reported { ring.old.full ≡ true
         → (result ≡ 0) × (out.new ≡ before_of ring.old.value) }
 {
-    let Some(kept) = take_out(ring, alloc) else {
+    let Some(kept) = opened(ring) else {
         return CLOSED;
     };
-    let count = kept::events_before(&kept);
-    put_back(ring, kept);
-    *out = count;
+    *out = kept::events_before(kept);
     0
 }
 
 /// The event of this number, from 0 over all segments, if this one has it.
 #[unsafe(no_mangle)]
-pub extern "C" fn wozgirt_event_at(
-    alloc: Global,
-    ring: &mut Handle,
-    number: u64,
-    out: &mut EventRow,
-) -> u32
+pub extern "C" fn wozgirt_event_at(ring: &mut Handle, number: u64, out: &mut EventRow) -> u32
     ensures closed { ring.old.full ≡ false
         → (result ≡ closed) × (ring.new ≡ ring.old) × (out.new ≡ out.old) }
     ensures full { ring.new.full ≡ ring.old.full }
@@ -222,11 +198,10 @@ pub extern "C" fn wozgirt_event_at(
     ensures reported { ring.old.full ≡ true
         → IsEventReport (event_of ring.old.value number) result out.old out.new }
 {
-    let Some(kept) = take_out(ring, alloc) else {
+    let Some(kept) = opened(ring) else {
         return CLOSED;
     };
-    let answer = kept::event(&kept, number);
-    put_back(ring, kept);
+    let answer = kept::event(kept, number);
     report_event(answer, out)
 }
 

@@ -6,7 +6,7 @@ ghost use Rattle.desk_calls.specs.Reports.{IsSaveReport};
 ghost use Rattle.desk_calls.specs.Sealed.{IsFileAnswer, IsLinesAnswer, IsCutReport, kept_after};
 ghost use Rattle.desk_codes.specs.declared.TextError.{TextError};
 
-use crate::handle::{Handle, put_back, take_out};
+use crate::handle::{Handle, opened};
 use desk_calls::kept_texts::{begin_journal, cut, take_lines};
 use desk_codes::CLOSED;
 use std::alloc::Global;
@@ -14,12 +14,7 @@ use std::alloc::Global;
 /// Writes the beginning of the journal of the ring's segment, all of the segment so far, to the front of the caller's bytes, if
 /// there is room, and tells its size. From now on a journal is kept. It takes no memory.
 #[unsafe(no_mangle)]
-pub extern "C" fn wozgirt_open_journal(
-    alloc: Global,
-    ring: &mut Handle,
-    out: &mut [u8],
-    size: &mut u64,
-) -> u32
+pub extern "C" fn wozgirt_open_journal(ring: &mut Handle, out: &mut [u8], size: &mut u64) -> u32
     ensures closed { ring.old.full ≡ false → (result ≡ closed)
         × (ring.new ≡ ring.old)
         × (out.new ≡ out.old)
@@ -34,23 +29,16 @@ pub extern "C" fn wozgirt_open_journal(
         × IsFileAnswer ring.old.value answer
         × IsSaveReport answer result out.old out.new size.old size.new }
 {
-    let Some(mut kept) = take_out(ring, alloc) else {
+    let Some(kept) = opened(ring) else {
         return CLOSED;
     };
-    let code = begin_journal(&mut kept, out, size);
-    put_back(ring, kept);
-    code
+    begin_journal(kept, out, size)
 }
 
 /// Writes the lines that the journal does not have to the front of the caller's bytes, if there is room, and tells their size.
 /// The journal has them then. It takes no memory.
 #[unsafe(no_mangle)]
-pub extern "C" fn wozgirt_take_journal(
-    alloc: Global,
-    ring: &mut Handle,
-    out: &mut [u8],
-    size: &mut u64,
-) -> u32
+pub extern "C" fn wozgirt_take_journal(ring: &mut Handle, out: &mut [u8], size: &mut u64) -> u32
     ensures closed { ring.old.full ≡ false → (result ≡ closed)
         × (ring.new ≡ ring.old)
         × (out.new ≡ out.old)
@@ -65,12 +53,10 @@ pub extern "C" fn wozgirt_take_journal(
         × IsLinesAnswer ring.old.value answer
         × IsSaveReport answer result out.old out.new size.old size.new }
 {
-    let Some(mut kept) = take_out(ring, alloc) else {
+    let Some(kept) = opened(ring) else {
         return CLOSED;
     };
-    let code = take_lines(&mut kept, out, size);
-    put_back(ring, kept);
-    code
+    take_lines(kept, out, size)
 }
 
 /// Seals the segment: copies the text of its file to the front of the caller's bytes, if there is room, and returns its size. The
@@ -90,10 +76,8 @@ pub extern "C" fn wozgirt_cut(
     ensures reported { ring.old.full ≡ true
         → IsCutReport ring.old.value ring.new.value result out.old out.new size.old size.new }
 {
-    let Some(mut kept) = take_out(ring, alloc) else {
+    let Some(kept) = opened(ring) else {
         return CLOSED;
     };
-    let code = cut(&mut kept, alloc, out, size);
-    put_back(ring, kept);
-    code
+    cut(kept, alloc, out, size)
 }

@@ -7,10 +7,13 @@ ghost use Rattle.desk_codes.specs.Codes.{no_memory};
 ghost use Rattle.desk_calls.specs.contracts.kept.Kept as kept;
 ghost use Rattle.desk_calls.specs.declared.kept.Kept.{Kept};
 
+mod lends;
+
 use crate::loose::{Loose, boxed, send};
-use core::mem::replace_with;
+use core::mem::{replace, replace_with};
 use desk_calls::kept::Kept;
 use desk_codes::NO_MEMORY;
+pub(crate) use lends::opened;
 use std::alloc::Global;
 use std::marker::Model;
 use std::ptr::null_mut;
@@ -38,33 +41,16 @@ pub(crate) fn handles_are_sent(handle: &Handle) {
     send(handle);
 }
 
-/// Whether a handle has nothing, and the handle as it was.
-fn test(handle: Handle) -> (Handle, bool)
-    ensures { (result.0 ≡ handle) × (result.1 ≡ not handle.full) }
-{
-    let Handle { at, alloc } = handle;
-    let closed = at.is_null();
-    (Handle { at, alloc }, closed)
-}
-
-/// The same, as C lends the handle.
-fn test_lent(handle: Handle, _call: ()) -> (Handle, bool)
-    ensures same { result.0 ≡ handle }
-    ensures is { result.1 ≡ not handle.full }
-{
-    test(handle)
-}
-
 /// Whether what C holds is closed.
 pub(crate) fn is_closed(ring: &mut Handle) -> bool
     ensures same { ring.new ≡ ring.old }
     ensures is { result ≡ not ring.old.full }
 {
-    replace_with(ring, (), test_lent)
+    ring.at.is_null()
 }
 
 /// A handle that has the box.
-pub(crate) fn hold(loose: Loose<Kept, Global>) -> Handle
+fn hold(loose: Loose<Kept, Global>) -> Handle
     requires { loose.full ≡ true }
     ensures { (result.full ≡ true) × (result.value ≡ loose.value) }
 {
@@ -107,22 +93,6 @@ pub(crate) fn take_out(ring: &mut Handle, alloc: Global) -> Option<Box<Kept>>
     Some(replace_with(ring, alloc, take).into_box())
 }
 
-/// A handle that has the box, in the place of one that has nothing.
-fn hold_again(_closed: Handle, loose: Loose<Kept, Global>) -> (Handle, ())
-    requires { loose.full ≡ true }
-    ensures { (result.0.full ≡ true) × (result.0.value ≡ loose.value) }
-{
-    (hold(loose), ())
-}
-
-/// Puts it back.
-pub(crate) fn put_back(ring: &mut Handle, kept: Box<Kept>)
-    requires { ring.old.full ≡ false }
-    ensures { (ring.new.full ≡ true) × (ring.new.value ≡ kept.value) }
-{
-    replace_with(ring, Loose::of(kept), hold_again);
-}
-
 /// Puts a ring into a handle that is closed: 0, or the code of that there is no memory for it.
 pub(crate) fn put(ring: &mut Handle, alloc: Global, kept: Kept) -> u32
     requires { ring.old.full ≡ false }
@@ -132,6 +102,6 @@ pub(crate) fn put(ring: &mut Handle, alloc: Global, kept: Kept) -> u32
     let Some(kept) = boxed(alloc, kept) else {
         return NO_MEMORY;
     };
-    put_back(ring, kept);
+    replace(ring, hold(Loose::of(kept)));
     0
 }

@@ -7,10 +7,13 @@ ghost use Rattle.desk_codes.specs.Codes.{no_memory};
 ghost use Rattle.desk_calls.specs.contracts.desks.LockDesk as desk;
 ghost use Rattle.desk_calls.specs.declared.desks.LockDesk.{LockDesk};
 
+mod lends;
+
 use crate::loose::{Loose, boxed, send};
-use core::mem::replace_with;
+use core::mem::{replace, replace_with};
 use desk_calls::desks::LockDesk;
 use desk_codes::NO_MEMORY;
+pub(crate) use lends::opened;
 use std::alloc::Global;
 use std::marker::Model;
 use std::ptr::null_mut;
@@ -38,33 +41,16 @@ pub(crate) fn lock_handles_are_sent(handle: &LockHandle) {
     send(handle);
 }
 
-/// Whether a handle has nothing, and the handle as it was.
-fn test(handle: LockHandle) -> (LockHandle, bool)
-    ensures { (result.0 ≡ handle) × (result.1 ≡ not handle.full) }
-{
-    let LockHandle { at, alloc } = handle;
-    let closed = at.is_null();
-    (LockHandle { at, alloc }, closed)
-}
-
-/// The same, as C lends the handle.
-fn test_lent(handle: LockHandle, _call: ()) -> (LockHandle, bool)
-    ensures same { result.0 ≡ handle }
-    ensures is { result.1 ≡ not handle.full }
-{
-    test(handle)
-}
-
 /// Whether what C holds is closed.
 pub(crate) fn is_closed(locks: &mut LockHandle) -> bool
     ensures same { locks.new ≡ locks.old }
     ensures is { result ≡ not locks.old.full }
 {
-    replace_with(locks, (), test_lent)
+    locks.at.is_null()
 }
 
 /// A handle that has the box.
-pub(crate) fn hold(loose: Loose<LockDesk, Global>) -> LockHandle
+fn hold(loose: Loose<LockDesk, Global>) -> LockHandle
     requires { loose.full ≡ true }
     ensures { (result.full ≡ true) × (result.value ≡ loose.value) }
 {
@@ -107,22 +93,6 @@ pub(crate) fn take_out(locks: &mut LockHandle, alloc: Global) -> Option<Box<Lock
     Some(replace_with(locks, alloc, take).into_box())
 }
 
-/// A handle that has the box, in the place of one that has nothing.
-fn hold_again(_closed: LockHandle, loose: Loose<LockDesk, Global>) -> (LockHandle, ())
-    requires { loose.full ≡ true }
-    ensures { (result.0.full ≡ true) × (result.0.value ≡ loose.value) }
-{
-    (hold(loose), ())
-}
-
-/// Puts them back.
-pub(crate) fn put_back(locks: &mut LockHandle, desk: Box<LockDesk>)
-    requires { locks.old.full ≡ false }
-    ensures { (locks.new.full ≡ true) × (locks.new.value ≡ desk.value) }
-{
-    replace_with(locks, Loose::of(desk), hold_again);
-}
-
 /// Puts locks into a handle that is closed: 0, or the code of that there is no memory for them.
 pub(crate) fn put(locks: &mut LockHandle, alloc: Global, desk: LockDesk) -> u32
     requires { locks.old.full ≡ false }
@@ -132,6 +102,6 @@ pub(crate) fn put(locks: &mut LockHandle, alloc: Global, desk: LockDesk) -> u32
     let Some(desk) = boxed(alloc, desk) else {
         return NO_MEMORY;
     };
-    put_back(locks, desk);
+    replace(locks, hold(Loose::of(desk)));
     0
 }

@@ -8,7 +8,7 @@ ghost use Rattle.desk_codes.specs.Codes.{closed};
 ghost use Rattle.desk_calls.specs.Desks.{IsAsked, IsDoneAsk, IsDeskLeft, IsNextGrant, IsLeaveReport, IsCutReport};
 ghost use Rattle.desk_calls.specs.LockReports.{asked_code, asked_hold, IsGrantReport};
 
-use crate::lock_handle::{LockHandle, put_back, take_out};
+use crate::lock_handle::{LockHandle, opened, take_out};
 use desk_calls::desks::LockDesk;
 use desk_calls::lock_answers::{Grant, Hold, asked_code, asked_hold, report_grant};
 use desk_codes::{CLOSED, GRANTS_LEFT};
@@ -17,7 +17,6 @@ use std::alloc::Global;
 /// A client acquires a lock: 0 where it holds it now, 1 where it waits, else why it was refused.
 #[unsafe(no_mangle)]
 pub extern "C" fn wozgirt_locks_acquire(
-    alloc: Global,
     locks: &mut LockHandle,
     client: u64,
     lock: u32,
@@ -33,11 +32,10 @@ pub extern "C" fn wozgirt_locks_acquire(
         × (result ≡ asked_code answer)
         × (out.new ≡ asked_hold answer out.old) }
 {
-    let Some(mut desk) = take_out(locks, alloc) else {
+    let Some(desk) = opened(locks) else {
         return CLOSED;
     };
-    let answer = LockDesk::acquire(&mut desk, client, lock, order);
-    put_back(locks, desk);
+    let answer = LockDesk::acquire(desk, client, lock, order);
     *out = asked_hold(answer, *out);
     asked_code(answer)
 }
@@ -45,7 +43,6 @@ pub extern "C" fn wozgirt_locks_acquire(
 /// The same, but it does not wait: 2 where somebody holds the lock.
 #[unsafe(no_mangle)]
 pub extern "C" fn wozgirt_locks_try(
-    alloc: Global,
     locks: &mut LockHandle,
     client: u64,
     lock: u32,
@@ -61,11 +58,10 @@ pub extern "C" fn wozgirt_locks_try(
         × (result ≡ asked_code answer)
         × (out.new ≡ asked_hold answer out.old) }
 {
-    let Some(mut desk) = take_out(locks, alloc) else {
+    let Some(desk) = opened(locks) else {
         return CLOSED;
     };
-    let answer = LockDesk::try_acquire(&mut desk, client, lock, order);
-    put_back(locks, desk);
+    let answer = LockDesk::try_acquire(desk, client, lock, order);
     *out = asked_hold(answer, *out);
     asked_code(answer)
 }
@@ -73,7 +69,6 @@ pub extern "C" fn wozgirt_locks_try(
 /// A client ends its hold, which has this token.
 #[unsafe(no_mangle)]
 pub extern "C" fn wozgirt_locks_release(
-    alloc: Global,
     locks: &mut LockHandle,
     client: u64,
     lock: u32,
@@ -87,22 +82,16 @@ pub extern "C" fn wozgirt_locks_release(
         × IsDoneAsk locks.old.value locks.new.value client lock (Release token) answer
         × (result ≡ asked_code answer) }
 {
-    let Some(mut desk) = take_out(locks, alloc) else {
+    let Some(desk) = opened(locks) else {
         return CLOSED;
     };
-    let answer = LockDesk::release(&mut desk, client, lock, token);
-    put_back(locks, desk);
+    let answer = LockDesk::release(desk, client, lock, token);
     asked_code(answer)
 }
 
 /// A client waits no more.
 #[unsafe(no_mangle)]
-pub extern "C" fn wozgirt_locks_cancel(
-    alloc: Global,
-    locks: &mut LockHandle,
-    client: u64,
-    lock: u32,
-) -> u32
+pub extern "C" fn wozgirt_locks_cancel(locks: &mut LockHandle, client: u64, lock: u32) -> u32
     ensures closed { locks.old.full ≡ false
         → (result ≡ closed) × (locks.new ≡ locks.old) }
     ensures full { locks.new.full ≡ locks.old.full }
@@ -111,34 +100,32 @@ pub extern "C" fn wozgirt_locks_cancel(
         × IsDoneAsk locks.old.value locks.new.value client lock Cancel answer
         × (result ≡ asked_code answer) }
 {
-    let Some(mut desk) = take_out(locks, alloc) else {
+    let Some(desk) = opened(locks) else {
         return CLOSED;
     };
-    let answer = LockDesk::cancel(&mut desk, client, lock);
-    put_back(locks, desk);
+    let answer = LockDesk::cancel(desk, client, lock);
     asked_code(answer)
 }
 
 /// A client leaves all locks.
 #[unsafe(no_mangle)]
-pub extern "C" fn wozgirt_locks_leave(alloc: Global, locks: &mut LockHandle, client: u64) -> u32
+pub extern "C" fn wozgirt_locks_leave(locks: &mut LockHandle, client: u64) -> u32
     ensures closed { locks.old.full ≡ false
         → (result ≡ closed) × (locks.new ≡ locks.old) }
     ensures full { locks.new.full ≡ locks.old.full }
     ensures reported { locks.old.full ≡ true
         → IsLeaveReport locks.old.value locks.new.value client result }
 {
-    let Some(mut desk) = take_out(locks, alloc) else {
+    let Some(desk) = opened(locks) else {
         return CLOSED;
     };
-    let has_left = LockDesk::leave(&mut desk, client);
-    put_back(locks, desk);
+    let has_left = LockDesk::leave(desk, client);
     if has_left { 0 } else { GRANTS_LEFT }
 }
 
 /// A grant to a client that waited, of those that the last input brought about: 0, or 3 where there is none.
 #[unsafe(no_mangle)]
-pub extern "C" fn wozgirt_locks_next(alloc: Global, locks: &mut LockHandle, out: &mut Grant) -> u32
+pub extern "C" fn wozgirt_locks_next(locks: &mut LockHandle, out: &mut Grant) -> u32
     ensures closed { locks.old.full ≡ false
         → (result ≡ closed) × (locks.new ≡ locks.old) × (out.new ≡ out.old) }
     ensures full { locks.new.full ≡ locks.old.full }
@@ -147,11 +134,10 @@ pub extern "C" fn wozgirt_locks_next(alloc: Global, locks: &mut LockHandle, out:
         × IsNextGrant locks.old.value locks.new.value grant
         × IsGrantReport grant result out.old out.new }
 {
-    let Some(mut desk) = take_out(locks, alloc) else {
+    let Some(desk) = opened(locks) else {
         return CLOSED;
     };
-    let answer = LockDesk::next(&mut desk);
-    put_back(locks, desk);
+    let answer = LockDesk::next(desk);
     report_grant(answer, out)
 }
 
@@ -163,12 +149,10 @@ pub extern "C" fn wozgirt_locks_cut(alloc: Global, locks: &mut LockHandle) -> u3
     ensures reported { locks.old.full ≡ true
         → IsCutReport locks.old.value locks.new.value result }
 {
-    let Some(mut desk) = take_out(locks, alloc) else {
+    let Some(desk) = opened(locks) else {
         return CLOSED;
     };
-    let code = LockDesk::cut(&mut desk, alloc);
-    put_back(locks, desk);
-    code
+    LockDesk::cut(desk, alloc)
 }
 
 /// Closes the locks that C holds, and frees them; what is closed stays as it is.

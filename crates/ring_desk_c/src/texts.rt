@@ -6,20 +6,14 @@ ghost use Rattle.desk_codes.specs.Codes.{closed};
 ghost use Rattle.desk_calls.specs.Reports.{IsSaveReport};
 ghost use Rattle.desk_codes.specs.declared.TextError.{TextError};
 
-use crate::handle::{Handle, put_back, take_out};
+use crate::handle::{Handle, opened};
 use desk_calls::kept_texts::save;
 use desk_codes::CLOSED;
-use std::alloc::Global;
 
 /// Writes the saved text of the ring as it is now to the front of the caller's bytes, if there is room, and tells its size. The
 /// ring stays as it was. It takes no memory.
 #[unsafe(no_mangle)]
-pub extern "C" fn wozgirt_save(
-    alloc: Global,
-    ring: &mut Handle,
-    out: &mut [u8],
-    size: &mut u64,
-) -> u32
+pub extern "C" fn wozgirt_save(ring: &mut Handle, out: &mut [u8], size: &mut u64) -> u32
     ensures closed { ring.old.full ≡ false → (result ≡ closed)
         × (ring.new ≡ ring.old)
         × (out.new ≡ out.old)
@@ -31,10 +25,8 @@ pub extern "C" fn wozgirt_save(
         × IsTextAnswer ring.old.value answer
         × IsSaveReport answer result out.old out.new size.old size.new }
 {
-    let Some(kept) = take_out(ring, alloc) else {
+    let Some(kept) = opened(ring) else {
         return CLOSED;
     };
-    let code = save(&kept, out, size);
-    put_back(ring, kept);
-    code
+    save(kept, out, size)
 }
