@@ -169,7 +169,7 @@ static inline void wozgirt_session_take(struct wozgirt_session *it)
     }
 }
 
-/* Hears how the session is, and asks for the lease: whether this server goes on with it. */
+/* Hears how the session is: whether this server tells it. */
 static inline int wozgirt_session_hear(struct wozgirt_session *it, uint64_t *holds, int *waits)
 {
     char line[256];
@@ -187,6 +187,29 @@ static inline int wozgirt_session_hear(struct wozgirt_session *it, uint64_t *hol
         *holds = token ? token : *holds;
         *waits |= strncmp(it->client.line, "waits ", 6) == 0 && strcmp(it->client.line + 6, it->name) == 0;
     }
+    return 1;
+}
+
+/* Takes over what a server tells of the session: whether what was held or waited for is still there. */
+static inline int wozgirt_session_is_kept(struct wozgirt_session *it, uint64_t holds, int waits)
+{
+    int is_held = !it->token || holds == it->token || *it->asked == 'r';
+    if (!is_held || (it->is_waiting && !holds && !waits && *it->asked != 'c'))
+        return 0;
+    if (it->is_waiting && holds) {
+        it->is_waiting = 0;
+        it->token = holds;
+    } else if (!it->token) {
+        it->early = holds ? holds : it->early;
+    }
+    return 1;
+}
+
+/* Asks for the lease: whether there is one. */
+static inline int wozgirt_session_lease(struct wozgirt_session *it)
+{
+    char line[64];
+    int64_t until = wozgirt_lock_now() + WOZGIRT_SESSION_ANSWER;
     snprintf(line, sizeof line, "lease %" PRId64 "\n", it->lease);
     wozgirt_session_say(it, line);
     while (wozgirt_lock_hear(&it->client, until) == WOZGIRT_LOCK_DONE) {
@@ -203,21 +226,16 @@ static inline int wozgirt_session_go_on(struct wozgirt_session *it)
     uint64_t holds = 0;
     int waits = 0;
     int64_t begun = wozgirt_lock_now();
-    if (!wozgirt_session_connect(it) || !wozgirt_session_hear(it, &holds, &waits)) {
+    int is_there = wozgirt_session_connect(it) && wozgirt_session_hear(it, &holds, &waits);
+    /* a grant may come from here on, so what was told is taken over first */
+    if (is_there && !wozgirt_session_is_kept(it, holds, waits))
+        return wozgirt_session_lose(it);
+    if (!is_there || !wozgirt_session_lease(it)) {
         wozgirt_lock_close(&it->client);
         return WOZGIRT_LOCK_LATE;
     }
     it->spoken = begun;
     it->pinged = 0;
-    int is_held = !it->token || holds == it->token || *it->asked == 'r';
-    if (!is_held || (it->is_waiting && !holds && !waits && *it->asked != 'c'))
-        return wozgirt_session_lose(it);
-    if (it->is_waiting && holds) {
-        it->is_waiting = 0;
-        it->token = holds;
-    } else if (!it->token) {
-        it->early = holds ? holds : it->early;
-    }
     if (*it->asked) {
         char line[300];
         snprintf(line, sizeof line, "%" PRIu64 " %s\n", it->number, it->asked);

@@ -82,10 +82,11 @@ class Arbiter:
 
 class Door:
     """A server of the arbiter. `fails` says once what it does to an input: `before` and `after` it is done the connection ends,
-    without an answer."""
+    without an answer. `told` is called, with the session, behind each line that tells how one is."""
 
     def __init__(self, arbiter):
         self.arbiter, self.fails, self.is_silent, self.socks = arbiter, None, False, []
+        self.told = lambda session: None
         self.door = socket.create_server(("127.0.0.1", 0))
         self.place = self.door.getsockname()
         arbiter.doors.append(self)
@@ -136,6 +137,7 @@ class Door:
                         self.arbiter.hears[session] = say
                         told = self.arbiter.state(session)
                         say(f"session {session} {len(told)}", *told)
+                        self.told(session)
                 elif words[0].isdigit():
                     self._input(sock, say, session, int(words[0]), words[1:])
                 else:
@@ -215,7 +217,7 @@ class Sessions(unittest.TestCase):
                     self.assertEqual([it[2] for it in self.arbiter.done[before:]], [verb])
 
     def test_a_wait_goes_on(self):
-        for moment in ("before", "after", "later", "later and granted"):
+        for moment in ("before", "after", "later", "later and granted", "later and granted with the lease"):
             with self.subTest(moment=moment):
                 other, client = self.session(), self.session()
                 token = other.acquire("a")
@@ -230,9 +232,12 @@ class Sessions(unittest.TestCase):
                         self.arbiter.hears = {}
                         self.arbiter.answer(0, len(self.arbiter.done) + 10**9, ["release", "a", "0"])
                         self.arbiter._pass("a")
+                if moment.endswith("lease"):
+                    for it in self.arbiter.doors:
+                        it.told = lambda session, at=client: session == at._key and self.arbiter._pass("a")
                 if moment.startswith("later"):
                     door.cut()
-                if moment != "later and granted":
+                if not moment.startswith("later and"):
                     other.release("a", token)
                 thread.join(PATIENCE)
                 self.assertEqual(got, [token + 1])

@@ -131,8 +131,8 @@ class Cuts(Clients):
                 self.ask(it, "close")
 
     def test_a_wait(self):
-        """The grant comes before the cut, behind it, or before the answer that says to wait."""
-        for moment in ("behind", "before", "at once"):
+        """The grant comes before the cut, behind it, in front of the lease that goes on, or before the answer that says to wait."""
+        for moment in ("behind", "before", "with the lease", "at once"):
             with self.subTest(moment=moment):
                 self.arbiter.done.clear()
                 self.arbiter.holders["a"], self.arbiter.tokens["a"] = (9, 5), 5
@@ -152,6 +152,8 @@ class Cuts(Clients):
                         if moment == "before":
                             self.arbiter.hears[self.arbiter.done[0][0]] = lambda _: None  # it does not hear it
                             self.arbiter._pass("a")
+                        elif moment == "with the lease":
+                            self.doors[1].told = lambda _: self.arbiter._pass("a")
                         self.doors[0].cut()
                     if moment == "behind":
                         wait_until(lambda: self.doors[1].socks)
@@ -162,6 +164,7 @@ class Cuts(Clients):
                 self.assertEqual([words[2] for words in self.arbiter.done], ["acquire", "release"])
                 self.ask(it, "close")
                 self.doors[1].socks.clear()
+                self.doors[1].told = lambda _: None
 
     def test_what_the_session_had_is_gone(self):
         it = self.client(self.places)
