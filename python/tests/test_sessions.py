@@ -14,12 +14,27 @@ from harness import PATIENCE, by_the_clock, needs_loopback, needs_programs, wait
 from wozgirt import Client, Holds, Lock, LockLost, NotHolder, NotInTime, Session, lines  # noqa: E402
 
 
+def end(sock):
+    """Ends a connection, or shuts a door, if that was not done before."""
+    try:
+        sock.shutdown(socket.SHUT_RDWR)
+    except OSError:
+        pass
+
+
 class Arbiter:
     """One lock of each name, and what was answered last to each session: what all servers have in common."""
 
     def __init__(self):
         self.mutex, self.doors, self.done = threading.RLock(), [], []
-        self.holders, self.lines, self.tokens, self.last, self.hears = {}, {}, {}, {}, {}
+        self.holders, self.lines, self.tokens, self.last, self.hears, self.socks = {}, {}, {}, {}, {}, {}
+
+    def comes(self, session, sock, say):
+        """The session is at this connection, which hears its grants; the one where it was before ends."""
+        before, self.socks[session] = self.socks.get(session), sock
+        if before is not None:
+            end(before)
+        self.hears[session] = say
 
     def answer(self, session, number, words):
         """The first answer to an input, which is done once."""
@@ -104,16 +119,10 @@ class Door:
     def cut(self):
         """Ends its connections."""
         for sock in list(self.socks):
-            try:
-                sock.shutdown(socket.SHUT_RDWR)
-            except OSError:
-                pass  # it has ended
+            end(sock)
 
     def close(self):
-        try:
-            self.door.shutdown(socket.SHUT_RDWR)
-        except OSError:
-            pass  # it was closed before
+        end(self.door)
         self.door.close()
         self.cut()
 
@@ -134,7 +143,7 @@ class Door:
                 if words[0] == "session":
                     session = int(words[1])
                     with mutex:
-                        self.arbiter.hears[session] = say
+                        self.arbiter.comes(session, sock, say)
                         told = self.arbiter.state(session)
                         say(f"session {session} {len(told)}", *told)
                         self.told(session)

@@ -1,11 +1,13 @@
 """The client in C of several servers, `include/wozgirt_session.h`, with servers, and with doors in this process that fail when they are
 told to."""
 
+import itertools
 import os
 import shutil
 import subprocess
 import sys
 import tempfile
+import threading
 import unittest
 
 from harness import PATIENCE, TOP, by_the_clock, needs_loopback, needs_programs, say, wait_until
@@ -165,6 +167,39 @@ class Cuts(Clients):
                 self.ask(it, "close")
                 self.doors[1].socks.clear()
                 self.doors[1].told = lambda _: None
+
+    def test_in_turns_while_connections_are_cut(self):
+        """Each of three clients gets the lock or is late, and no hold is lost."""
+        clients = [self.client(self.places[i % 2:] + self.places[:i % 2]) for i in range(3)]
+        answers, is_over = [[] for _ in clients], threading.Event()
+
+        def work(it, heard):
+            for wait in (-1, 5, -1, 0) * 10:
+                heard.append(self.ask(it, f"acquire a 1 {wait}"))
+                if heard[-1].startswith("acquire 0 "):
+                    heard.append(self.ask(it, f"release a {heard[-1].split()[2]}"))
+
+        def disturb():
+            for door, moment in itertools.cycle(itertools.product(self.doors, ("before", "after", None))):
+                if is_over.wait(0.003):
+                    return
+                door.fails = moment
+                if moment is None:
+                    door.cut()
+        threads = [threading.Thread(target=work, args=pair, daemon=True) for pair in zip(clients, answers)]
+        trouble = threading.Thread(target=disturb)
+        for thread in (*threads, trouble):
+            thread.start()
+        for thread in threads:
+            thread.join(PATIENCE)
+        is_over.set()
+        trouble.join()
+        grants = [line for heard in answers for line in heard if line.startswith("acquire 0 ")]
+        self.assertEqual(sorted(int(line.split()[2]) for line in grants), list(range(1, len(grants) + 1)))
+        self.assertLessEqual({line for heard in answers for line in heard} - set(grants), {"acquire 1", "release 0"})
+        self.assertGreaterEqual(len(grants), 60)
+        self.assertEqual([sum(line.startswith("acquire") for line in heard) for heard in answers], [40] * 3)
+        self.assertEqual(self.arbiter.holders, {})
 
     def test_what_the_session_had_is_gone(self):
         it = self.client(self.places)
