@@ -81,7 +81,7 @@ pub record IsSurveyed {C : Type 0} (w : Works C) (first : C) (d e : RingView C) 
   pub same : OnErr answer (e ≡ d)
   pub refused : IsDecided (seat_refusal (bounds_of d) seat) answer
 
--- The same for what C holds: the resource stays.
+-- A pass of what C holds: the resource stays.
 abbrev pub IsPassAnswer : Kept → Kept → ℕ → ℕ → ℕ → Result Receipt CallError → Type 0
 IsPassAnswer (Till d) (Till e) seat machine order answer =
     files.IsPassed d e seat machine order answer
@@ -89,6 +89,7 @@ IsPassAnswer (Idle d) (Idle e) seat machine order answer =
     IsPassed idle (record {}) d e seat machine order answer
 IsPassAnswer _ _ seat machine order answer = ⊥
 
+-- A try of what C holds, in the same way.
 abbrev pub IsTryAnswer : Kept → Kept → ℕ → ℕ → ℕ → Result (Option Receipt) CallError → Type 0
 IsTryAnswer (Till d) (Till e) seat machine order answer =
     files.IsTriedBy d e seat machine order answer
@@ -96,6 +97,7 @@ IsTryAnswer (Idle d) (Idle e) seat machine order answer =
     IsTriedBy idle (record {}) d e seat machine order answer
 IsTryAnswer _ _ seat machine order answer = ⊥
 
+-- A fault of what C holds.
 abbrev pub IsCorruptAnswer : Kept → Kept → ℕ → ℕ → ℕ → Result Receipt CallError → Type 0
 IsCorruptAnswer (Till d) (Till e) seat machine value answer =
     files.IsCorrupted d e seat machine value answer
@@ -103,6 +105,7 @@ IsCorruptAnswer (Idle d) (Idle e) seat machine value answer =
     IsCorrupted idle (record {}) d e seat machine value answer
 IsCorruptAnswer _ _ seat machine value answer = ⊥
 
+-- A group pass of what C holds.
 abbrev pub IsGroupAnswer : Kept → Kept → ℕ → List ℕ → ℕ → Result GroupReceipt CallError → Type 0
 IsGroupAnswer (Till d) (Till e) seat machines order answer =
     files.IsGroupedBy d e seat machines order answer
@@ -110,11 +113,13 @@ IsGroupAnswer (Idle d) (Idle e) seat machines order answer =
     IsGrouped idle (record {}) d e seat machines order answer
 IsGroupAnswer _ _ seat machines order answer = ⊥
 
+-- A survey of what C holds, which the seat's log keeps.
 abbrev pub IsSurveyAnswer : Kept → Kept → ℕ → Result Survey CallError → Type 0
 IsSurveyAnswer (Till d) (Till e) seat answer = files.IsSurveyedBy d e seat answer
 IsSurveyAnswer (Idle d) (Idle e) seat answer = IsSurveyed idle (record {}) d e seat answer
 IsSurveyAnswer _ _ seat answer = ⊥
 
+-- The same survey, which nothing keeps: over all segments for a ring over a till.
 abbrev pub IsGlance : Kept → Survey → Type 0
 IsGlance (Till d) s = s ≡ survey_now d.ring
 IsGlance (Idle d) s = s ≡ survey_of idle (record {}) d

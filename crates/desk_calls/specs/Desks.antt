@@ -81,10 +81,11 @@ pub record AreFreeLocks (count machines : ℕ) (d : DeskView) : Type 0 where
   pub free : All (IsFree machines) d.locks
   pub grants : d.grants ≡ []
 
--- the numbers of locks and of the machines of each that may be asked for
+-- a number of locks that may be asked for
 abbrev pub IsLockCount : ℕ → Type 0
 IsLockCount count = (1 ≤ count) × (count ≤ lock_limit)
 
+-- a number of machines of each lock's ring that may be asked for
 abbrev pub IsMachineCount : ℕ → Type 0
 IsMachineCount machines = (2 ≤ machines) × (machines ≤ machine_limit)
 
@@ -111,5 +112,6 @@ IsCutAnswer old new code =
     ⊎ (((code ≡ grants_left) × (old.grants ≢ []) × (new ≡ old))
     ⊎ ((why : Refusal) × (code ≡ lock_code why) × HaveNoNext old.locks why × (new ≡ old)))
 
+-- a cut is answered so
 pub record IsCutReport (old new : DeskView) (code : ℕ) : Type 0 where
   pub is : IsCutAnswer old new code

@@ -23,23 +23,25 @@ lock_code refusal.Value = 18
 lock_code refusal.Full = history_full
 lock_code refusal.Memory = no_memory
 
--- the code of what the client is told who asks, and what is written for it
+-- the code of what the client is told who asks
 abbrev pub own_code : Option Answer → ℕ
 own_code (Some (answer.Waiting ahead)) = 1
 own_code (Some answer.Busy) = 2
 own_code (Some (answer.Refused why)) = lock_code why
 own_code _ = 0
 
+-- what is written for that client: the token of a grant, or how many stand before it
 abbrev pub own_hold : Option Answer → Hold → Hold
 own_hold (Some (answer.Granted token)) old = record { token = token; ahead = 0 }
 own_hold (Some (answer.Waiting ahead)) old = record { token = 0; ahead = ahead }
 own_hold _ old = old
 
--- the same where grants may be left
+-- the same code where grants may be left
 abbrev pub asked_code : Option Answers → ℕ
 asked_code (Some r) = own_code r.own
 asked_code None = grants_left
 
+-- what is written where grants may be left
 abbrev pub asked_hold : Option Answers → Hold → Hold
 asked_hold (Some r) old = own_hold r.own old
 asked_hold None old = old

@@ -77,6 +77,7 @@ IsGroupReport (Err (call.NotPrivileged m)) grant code old new =
     × (new ≡ record { first = 0; number = 0; result = 0; count = 0; machine = m })
 IsGroupReport (Err e) grant code old new = (code ≡ call_code e) × (new ≡ old)
 
+-- the numbers of a survey, as C has them
 abbrev pub sight_of : Survey → Sight
 sight_of s = record {
   position = s.position;
@@ -160,6 +161,7 @@ no_sums line = record {
   rings = 0;
 }
 
+-- the sums of a legal text, as C has them
 abbrev pub sums_of : Summary → Sums
 sums_of s = record {
   events = s.events;

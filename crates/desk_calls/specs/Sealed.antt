@@ -75,6 +75,7 @@ IsCutReport old new code was out size said =
 abbrev pub no_chain : ℕ
 no_chain = 52
 
+-- the code of each way in which bytes are not the last file of a chain
 abbrev pub segment_code : SegmentError → ℕ
 segment_code segment.Truncated = 49
 segment_code (segment.Syntax line) = 48
@@ -110,6 +111,7 @@ pub record IsGoneOn (bytes : List ℕ) (seats : ℕ) (d : FilesView) : Type 0 wh
   pub filed : d
       ≡ filed_at (record { number = last.head.number; behind = last.head.behind }) base d.ring.ring
 
+-- the same of what C holds, which is over a till
 abbrev pub IsGoneOnBy : List ℕ → ℕ → Kept → Type 0
 IsGoneOnBy bytes seats (Till d) = IsGoneOn bytes seats d
 IsGoneOnBy bytes seats (Idle d) = ⊥

@@ -59,17 +59,19 @@ read_code (read.Syntax line) = 48
 read_code read.Truncated = 49
 read_code read.OutOfMemory = no_memory
 
--- of a saved text that has no ring at a place; of seats that no ring may have; of a saved ring that
--- names another seat, and of one with more events than a history may have
+-- of a saved text that has no ring at a place
 abbrev pub no_ring : ℕ
 no_ring = 50
 
+-- of a number of seats that no ring may have
 abbrev pub bad_seats : ℕ
 bad_seats = 32
 
+-- of a saved ring that names a seat beyond those that are asked for
 abbrev pub no_seat : ℕ
 no_seat = 16
 
+-- of a history that has no room for more events
 abbrev pub history_full : ℕ
 history_full = 22
 
@@ -111,17 +113,19 @@ too_small = 81
 abbrev pub no_event : ℕ
 no_event = 82
 
--- of a number of locks that there may not be, and of one of machines
+-- of a number of locks that there may not be
 abbrev pub bad_locks : ℕ
 bad_locks = 38
 
+-- of a number of machines that no lock's ring may have
 abbrev pub bad_machines : ℕ
 bad_machines = 33
 
--- of grants: there is no further one; some were not handed out
+-- of the next grant, where all were handed out
 abbrev pub no_more : ℕ
 no_more = 3
 
+-- of an input, where grants of the last one were not handed out
 abbrev pub grants_left : ℕ
 grants_left = 102
 

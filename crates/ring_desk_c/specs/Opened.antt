@@ -30,6 +30,7 @@ IsOpenedTill n k start seats (Till d) =
     (d ≡ filed_at first_place no_base d.ring.ring) × IsOpened till 0 n k start seats d.ring.ring
 IsOpenedTill n k start seats (Idle d) = ⊥
 
+-- over no till it has no file
 abbrev pub IsOpenedIdle : ℕ → ℕ → List ℕ → ℕ → Kept → Type 0
 IsOpenedIdle n k start seats (Idle d) = IsOpened idle (record {}) n k start seats d
 IsOpenedIdle n k start seats (Till d) = ⊥

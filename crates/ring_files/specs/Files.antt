@@ -68,6 +68,7 @@ pub record IsTextAt (p : PlaceView) (e : EndlessView) (bytes : List ℕ) : Type 
   pub fits : Fits (saved_alone e.ring)
   pub legal : IsLegalText (saved_alone e.ring)
 
+-- the bytes are the text of the ring's segment as it is now
 abbrev pub IsFileText : FilesView → List ℕ → Type 0
 IsFileText d bytes = IsTextAt d.place d.ring bytes
 
