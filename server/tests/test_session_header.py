@@ -133,23 +133,26 @@ class Cuts(Clients):
                 self.ask(it, "close")
 
     def test_a_wait(self):
-        """The grant comes before the cut, behind it, in front of the lease that goes on, or before the answer that says to wait."""
-        for moment in ("behind", "before", "with the lease", "at once"):
+        """The grant comes before the cut, behind it, in front of the lease that goes on, or before the answer that says to wait, which is
+        lost, and the grant with it or not."""
+        for moment in ("behind", "before", "with the lease", "at once", "at once and unheard"):
             with self.subTest(moment=moment):
                 self.arbiter.done.clear()
                 self.arbiter.holders["a"], self.arbiter.tokens["a"] = (9, 5), 5
-                it, door = self.client(self.places), Arbiter._do.__get__(self.arbiter)
+                it, door, is_at_once = self.client(self.places), Arbiter._do.__get__(self.arbiter), moment.startswith("at once")
 
                 def granted_at_once(session, verb, *words):
                     said = door(session, verb, *words)
                     if verb == "acquire":
+                        if moment == "at once and unheard":
+                            self.arbiter.hears[session] = lambda _: None
                         self.arbiter._pass("a")
                     return said
-                self.arbiter._do = granted_at_once if moment == "at once" else door
-                self.doors[0].fails = "after" if moment == "at once" else None
+                self.arbiter._do = granted_at_once if is_at_once else door
+                self.doors[0].fails = "after" if is_at_once else None
                 self.tell(it, "acquire a 1 -1")
                 wait_until(lambda: self.arbiter.done)
-                if moment != "at once":
+                if not is_at_once:
                     with self.arbiter.mutex:
                         if moment == "before":
                             self.arbiter.hears[self.arbiter.done[0][0]] = lambda _: None  # it does not hear it
@@ -209,6 +212,16 @@ class Cuts(Clients):
             self.doors[0].cut()
         wait_until(lambda: self.ask(it, "check") == "check 3")
         self.assertEqual(self.ask(it, "release a 1"), "release 3")
+
+    def test_a_place_in_the_line_that_is_gone(self):
+        self.arbiter.holders["a"] = 9, 5
+        it = self.client(self.places)
+        self.tell(it, "acquire a 1 -1")
+        wait_until(lambda: self.arbiter.lines.get("a"))
+        with self.arbiter.mutex:
+            self.arbiter.lines.clear()
+            self.doors[0].cut()
+        self.assertEqual(it.stdout.readline(), "acquire 3\n")
 
     @by_the_clock
     def test_a_silent_server_is_left(self, longer):
