@@ -183,7 +183,8 @@ class Cuts(Clients):
                     heard.append(self.ask(it, f"release a {heard[-1].split()[2]}"))
 
         def disturb():
-            for door, moment in itertools.cycle(itertools.product(self.doors, ("before", "after", None))):
+            # not for ever: on a slow machine each connection might be cut before it is of use
+            for door, moment in 100 * list(itertools.product(self.doors, ("before", "after", None))):
                 if is_over.wait(0.003):
                     return
                 door.fails = moment
