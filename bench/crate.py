@@ -1,7 +1,7 @@
 #!/usr/bin/env python3
 """bench/crate.py [proof|tests|edits CRATE ..]: what the gate does for some crates alone: their proof, from nothing and with the search
-for contracts that no call can meet, which `rt check` leaves out; or their tests, proved and run; or their must-fail edits. The
-libraries below them are those that earlier runs kept, and are proved where they have changed. Prints what failed, and the processor
+for contracts that no call can meet, which `rt check` leaves out; or their tests, proved and run; or their edits, also those that
+the gate tries if something has changed, which is noted in bench/wrong_bodies/tried.txt. The libraries below them are those that earlier runs kept, and are proved where they have changed. Prints what failed, and the processor
 seconds of each.
 
 With no words: the gate's checks that prove nothing, over all crates: the layout of files, files that nothing reads, words that mean
@@ -9,31 +9,23 @@ something else to a reader, edits that cannot be applied.
 
 The status is 0 if nothing failed. It is no verdict: `rt ci` is. It rests on the kit's own module, as ./build does: try it at each move
 to another kit. Needs rt and python3."""
-import importlib.machinery
-import importlib.util
 import os
 import re
 import resource
-import shutil
 import sys
 import tempfile
 
-TOP = os.path.dirname(os.path.dirname(os.path.abspath(__file__)))
 sys.dont_write_bytecode = True
+sys.path.insert(0, os.path.dirname(os.path.realpath(__file__)))
+
+import kit
+
+TOP = kit.TOP
 
 
-def load(name, path):
-    """Returns a program in Python as a module."""
-    loader = importlib.machinery.SourceFileLoader(name, path)
-    module = importlib.util.module_from_spec(importlib.util.spec_from_loader(name, loader))
-    loader.exec_module(module)
-    return module
-
-
-def kit():
+def gate():
     """The kit's module, set up as for `rt ci`, and its crates, lowest first."""
-    rt = load("rt", os.path.realpath(shutil.which("rt") or sys.exit("there is no rt")))
-    load("build", f"{TOP}/build").once_each(rt.rtlib)
+    rt = kit.load()
     rt.rtlib.stop = rt.stop
     rt.rtlib.guarded()
     # (libraries that were kept may rest on kept work)
@@ -58,7 +50,7 @@ def stopped(rt, crate, crates):
     why += ["it renames std, or takes it whole"] * bool(re.search(rt.RENAMES, code)) + ["a test is ignored"] * bool(re.search(rt.IGNORED, code))
     why += ["its layout is another"] * bool(rt.rtlib.fmt(crate.folder, "--check", sys.stdout))
     good, bad = rt.edits_of(crate)
-    faults = ((it, rt.read_edit(it, crate.folder)[1]) for it in good)
+    faults = ((it, rt.read_edit(it, crate.folder)[1]) for it in [*good, *kit.edits_if_changed(crate)])
     return why + [f"{os.path.basename(it)}: {fault}" for it, fault in faults if fault] + [f"{it} is no edit" for it in bad]
 
 
@@ -75,26 +67,20 @@ def proved(rt, crate, tests):
 
 
 def tried(rt, crate):
-    """Tries the crate's edits, each over what a check of the crate as it stands proves, as the gate does; whether each is refused."""
-    room = rt.seeded(crate, ["--jobs", "2"])
-    if not room:
-        print(f"{crate.name} is not proved")
-        return False
-    outcomes = []
-    try:
-        for number, edit in enumerate(rt.edits_of(crate)[0]):
-            rt.linked(f"{room}/seed", f"{room}/{number}")
-            kind, text = rt.must_fail(crate, edit, ["--jobs", "1"], f"{room}/{number}")
-            outcomes.append(kind in (rt.REFUSED, rt.AT_LIMIT))
-            print(text, flush=True)
-    finally:
-        shutil.rmtree(room, ignore_errors=True)
-    return all(outcomes)
+    """Tries the crate's edits as the gate does; whether each is refused. Notes it, so that the gate leaves those out that it tries if
+    something has changed."""
+    sum = kit.sum_of_edits(rt.rtlib, crate, {})
+    outcomes = rt.must_fail_all(crate, [*rt.edits_of(crate)[0], *kit.edits_if_changed(crate)], ["--jobs", "1"])
+    print(*(text for _, text in outcomes), sep="\n", flush=True)
+    is_well = all(refused for refused, _ in outcomes)
+    if is_well and kit.edits_if_changed(crate) and sum == kit.sum_of_edits(rt.rtlib, crate, {}):
+        kit.note_tried({crate.name: sum})
+    return is_well
 
 
 def main(what="", *names):
     os.chdir(TOP)
-    rt, crates = kit()
+    rt, crates = gate()
     if not what:
         faults = [f"{crate.name}: {why}" for crate in crates for why in stopped(rt, crate, crates)]
         print(*faults, f"{len(crates)} crates, {len(faults)} faults", sep="\n")

@@ -157,7 +157,7 @@ def group(*machines):
     return [("m", machine, len(machines) - turn) for turn, machine in enumerate(machines, 1)]
 
 
-SCRIPT = "crates/command_script/stdout"
+SCRIPT = "tests/rows/picture.out"
 PICTURES = {
     "first": draw(0, 3, [0, 2, 0], passes(0, 0, 2), 0, 3),
     "repair": draw(1, 4, [0, 2, 1, 0], passes(3, 2, 3, 1, 2, 3, 0, 1, 2, 3, 0, 1), 0, 12),

@@ -1,6 +1,6 @@
 """A second reader of journals, small and slow, written from docs/FORMATS.md alone, on top of `small_checker.py`: it shares no
 code with the program. `answer` gives what `ring_tool recover FILE -` prints, or its refusal. With the word `cuts` or `bytes`
-before FILE it prints what the rows `<recover|-|-` and `^recover|-|-` of the crate `command_script` have to print of it."""
+before FILE it prints what the rows `<recover|-|-` and `^recover|-|-` of `tests/rows` have to print of it."""
 
 import sys
 

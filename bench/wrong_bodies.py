@@ -4,7 +4,7 @@
 Tries the wrong bodies that stand beside the gate, bench/wrong_bodies/CRATE/*.edit: the prover has to refuse each. It works
 in a temporary clone of what is committed. Words: the crates to try, all of them where there is none.
 
-  --kept         tries the edits of the gate too, crates/CRATE/must-fail/*.edit
+  --kept         tries the edits of the gate too, of crates/CRATE/must-fail and crates/CRATE/must-fail-if-changed
   --over FOLDER  begins over the work that the crates of this folder, a clone too, kept in out/
   --jobs N       so many checks side by side (1)
   --only WORD    the edits alone whose name has the word
@@ -28,8 +28,6 @@ tried, unless --over has it, and then 5 to 20 processor seconds for each edit, w
 """
 import argparse
 import functools
-import importlib.machinery
-import importlib.util
 import os
 import re
 import resource
@@ -42,7 +40,11 @@ from collections import Counter
 from concurrent.futures import ThreadPoolExecutor
 
 sys.dont_write_bytecode = True
-TOP = os.path.dirname(os.path.dirname(os.path.realpath(__file__)))
+sys.path.insert(0, os.path.dirname(os.path.realpath(__file__)))
+
+import kit
+
+TOP = kit.TOP
 OUT = f"{TOP}/bench/out"
 TELLS = "clause", "law", "invariant", "condition"
 LITTLE = "name", "safety"
@@ -54,24 +56,6 @@ NAMES = re.compile(r"has no field|is not in scope|has no `|was not admitted|is n
 SAFETY = re.compile(
     r"the (index|sum|subtraction|product|negation|divisor|amount|array|part|value fits|loop ends|float)|control never comes"
 )
-
-
-def load():
-    """Returns the kit's own module, whose stamps of a crate ask each crate below once."""
-    file = os.path.realpath(shutil.which("rt") or sys.exit("there is no rt"))
-    loader = importlib.machinery.SourceFileLoader("rt", file)
-    rt = importlib.util.module_from_spec(importlib.util.spec_from_loader("rt", loader))
-    loader.exec_module(rt)
-    rt.rtlib.guarded()
-    plain, known = rt.rtlib.Crate.stamp, {}
-
-    def stamp(crate):
-        if crate.folder not in known:
-            known[crate.folder] = plain(crate)
-        return known[crate.folder]
-
-    rt.rtlib.Crate.stamp = stamp
-    return rt
 
 
 class Edit:
@@ -322,7 +306,8 @@ def judge_alone(rt, edit, status, lines, texts, found):
 
 
 def edits_in(crate, top, kept, word):
-    folders = [f"{top}/bench/wrong_bodies/{crate.name}", *([f"{crate.folder}/must-fail"] if kept else [])]
+    of_the_gate = [f"{crate.folder}/must-fail", f"{crate.folder}/{kit.IF_CHANGED}"]
+    folders = [f"{top}/bench/wrong_bodies/{crate.name}", *(of_the_gate if kept else [])]
     paths = [f"{at}/{name}" for at in folders if os.path.isdir(at) for name in sorted(os.listdir(at)) if name.endswith(".edit")]
     return [Edit(crate, it) for it in paths if word in os.path.basename(it)]
 
@@ -434,7 +419,8 @@ def try_all(rt, given, over, top):
 
 def main():
     clone = sys.argv.pop(1)
-    given, rt = words_given(), load()
+    given, rt = words_given(), kit.load()
+    rt.rtlib.guarded()
     over = os.path.abspath(given.over)
     os.chdir(clone)
     return 0 if try_all(rt, given, over, clone) else 1

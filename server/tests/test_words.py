@@ -34,8 +34,8 @@ def ring_tool():
     if not IS_DOUBLE:
         whole = help_of(ENGINE)
         return {"": whole, **{name: help_of(ENGINE, name) for name in commands_of(whole) - {"help"}}}
-    text = read(TOP, "crates", "command_script", "stdout")
-    helps = {name: body for name, body in re.findall(r"^\$(\w+)\|--help\n(.*?)^status 0$", text, re.MULTILINE | re.DOTALL)}
+    text = "".join(read(TOP, "tests", "rows", f"{name}.out") for name in ("words", "holds"))
+    helps = {name: body for name, body in re.findall(r"^[$>](\w+)\|--help\n(.*?)^status 0$", text, re.MULTILINE | re.DOTALL)}
     helps[""] = re.search(r"^%--help\n(.*?)^status 0$", text, re.MULTILINE | re.DOTALL)[1]
     return helps
 

@@ -1,4 +1,4 @@
-//! Tests of the commands that are no row of the script of `command_script`: readers that fail or give too much, faults that
+//! Tests of the commands that are no row of `tests/rows`: readers that fail or give too much, faults that
 //! no words lead to, and what files hold.
 #![tactic(auto)]
 

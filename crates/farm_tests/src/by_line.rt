@@ -1,5 +1,5 @@
 //! Rings that lines drive: readers, writers and files that fail. The answers to a dialogue, and its journal, are rows
-//! of `command_script`.
+//! of `tests/rows`.
 
 mod chained;
 mod files;

@@ -1,5 +1,5 @@
 //! Refusals in words, and out of memory. The refused settings, and which fault is reported first, are in the script of
-//! `command_script`.
+//! `tests/rows`.
 
 use super::SCRIPTED;
 use ring_settings::{Field, RingCause, SettingsError, plans, read_settings};
