@@ -1,8 +1,9 @@
 //! A program of its own, since signals are heard by all threads of a program: this one has only one.
 
+use std::os::unix::process::ExitStatusExt;
 use std::process::Command;
 use std::time::Duration;
-use wozgirt_system::{Interest, Poller, Signal, Signals};
+use wozgirt_system::{Heard, Interest, Poller, Signal, Signals};
 
 fn main() {
     let mut signals = Signals::new(&[Signal::Child, Signal::Terminate]).unwrap();
@@ -18,5 +19,23 @@ fn main() {
     assert_eq!(signals.next_signal(), None);
     // SIGTERM ended the shell: there it was not blocked
     assert_eq!(child.wait().unwrap().code(), None);
-    println!("test a_childs_end_is_read_and_children_hear_signals ... ok\n\ntest result: ok. 1 passed; 0 failed");
+    println!("test a_childs_end_is_read_and_children_hear_signals ... ok");
+    senders_and_defaults(&mut signals);
+    println!("test senders_are_told_and_a_signal_ends_a_program ... ok\n\ntest result: ok. 2 passed; 0 failed");
+}
+
+/// Run as a child of this program too, with a word.
+fn senders_and_defaults(signals: &mut Signals) {
+    if std::env::args().any(|word| word == "ends") {
+        Signal::Pipe.end_program().unwrap(); // std ignores it in every program
+        unreachable!();
+    }
+    let this = std::env::current_exe().unwrap();
+    let ended = Command::new(this).arg("ends").stdout(std::process::Stdio::null()).status().unwrap();
+    assert_eq!(ended.signal(), Some(13));
+    while signals.next_signal().is_some() {}
+    let itself = format!("kill -TERM {}", std::process::id());
+    Command::new("sh").args(["-c", &itself]).status().unwrap();
+    let heard: Vec<Heard> = std::iter::from_fn(|| signals.next_heard()).collect();
+    assert!(heard.contains(&Heard { signal: Signal::Terminate, is_of_kernel: false }), "{heard:?}");
 }
