@@ -6,7 +6,7 @@
 //! |---|---|
 //! | `getsockopt` | who is at the other end of a Unix socket ([`peer_of`]) |
 //! | `epoll_create1`, `epoll_ctl`, `epoll_wait` | one thread that serves all connections ([`Poller`]) |
-//! | `sigemptyset`, `sigaddset`, `pthread_sigmask`, `signalfd` | signals as a file that is read ([`Signals`]) |
+//! | `sigemptyset`, `sigfillset`, `sigaddset`, `pthread_sigmask`, `signalfd` | signals as a file that is read ([`Signals`]) |
 //! | `signal`, `raise` | what a signal does by default ([`Signal::reset`], [`Signal::end_program`]) |
 //! | `socket`, `connect` | a Unix socket that is waited for only so long ([`connect_within`]) |
 //! | `kill` | the end of a command, asked for ([`send_signal`]) |
@@ -27,7 +27,7 @@ pub use limits::permit_files;
 pub use peers::{peer_of, Peer};
 pub use polling::{Event, Interest, Poller};
 pub use processes::{inherit, never_wait, send_signal, try_lock};
-pub use signals::{Heard, Signal, Signals};
+pub use signals::{hear_nothing, Heard, Signal, Signals};
 pub use sockets::connect_within;
 
 use std::io;

@@ -27,6 +27,7 @@ struct Set([u64; 16]);
 
 extern "C" {
     fn sigemptyset(set: *mut Set) -> i32;
+    fn sigfillset(set: *mut Set) -> i32;
     fn sigaddset(set: *mut Set, signal: i32) -> i32;
     fn pthread_sigmask(how: i32, set: *const Set, old: *mut Set) -> i32;
     fn signalfd(file: i32, set: *const Set, flags: i32) -> i32;
@@ -82,12 +83,7 @@ impl Signal {
     /// Ends this program as the signal does by default. It returns only if the system refuses that, or the signal ends nothing.
     pub fn end_program(self) -> io::Result<()> {
         self.reset()?;
-        let none = empty()?;
-        // SAFETY: the set is valid, and the old one is not asked for.
-        match unsafe { pthread_sigmask(SIG_SETMASK, &none, ptr::null_mut()) } {
-            0 => {}
-            number => return Err(io::Error::from_raw_os_error(number)),
-        }
+        mask(SIG_SETMASK, &empty()?)?;
         // SAFETY: no memory is passed.
         checked(unsafe { raise(self.number()) }).map(drop)
     }
@@ -116,11 +112,7 @@ impl Signals {
             // SAFETY: the set is valid.
             checked(unsafe { sigaddset(&mut set, signal.number()) })?;
         }
-        // SAFETY: the set is valid, and the old one is not asked for.
-        match unsafe { pthread_sigmask(SIG_BLOCK, &set, ptr::null_mut()) } {
-            0 => {}
-            number => return Err(io::Error::from_raw_os_error(number)),
-        }
+        mask(SIG_BLOCK, &set)?;
         // SAFETY: the set is valid; the new file is nobody else's.
         let file = unsafe { OwnedFd::from_raw_fd(checked(signalfd(-1, &set, SFD_CLOEXEC | SFD_NONBLOCK))?) };
         Ok(Signals { file: File::from(file) })
@@ -131,10 +123,7 @@ impl Signals {
         let none = empty()?;
         // SAFETY: the call is one of those that may be made between fork and exec, and the set is valid.
         unsafe {
-            command.pre_exec(move || match pthread_sigmask(SIG_SETMASK, &none, ptr::null_mut()) {
-                0 => Ok(()),
-                number => Err(io::Error::from_raw_os_error(number)),
-            });
+            command.pre_exec(move || mask(SIG_SETMASK, &none));
         }
         Ok(())
     }
@@ -156,6 +145,23 @@ impl Signals {
             }
             _ => None,
         }
+    }
+}
+
+/// From now on this thread hears no signal: they are for others of the program.
+pub fn hear_nothing() -> io::Result<()> {
+    let mut all = empty()?;
+    // SAFETY: the set is valid.
+    checked(unsafe { sigfillset(&mut all) })?;
+    mask(SIG_SETMASK, &all)
+}
+
+/// Changes which signals this thread does not hear.
+fn mask(how: i32, set: &Set) -> io::Result<()> {
+    // SAFETY: the set is valid, and the old one is not asked for.
+    match unsafe { pthread_sigmask(how, set, ptr::null_mut()) } {
+        0 => Ok(()),
+        number => Err(io::Error::from_raw_os_error(number)),
     }
 }
 

@@ -8,7 +8,7 @@ use std::os::unix::net::UnixStream;
 use std::sync::mpsc::channel;
 use std::thread;
 use std::time::{Duration, Instant};
-use wozgirt_system::connect_within;
+use wozgirt_system::{connect_within, hear_nothing};
 
 /// The pause until a server is looked for again.
 pub const PAUSE: Duration = Duration::from_millis(50);
@@ -31,7 +31,7 @@ impl Stream {
             Place::Tcp(address) => connect_tcp(address, until).map(Stream::Tcp),
         };
         stream.map_err(|fault| match fault.kind() {
-            ErrorKind::TimedOut => Fault::Late,
+            ErrorKind::TimedOut => Fault::At(place.clone(), Box::new(Fault::Late)),
             _ => Fault::Connect(place.clone(), fault),
         })
     }
@@ -59,6 +59,7 @@ fn addresses(name: &str, until: Instant) -> io::Result<Vec<SocketAddr>> {
     let (sender, result) = channel();
     let name = name.to_string();
     thread::Builder::new().spawn(move || {
+        let _ = hear_nothing(); // it may outlive the wait, and signals are for those that read them
         let _ = sender.send(name.to_socket_addrs().map(Iterator::collect)); // else nobody wants it any more
     })?;
     let left = until.saturating_duration_since(Instant::now());

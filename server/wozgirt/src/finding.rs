@@ -60,7 +60,7 @@ impl Search {
                 let at = (self.first + i) % count;
                 let other = match self.try_one(at, count - i) {
                     Ok(found) => return Ok(found),
-                    Err(Fault::Connect(place, why)) => Fault::Connect(place, why),
+                    Err(known @ (Fault::Connect(..) | Fault::At(..))) => known,
                     Err(other) => Fault::At(self.places[at].clone(), Box::new(other)),
                 };
                 is_starting |= other.is_of_a_start();

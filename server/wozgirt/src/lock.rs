@@ -18,8 +18,8 @@ use wozgirt_system::{inherit, send_signal, Event, Heard, Interest, Poller, Signa
 /// The lease over TCP, and of several servers, if none is asked for.
 pub const LEASE: Duration = Duration::from_secs(30);
 /// How long a server may take, when the time is over, to say that nothing is waited for any more; and then, that a session is over.
-pub const GRACE: Duration = Duration::from_millis(100);
-const LAST_GRACE: Duration = Duration::from_millis(150);
+pub const GRACE: Duration = Duration::from_millis(150);
+const LAST_GRACE: Duration = Duration::from_millis(180);
 /// How long it may take else, when this client leaves.
 const FAREWELL: Duration = Duration::from_secs(1);
 const SIGNALS: u64 = 0;
@@ -205,12 +205,12 @@ fn command(hold: &Hold, token: u64, link: &mut impl Link, mut signals: Signals) 
     let child = start(hold, token)?;
     let left_behind = pair.map(|(here, _)| here);
     let kill_after = link.lease().map_or(hold.kill_after, |lease| hold.kill_after.min(lease / 4));
-    let mut guard = Guard { child, is_group: hold.is_group, ends_at: None, said: None };
+    let mut guard = Guard { child, is_group: hold.is_group, ends_at: None, said: Vec::new() };
     let status = guard.watch(link, &mut signals, kill_after)?;
     if guard.ends_at.is_some() {
         return Ok(Ending::Lost);
     }
-    if left_behind.is_some_and(LeftBehind::is_some) {
+    if left_behind.is_some_and(LeftBehind::has_both) {
         return Ok(Ending::Command(status)); // who was left behind keeps the lock
     }
     if let Err(fault) = link.release(token) {
@@ -232,7 +232,8 @@ impl LeftBehind {
         Ok((LeftBehind(here), there))
     }
 
-    fn is_some(mut self) -> bool {
+    /// Whether there is one.
+    fn has_both(mut self) -> bool {
         matches!(self.0.read(&mut [0]), Err(fault) if fault.kind() == ErrorKind::WouldBlock)
     }
 }
@@ -255,8 +256,8 @@ struct Guard {
     is_group: bool,
     /// After the loss of the lock: when the command is killed.
     ends_at: Option<Instant>,
-    /// What was said of that.
-    said: Option<Aside>,
+    /// What was said meanwhile: nobody may read it, and the command is to be watched.
+    said: Vec<Aside>,
 }
 
 impl Guard {
@@ -281,7 +282,7 @@ impl Guard {
             if self.ends_at.is_none() {
                 if let Some(why) = link.look(&events, now) {
                     self.send(Signal::Terminate);
-                    self.said = Some(Aside::complain(format!("the lock is lost ({why}); COMMAND is ended")));
+                    self.said.push(Aside::complain(format!("the lock is lost ({why}); COMMAND is ended")));
                     self.ends_at = Some(now + kill_after);
                     link.give_up()?;
                 }
@@ -292,7 +293,7 @@ impl Guard {
     }
 
     /// A key of the terminal sends its signal to the command too, unless that has a group of its own; a process, to this program alone.
-    fn pass_on(&self, Heard { signal, is_of_kernel }: Heard) {
+    fn pass_on(&mut self, Heard { signal, is_of_kernel }: Heard) {
         match signal {
             Signal::Terminate | Signal::HangUp => self.send(signal),
             Signal::Interrupt | Signal::Quit if self.is_group || !is_of_kernel => self.send(signal),
@@ -300,9 +301,9 @@ impl Guard {
         }
     }
 
-    fn send(&self, signal: Signal) {
+    fn send(&mut self, signal: Signal) {
         if let Err(fault) = send_signal(&self.child, signal, self.is_group) {
-            complain(format_args!("{signal:?} cannot be sent to COMMAND: {fault}"));
+            self.said.push(Aside::complain(format!("{signal:?} cannot be sent to COMMAND: {fault}")));
         }
     }
 }
