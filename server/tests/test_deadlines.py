@@ -103,7 +103,7 @@ class Unreached(InTime):
         answers = {}
         for more, message in (({}, NOT_ASKED), ({"lease": ["lease 30000"]}, ASKED), ({"acquire": ["waiting a 0"]}, ASKED)):
             answers.update(more)
-            with self.subTest(answers=answers), Double(answers, is_tcp=True) as server:
+            with Double(answers, is_tcp=True) as server:
                 self.ends_in_time(server, message, longer)
 
     def test_without_a_deadline_it_is_told_too(self):

@@ -30,6 +30,12 @@ def row(title):
     return register
 
 
+def hear_keys():
+    """INT and QUIT do what they do by default, in a program that is started: who runs the tests may ignore them."""
+    signal.signal(signal.SIGINT, signal.SIG_DFL)
+    signal.signal(signal.SIGQUIT, signal.SIG_DFL)
+
+
 class Lock:
     """One of both commands, over a lock of its own. `words` is what is run with options and a command."""
 
@@ -42,9 +48,9 @@ class Lock:
     def run(self, options, command, **more):
         return subprocess.run(self.words(options, command), env=self.env, capture_output=True, timeout=PATIENCE, check=False, **more)
 
-    def start(self, options, command, **more):
-        return subprocess.Popen(self.words(options, command), env=self.env, text=True,
-                                **{"stdin": subprocess.PIPE, "stdout": subprocess.PIPE, "stderr": subprocess.PIPE, **more})
+    def start(self, options, command):
+        return subprocess.Popen(self.words(options, command), env=self.env, text=True, preexec_fn=hear_keys,
+                                stdin=subprocess.PIPE, stdout=subprocess.PIPE, stderr=subprocess.PIPE)
 
     def status(self, options, command, **more):
         return self.run(options, command, **more).returncode
@@ -78,6 +84,14 @@ class Flock(Lock):
         return file
 
 
+def end_process(number):
+    """Ends COMMAND, if it runs."""
+    try:
+        os.kill(number, signal.SIGKILL)
+    except ProcessLookupError:
+        pass
+
+
 @needs_programs
 class Rows(unittest.TestCase):
     def setUp(self):
@@ -106,7 +120,7 @@ class Rows(unittest.TestCase):
     @row("a signal ends COMMAND")
     def test_its_signal(self):
         for number in (2, 9, 15):
-            self.both([], ["sh", "-c", f"kill -{number} $$"], 128 + number)
+            self.both([], ["sh", "-c", f"kill -{number} $$"], 128 + number, preexec_fn=hear_keys)
 
     @row("COMMAND cannot be run")
     def test_not_run(self):
@@ -204,6 +218,7 @@ class Rows(unittest.TestCase):
                     sleep 0.3; echo "heard $n"; exit 5"""
         number, terminal = pty.fork()
         if number == 0:
+            hear_keys()
             os.execve(it.words([], [])[0], it.words([], ["sh", "-c", script]), it.env)
         said = b""
         while b"up" not in said:
@@ -242,16 +257,24 @@ class Rows(unittest.TestCase):
                     with self.subTest(program=it.name, signal=name, options=options):
                         running = it.start(options, self.command_that_hears())
                         number = int(running.stdout.readline())
-                        running.send_signal(signal.Signals["SIG" + name])
-                        status = running.wait(PATIENCE)
-                        if it.name == "flock":
-                            self.assertEqual(status, -signal.Signals["SIG" + name])
-                            self.assertFalse(it.is_free())
-                            os.kill(number, signal.SIGKILL)
-                        else:
-                            self.assertEqual((status, running.stdout.read()), (5, name + "\n"))
+                        try:
+                            self.hears(it, running, name)
+                        finally:
+                            running.kill()
+                            end_process(number)
+                            self.end(running)
                         wait_until(it.is_free)
-                        self.end(running)
+
+    def hears(self, it, running, name):
+        """It is sent this signal."""
+        number = signal.Signals["SIG" + name]
+        running.send_signal(number)
+        status = running.wait(PATIENCE)
+        if it.name == "flock":
+            self.assertEqual(status, -number)
+            self.assertFalse(it.is_free())
+        else:
+            self.assertEqual((status, running.stdout.read()), (5, name + "\n"))
 
     def killed(self, it, options):
         """Whether the lock is held by COMMAND when it is alone."""

@@ -3,7 +3,7 @@
 use crate::answers::{Answer, Verb};
 use crate::client::{fault_of, question, soon, Client, Fault};
 use crate::connecting::while_starting;
-use crate::lock::{Got, Link, Unanswered, GRACE, LEASE};
+use crate::lock::{Ending, Got, Link, Unanswered, GRACE, LEASE};
 use crate::places::Place;
 use crate::words::{Hold, Patience};
 use std::io;
@@ -83,7 +83,7 @@ impl Alone {
                 Ok(line) => match Answer::read(&line, &self.name).filter(|it| it.is_to(verb) || *it == Answer::Pong) {
                     Some(Answer::Pong) => self.lease.iter_mut().for_each(Lease::ponged),
                     Some(Answer::Waiting) if answer_due.is_some() => answer_due = None,
-                    Some(Answer::Busy) => return Ok(Got::Conflict),
+                    Some(Answer::Busy) => return Ok(Got::Not(Ending::Conflict)),
                     Some(Answer::Granted(token)) => return self.got(token),
                     _ => return Err(fault_of(line, &self.name)),
                 },
@@ -112,14 +112,14 @@ impl Alone {
         let mut granted = None;
         loop {
             let line = match self.client.line(Some(end)) {
-                Err(Fault::Late) => return Ok(Got::Unanswered(Unanswered::Closed)),
+                Err(Fault::Late) => return Ok(Got::Not(Ending::Unanswered(Unanswered::Closed))),
                 other => other?,
             };
             match (Answer::read(&line, &self.name), granted) {
                 (Some(Answer::Pong), _) => {}
                 (Some(Answer::Waiting), None) if !is_answered => is_answered = true,
                 (Some(Answer::Granted(token)), None) => (is_answered, granted) = (true, Some(token)),
-                (Some(Answer::Cancelled), None) if is_answered => return Ok(Got::Conflict),
+                (Some(Answer::Cancelled), None) if is_answered => return Ok(Got::Not(Ending::Conflict)),
                 (Some(Answer::Refused("waiter")), Some(token)) => return self.got(token),
                 _ => return Err(fault_of(line, &self.name)),
             }

@@ -18,8 +18,8 @@ use wozgirt_system::{inherit, send_signal, Event, Heard, Interest, Poller, Signa
 /// The lease over TCP, and of several servers, if none is asked for.
 pub const LEASE: Duration = Duration::from_secs(30);
 /// How long a server may take, when the time is over, to say that nothing is waited for any more; and then, that a session is over.
-pub const GRACE: Duration = Duration::from_millis(150);
-const LAST_GRACE: Duration = Duration::from_millis(180);
+pub const GRACE: Duration = Duration::from_millis(120);
+const LAST_GRACE: Duration = Duration::from_millis(160);
 /// How long it may take else, when this client leaves.
 const FAREWELL: Duration = Duration::from_secs(1);
 const SIGNALS: u64 = 0;
@@ -104,12 +104,8 @@ impl From<io::Error> for NotRun {
 pub enum Got {
     /// It is held, with this token.
     Token(u64),
-    /// It was not to be had in time.
-    Conflict,
-    /// The same, and the server did not say so.
-    Unanswered(Unanswered),
-    /// A signal ended the wait.
-    Signal(Signal),
+    /// It is not, and this is how it ended.
+    Not(Ending),
 }
 
 /// One server or several that keep the lock while COMMAND runs.
@@ -162,7 +158,7 @@ fn run_alone(mut alone: Alone, hold: &Hold, deadline: Option<Instant>) -> Result
             let signals = heard(alone.poller())?;
             command(hold, token, &mut alone, signals)
         }
-        other => Ok(other.ending()),
+        Got::Not(ending) => Ok(ending),
     }
 }
 
@@ -171,7 +167,7 @@ fn run_in_session(mut session: Session, hold: &Hold, deadline: Option<Instant>) 
         let mut signals = heard(session.poller())?;
         match session.acquire(hold, deadline, &mut signals)? {
             Got::Token(token) => command(hold, token, &mut session, signals),
-            other => Ok(other.ending()),
+            Got::Not(ending) => Ok(ending),
         }
     })();
     let is_late = matches!(ending, Ok(Ending::Conflict | Ending::Unanswered(_)));
@@ -179,17 +175,6 @@ fn run_in_session(mut session: Session, hold: &Hold, deadline: Option<Instant>) 
     match (session.leave(until.unwrap_or_else(|| Instant::now() + FAREWELL)), ending) {
         (true, Ok(Ending::Unanswered(_))) => Ok(Ending::Conflict),
         (_, ending) => ending,
-    }
-}
-
-impl Got {
-    /// How it ended without the lock.
-    fn ending(self) -> Ending {
-        match self {
-            Got::Signal(signal) => Ending::Signal(signal),
-            Got::Unanswered(why) => Ending::Unanswered(why),
-            Got::Token(_) | Got::Conflict => Ending::Conflict,
-        }
     }
 }
 

@@ -6,7 +6,7 @@
 use crate::answers::{Answer, Verb};
 use crate::client::{fault_of, question, soon, Client, Fault};
 use crate::finding::{Finding, Found, Search};
-use crate::lock::{Got, Link, Unanswered, GRACE, LEASE};
+use crate::lock::{Ending, Got, Link, Unanswered, GRACE, LEASE};
 use crate::places::Place;
 use crate::words::{Hold, Patience};
 use std::fs::File;
@@ -105,13 +105,13 @@ impl Session {
                 self.ask(Verb::Cancel, None)?;
             }
             if end.is_some_and(|end| end <= now) {
-                return Ok(Got::Unanswered(Unanswered::Lease(self.lease)));
+                return Ok(Got::Not(Ending::Unanswered(Unanswered::Lease(self.lease))));
             }
             let until = [self.next_time(), deadline.filter(|it| *it > now).or(end)].into_iter().flatten().min();
             self.poller.wait(until.map(|until| until.saturating_duration_since(now)), &mut events)?;
             while let Some(signal) = signals.next_signal() {
                 if signal != Signal::Child {
-                    return Ok(Got::Signal(signal));
+                    return Ok(Got::Not(Ending::Signal(signal)));
                 }
             }
             self.step(&events, Instant::now())?;
@@ -125,7 +125,7 @@ impl Session {
         };
         match (Answer::read(&line, &self.name), self.token) {
             (Some(Answer::Granted(_) | Answer::Waiting), token) => Ok(token.map(Got::Token)),
-            (Some(Answer::Busy | Answer::Cancelled), _) => Ok(Some(Got::Conflict)),
+            (Some(Answer::Busy | Answer::Cancelled), _) => Ok(Some(Got::Not(Ending::Conflict))),
             (Some(Answer::Refused("waiter")), Some(token)) => Ok(Some(Got::Token(token))), // it came before the cancel
             _ => Err(fault_of(line, &self.name)),
         }
