@@ -10,8 +10,9 @@ from harness import FOLDER
 
 
 class Double:
-    """A server that answers the lines of its clients by `answers`: what is said to a line, or to all with its first word; one that is
-    not in it has no answer. `path` is its Unix socket, or with `is_tcp` its place. A context manager."""
+    """A server that answers the lines of its clients by `answers`: what is said to a line, or to all with its first word, as a list of
+    lines or as a function of the line; one that is not in it has no answer. `path` is its Unix socket, or with `is_tcp` its place. A
+    context manager."""
 
     def __init__(self, answers, is_tcp=False):
         self.answers, self.heard, self.socks = answers, [], []
@@ -40,6 +41,7 @@ class Double:
                 line = line.rstrip("\n")
                 self.heard.append(line)
                 said = self.answers.get(line, self.answers.get(line.split(" ")[0], []))
+                said = said(line) if callable(said) else said
                 sock.sendall("".join(f"{it}\n" for it in said).encode())
         except OSError:
             pass  # the other end is gone

@@ -2,11 +2,12 @@
 
 import os
 import signal
+import subprocess
 import time
 import unittest
 
 from doubles import Double, Full
-from harness import PATIENCE, Server, by_the_clock, needs_loopback, needs_programs, say
+from harness import COMMAND, PATIENCE, Server, by_the_clock, needs_loopback, needs_programs, say
 from test_command import close, run, start
 from test_several import Arbiter, Commands, Door
 
@@ -193,6 +194,40 @@ class Answers(unittest.TestCase):
         self.assertEqual(self.said({**waits, "cancel": ["cancelled a"]}, "-w", "0.1"), (1, "", ""))
         came_first = ["granted a 7", "refused waiter a"]
         self.assertEqual(self.said({**waits, "cancel": came_first}, "-w", "0.1"), (0, "in 7\n", ""))
+
+    @by_the_clock
+    def test_a_sign_of_life_beside_a_cancel(self, longer):
+        """The lease goes on from there."""
+        pings = []
+
+        def ping(_):
+            pings.append("pong")
+            return pings[1:2]  # the first one is answered behind the cancel
+        answers = {"lease": [f"lease {1000 * longer}"], "ping": ping, "acquire": ["waiting a 0"], "release": ["released a"],
+                   "cancel": ["pong", "granted a 7", "refused waiter a"]}
+        with Double(answers) as server:
+            done = run(server, "lock", "--lease", str(longer), "-w", str(0.35 * longer), "a", "--", "sleep", str(longer))
+            self.assertEqual((done.returncode, done.stderr), (0, ""))
+            self.assertGreater(len(pings), 2)
+
+    def said_in_a_session(self, answers):
+        """Both of the servers are one."""
+        begin = {"session": lambda line: [line + " 0"], "lease": lambda line: [line], "ping": ["pong"]}
+        with Double({**begin, "3": ["3 left"], **answers}) as server:
+            env = dict(os.environ, WOZGIRT_SOCKET=f"{server.path},{server.path}")
+            words = [COMMAND, "lock", "a", "--", "sh", "-c", "echo in $WOZGIRT_TOKEN"]
+            done = subprocess.run(words, env=env, capture_output=True, text=True, timeout=PATIENCE, check=False)
+            return done.returncode, done.stdout, done.stderr
+
+    def test_in_a_session(self):
+        for line in ("1 granted b 7", "1 waiting b 0", "1 busy a", "1 released a", "1 refused holds b", "2 granted a 7", "granted b 7"):
+            with self.subTest(line=line):
+                told = line if line.startswith("2 ") else line.replace("1 ", "")
+                self.assertEqual(self.said_in_a_session({"1": [line], "2": ["2 left"]}), (76, "", f"wozgirt: the server said: {told}\n"))
+        again = {"1": ["1 waiting a 0", "granted a 7", "granted a 7", "1 granted a 7"], "2": ["2 released a"]}
+        self.assertEqual(self.said_in_a_session(again), (0, "in 7\n", ""))
+        told = "wozgirt: after COMMAND had ended: the server said: released b\n"
+        self.assertEqual(self.said_in_a_session({"1": ["1 granted a 7"], "2": ["2 released b"]}), (0, "in 7\n", told))
 
     def test_to_a_release(self):
         for line in ("released b", "cancelled a", "refused holder b"):

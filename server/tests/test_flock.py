@@ -179,8 +179,9 @@ class Rows(unittest.TestCase):
                 self.assertEqual((done.returncode, done.stdout, done.stderr), (0, b"\xff\xfe-a\x80", b""))
         path = os.path.join(self.folder.encode(), b"\xff.sock")
         os.symlink(self.server.path, path)
-        it = subprocess.run([COMMAND, "status", "--socket", path], capture_output=True, timeout=PATIENCE, check=False)
-        self.assertEqual((it.returncode, it.stderr), (0, b""))
+        for words, env in ((["--socket", path], dict(os.environ)), ([], {**os.environ, "WOZGIRT_SOCKET": path})):
+            done = subprocess.run([COMMAND, "status", *words], env=env, capture_output=True, timeout=PATIENCE, check=False)
+            self.assertEqual((done.returncode, done.stderr), (0, b""))
 
     @row("what COMMAND has in its environment")
     def test_environment(self):

@@ -116,7 +116,7 @@ impl Alone {
                 other => other?,
             };
             match (Answer::read(&line, &self.name), granted) {
-                (Some(Answer::Pong), _) => {}
+                (Some(Answer::Pong), _) => self.lease.iter_mut().for_each(Lease::ponged),
                 (Some(Answer::Waiting), None) if !is_answered => is_answered = true,
                 (Some(Answer::Granted(token)), None) => (is_answered, granted) = (true, Some(token)),
                 (Some(Answer::Cancelled), None) if is_answered => return Ok(Got::Not(Ending::Conflict)),
