@@ -8,7 +8,7 @@ import tempfile
 import time
 import unittest
 
-from harness import COMMAND, ENGINE, FOLDER, PATIENCE, SERVER, Server, at_least, needs_loopback, needs_programs
+from harness import COMMAND, ENGINE, FOLDER, PATIENCE, SERVER, Server, at_least, by_the_clock, needs_loopback, needs_programs
 from test_cluster import Trial, needs_strict
 from test_command import close
 
@@ -68,6 +68,17 @@ class Starting(unittest.TestCase):
         each = self.begin_both("tcp:" + place)
         with Server("--tcp", place):
             self.both_end(each)
+
+    @by_the_clock
+    def test_who_waits_for_the_lock_has_it_before_who_does_not(self, longer):
+        """Both wait for the server, and the one that does not wait for the lock began first."""
+        path = os.path.join(self.folder, str(longer), "lock.sock")
+        late, first = [start(path, *verb, "--server-wait", str(PATIENCE), "a", "--", "sleep", str(2 * longer)) for verb in (["try"], ["lock"])]
+        time.sleep(0.2 * longer)
+        with Server(folder=os.path.dirname(path)):
+            self.assertEqual((late.wait(PATIENCE), first.wait(PATIENCE)), (1, 0))
+        for it in (late, first):
+            close(it)
 
     def test_what_is_pasted_at_once(self):
         """With the five seconds that nobody asked for."""

@@ -7,10 +7,13 @@ use crate::lock::{Ending, Got, Link, Unanswered, GRACE, LEASE};
 use crate::places::Place;
 use crate::words::{Hold, Patience};
 use std::io;
+use std::thread;
 use std::time::{Duration, Instant};
 use wozgirt_system::{inherit, Event, Interest, Poller};
 
 const SERVER: u64 = 1;
+/// A server that just came up is asked later by who does not wait for the lock: who waits for both, and came first, is then before it.
+const AFTER_OTHERS: Duration = Duration::from_millis(200);
 /// How long a line is read that the system has already.
 const AT_ONCE: Duration = Duration::from_millis(1);
 
@@ -60,7 +63,14 @@ impl Alone {
     pub fn open(place: &Place, hold: &Hold, deadline: Option<Instant>) -> Result<Alone, Fault> {
         let there = Instant::now() + hold.server_wait;
         let there = deadline.map_or(there, |deadline| deadline.min(there));
-        let mut client = while_starting(there, || Client::open(place, soon(deadline)))?;
+        let mut attempts = 0;
+        let mut client = while_starting(there, || {
+            attempts += 1;
+            Client::open(place, soon(deadline))
+        })?;
+        if attempts > 1 && hold.patience == Patience::None {
+            thread::sleep(AFTER_OTHERS);
+        }
         let lease = match hold.lease.or(client.is_tcp().then_some(LEASE)) {
             None => None,
             Some(asked) => {

@@ -1,7 +1,6 @@
 //! The search for a server that goes on with a session, in a thread of its own where something else is to be watched meanwhile.
 
 use crate::client::{unexpected, Client, Fault};
-use crate::connecting::PAUSE;
 use crate::places::Place;
 use std::io;
 use std::os::unix::net::UnixStream;
@@ -14,6 +13,9 @@ const CONNECT: Duration = Duration::from_secs(2);
 const ANSWER: Duration = Duration::from_secs(5);
 /// And how long at least, if there is less time left than that.
 const LEAST: Duration = Duration::from_millis(50);
+/// The pause until all servers are tried again, if none of them answers.
+const PAUSE: Duration = Duration::from_millis(50);
+
 /// What is looked for.
 #[derive(Debug, Clone)]
 pub struct Search {
