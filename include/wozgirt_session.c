@@ -133,11 +133,19 @@ static inline int wozgirt_session_lose(struct wozgirt_session *it, int why)
     return wozgirt_lock_lose(&it->client, why);
 }
 
+/* Waits until the servers may be tried again. */
+static inline void wozgirt_session_pause(int64_t until)
+{
+    int64_t left = wozgirt_lock_earlier(until - wozgirt_lock_now(), WOZGIRT_SESSION_PAUSE);
+    if (left > 0)
+        poll(NULL, 0, (int)left);
+}
+
 /* Ends the connection to a server that says what no server of locks says; it is not asked again at once. */
-static inline void wozgirt_session_leave_it(struct wozgirt_session *it)
+static inline void wozgirt_session_shun(struct wozgirt_session *it, int64_t until)
 {
     wozgirt_lock_close(&it->client);
-    poll(NULL, 0, WOZGIRT_SESSION_PAUSE);
+    wozgirt_session_pause(until);
 }
 
 /* Takes over what the answer to what is asked says. */
@@ -184,7 +192,7 @@ static inline void wozgirt_session_granted(struct wozgirt_session *it, uint64_t 
 }
 
 /* Takes a line of the server: an answer, a grant, or the answer to a ping. */
-static inline void wozgirt_session_take(struct wozgirt_session *it)
+static inline void wozgirt_session_take(struct wozgirt_session *it, int64_t until)
 {
     char *line = it->client.line, *rest = strchr(line, ' ');
     uint64_t number = 0, token = 0;
@@ -200,12 +208,12 @@ static inline void wozgirt_session_take(struct wozgirt_session *it)
     if (rest)
         *rest = '\0';
     if (!rest || !wozgirt_lock_number(line, &number) || number > it->number) {
-        wozgirt_session_leave_it(it);
+        wozgirt_session_shun(it, until);
     } else if (number == it->number && it->asked) {
         memmove(line, rest + 1, strlen(rest + 1) + 1);
         enum wozgirt_lock_answer answer = wozgirt_lock_read(line, it->asked, it->asked_name, &token);
         if (answer == WOZGIRT_LOCK_OTHER)
-            wozgirt_session_leave_it(it);
+            wozgirt_session_shun(it, until);
         else
             wozgirt_session_answered(it, answer, token);
     }
@@ -260,7 +268,7 @@ static inline int wozgirt_session_borrow(struct wozgirt_session *it, int64_t unt
             it->lease = lease <= (uint64_t)it->lease ? (int64_t)lease : it->lease;
             return lease > 0;
         }
-        wozgirt_session_take(it);
+        wozgirt_session_take(it, until);
     }
     return 0;
 }
@@ -286,7 +294,7 @@ static inline int wozgirt_session_go_on(struct wozgirt_session *it, int64_t unti
     }
     wozgirt_lock_close(&it->client);
     if (it->at == 0)
-        poll(NULL, 0, WOZGIRT_SESSION_PAUSE);
+        wozgirt_session_pause(until);
     return WOZGIRT_LOCK_DONE;
 }
 
@@ -313,7 +321,7 @@ static inline int wozgirt_session_step(struct wozgirt_session *it, int64_t until
         return now >= until ? WOZGIRT_LOCK_LATE : wozgirt_session_go_on(it, wozgirt_lock_earlier(until, end));
     int ready = wozgirt_lock_hear(&it->client, wozgirt_lock_earlier(wozgirt_lock_earlier(until, due), end));
     if (ready > 0)
-        wozgirt_session_take(it);
+        wozgirt_session_take(it, until);
     else if (ready < 0)
         wozgirt_lock_close(&it->client);
     else
@@ -397,21 +405,23 @@ WOZGIRT_SESSION_FUNCTION int wozgirt_session_open(struct wozgirt_session *sessio
     return wozgirt_session_lose(session, wozgirt_lock_now() < end ? errno : ETIMEDOUT);
 }
 
-/* Gives up an acquire whose deadline has come: WOZGIRT_LOCK_LATE, or WOZGIRT_LOCK_DONE if it was granted before. */
+/* Withdraws an acquire whose deadline has come: WOZGIRT_LOCK_LATE, or WOZGIRT_LOCK_DONE if it was granted before. */
 static inline int wozgirt_session_withdraw(struct wozgirt_session *it, int64_t until)
 {
-    int result = WOZGIRT_LOCK_LATE;
-    if (it->is_waiting && !it->asked) {
+    int result = wozgirt_session_finish(it, until);
+    const int is_cancelled = result == WOZGIRT_LOCK_DONE && it->is_waiting;
+    if (is_cancelled)
         result = wozgirt_session_ask(it, WOZGIRT_LOCK_CANCEL, it->name, 0, until);
-        if (result != WOZGIRT_LOCK_LATE)
-            return result == WOZGIRT_LOCK_LOST ? result : it->token ? WOZGIRT_LOCK_DONE : WOZGIRT_LOCK_LATE;
+    if (result == WOZGIRT_LOCK_LATE) {
+        if (it->asked != WOZGIRT_LOCK_LEAVE) {
+            wozgirt_session_give_up(it);
+            wozgirt_session_repeat(it, until);
+        }
+        return WOZGIRT_LOCK_SILENT;
     }
-    if (it->asked != WOZGIRT_LOCK_LEAVE) {
-        wozgirt_session_give_up(it);
-        wozgirt_session_repeat(it, until);
-    }
-    result = wozgirt_session_finish(it, until);
-    return result == WOZGIRT_LOCK_LATE ? WOZGIRT_LOCK_SILENT : result == WOZGIRT_LOCK_LOST ? result : WOZGIRT_LOCK_LATE;
+    if (result == WOZGIRT_LOCK_LOST || (result == WOZGIRT_LOCK_REFUSED && !is_cancelled))
+        return result;
+    return it->token ? WOZGIRT_LOCK_DONE : WOZGIRT_LOCK_LATE;
 }
 
 /* The acquire of a session that is inside. */
