@@ -15,18 +15,14 @@
 extern "C" {
 #endif
 
-/* In milliseconds: how long one server may take to be there, and to say how the session is; how long all are tried at first; the
- * pause until they are tried again; and how long a close may take. */
 enum {
-    WOZGIRT_SESSION_CONNECT = 2000,
-    WOZGIRT_SESSION_ANSWER = 5000,
-    WOZGIRT_SESSION_FIRST = 10000,
-    WOZGIRT_SESSION_PAUSE = 50,
-    WOZGIRT_SESSION_LEAVE = 1000
+    WOZGIRT_SESSION_CONNECT = 2000, /* in milliseconds: how long one server may take to be there, */
+    WOZGIRT_SESSION_ANSWER = 5000,  /* and to say how the session is; */
+    WOZGIRT_SESSION_FIRST = 10000,  /* how long all are tried at first; */
+    WOZGIRT_SESSION_PAUSE = 50,     /* the pause until they are tried again; */
+    WOZGIRT_SESSION_LEAVE = 1000,   /* how long a close may take */
+    WOZGIRT_SESSION_PARTS = 8       /* after this part of its lease a session speaks, and after another one leaves the server */
 };
-
-/* After this part of its lease a session speaks, and after another one without an answer it looks for another server. */
-enum { WOZGIRT_SESSION_PARTS = 8 };
 
 /* Behind a place: the comma before the next one, or the end. */
 static inline size_t wozgirt_session_behind(const char *servers, size_t at)
@@ -157,20 +153,13 @@ static inline void wozgirt_session_answered(struct wozgirt_session *it, enum woz
         it->token = answer == WOZGIRT_LOCK_YES ? token : answer == WOZGIRT_LOCK_NOT_YET ? it->early : 0;
         it->is_waiting = it->asked == WOZGIRT_LOCK_ACQUIRE && answer == WOZGIRT_LOCK_NOT_YET && !it->early;
         break;
-    case WOZGIRT_LOCK_LEAVE:
-        if (answer == WOZGIRT_LOCK_YES) {
-            it->token = 0;
-            it->is_waiting = 0;
-        }
-        break;
     case WOZGIRT_LOCK_RELEASE:
         it->token = answer == WOZGIRT_LOCK_YES ? 0 : it->token;
         break;
     case WOZGIRT_LOCK_CANCEL:
         it->is_waiting = 0; /* if it is refused, a grant came first, or the place is gone */
         break;
-    case WOZGIRT_LOCK_PING:
-    case WOZGIRT_LOCK_NOTHING:
+    default:
         break;
     }
     it->early = 0;

@@ -58,23 +58,22 @@ class Answers(Clients):
         self.assertEqual([client.ask("release a 1")[1::4], client.ask("acquire a 1 0")[1::4], client.ask("check")[1::4]],
                          [(REFUSED, "refused holder a"), (REFUSED, "refused memory"), (DONE, "")])
 
-    def test_a_deadline_and_an_answer_cross(self):
+    @by_the_clock
+    def test_a_deadline_and_an_answer_cross(self, _):
         """What a withdrawal is answered: the grant came first, or a refusal, or none of both."""
         for first, second, wanted in (("waiting a 0\n", "cancelled a\n", (LATE, 0)), ("waiting a 0\n", "granted a 9\nrefused waiter a\n", (DONE, 9)),
                                       ("", "waiting a 0\ncancelled a\n", (LATE, 0)), ("", "granted a 9\nrefused waiter a\n", (DONE, 9)),
                                       ("", "waiting a 0\ngranted a 9\nrefused waiter a\n", (DONE, 9)),
                                       ("", "refused circle a\nrefused waiter a\n", (LATE, 0))):
-            with self.subTest(first=first, second=second):
-                door = self.door(first, second, "pong\n")
-                client = self.client(door.path)
-                self.assertEqual(client.ask("acquire a 1 50")[1:3], wanted)
-                self.assertEqual(client.ask("check").result, DONE)
-                self.assertEqual(door.heard, ["acquire a 1", "cancel a", "ping"])
+            door = self.door(first, second, "pong\n")
+            client = self.client(door.path)
+            self.assertEqual(client.ask("acquire a 1 50")[1:3], wanted, (first, second))
+            self.assertEqual(client.ask("check").result, DONE)
+            self.assertEqual(door.heard, ["acquire a 1", "cancel a", "ping"])
         for second in ("cancelled b\n", "cancelled a\n", "granted a 9\ncancelled a\n", "waiting a 0\nrefused waiter a\n",
                        "waiting a 0\nwaiting a 0\ncancelled a\n", "refused circle a\ncancelled a\n"):
-            with self.subTest(second=second):
-                client = self.client(self.door("", second).path)
-                self.assertEqual(client.ask("acquire a 1 50")[1:4:2], (LOST, errno.EPROTO))
+            client = self.client(self.door("", second).path)
+            self.assertEqual(client.ask("acquire a 1 50")[1:4:2], (LOST, errno.EPROTO), second)
 
     def test_names(self):
         client = self.client(self.door(lambda line: line.replace("try", "granted") + "\n").path)
@@ -95,7 +94,8 @@ class Interrupts(Clients):
         self.assertEqual(door.heard, ["acquire a 1"])
 
     @needs_programs
-    def test_a_handler_that_returns(self):
+    @by_the_clock
+    def test_a_handler_that_returns(self, _):
         with Server(locks="a,b") as server, server.raw() as holder:
             self.assertEqual(say(holder, "acquire a 1\n"), ["granted a 1"])
             client = self.client(server.path)
@@ -141,7 +141,7 @@ class Deadlines(Clients):
     @by_the_clock
     def test_what_stands_still(self, _):
         for who in ("server", "engine"):
-            with self.subTest(who=who), Server(locks="a,b") as server, server.raw() as holder:
+            with Server(locks="a,b") as server, server.raw() as holder:
                 say(holder, "acquire b 1\n")
                 waiter, *clients = [self.client(server.path, 400) for _ in range(5)]
                 waiter.tell("acquire b 1 700")

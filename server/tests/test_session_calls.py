@@ -10,8 +10,9 @@ import tempfile
 import time
 import unittest
 
-from harness import FOLDER, TOP, at_least, by_the_clock, needs_loopback, needs_programs, wait_until
-from header_clients import CHILD, DONE, LATE, LOST, MARGIN, REFUSED, SILENT, Clients, FullDoor, needs_c
+from harness import FOLDER, TOP, at_least, needs_loopback, needs_programs, wait_until
+from header_clients import (CHILD, DONE, LATE, LOST, MARGIN, REFUSED, SILENT, Clients, FullDoor, by_the_clock_anew,
+                            needs_c)
 from test_cluster import Trial, needs_strict
 
 sys.path.insert(0, os.path.join(TOP, "python", "tests"))
@@ -127,7 +128,7 @@ class Answers(Calls):
         self.free("b")
         self.assertEqual(client.hear()[1:3], (DONE, 6))
 
-    @by_the_clock
+    @by_the_clock_anew
     def test_answers_keep_the_lease(self, longer):
         """A client that is served does not lose its lease, though it never calls `wozgirt_session_check`."""
         client, end = self.session(lease=1000 * longer), time.monotonic() + 3 * longer
@@ -196,26 +197,25 @@ class Deadlines(Calls):
         self.assertEqual(it.result, result)
         self.assertLessEqual(it.seconds, seconds + MARGIN)
 
-    @by_the_clock
+    @by_the_clock_anew
     def test_an_acquire(self, _):
         for is_known in (False, True):
-            with self.subTest(is_known=is_known):
-                client = self.session()
-                self.hold()
-                client.tell("acquire a 1 400")
-                if is_known:
-                    wait_until(lambda: self.arbiter.lines.get("a"))
-                self.silence()
-                self.is_in_time(client.hear(), SILENT, 0.4)
-                self.is_in_time(client.ask("acquire a 1 100"), SILENT, 0.1)
-                self.is_in_time(client.ask("check"), DONE, 0)
-                self.silence(False)
-                self.assertEqual(client.ask("acquire b 1 5000").result, DONE)
-                self.assertEqual(self.arbiter.lines["a"], [])
-                self.assertEqual(self.verbs()[-2:], ["leave", "acquire"])
-                client.ask("close")
+            client = self.session()
+            self.hold()
+            client.tell("acquire a 1 400")
+            if is_known:
+                wait_until(lambda: self.arbiter.lines.get("a"))
+            self.silence()
+            self.is_in_time(client.hear(), SILENT, 0.4)
+            self.is_in_time(client.ask("acquire a 1 100"), SILENT, 0.1)
+            self.is_in_time(client.ask("check"), DONE, 0)
+            self.silence(False)
+            self.assertEqual(client.ask("acquire b 1 5000").result, DONE)
+            self.assertEqual(self.arbiter.lines["a"], [])
+            self.assertEqual(self.verbs()[-2:], ["leave", "acquire"])
+            client.ask("close")
 
-    @by_the_clock
+    @by_the_clock_anew
     def test_it_is_withdrawn_at_the_next_server(self, _):
         self.hold()
         client = self.session(lease=4000)
@@ -225,42 +225,40 @@ class Deadlines(Calls):
         wait_until(lambda: client.ask("check").result != DONE or "leave" in self.verbs(), 3)
         self.assertEqual(client.ask("acquire a 1 100").result, LATE)
 
-    @by_the_clock
+    @by_the_clock_anew
     def test_a_hold_is_lost_in_time(self, longer):
         """When half of the lease is over, also where a server takes connections and says nothing."""
         for line in ("check", "release a 1"):
-            with self.subTest(line=line):
-                client, lease = self.session(lease=4000 * longer), 4 * longer
-                begun = time.monotonic()
-                it = client.ask("acquire a 1 0")
-                self.assertEqual(it.result, DONE)
-                self.silence()
-                while it.result == DONE:
-                    it = client.ask(line.replace(" 1", f" {it.token}"))
-                self.assertEqual(it[1:4], (LOST, 0, errno.ETIMEDOUT))
-                at_least(lease / 2 - 0.002, begun)
-                self.assertLess(time.monotonic() - begun, lease / 2 + MARGIN)
-                self.silence(False)
-                self.arbiter.holders.clear()
+            client, lease = self.session(lease=4000 * longer), 4 * longer
+            begun = time.monotonic()
+            it = client.ask("acquire a 1 0")
+            self.assertEqual(it.result, DONE)
+            self.silence()
+            while it.result == DONE:
+                it = client.ask(line.replace(" 1", f" {it.token}"))
+            self.assertEqual(it[1:4], (LOST, 0, errno.ETIMEDOUT))
+            at_least(lease / 2 - 0.002, begun)
+            self.assertLess(time.monotonic() - begun, lease / 2 + MARGIN)
+            self.silence(False)
+            self.arbiter.holders.clear()
 
-    @by_the_clock
+    @by_the_clock_anew
     def test_nobody_is_let_in(self, _):
         """The other server's queue is full, or the way to it is cut."""
         with tempfile.TemporaryDirectory(dir=FOLDER) as folder:
             for family, address in ((socket.AF_UNIX, os.path.join(folder, "door")), (socket.AF_INET, ("127.0.0.1", 0))):
-                with self.subTest(family=family):
-                    full = FullDoor(family, address)
-                    self.addCleanup(full.close)
-                    door = Door(self.arbiter)
-                    place = full.place if family == socket.AF_UNIX else "tcp:%s:%d" % full.place
-                    client = self.client("tcp:%s:%d" % door.place + "," + place, 4000)
-                    door.close()
-                    self.is_in_time(client.ask("acquire a 1 500"), SILENT, 0.5)
-                    begun = time.monotonic()
-                    client.ask("close")
-                    self.assertLess(time.monotonic() - begun, 1 + MARGIN)
+                full = FullDoor(family, address)
+                self.addCleanup(full.close)
+                door = Door(self.arbiter)
+                place = full.place if family == socket.AF_UNIX else "tcp:%s:%d" % full.place
+                client = self.client("tcp:%s:%d" % door.place + "," + place, 4000)
+                door.close()
+                self.is_in_time(client.ask("acquire a 1 500"), SILENT, 0.5)
+                begun = time.monotonic()
+                client.ask("close")
+                self.assertLess(time.monotonic() - begun, 1 + MARGIN)
 
-    @by_the_clock
+    @by_the_clock_anew
     def test_nobody_is_there(self, _):
         """At the beginning."""
         with tempfile.TemporaryDirectory(dir=FOLDER) as folder:
@@ -296,9 +294,9 @@ class Servers(Clients, Trial):
 
     words = ["-DSESSION"]
 
-    @by_the_clock
+    @by_the_clock_anew
     def test_a_server_that_is_stopped(self, longer):
-        a, b = self.server(f"a{longer}"), self.server(f"b{longer}")
+        a, b = self.server("a"), self.server("b")
         other = self.client(b.path, 30000)
         self.assertEqual(other.ask("acquire a 1 0").result, DONE)
         for wait in (1, 500):
@@ -320,8 +318,6 @@ class Servers(Clients, Trial):
                 client.ask("close")
             finally:
                 os.kill(a.process.pid, signal.SIGCONT)
-        self.end(a)
-        self.end(b)
 
 
 if __name__ == "__main__":
