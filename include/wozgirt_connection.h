@@ -115,7 +115,7 @@ static inline int wozgirt_lock_await(int file, int event, int64_t until)
 static inline int wozgirt_lock_connect(int file, const struct sockaddr *address, socklen_t size, int64_t until)
 {
     while (connect(file, address, size) != 0) {
-        if (errno == EINPROGRESS) {
+        if (errno == EINPROGRESS || errno == EALREADY) {
             int fault = 0, ready = wozgirt_lock_await(file, POLLOUT, until);
             socklen_t length = sizeof fault;
             if (ready != 1 || getsockopt(file, SOL_SOCKET, SO_ERROR, &fault, &length) != 0)

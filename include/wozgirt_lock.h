@@ -15,9 +15,10 @@
  * Threads that share a client hold a mutex around each call. This client asks for no lease. Where the server gives one to all
  * (--lease-for-all), call `wozgirt_lock_check` each quarter of it. With -std=c11 include this header before the system's.
  *
- * Each call ends within 0.2 s of its deadline, whether the server answers or not. A signal whose handler returns ends no call. If a
- * handler leaves a call by siglongjmp(), or the thread is cancelled in it, the next call closes the connection. A child behind fork()
- * opens a client of its own: of its parent's it can only close its copy, which the server does not notice. */
+ * Each call ends within 0.2 s of its deadline, whether the server answers or not. An answer to something else than what was asked
+ * ends the connection. A signal whose handler returns ends no call. If a handler leaves a call by siglongjmp(), or the thread is
+ * cancelled in it, the next call ends the connection. A child behind fork() opens a client of its own: of its parent's it can only
+ * close its copy, which the server does not notice. */
 #ifndef WOZGIRT_LOCK_H
 #define WOZGIRT_LOCK_H
 #include "wozgirt_connection.h"
@@ -38,8 +39,8 @@ enum wozgirt_lock_result {
     WOZGIRT_LOCK_SILENT = 6   /* only of a session, see there */
 };
 
-/* In milliseconds: the deadline of a call that does not wait for a lock, and how long behind the deadline of one that does the
- * server may take to withdraw it. */
+/* In milliseconds: the deadline of a call that does not wait for a lock, and of the first answer to one that does; and how long
+ * behind the deadline of a wait the server may take to withdraw it. */
 enum { WOZGIRT_LOCK_PATIENCE = 10000, WOZGIRT_LOCK_WITHDRAWAL = 150 };
 
 static inline int wozgirt_lock_lose(struct wozgirt_lock_client *client, int why)
@@ -49,8 +50,8 @@ static inline int wozgirt_lock_lose(struct wozgirt_lock_client *client, int why)
     return WOZGIRT_LOCK_LOST;
 }
 
-/* Connects to the server at this path within so many milliseconds. They are also the deadline of each call that does not wait for a
- * lock. With WOZGIRT_LOCK_LOST errno says why not. */
+/* Connects to the server at this path within so many milliseconds (negative: for ever), which for this client replace
+ * WOZGIRT_LOCK_PATIENCE. With WOZGIRT_LOCK_LOST errno says why not. */
 static inline int wozgirt_lock_open_within(struct wozgirt_lock_client *client, const char *path, int64_t milliseconds)
 {
     struct sockaddr_un address;

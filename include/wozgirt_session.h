@@ -20,11 +20,12 @@
  * separates servers if `tcp:`, `/` or `./` follows. Threads that share a session hold a mutex around each call. With -std=c11
  * include this header before the system's.
  *
- * Each call ends within 0.2 s of its deadline. One that has no deadline of its own, or an endless one, ends when the lease is over,
- * and where the session holds a lock, when half of it is. Names of hosts are looked up by getaddrinfo(), which has times of its own:
- * name a host by its address where deadlines matter. A signal whose handler returns ends no call. If a handler leaves an acquire or a
- * release by siglongjmp(), or the thread is cancelled in it, the next call gives up the lock. (Not out of getaddrinfo().) A child
- * behind fork() opens a session of its own: of its parent's it can only close its copy, which the servers do not notice. */
+ * Each call ends within 0.2 s of its deadline. If no server answers, a call without one ends when the lease is over, or, where the
+ * session holds a lock, when half of it is. Hosts are looked up by getaddrinfo(), which takes its own time for names: give addresses
+ * where deadlines matter. An answer to something else than what was asked ends the connection, and another server is asked. A signal
+ * whose handler returns ends no call. If a handler leaves an acquire or a release by siglongjmp(), or the thread is cancelled in it,
+ * the next call gives up the lock; a handler may not leave a lookup of a name. A child behind fork() opens a session of its own: of
+ * its parent's it can only close its copy, which the servers do not notice. */
 #ifndef WOZGIRT_SESSION_H
 #define WOZGIRT_SESSION_H
 #include "wozgirt_lock.h"

@@ -131,7 +131,7 @@ class Answers(Calls):
     @by_the_clock_anew
     def test_answers_keep_the_lease(self, longer):
         """A client that is served does not lose its lease, though it never calls `wozgirt_session_check`."""
-        client, end = self.session(lease=1000 * longer), time.monotonic() + 3 * longer
+        client, end = self.session(lease=300 * longer), time.monotonic() + 3 * longer
         while time.monotonic() < end:
             token = self.arbiter.tokens.get("a", 0) + 1
             self.assertEqual(client.results("acquire a 1 0", f"release a {token}"), [DONE, DONE])
