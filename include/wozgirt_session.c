@@ -315,7 +315,8 @@ static inline int wozgirt_session_step(struct wozgirt_session *it, int64_t until
         wozgirt_lock_close(&it->client);
     else
         wozgirt_session_speak(it, wozgirt_lock_now(), until);
-    return ready == 0 && it->client.socket >= 0 && wozgirt_lock_now() >= until ? WOZGIRT_LOCK_LATE : WOZGIRT_LOCK_DONE;
+    /* what is there already is read within this millisecond, but no more than that of a server that says much */
+    return it->client.socket >= 0 && wozgirt_lock_now() - (ready > 0) >= until ? WOZGIRT_LOCK_LATE : WOZGIRT_LOCK_DONE;
 }
 
 /* Waits for the answer to what is asked, if anything is; WOZGIRT_LOCK_LATE, and it is still asked, if that does not come. */

@@ -10,11 +10,13 @@ import threading
 import unittest
 from typing import NamedTuple
 
+import journals
 from harness import FOLDER, PATIENCE, TOP, by_the_clock
 from test_header import compiles
 
 DONE, LATE, REFUSED, LOST, NAME, CHILD, SILENT = range(7)
 SOURCE = os.path.join(TOP, "server", "tests", "header_client.c")
+INTERRUPTED = os.path.join(TOP, "server", "tests", "interrupted_client.c")
 #: how much later than its deadline a call may end, in seconds
 MARGIN = 0.2
 needs_c = unittest.skipUnless(shutil.which("cc"), "no C compiler")
@@ -61,6 +63,32 @@ class Clients(unittest.TestCase):
         self.addCleanup(it.end)
         self.assertEqual(it.ask(f"open {place} {milliseconds}").result, result)
         return it
+
+
+class Interrupted(Clients):
+    """Programs, of which handlers leave one call in ten (interrupted_client.c)."""
+
+    def interrupted(self, places, calls):
+        """Runs one program for each place, and keeps the holds that they were told; how often connections were lost."""
+        program = os.path.join(self.programs, "interrupted")
+        self.assertEqual(compiles("cc", "-std=c11", "-O1", *self.words, "-o", program, INTERRUPTED), (True, ""))
+        all_of_them = [subprocess.Popen([program, place, str(seed), str(calls)], stdout=subprocess.PIPE, text=True)
+                       for seed, place in enumerate(places)]
+        told = [it.communicate(timeout=2 * PATIENCE)[0].splitlines() for it in all_of_them]
+        self.assertEqual([it.returncode for it in all_of_them], [0] * len(places))
+        self.told = [tuple(line.split()[1:]) for lines in told for line in lines[:-1]]
+        self.assertGreater(len(self.told), calls / 5)
+        sums = [line.split() for *_, line in told]
+        for _, left, _, _ in sums:
+            self.assertGreater(int(left), calls / 100)
+        return sum(int(lost) for _, _, _, lost in sums)
+
+    def are_in_journal(self, folder):
+        """Each hold that was told, with the label of its call."""
+        words = [call.split() for call in journals.calls(folder)]
+        granted = {(it[0], it[4], it[6]) for it in words if it[1] == "p" and it[5] == "g"}
+        wrong = [it for it in self.told if it not in granted]
+        self.assertEqual(wrong, [], f"{len(wrong)} of {len(self.told)}")
 
 
 class Client:

@@ -3,18 +3,14 @@ and behind fork()."""
 
 import errno
 import os
-import shutil
 import signal
 import socket
-import subprocess
 import tempfile
 import unittest
 
-from harness import FOLDER, PATIENCE, TOP, Server, by_the_clock, needs_programs, say, wait_until
-from header_clients import CHILD, DONE, LATE, LOST, MARGIN, NAME, REFUSED, Clients, Door, FullDoor, needs_c
-from test_header import compiles
+from harness import FOLDER, PATIENCE, Server, by_the_clock, needs_programs, say, wait_until
+from header_clients import CHILD, DONE, LATE, LOST, MARGIN, NAME, REFUSED, Clients, Door, FullDoor, Interrupted, needs_c
 
-INTERRUPTED = os.path.join(TOP, "server", "tests", "interrupted_client.c")
 # the answers to a question that are none
 WRONG = {
     "acquire a 1 0": ["granted b 1", "granted a", "granted a 1x", "granted a 18446744073709551616", "granted a 1 1", "granted ab 1",
@@ -82,7 +78,7 @@ class Answers(Clients):
 
 
 @needs_c
-class Interrupts(Clients):
+class Interrupts(Interrupted):
     """What a handler leaves is not answered to the next call."""
 
     def test_a_call_that_is_left(self):
@@ -109,21 +105,10 @@ class Interrupts(Clients):
     @needs_programs
     def test_nothing_is_believed_that_is_not_so(self):
         """Two programs, of which handlers leave one call in ten: each hold that they tell is in the journal with its label."""
-        program = os.path.join(self.programs, "interrupted")
-        self.assertEqual(compiles("cc", "-std=c11", "-O1", "-o", program, INTERRUPTED), (True, ""))
         with Server(locks="a,b,c") as server:
-            both = [subprocess.Popen([program, server.path, str(seed), "10000"], stdout=subprocess.PIPE, text=True) for seed in (1, 2)]
-            told = [it.communicate(timeout=PATIENCE)[0].splitlines() for it in both]
-            self.assertEqual([it.returncode for it in both], [0, 0])
+            self.interrupted([server.path] * 2, 10000)
             server.stop()
-            words = [call.split() for call in server.calls()]
-        granted = {(it[0], it[4], it[6]) for it in words if it[1] == "p" and it[5] == "g"}
-        believed = [tuple(line.split()[1:]) for lines in told for line in lines if line.startswith("held ")]
-        wrong = [it for it in believed if it not in granted]
-        self.assertEqual(wrong, [], f"{len(wrong)} of {len(believed)}")
-        self.assertGreater(len(believed), 2000)
-        for lines in told:
-            self.assertGreater(int(lines[-1].split()[1]), 100, lines[-1])  # calls that were left
+            self.are_in_journal(server.journal)
 
 
 @needs_c

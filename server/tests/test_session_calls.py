@@ -11,8 +11,8 @@ import time
 import unittest
 
 from harness import FOLDER, TOP, at_least, needs_loopback, needs_programs, wait_until
-from header_clients import (CHILD, DONE, LATE, LOST, MARGIN, REFUSED, SILENT, Clients, FullDoor, by_the_clock_anew,
-                            needs_c)
+from header_clients import (CHILD, DONE, LATE, LOST, MARGIN, REFUSED, SILENT, Clients, FullDoor, Interrupted,
+                            by_the_clock_anew, needs_c)
 from test_cluster import Trial, needs_strict
 
 sys.path.insert(0, os.path.join(TOP, "python", "tests"))
@@ -226,6 +226,13 @@ class Deadlines(Calls):
         self.assertEqual(client.ask("acquire a 1 100").result, LATE)
 
     @by_the_clock_anew
+    def test_a_server_that_says_much(self, _):
+        client = self.session()
+        self.doors[0].lie = "granted a 0\n" * 3000000
+        self.is_in_time(client.ask("acquire a 1 100"), SILENT, 0.1)
+        self.assertEqual(client.results("check", "acquire b 1 20000"), [DONE, DONE])
+
+    @by_the_clock_anew
     def test_a_hold_is_lost_in_time(self, longer):
         """When half of the lease is over, also where a server takes connections and says nothing."""
         for line in ("check", "release a 1"):
@@ -289,10 +296,19 @@ class Forks(Calls):
 @needs_c
 @needs_programs
 @needs_strict
-class Servers(Clients, Trial):
-    """The same with servers that are stopped."""
+class Servers(Interrupted, Trial):
+    """The same with servers that are stopped, and with programs that handlers interrupt."""
 
     words = ["-DSESSION"]
+
+    def test_nothing_is_believed_that_is_not_so(self):
+        """Each hold that was told is in the journal with its label, no session is lost, and nothing stays held."""
+        a, b = self.server("a"), self.server("b")
+        self.assertEqual(self.interrupted([f"{a.path},{b.path}", f"{b.path},{a.path}"], 1500), 0)
+        for server in (a, b):
+            wait_until(lambda: [line.split()[2:8:5] for line in server.operate("status", 4).splitlines()[1:]] == [["free", "0"]] * 3)
+        self.end(a)
+        self.are_in_journal(os.path.join(a.journal, "journal"))
 
     @by_the_clock_anew
     def test_a_server_that_is_stopped(self, longer):
