@@ -95,6 +95,11 @@ static inline int64_t wozgirt_lock_earlier(int64_t one, int64_t other)
     return one < other ? one : other;
 }
 
+static inline int64_t wozgirt_lock_later(int64_t one, int64_t other)
+{
+    return one > other ? one : other;
+}
+
 /* Waits until the socket can be read (POLLIN) or written (POLLOUT): 1; 0 if it cannot until then; -1 with errno. */
 static inline int wozgirt_lock_await(int file, int event, int64_t until)
 {

@@ -164,7 +164,7 @@ static inline void wozgirt_session_answered(struct wozgirt_session *it, enum woz
     }
     it->early = 0;
     it->is_refused = answer == WOZGIRT_LOCK_NO;
-    it->spoken = it->asked_at > it->spoken ? it->asked_at : it->spoken;
+    it->spoken = wozgirt_lock_later(it->spoken, it->asked_at);
     it->asked = WOZGIRT_LOCK_NOTHING;
 }
 
@@ -186,7 +186,7 @@ static inline void wozgirt_session_take(struct wozgirt_session *it, int64_t unti
     char *line = it->client.line, *rest = strchr(line, ' ');
     uint64_t number = 0, token = 0;
     if (it->pinged && strcmp(line, "pong") == 0) {
-        it->spoken = it->pinged;
+        it->spoken = wozgirt_lock_later(it->spoken, it->pinged);
         it->pinged = 0;
         return;
     }
@@ -219,7 +219,7 @@ static inline int wozgirt_session_hear(struct wozgirt_session *it, uint64_t *hol
         !wozgirt_lock_says(it->client.line, "session", key, &count))
         return 0;
     for (; count; count--) {
-        if (wozgirt_lock_hear(&it->client, until) != 1)
+        if (wozgirt_lock_now() > until || wozgirt_lock_hear(&it->client, until) != 1)
             return 0;
         if (*it->name) {
             wozgirt_lock_says(it->client.line, "holds", it->name, holds);
@@ -252,7 +252,7 @@ static inline int wozgirt_session_borrow(struct wozgirt_session *it, int64_t unt
 {
     uint64_t lease = 0;
     wozgirt_session_tell(it, "lease", (uint64_t)it->lease, until);
-    while (it->client.socket >= 0 && wozgirt_lock_hear(&it->client, until) == 1) {
+    while (it->client.socket >= 0 && wozgirt_lock_now() <= until && wozgirt_lock_hear(&it->client, until) == 1) {
         if (wozgirt_lock_says(it->client.line, "lease", "", &lease)) {
             it->lease = lease <= (uint64_t)it->lease ? (int64_t)lease : it->lease;
             return lease > 0;

@@ -10,6 +10,7 @@ import tempfile
 import time
 import unittest
 
+import header_clients
 from harness import FOLDER, TOP, at_least, needs_loopback, needs_programs, wait_until
 from header_clients import (CHILD, DONE, LATE, LOST, MARGIN, REFUSED, SILENT, Clients, FullDoor, Interrupted,
                             by_the_clock_anew, needs_c)
@@ -231,6 +232,11 @@ class Deadlines(Calls):
         self.doors[0].lie = "granted a 0\n" * 3000000
         self.is_in_time(client.ask("acquire a 1 100"), SILENT, 0.1)
         self.assertEqual(client.results("check", "acquire b 1 20000"), [DONE, DONE])
+        door = header_clients.Door(lambda line: line + " 9999999\n" + "waits a\n" * 3000000)
+        self.addCleanup(door.close)
+        client = self.client("tcp:%s:%d," % self.doors[0].place + door.path, 4000)
+        self.doors[0].close()
+        self.is_in_time(client.ask("acquire a 1 100"), SILENT, 0.1)
 
     @by_the_clock_anew
     def test_a_hold_is_lost_in_time(self, longer):
