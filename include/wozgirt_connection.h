@@ -63,10 +63,10 @@ static inline void wozgirt_lock_begin(struct wozgirt_lock_client *client, int64_
     client->line[0] = '\0';
 }
 
-/* Ends the connection: what was held is free for others. It may be called again. */
+/* Ends the connection: what was held is free for others. It may be called again, and for a client of zeros. */
 static inline void wozgirt_lock_close(struct wozgirt_lock_client *client)
 {
-    if (client->socket >= 0) {
+    if (client->owner && client->socket >= 0) {
         if (client->owner == getpid())
             shutdown(client->socket, SHUT_RDWR); /* a child may have the socket, too */
         close(client->socket);

@@ -58,9 +58,13 @@ class Clients(unittest.TestCase):
         if built != (True, ""):
             raise AssertionError(built)
 
-    def client(self, place, milliseconds=10000, result=DONE):
+    def program_that_runs(self):
         it = Client(self.program)
         self.addCleanup(it.end)
+        return it
+
+    def client(self, place, milliseconds=10000, result=DONE):
+        it = self.program_that_runs()
         self.assertEqual(it.ask(f"open {place} {milliseconds}").result, result)
         return it
 

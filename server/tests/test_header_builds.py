@@ -108,7 +108,8 @@ class Builds(unittest.TestCase):
     def test_it_is_linked_once(self):
         """Declared alone, the functions are not in the program's own files."""
         self.compiles("cc", "-DWOZGIRT_SESSION_LINKED", "-c", "-o", "one.o", "-x", "c", "one")
-        it = subprocess.run(["cc", "-o", "program", "one.o"], capture_output=True, text=True, timeout=PATIENCE, check=False, cwd=self.folder)
+        it = subprocess.run(["cc", "-o", "program", "one.o"], capture_output=True, text=True, timeout=PATIENCE, check=False,
+                            cwd=self.folder)
         self.assertNotEqual(it.returncode, 0)
         self.assertIn("wozgirt_session_open", it.stderr)
 
@@ -119,8 +120,8 @@ class Builds(unittest.TestCase):
             shutil.copy(os.path.join(INCLUDE, name), self.folder)
             with open(os.path.join(INCLUDE, name), encoding="ascii") as file:
                 self.assertLess(len(file.readlines()), 500, name)
-        subprocess.run(["cc", "-Wall", "-Werror", "-I", self.folder, "-o", "program", "-x", "c", "one", "other"], check=True, timeout=PATIENCE,
-                       cwd=self.folder)
+        subprocess.run(["cc", "-Wall", "-Werror", "-I", self.folder, "-o", "program", "-x", "c", "one", "other"], check=True,
+                       timeout=PATIENCE, cwd=self.folder)
 
 
 @needs_sanitizers

@@ -57,8 +57,10 @@ class Answers(Clients):
     @by_the_clock
     def test_a_deadline_and_an_answer_cross(self, _):
         """What a withdrawal is answered: the grant came first, or a refusal, or none of both."""
-        for first, second, wanted in (("waiting a 0\n", "cancelled a\n", (LATE, 0)), ("waiting a 0\n", "granted a 9\nrefused waiter a\n", (DONE, 9)),
-                                      ("", "waiting a 0\ncancelled a\n", (LATE, 0)), ("", "granted a 9\nrefused waiter a\n", (DONE, 9)),
+        for first, second, wanted in (("waiting a 0\n", "cancelled a\n", (LATE, 0)),
+                                      ("waiting a 0\n", "granted a 9\nrefused waiter a\n", (DONE, 9)),
+                                      ("", "waiting a 0\ncancelled a\n", (LATE, 0)),
+                                      ("", "granted a 9\nrefused waiter a\n", (DONE, 9)),
                                       ("", "waiting a 0\ngranted a 9\nrefused waiter a\n", (DONE, 9)),
                                       ("", "refused circle a\nrefused waiter a\n", (LATE, 0))):
             door = self.door(first, second, "pong\n")
@@ -74,7 +76,8 @@ class Answers(Clients):
     def test_names(self):
         client = self.client(self.door(lambda line: line.replace("try", "granted") + "\n").path)
         self.assertEqual(client.ask(f"acquire {'x' * 200} 7 0")[1:3], (DONE, 7))
-        self.assertEqual(client.results(f"acquire {'x' * 201} 7 0", f"release {'x' * 201} 7", "acquire a\x7f 1 0", "acquire \xe9 1 0"), [NAME] * 4)
+        for line in (f"acquire {'x' * 201} 7 0", f"release {'x' * 201} 7", "acquire a\x7f 1 0", "acquire \xe9 1 0"):
+            self.assertEqual(client.ask(line).result, NAME, line)
 
 
 @needs_c
@@ -96,7 +99,8 @@ class Interrupts(Interrupted):
             self.assertEqual(say(holder, "acquire a 1\n"), ["granted a 1"])
             client = self.client(server.path)
             client.tell("alarms 1")
-            self.assertEqual(client.results(*["acquire b 1 0", "check", "acquire a 1 50"] * 5), [DONE, DONE, LATE] + [REFUSED, DONE, LATE] * 4)
+            self.assertEqual(client.results(*["acquire b 1 0", "check", "acquire a 1 50"] * 5),
+                             [DONE, DONE, LATE] + [REFUSED, DONE, LATE] * 4)
             client.tell("acquire a 1 -1")
             server.wait_for_waiters("a", 1)
             say(holder, "release a 1\n")
@@ -180,6 +184,12 @@ class Forks(Clients):
             self.assertEqual(client.results("check", f"release a {token}", "acquire a 1 0"), [DONE] * 3)
             self.assertEqual(client.ask(f"child open {server.path} 1000").result, DONE)
             self.assertEqual(client.ask("check").result, DONE)
+
+    def test_nobody_opened_it(self):
+        client = self.program_that_runs()
+        self.assertEqual(client.results("close", "check", "acquire a 1 0", "release a 1", "close"), [DONE, CHILD, CHILD, CHILD, DONE])
+        with Server(locks="a") as server:
+            self.assertEqual(client.results(f"open {server.path} 1000", "check"), [DONE, DONE])
 
     def test_a_parent_that_closes(self):
         with Server(locks="a") as server, server.raw() as other:

@@ -83,7 +83,8 @@ class Answers(Calls):
         return client, it
 
     def test_an_answer_to_another_question(self):
-        for lie in ("granted b 5", "granted a", "granted a 5x", "busy b", "waiting a 0", "released a", "pong", "left", "refused holds b", ""):
+        for lie in ("granted b 5", "granted a", "granted a 5x", "busy b", "waiting a 0", "released a", "pong", "left",
+                    "refused holds b", ""):
             with self.subTest(verb="try", lie=lie):
                 client, it = self.lied_to("acquire a 1 0", "{number} " + lie, DONE)
                 self.assertEqual(self.arbiter.holders["a"][1], it.token)
@@ -297,6 +298,11 @@ class Forks(Calls):
         self.assertEqual(client.ask(f"child open {self.places} 4000").result, DONE)
         self.assertEqual(client.results("release a 1", "acquire a 1 0"), [DONE, DONE])
         self.assertEqual(len(self.arbiter.socks), 2)  # the child's session was another
+
+    def test_nobody_opened_it(self):
+        client = self.program_that_runs()
+        self.assertEqual(client.results("close", "check", "acquire a 1 0", "release a 1", "close"), [DONE, CHILD, CHILD, CHILD, DONE])
+        self.assertEqual(client.results(f"open {self.places} 4000", "check"), [DONE, DONE])
 
 
 @needs_c
