@@ -147,7 +147,8 @@ static inline int wozgirt_lock_withdraw(struct wozgirt_lock_client *client, cons
 }
 
 /* Asks for a lock, and waits for it so many milliseconds (0: not at all; negative: for ever). With WOZGIRT_LOCK_DONE it is held,
- * and the token is greater than that of every hold of it before. The journal keeps the label. */
+ * and the token is greater than that of every hold of it before. A server that does not even answer in time is taken for lost, with
+ * WOZGIRT_LOCK_LOST: then all that this client held is. The journal keeps the label. */
 static inline int wozgirt_lock_acquire(struct wozgirt_lock_client *client, const char *name, uint64_t label, int64_t wait,
                                        uint64_t *token)
 {
