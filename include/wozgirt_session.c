@@ -234,7 +234,7 @@ static inline int wozgirt_session_is_kept(struct wozgirt_session *it, uint64_t h
 {
     if (it->asked == WOZGIRT_LOCK_LEAVE)
         return 1;
-    if (it->token && holds != it->token && it->asked != WOZGIRT_LOCK_RELEASE)
+    if (it->token && holds != it->token && (it->asked != WOZGIRT_LOCK_RELEASE || it->asked_number != it->token))
         return 0;
     if (it->is_waiting && !holds && !waits && it->asked != WOZGIRT_LOCK_CANCEL)
         return 0;

@@ -44,24 +44,25 @@ extern "C" {
 struct wozgirt_session {
     struct wozgirt_lock_client client;
     char servers[1024];
-    size_t at;                                   /* where the next server stands in the text */
-    uint64_t key, number;                        /* of the session; of the last question, by which that is done once */
-    enum wozgirt_lock_verb asked;                /* what has no answer yet, */
-    char asked_name[WOZGIRT_LOCK_LONGEST_NAME + 1]; /* of which lock, */
-    uint64_t asked_number;                       /* with which label or token, */
-    int64_t asked_at;                            /* and when it was sent last */
-    char name[WOZGIRT_LOCK_LONGEST_NAME + 1];    /* the lock that is held or waited for, or was last */
-    uint64_t token;                              /* of the hold, or 0 */
-    uint64_t early;                              /* of a grant that came before the answer that says to wait, or 0 */
-    uint64_t last;                               /* of the last hold of this lock: a grant that is not newer was told before */
-    int64_t lease, spoken;                       /* a server heard this session then, or later */
-    int64_t pinged;                              /* when the ping was sent that is not answered, or 0 */
-    volatile int inside;                         /* the call that is under way, as an enum wozgirt_lock_verb */
+    size_t at;                                       /* where the next server stands in the text */
+    uint64_t key, number;                            /* of the session; of the last question, by which that is done once */
+    enum wozgirt_lock_verb asked;                    /* what has no answer yet, */
+    char asked_name[WOZGIRT_LOCK_LONGEST_NAME + 1];  /* of which lock, */
+    uint64_t asked_number;                           /* with which label or token, */
+    int64_t asked_at;                                /* and when it was sent last */
+    char name[WOZGIRT_LOCK_LONGEST_NAME + 1];        /* the lock that is held or waited for, or was last */
+    uint64_t token;                                  /* of the hold, or 0 */
+    uint64_t early;                                  /* of a grant that came before the answer that says to wait, or 0 */
+    uint64_t last;                                   /* of the last hold of this lock: a grant that is not newer was told before */
+    int64_t lease, spoken;                           /* a server heard this session then, or later */
+    int64_t pinged;                                  /* when the ping was sent that is not answered, or 0 */
+    volatile int inside;                             /* the call that is under way, as an enum wozgirt_lock_verb */
     int is_waiting, is_refused, is_lost;
 };
 
-/* Begins a session at one of these servers, with a lease of so many milliseconds, at least 8. All are tried for 10 s at most. With
- * WOZGIRT_LOCK_LOST none of them is there. */
+/* Begins a session at one of these servers, with a lease of so many milliseconds. All are tried for 10 s at most: with
+ * WOZGIRT_LOCK_LOST none of them is there. WOZGIRT_LOCK_NAME if the text is empty or has 1,024 bytes or more, or the lease is below
+ * 8. */
 WOZGIRT_SESSION_FUNCTION int wozgirt_session_open(struct wozgirt_session *session, const char *servers, int64_t lease);
 
 /* Asks for a lock, and waits for it so many milliseconds (0: not at all; negative: for ever). With WOZGIRT_LOCK_DONE it is held, and

@@ -12,7 +12,7 @@ import unittest
 
 import header_clients
 from harness import FOLDER, TOP, at_least, needs_loopback, needs_programs, wait_until
-from header_clients import (CHILD, DONE, LATE, LOST, MARGIN, REFUSED, SILENT, Clients, FullDoor, Interrupted,
+from header_clients import (CHILD, DONE, LATE, LOST, MARGIN, NAME, REFUSED, SILENT, Clients, FullDoor, Interrupted,
                             by_the_clock_anew, needs_c)
 from test_cluster import Trial, needs_strict
 
@@ -137,6 +137,30 @@ class Answers(Calls):
         while time.monotonic() < end:
             token = self.arbiter.tokens.get("a", 0) + 1
             self.assertEqual(client.results("acquire a 1 0", f"release a {token}"), [DONE, DONE])
+
+    @by_the_clock_anew
+    def test_a_session_that_nobody_renews(self, longer):
+        client = self.session(lease=400 * longer)
+        time.sleep(0.5 * longer)
+        self.assertEqual(client.ask("acquire a 1 0")[1:4], (LOST, 0, errno.ETIMEDOUT))
+        self.assertEqual(client.ask("acquire a 1 0")[1:4], (LOST, 0, errno.ENOTCONN))
+
+    def test_what_the_session_had_is_gone(self):
+        for line, wanted in (("check", (LOST, errno.ESTALE)), ("release a {other}", (LOST, errno.ESTALE)),
+                             ("release a {token}", (REFUSED, 0))):
+            client = self.session()
+            token = client.ask("acquire a 1 0").token
+            with self.arbiter.mutex:
+                self.arbiter.holders.clear()
+                self.doors[0].cut()
+            it = client.ask(line.format(token=token, other=token + 1))
+            while it[:2] == ("check", DONE):  # it has not yet seen that the connection is cut
+                it = client.ask(line)
+            self.assertEqual(it[1:4:2], wanted, line)
+
+    def test_what_opens_no_session(self):
+        client = self.program_that_runs()
+        self.assertEqual(client.results("open " + "/" * 1024 + " 4000", f"open {self.places} 7", "check"), [NAME, NAME, LOST])
 
 
 class Interrupts(Calls):
