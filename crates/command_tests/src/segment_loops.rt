@@ -5,10 +5,10 @@ ghost use Rattle.segment_loop.specs.Segments.{IsNamed};
 
 use crate::files::memory::no_files;
 use disks::{Disk, FolderEntry, MemoryDisk};
-use line_loop::{AnswersLines, LoopFault, Pending};
+use line_loop::{AnswersLines, Pending};
 use ring_segments::DIGEST_DIGITS;
 use segment_loop::{
-    EndFault, OpenSegment, SegmentRules, Segmented, begin_segment, close_segment, serve_segments,
+    EndFault, SegmentRules, Segmented, begin_segment, close_segment, serve_segments,
 };
 use std::alloc::{AllocError, Global};
 use std::io::{self, Cursor, ErrorKind, Read};
