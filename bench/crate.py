@@ -1,8 +1,13 @@
 #!/usr/bin/env python3
 """bench/crate.py [proof|tests|edits CRATE ..]: what the gate does for some crates alone: their proof, from nothing and with the search
 for contracts that no call can meet, which `rt check` leaves out; or their tests, proved and run; or their edits, also those that
-the gate tries if something has changed, which is noted in bench/wrong_bodies/tried.txt. The libraries below them are those that earlier runs kept, and are proved where they have changed. Prints what failed, and the processor
+the gate tries if something has changed, which is noted in bench/wrong_bodies/tried.txt. It prints what failed, and the processor
 seconds of each.
+
+bench/crate.py check CRATE [FLAG ..] checks a crate over what such a check kept, as `rt check` does; the flags are rattle's, such as
+--only PATH.
+
+Of the libraries below, these load the statements that ./build and such runs kept; libraries that have changed are proved first.
 
 With no words: the gate's checks that prove nothing, over all crates: the layout of files, files that nothing reads, words that mean
 something else to a reader, edits that cannot be applied.
@@ -26,14 +31,12 @@ TOP = kit.TOP
 def gate():
     """The kit's module, set up as for `rt ci`, and its crates, lowest first."""
     rt = kit.load()
-    rt.rtlib.stop = rt.stop
     rt.rtlib.guarded()
-    # (libraries that were kept may rest on kept work)
-    line = rt.rtlib.VERDICT.pattern.replace(r"statements=trusted\n", r"statements=trusted( incremental=trusted)?\n")
-    rt.rtlib.VERDICT = re.compile(line, re.M)
-    rt.Crate.allowed = rt.handles_of(TOP)
-    rt.rtlib.Crate = rt.Crate
-    return rt, sorted(rt.rtlib.crates_below(TOP), key=lambda it: len(it.below()))
+    form = kit.Statements(rt, TOP)
+    crates = sorted(rt.rtlib.crates_below(TOP), key=lambda it: len(it.below()))
+    for it in crates:
+        form.placed(it)
+    return rt, form, crates
 
 
 def stopped(rt, crate, crates):
@@ -66,6 +69,14 @@ def proved(rt, crate, tests):
     return not status and (not tests or rt.run(crate, True))
 
 
+def checked(rt, crate, flags):
+    """Checks the crate, with its tests if it has some, over what such a check kept; whether it is proved."""
+    tests = ["--test"] * crate.has_tests()
+    jobs = [] if any(it.startswith("--jobs") for it in flags) else ["--jobs", "2"]
+    words = [*crate.words([*jobs, *tests, *flags], keeps=False), "--incremental", "out/over-statements"]
+    return not crate.call(rt.rtlib.RATTLE, "check", *words)
+
+
 def tried(rt, crate):
     """Tries the crate's edits as the gate does; whether each is refused. Notes it, so that the gate leaves those out that it tries if
     something has changed."""
@@ -80,22 +91,26 @@ def tried(rt, crate):
 
 def main(what="", *names):
     os.chdir(TOP)
-    rt, crates = gate()
+    rt, form, crates = gate()
     if not what:
         faults = [f"{crate.name}: {why}" for crate in crates for why in stopped(rt, crate, crates)]
         print(*faults, f"{len(crates)} crates, {len(faults)} faults", sep="\n")
         return bool(faults)
+    names, flags = (names[:1], names[1:]) if what == "check" else (names, ())
     chosen = [it for it in crates if it.name in names]
-    if what not in ("proof", "tests", "edits") or len(chosen) < max(len(names), 1):
+    if what not in ("check", "proof", "tests", "edits") or len(chosen) < max(len(names), 1):
         sys.exit(__doc__)
     failed = []
     for crate in chosen:
-        for each in crates:
-            each.out = sys.stdout
-        if any(below.build_rlib(["--jobs", "2"], anew=False) for below in crate.below()):
-            sys.exit(f"a library below {crate.name} is not proved")
+        crate.out = sys.stdout
+        for below in form.unbuilt(crate.below()):
+            print(f"{below.name}, below {crate.name}", flush=True)
+            os.makedirs(f"{below.folder}/out", exist_ok=True)
+            with open(f"{below.folder}/out/first.log", "w", errors="replace") as below.out:
+                if form.build(below, 2):
+                    sys.exit(f"{below.name} is not proved: {os.path.relpath(below.folder)}/out/first.log says why")
         before = resource.getrusage(resource.RUSAGE_CHILDREN)
-        is_well = tried(rt, crate) if what == "edits" else proved(rt, crate, what == "tests")
+        is_well = tried(rt, crate) if what == "edits" else checked(rt, crate, flags) if what == "check" else proved(rt, crate, what == "tests")
         spent = resource.getrusage(resource.RUSAGE_CHILDREN)
         taken = spent.ru_utime + spent.ru_stime - before.ru_utime - before.ru_stime
         print(f"{crate.name}: {what} {'well' if is_well else 'FAILED'}, {taken:.0f} processor seconds", flush=True)

@@ -82,9 +82,14 @@ def crates_of_this_folder():
     return {crate: [name for name in names if name in below] for crate, names in below.items()}
 
 
-def edits_of(crate):
-    folder = f"crates/{crate}/must-fail"
+def edits_in(folder):
     return sorted(it for it in os.listdir(folder) if it.endswith(".edit")) if os.path.isdir(folder) else []
+
+
+def edits_of(crate, costs):
+    """The edits of a crate that were tried, of which these are the costs: those that are tried if something has changed come last."""
+    each, if_changed = edits_in(f"crates/{crate}/must-fail"), edits_in(f"crates/{crate}/must-fail-if-changed")
+    return each + if_changed if len(costs) > len(each) + 1 or costs and not each else each
 
 
 def costs_of_edits(checks, crate):
@@ -125,7 +130,8 @@ def print_table(checks, below, edits_file):
     print(f"{'crate':<18} {'proof':>7} {'tests':>7} {'edits':>6} {'first':>7} {'each':>6} {'again':>6} {'sum':>7}")
     sums = [0.0] * 4
     for crate in below:
-        names, costs = edits_of(crate), costs_of_edits(checks, crate)
+        costs = costs_of_edits(checks, crate)
+        names = edits_of(crate, costs)
         each = [cost for _, cost in list(zip(names, costs))[1:]]
         for name, cost in zip(names, costs):
             edits_file.write(f"{cost:7.1f} {crate}/{name}\n")

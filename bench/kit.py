@@ -102,3 +102,45 @@ def untried(rtlib, crates):
     known, seen = {}, tried()
     sums = {it.name: sum_of_edits(rtlib, it, known) for it in crates if edits_if_changed(it)}
     return {name: sum for name, sum in sums.items() if seen.get(name) != sum}
+
+
+class Statements:
+    """Builds without what later checks would go on from: of a library its statements, for the crates above it."""
+
+    def __init__(self, rt, root):
+        rt.rtlib.stop, rt.rtlib.Crate, rt.Crate.cuts_libraries = rt.stop, rt.Crate, True
+        rt.Crate.allowed = rt.handles_of(root)
+        self.rtlib = rt.rtlib
+
+    def placed(self, crate):
+        crate.rlib = f"{crate.folder}/out/statements/{crate.name}.rlib"
+
+    def stamp(self, crate):
+        made = [f"{crate.folder}/out/{crate.name}{end}" for end in ("", ".by-rattle")] if crate.is_program else []
+        return crate.stamp() + "".join(map(self.rtlib.sum_of, made))
+
+    def is_built(self, crate):
+        return self.rtlib.text_of(f"{crate.folder}/out/statements/stamp") == self.stamp(crate)
+
+    def unbuilt(self, crates):
+        """The crates to build, of these, lowest first: statements fit only those below on which they were built."""
+        found = []
+        for it in crates:
+            if not self.is_built(it) or any(below in found for below in it.below()):
+                found.append(it)
+        return found
+
+    def build(self, crate, jobs):
+        """Proves and builds a crate from nothing. Returns the kit's status."""
+        folder, flags = f"{crate.folder}/out/statements", ["--jobs", str(jobs)]
+        shutil.rmtree(folder, ignore_errors=True)
+        os.makedirs(folder)
+        before = crate.stamp()
+        if crate.is_program:
+            status = crate.ci(flags, False)
+        else:
+            status = crate.prove(["build", *crate.words(flags, keeps=False), "--statements", "-o", crate.rlib])
+        if not status and before == crate.stamp():
+            with open(f"{folder}/stamp", "w", encoding="utf-8") as it:
+                it.write(self.stamp(crate))
+        return status
