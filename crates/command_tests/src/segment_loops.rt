@@ -3,11 +3,12 @@
 ghost use Rattle.std.specs.Prelude.{◌≡◌};
 ghost use Rattle.segment_loop.specs.Segments.{IsNamed};
 
+use crate::files::memory::no_files;
 use disks::{Disk, FolderEntry, MemoryDisk};
-use line_loop::{AnswersLines, LoopFault, Pending};
+use line_loop::{AnswersLines, Pending};
 use ring_segments::DIGEST_DIGITS;
 use segment_loop::{
-    EndFault, OpenSegment, SegmentRules, Segmented, begin_segment, close_segment, serve_segments,
+    EndFault, SegmentRules, Segmented, begin_segment, close_segment, serve_segments,
 };
 use std::alloc::{AllocError, Global};
 use std::io::{self, Cursor, ErrorKind, Read};
@@ -283,10 +284,7 @@ fn expect(rt: &impl Abort, disk: &Full, name: &str, want: &[u8]) {
 /// Serves the lines of a row, and compares all that was written.
 fn play(rt: &impl Abort, alloc: Global, row: &Row) {
     let mut disk = Full {
-        files: MemoryDisk {
-            alloc,
-            entries: Vec::new(alloc),
-        },
+        files: no_files(alloc),
         fails: 0,
     };
     let mut tally = Tally {

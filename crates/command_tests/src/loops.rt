@@ -1,6 +1,7 @@
 //! A service that says the same to each line, and keeps a file while it does, until it has answered enough of them.
 
-use disks::{Disk, MemoryDisk};
+use crate::files::memory::no_files;
+use disks::Disk;
 use line_loop::{AnswersLines, Ending, LoopFault, Pending, Unread, serve_part};
 use std::alloc::{AllocError, Global};
 use std::io::{self, ErrorKind, Write};
@@ -35,13 +36,6 @@ impl AnswersLines for Same {
 
     fn is_over(&self) -> bool {
         self.answered >= self.most
-    }
-}
-
-fn no_files(alloc: Global) -> MemoryDisk {
-    MemoryDisk {
-        alloc,
-        entries: Vec::new(alloc),
     }
 }
 

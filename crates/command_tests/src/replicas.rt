@@ -2,13 +2,13 @@
 
 ghost use Rattle.std.specs.Prelude.{◌≡◌, false};
 
-use disks::{Disk, MemoryDisk};
+use crate::files::memory::no_files;
+use disks::Disk;
 use line_loop::{AnswersLines, Ending, Pending, Unread, serve_part};
 use line_replica::{HasState, Replica, Restorable};
 use ring_segments::{DIGEST_DIGITS, digest};
 use segment_loop::{EndFault, Segmented};
 use std::alloc::{AllocError, Global};
-use std::process::Abort;
 
 /// A segment is due once more lines were answered than this, and lines are answered all the same.
 const MOST: u64 = 99;
@@ -104,10 +104,7 @@ impl HasState for Count {
 fn told<S: AnswersLines>(alloc: Global, replica: &mut S, lines: &[u8]) -> (Vec<u8>, Vec<u8>)
     requires { S.is_over replica.old ≡ false }
 {
-    let mut disk = MemoryDisk {
-        alloc,
-        entries: Vec::new(alloc),
-    };
+    let mut disk = no_files(alloc);
     let mut journal = Some(Vec::new(alloc));
     let mut line = Vec::new(alloc);
     let mut unread = Unread::none();
