@@ -104,6 +104,39 @@ Example, where old.txt begins with `ringfarm 1`:
 
 Exit status: 0 where NEW was written, 1 where FILE is not legal or a file fails, 2 where the words cannot be read.";
 
+/// The name of a command.
+#[derive(Clone, Copy)]
+enum CommandName {
+    Step,
+    Run,
+    Check,
+    Report,
+    Picture,
+    Upgrade,
+    New,
+    Serve,
+    Locks,
+    Holds,
+    Recover,
+    Join,
+}
+
+/// The commands, in the order in which help lists them.
+static COMMANDS: [CommandName; 12] = [
+    CommandName::Step,
+    CommandName::Run,
+    CommandName::Check,
+    CommandName::Report,
+    CommandName::Picture,
+    CommandName::Upgrade,
+    CommandName::New,
+    CommandName::Serve,
+    CommandName::Locks,
+    CommandName::Holds,
+    CommandName::Recover,
+    CommandName::Join,
+];
+
 /// A saved history that is read.
 pub(crate) const SAVED_HISTORY: Argument = Argument {
     id: "FILE",
@@ -237,53 +270,42 @@ fn upgrade_command<'a>(alloc: Global) -> Result<Command<'a>, Error> {
     )
 }
 
-/// The program with its description, its version and its help.
-fn with_descriptions<'a>(program: Command<'a>) -> Command<'a> {
-    program.about(ABOUT).version(VERSION).after_help(STATUSES)
+/// The command of this name.
+fn command_named<'a>(alloc: Global, name: CommandName) -> Result<Command<'a>, Error> {
+    match name {
+        CommandName::Step => step_command(alloc),
+        CommandName::Run => run_command(alloc),
+        CommandName::Check => check_command(alloc),
+        CommandName::Report => report_command(alloc),
+        CommandName::Picture => picture_command(alloc),
+        CommandName::Upgrade => upgrade_command(alloc),
+        CommandName::New => new_command(alloc),
+        CommandName::Serve => serve_command(alloc),
+        CommandName::Locks => locks_command(alloc),
+        CommandName::Holds => holds_command(alloc),
+        CommandName::Recover => recover_command(alloc),
+        CommandName::Join => join_command(alloc),
+    }
 }
 
 /// The program, with no command yet.
 fn program_line<'a>(alloc: Global) -> Result<Command<'a>, Error> {
-    let program = Command::new(alloc, "ring_tool").bin_name("ring_tool")?;
-    Ok(with_descriptions(program.no_binary_name(true).subcommand_required(true)))
-}
-
-/// The program with a command more, where that could be made.
-fn with_command<'a>(
-    program: Command<'a>,
-    command: Result<Command<'a>, Error>,
-) -> Result<Command<'a>, Error> {
-    Ok(program.subcommand(command?)?)
-}
-
-/// The program with the commands that run rings.
-fn with_runs<'a>(alloc: Global, program: Command<'a>) -> Result<Command<'a>, Error> {
-    let program = with_command(program, step_command(alloc))?;
-    with_command(program, run_command(alloc))
-}
-
-/// The program with the commands that read a saved history.
-fn with_readers<'a>(alloc: Global, program: Command<'a>) -> Result<Command<'a>, Error> {
-    let program = with_command(program, check_command(alloc))?;
-    let program = with_command(program, report_command(alloc))?;
-    let program = with_command(program, picture_command(alloc))?;
-    with_command(program, upgrade_command(alloc))
-}
-
-/// The program with the commands that serve rings: what they begin with, and their journal.
-fn with_services<'a>(alloc: Global, program: Command<'a>) -> Result<Command<'a>, Error> {
-    let program = with_command(program, new_command(alloc))?;
-    let program = with_command(program, serve_command(alloc))?;
-    let program = with_command(program, locks_command(alloc))?;
-    let program = with_command(program, holds_command(alloc))?;
-    let program = with_command(program, recover_command(alloc))?;
-    with_command(program, join_command(alloc))
+    let program = Command::new(alloc, "ring_tool")
+        .about(ABOUT)
+        .version(VERSION)
+        .after_help(STATUSES)
+        .no_binary_name(true)
+        .subcommand_required(true);
+    Ok(program.bin_name("ring_tool")?)
 }
 
 /// All that the program understands.
 fn command_line<'a>(alloc: Global) -> Result<Command<'a>, Error> {
-    let program = with_runs(alloc, program_line(alloc)?)?;
-    with_services(alloc, with_readers(alloc, program)?)
+    let mut program = program_line(alloc)?;
+    for name in &COMMANDS {
+        program = program.subcommand(command_named(alloc, *name)?)?;
+    }
+    Ok(program)
 }
 
 /// `step`, where all its words are there.
