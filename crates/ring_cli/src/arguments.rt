@@ -1,4 +1,4 @@
-//! A command's arguments as data, and the one player that makes them `clap`'s.
+//! The arguments of a command as data, and what makes `clap`'s command of them.
 
 use clap::builder::{ValueParser, ValueRange};
 use clap::{Arg, ArgAction, Command, Error, value_parser};
@@ -7,12 +7,12 @@ use std::alloc::Global;
 /// How many lines a segment has at most.
 const MOST_LINES: i64 = 4_000_000;
 
-/// What an argument takes.
+/// What an argument takes as its value.
 #[derive(Clone, Copy)]
 pub(crate) enum Takes {
-    /// Nothing: it is a flag.
+    /// No value: it is a flag.
     Nothing,
-    /// A text.
+    /// Any text.
     Text,
     /// A text that is not empty.
     FilledText,
@@ -28,16 +28,16 @@ pub(crate) enum Takes {
     Texts,
 }
 
-/// Where an argument has to be there.
+/// When an argument has to be given.
 #[derive(Clone, Copy)]
 pub(crate) enum Presence {
-    /// Everywhere.
+    /// Always.
     Required,
-    /// Nowhere.
+    /// Never.
     Optional,
-    /// Where none of the arguments of these ids is there.
+    /// If none of the arguments of these ids is given.
     RequiredUnless(&'static [&'static str]),
-    /// Nowhere, and it cannot stand beside the arguments of these ids.
+    /// Never, and it cannot be given beside the arguments of these ids.
     ConflictsWith(&'static [&'static str]),
 }
 
@@ -48,10 +48,11 @@ pub(crate) struct Argument {
     pub(crate) id: &'static str,
     /// Its name behind two dashes. With none it is positional.
     pub(crate) long: Option<&'static str>,
-    /// What help calls its value, in the place of `id`: one name, or none.
+    /// What help calls its value: one name, or none where that is `id`.
     pub(crate) value_names: &'static [&'static str],
     pub(crate) takes: Takes,
     pub(crate) presence: Presence,
+    /// Its line in help.
     pub(crate) help: &'static str,
 }
 
@@ -86,7 +87,7 @@ fn parser_of(takes: Takes) -> ValueParser<'static> {
     }
 }
 
-/// The ids of the arguments, one of which stands in for this one.
+/// The ids of the arguments any of which stands in for this one.
 fn stand_ins_of(presence: Presence) -> &'static [&'static str] {
     match presence {
         Presence::RequiredUnless(others) => others,
@@ -94,7 +95,7 @@ fn stand_ins_of(presence: Presence) -> &'static [&'static str] {
     }
 }
 
-/// The ids of the arguments beside which this one cannot stand.
+/// The ids of the arguments beside which this one cannot be given.
 fn conflicts_of(presence: Presence) -> &'static [&'static str] {
     match presence {
         Presence::ConflictsWith(others) => others,
@@ -119,8 +120,7 @@ fn arg_of<'a>(alloc: Global, argument: &Argument) -> Result<Arg<'a>, Error> {
     }
 }
 
-/// The command of this name, with these arguments in this order. `about` stands in front of them in its help, and
-/// `after_help` behind them.
+/// The command of this name. Its help has `about`, then the arguments in their order, then `after_help`.
 pub(crate) fn command_of<'a>(
     alloc: Global,
     name: &'static str,
