@@ -3,12 +3,12 @@
 from __future__ import annotations
 
 import collections
-import contextlib
 import errno
+import os
 import threading
 import time
 import weakref
-from typing import Deque, Dict, Iterator, List, NoReturn, Optional, Tuple
+from typing import Callable, Deque, Dict, List, NoReturn, Optional, Tuple, TypeVar
 
 from . import lines
 from .lines import LockError, LockLost, LockStatus, NotHolder, NotInTime, NotWaiter, Place, Question
@@ -24,6 +24,9 @@ WITHDRAW, INTERRUPTED = 0.1, 1.0
 CLOSE = 2.0
 #: A client speaks after a silence of this part of its lease.
 PART = 4
+
+Result = TypeVar("Result")
+Answer = TypeVar("Answer", int, Optional[int])
 
 
 class Client(OfOneProcess):
@@ -47,8 +50,7 @@ class Client(OfOneProcess):
         if wanted is None:
             return
         try:
-            with self._turn(until):
-                self._lease = lines.milliseconds(self._ask(wanted, until))
+            self._lease = lines.milliseconds(self._in_turn(lambda: self._ask(wanted, until), until))
         except BaseException as fault:
             self.close()
             if isinstance(fault, Late):
@@ -75,45 +77,26 @@ class Client(OfOneProcess):
         """The token, as soon as the lock is granted. `NotInTime` if it is not within `wait` seconds, at most a tenth of a second
         later: what was asked is then withdrawn, or the connection is closed if the server does not answer."""
         until = None if wait is None else time.monotonic() + wait
-        line, token = lines.acquire(name, label), None
-        self._refuse_misuse()
+        line = lines.acquire(name, label)
         try:
-            with self._turn(until):
-                token = self._acquired(line, name, until)
-                self._grant = None
-                return token
+            return self._hand_over(name, lambda: self._acquired(line, name, until), until)
         except Late:
             raise NotInTime(f"{name}: this client was busy all the time, so nothing was asked") from None
-        except BaseException:
-            if token is not None:  # it came when all was done
-                self._give_back(name, token)
-            raise
 
     def try_acquire(self, name: str, *, label: int = 0) -> Optional[int]:
         """The token, or None if another holds the lock."""
-        line, token = lines.acquire(name, label, "try"), None
-        self._refuse_misuse()
-        try:
-            with self._turn():
-                self._ask(line)
-                token = None if self._grant is None else self._grant[1]
-                self._grant = None
-                return token
-        except BaseException:
-            if token is not None:
-                self._give_back(name, token)
-            raise
+        line = lines.acquire(name, label, "try")
+        return self._hand_over(name, lambda: self._tried(line))
 
     def release(self, name: str, token: int) -> None:
         """Ends the hold with this token, also where an interrupt ends the call."""
         self._release(name, token)
 
     def _release(self, name: str, token: int, until: Optional[float] = None) -> None:
-        line = lines.release(name, token)
-        self._refuse_misuse()
         try:
-            with self._turn(until):
-                self._ask(line, until)
+            line = lines.release(name, token)
+            self._refuse_misuse()
+            self._in_turn(lambda: self._ask(line, until), until)
         except LockError:
             raise
         except Late:
@@ -176,36 +159,55 @@ class Client(OfOneProcess):
         self._wire.close()
 
     def _refuse_misuse(self) -> None:
-        self._refuse_a_child()
+        if os.getpid() != self._process:
+            self._refuse_a_child()
         if self._caller == threading.get_ident():
             raise RuntimeError("a call of this client is at work in this thread: a signal handler can only check or close it")
 
     def _call(self, line: bytes) -> Question:
         self._refuse_misuse()
-        with self._turn():
-            return self._ask(line)
+        return self._in_turn(lambda: self._ask(line))
 
-    @contextlib.contextmanager
-    def _turn(self, until: Optional[float] = None) -> Iterator[None]:
-        """This thread's turn with the connection; Late if it does not come by then. What a call that was broken off has left is put
-        in order behind it, or before the next one."""
+    def _hand_over(self, name: str, do: Callable[[], Answer], until: Optional[float] = None) -> Answer:
+        """What `do` returns, a token or None. If an exception keeps the caller from having it, the hold is ended."""
+        self._refuse_misuse()
+        token = None
+
+        def take() -> Answer:
+            nonlocal token
+            token = do()
+            self._grant = None
+            return token
+        try:
+            return self._in_turn(take, until)
+        except BaseException:
+            if token is not None:
+                self._give_back(name, token)
+            raise
+
+    def _in_turn(self, do: Callable[[], Result], until: Optional[float] = None) -> Result:
+        """Does it when it is this thread's turn with the connection; Late if that does not come by then. What a call that was broken
+        off has left is put in order behind it, or before the next one."""
         taken: List[bool] = []
         left = -1.0 if until is None else min(threading.TIMEOUT_MAX, max(0.0, until - time.monotonic()))
         try:
-            # no signal handler is run between this call and the note of what it returns, since none is within `extend`
-            taken.extend(map(self._mutex.acquire, (True,), (left,)))
+            taken.extend(map(self._mutex.acquire, (True,), (left,)))  # in one step for signal handlers, see Wire
             if not taken[0]:
                 raise Late
             self._caller = threading.get_ident()
             if not self._is_quiet():
                 self._settle(until)
-            yield
+            return do()
         except BaseException:
-            if any(taken):
-                self._clean_up()
+            if taken and taken[0]:
+                try:
+                    self._clean_up()
+                except BaseException:
+                    self._give_up("a call was broken off twice")
+                    raise
             raise
         finally:
-            if any(taken):
+            if taken and taken[0]:
                 self._caller = None
                 if self._lost is not None:
                     self._wire.close()
@@ -221,6 +223,10 @@ class Client(OfOneProcess):
         if self._grant is None:
             raise NotInTime(f"{name}: it was not granted in time, and is no longer waited for")
         return self._grant[1]
+
+    def _tried(self, line: bytes) -> Optional[int]:
+        self._ask(line)
+        return None if self._grant is None else self._grant[1]
 
     def _withdraw_in_time(self, name: str) -> None:
         """After the deadline: nothing waits any more, or NotInTime. The grant may have come first."""
@@ -244,6 +250,7 @@ class Client(OfOneProcess):
         """Puts in order what a call that was broken off has left: nothing is asked or waited for, or held by nobody."""
         if self._wire.is_torn:
             self._cut("a call was broken off within a line")
+        self._flush()
         self._withdraw(until)
         if self._grant is not None:
             try:
@@ -262,17 +269,13 @@ class Client(OfOneProcess):
             pass
         except (Late, LockError):
             self._give_up("a call was broken off, and the server did not answer")
-        except BaseException:
-            self._give_up("a call was broken off twice")
-            raise
 
     def _give_back(self, name: str, token: int) -> None:
         """Ends a hold whose holder does not know of it, or the connection."""
         until = time.monotonic() + INTERRUPTED
         try:
-            with self._turn(until):
-                if self._held.get(name) == token:
-                    self._ask(lines.release(name, token), until)
+            if self._held.get(name) == token and self._caller != threading.get_ident():
+                self._in_turn(lambda: self._ask(lines.release(name, token), until), until)
         except LockError:
             pass  # it is over
         except BaseException as fault:
@@ -285,7 +288,7 @@ class Client(OfOneProcess):
         return not (self._wire.is_torn or self._waits or self._grant or self._is_asking())
 
     def _is_asking(self) -> bool:
-        return any(question.verb != "ping" for question in self._questions)
+        return bool(self._questions) and any(question.verb != "ping" for question in self._questions)
 
     def _is_given_up(self) -> bool:
         return False
@@ -304,19 +307,20 @@ class Client(OfOneProcess):
     def _send(self, line: bytes) -> None:
         if self._lost is not None:
             raise LockLost(self._lost)
-        self._note(Question(line, time.monotonic()))
-
-    def _note(self, question: Question) -> None:
-        """Asks it; its answer is the next one that comes."""
-        self._wire.is_torn = True
-        self._questions.append(question)
+        question = Question(line, time.monotonic())
+        self._questions.append(question)  # from here on it counts as asked, whether or not it is sent
         self._latest = question
-        self._put(question.line)
+        self._put(question)
 
-    def _put(self, line: bytes) -> None:
+    def _flush(self) -> None:
+        """Sends what is not sent yet of what counts as asked."""
+        for question in list(self._questions):
+            self._put(question)
+
+    def _put(self, question: Question) -> None:
         self._said = time.monotonic()
         try:
-            self._wire.send(line, WITHDRAW)
+            self._wire.send(question.data, question.sent, WITHDRAW)
         except Late:
             self._cut("the server takes nothing")
         except OSError as fault:
@@ -333,14 +337,14 @@ class Client(OfOneProcess):
         now = time.monotonic()
         if until is not None and now >= until:
             raise Late
-        wake = [moment for moment in (until, self._speak_in_time(now)) if moment is not None]
-        if self._wire.wait(min(wake) - now if wake else None):
+        wake = self._speak_in_time(now) if self._lease else until
+        if wake is not None:
+            wake = (wake if until is None else min(wake, until)) - now
+        if self._wire.wait(wake):
             self._receive()
 
-    def _speak_in_time(self, now: float) -> Optional[float]:
+    def _speak_in_time(self, now: float) -> float:
         """Says a ping if it is time to; when the next one is due."""
-        if not self._lease:
-            return None
         if now > self._spoken + self._lease:
             self._lose("the server has not answered for its lease")
         if now >= self._said + self._lease / self._part:
@@ -354,7 +358,6 @@ class Client(OfOneProcess):
         except OSError as fault:
             self._fail(fault)
             return
-        wire.is_torn = True
         try:
             while True:
                 line = wire.line()
@@ -383,10 +386,11 @@ class Client(OfOneProcess):
 
     def _happened(self, question: Question) -> None:
         """Notes what an answer means. It shows that the server has heard this client since the question was sent."""
-        self._spoken = max(self._spoken, question.at)
+        if question.at > self._spoken:
+            self._spoken = question.at
         word = question.words[0]
         if word == "granted":
-            self._hold(question.name, lines.number(question.words, 2))
+            self._hold(question.name, int(question.words[2]))
         elif word == "waiting":
             self._waits = question.name
         elif word == "cancelled":
@@ -443,8 +447,7 @@ class Client(OfOneProcess):
         """Speaks if nobody else does. False if there is nothing more to keep."""
         until = time.monotonic() + self._lease / self._part / 2
         try:
-            with self._turn(until):
-                self._speak()
+            self._in_turn(self._speak, until)
         except Late:
             pass  # a call is at work, and speaks itself
         except LockError:

@@ -184,25 +184,30 @@ def number(words: list[str], place: int) -> int:
     return int(words[place])
 
 
-#: The answers to each verb, with what follows their first word: N is the lock that was asked for, and 0 a number.
-_ANSWERS: Dict[str, Dict[str, str]] = {
-    "acquire": {"granted": "N0", "waiting": "N0"}, "try": {"granted": "N0", "busy": "N"}, "release": {"released": "N"},
-    "cancel": {"cancelled": "N"}, "leave": {"left": ""}, "status": {"status": "0"}, "lease": {"lease": "0"}, "ping": {"pong": ""}}
+#: The first words of the answers to each verb, with how many words there are.
+_ANSWERS: Dict[str, Dict[str, int]] = {
+    "acquire": {"granted": 3, "waiting": 3}, "try": {"granted": 3, "busy": 2}, "release": {"released": 2},
+    "cancel": {"cancelled": 2}, "leave": {"left": 1}, "status": {"status": 2}, "lease": {"lease": 2}, "ping": {"pong": 1}}
 
 
 class Question:
-    """A line that was asked, and its answer, as soon as it is there. An answer that belongs to another question is none."""
+    """A line that is asked, and its answer, as soon as it is there. An answer that belongs to another question is none."""
 
-    __slots__ = ("line", "verb", "name", "number", "at", "words", "locks")
+    __slots__ = ("line", "verb", "name", "number", "at", "sent", "words", "locks")
 
     def __init__(self, line: bytes, at: float, number: int = 0):
-        words = line.decode("ascii").split()
-        self.line, self.verb, self.name = line, words[0], words[1] if len(words) > 1 else ""
-        #: its number in a session, and when it was asked
-        self.number, self.at = number, at
+        verb, _, rest = line.decode("ascii").partition(" ")
+        self.line, self.verb, self.name = line, verb.rstrip(), rest.partition(" ")[0].rstrip()
+        #: its number in a session, or 0; when it was asked; how many bytes of it were sent, in parts
+        self.number, self.at, self.sent = number, at, []  # type: int, float, List[int]
         self.words: List[str] = []
         #: what follows the answer to `status`
         self.locks: List[LockStatus] = []
+
+    @property
+    def data(self) -> bytes:
+        """What is sent."""
+        return b"%d %s" % (self.number, self.line) if self.number else self.line
 
     @property
     def is_answered(self) -> bool:
@@ -219,11 +224,14 @@ class Question:
             raise LockLost(f"the server sent {' '.join(words)!r} as an answer to {self.line.decode().strip()!r}")
 
     def _takes(self, words: List[str]) -> bool:
+        count = len(words)
         if words[0] == "refused":
-            return len(words) == 2 or len(words) == 3 and words[2] == self.name
-        form = _ANSWERS[self.verb].get(words[0])
-        return (form is not None and len(words) == 1 + len(form)
-                and all(is_number(word) if kind == "0" else word == self.name for kind, word in zip(form, words[1:])))
+            return count == 2 or count == 3 and words[2] == self.name
+        if _ANSWERS[self.verb].get(words[0]) != count:
+            return False
+        if count == 3:
+            return words[1] == self.name and is_number(words[2])
+        return count < 2 or (is_number(words[1]) if self.verb in ("status", "lease") else words[1] == self.name)
 
 
 def milliseconds(question: Question) -> float:

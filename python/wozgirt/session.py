@@ -48,6 +48,7 @@ class Session(Client):
             self._find_first(until)
         except BaseException:
             self._drop("no server answers")
+            self._wire.close()
             raise
         self._start_keeper()
 
@@ -79,25 +80,27 @@ class Session(Client):
         super()._close_within(seconds)
 
     def _leave(self, until: float) -> None:
-        self._wire.send(b"%d leave\n" % (self._number + 1), until - time.monotonic())
+        self._wire.send(b"%d leave\n" % (self._number + 1), [], until - time.monotonic())
         while not self._wire.line_until(until).endswith(b" left"):
             pass
 
     def _send(self, line: bytes) -> None:
         if self._lost is not None:
             raise LockLost(self._lost)
-        question = Question(line, time.monotonic())
-        self._wire.is_torn = not self._is_broken
+        question = self._latest = Question(line, time.monotonic())
         if line in (PING, STATUS):
-            self._latest = question
             self._questions.append(question)
         else:
-            self._number += 1
-            question.number = self._number
-            self._asked = self._latest = question
-            line = b"%d %s" % (question.number, line)
+            self._number = question.number = self._number + 1
+            self._asked = question
         if not self._is_broken:
-            self._put(line)
+            self._put(question)
+
+    def _flush(self) -> None:
+        if not self._is_broken:
+            super()._flush()
+            if self._asked is not None:
+                self._put(self._asked)
 
     def _is_asking(self) -> bool:
         return self._asked is not None or super()._is_asking()
@@ -119,16 +122,18 @@ class Session(Client):
             super()._heard(line)
 
     def _answered(self, number: int, words: List[str]) -> Optional[List[str]]:
-        """The answer to what was asked last, or nothing if it had one."""
+        """The answer to what was asked last, or nothing if it had one. If this is broken off, the next connection has the same
+        answer, since the question is open to the end."""
         asked = self._asked
         if asked is None or asked.number != number or not words:
             return None
         asked.hear(words)
-        self._asked = None
-        self._happened(asked)
+        if words[0] != "waiting" or asked.name not in self._held:
+            self._happened(asked)
         if self._waits in self._grants:
             self._hold(self._waits, self._grants[self._waits])
         self._grants.clear()
+        self._asked = None
         return words
 
     def _is_granted(self, name: str, token: int) -> Optional[List[str]]:
@@ -212,12 +217,12 @@ class Session(Client):
         wire = Wire(connected(self.servers[self._at], max(0.05, min(CONNECT_ONE, until - begun))))
         try:
             end = min(until, time.monotonic() + ANSWER)
-            wire.send(b"session %d\n" % self._key, ANSWER)
+            wire.send(b"session %d\n" % self._key, [], ANSWER)
             words = lines.words_of(wire.line_until(end))
             if words[:2] != ["session", str(self._key)]:
                 raise OSError(errno.EPROTO, f"the server sent {' '.join(words)!r}")
             told = [lines.words_of(wire.line_until(end)) for _ in range(lines.number(words, 2))]
-            wire.send(self._wanted, ANSWER)
+            wire.send(self._wanted, [], ANSWER)
             others, lease = self._settled_lease(wire, end)
         except BaseException as fault:
             wire.close()
@@ -269,10 +274,10 @@ class Session(Client):
         now = time.monotonic()
         self._questions = collections.deque(it for it in self._questions if it.verb == "status")
         for it in self._questions:
-            it.words, it.locks, it.at = [], [], now
-            self._put(STATUS)
+            it.words, it.locks, it.at, it.sent = [], [], now, []
         if self._asked is not None:
-            self._put(b"%d %s" % (self._asked.number, self._asked.line))
+            self._asked.words, self._asked.sent = [], []
+        self._flush()
         self._wire.is_torn = False
 
     def _keep_on(self) -> bool:

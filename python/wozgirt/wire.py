@@ -20,6 +20,9 @@ ROOM = 1 << 16
 AGAIN = 0.01
 
 
+_SIZE, _QUIETLY = (ROOM,), (socket.MSG_NOSIGNAL,)
+
+
 class Late(Exception):
     """The deadline came first."""
 
@@ -106,11 +109,12 @@ def _addresses(host: str, port: int, deadline: float) -> List[Any]:
 
 
 class Wire:
-    """Lines over a socket. An exception out of a signal handler may come at any moment. While this waits, it does no harm; where
-    it comes while bytes are on their way, the wire is torn: what was sent or read is not known."""
+    """Lines over a socket. An exception out of a signal handler may come at any moment. Python runs handlers between its own
+    instructions: none between the end of a call by `extend` and the note of what it returned. So what was sent and what was read
+    is known, whatever is broken off; but what is made of a line is not: meanwhile the wire is torn."""
 
     def __init__(self, sock: socket.socket):
-        self._sock, self._bytes = sock, bytearray()
+        self._sock, self._bytes, self._chunks = sock, bytearray(), []  # type: socket.socket, bytearray, List[bytes]
         self.is_torn = False
         sock.setblocking(False)
         self._poll = select.poll()
@@ -120,35 +124,32 @@ class Wire:
         """Whether something has come, or the connection is over, within the time."""
         return bool(self._poll.poll(None if seconds is None else min(1e6, max(0.0, seconds * 1000))))
 
-    def send(self, data: bytes, patience: float) -> None:
-        """Sends all of it; Late if the other end takes nothing for so many seconds. Otherwise the wire is whole again."""
-        self.is_torn = True
-        while True:
+    def send(self, data: bytes, sent: List[int], patience: float) -> None:
+        """Sends what is left of the data, of which so many bytes were sent, and notes how many are. Late if the other end takes
+        nothing for so many seconds."""
+        while not sent or sum(sent) < len(data):
             try:
-                data = data[self._sock.send(data, socket.MSG_NOSIGNAL):]
+                sent.extend(map(self._sock.send, (data[sum(sent):] if sent else data,), _QUIETLY))
             except BlockingIOError:
                 writable = select.poll()
                 writable.register(self._sock, select.POLLOUT)
                 if not writable.poll(patience * 1000):
                     raise Late from None
-            if not data:
-                break
-        self.is_torn = False
 
     def receive(self) -> bool:
         """Takes what has come, and never waits. False if the other end has closed the connection."""
-        self.is_torn = True
         try:
-            more = self._sock.recv(ROOM)
+            self._chunks.extend(map(self._sock.recv, _SIZE))
         except BlockingIOError:
-            self.is_torn = False
             return True
-        self._bytes += more
-        self.is_torn = False
-        return bool(more)
+        return bool(self._chunks[-1])
 
     def line(self) -> Optional[bytes]:
-        """The next line that is complete, without its end."""
+        """The next line that is complete, without its end. It is torn from here on, until the caller has noted what it means."""
+        self.is_torn = True
+        if self._chunks:
+            self._bytes += b"".join(self._chunks)
+            self._chunks.clear()
         end = self._bytes.find(b"\n")
         if end < 0:
             if len(self._bytes) > ROOM:
