@@ -50,10 +50,10 @@ class Client(OfOneProcess):
         if wanted is None:
             return
         try:
-            self._lease = lines.milliseconds(self._in_turn(lambda: self._ask(wanted, until), until))
+            self._lease = lines.milliseconds(self._in_turn(lambda: self._ask_or_lose(wanted, until)))
         except BaseException as fault:
             self.close()
-            if isinstance(fault, Late):
+            if isinstance(fault, LockLost) and time.monotonic() >= until:
                 raise TimeoutError(errno.ETIMEDOUT, "the server does not answer") from None
             raise
         self._start_keeper()
@@ -96,11 +96,9 @@ class Client(OfOneProcess):
         try:
             line = lines.release(name, token)
             self._refuse_misuse()
-            self._in_turn(lambda: self._ask(line, until), until)
+            self._in_turn(lambda: self._ask_or_lose(line, until))
         except LockError:
             raise
-        except Late:
-            self._lose("the server does not answer")
         except BaseException:
             self._give_back(name, token)
             raise
@@ -303,6 +301,12 @@ class Client(OfOneProcess):
         if refused is not None:
             raise refused
         return question
+
+    def _ask_or_lose(self, line: bytes, until: Optional[float]) -> Question:
+        try:
+            return self._ask(line, until)
+        except Late:
+            self._lose("the server does not answer")
 
     def _send(self, line: bytes) -> None:
         if self._lost is not None:
