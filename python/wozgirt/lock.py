@@ -76,7 +76,7 @@ class Settings:
         """An object like this one."""
         return type(self)(self._place, self.name, wait=self._wait, label=self._label, lease=self._lease)
 
-    def _deadline(self, timeout: "Union[float, None, Type[Default]]") -> Optional[float]:
+    def _deadline(self, timeout: Union[float, None, Type[Default]]) -> Optional[float]:
         """That of a call that begins now."""
         if self.token is not None:
             raise RuntimeError("this object holds the lock already")
@@ -111,7 +111,7 @@ class Lock(Settings):
                  lease: Optional[float] = None):
         super().__init__(place, name, wait=wait, label=label, lease=lease)
 
-    def acquire(self, *, timeout: "Union[float, None, Type[Default]]" = Default) -> int:
+    def acquire(self, *, timeout: Union[float, None, Type[Default]] = Default) -> int:
         """Takes the lock; its token. `NotInTime` if it is not granted within `timeout` seconds (None: no limit; if it is not
         given, `wait`), the time to connect included."""
         deadline = self._deadline(timeout)
