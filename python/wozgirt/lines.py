@@ -6,10 +6,15 @@ import operator
 import os
 import re
 from dataclasses import dataclass
-from typing import Dict, List, Optional, Tuple, Union
+from typing import TYPE_CHECKING, Dict, List, Optional, Tuple, Union
+
+if TYPE_CHECKING:
+    _Path = os.PathLike[str]
+else:
+    _Path = os.PathLike  # Python 3.8 has no parameter for it
 
 #: Where a server is: the path of its socket, or host and port, also as tcp:HOST:PORT.
-Place = Union[str, "os.PathLike[str]", Tuple[str, int]]
+Place = Union[str, _Path, Tuple[str, int]]
 #: One server, or several that share their locks: a list, or in one text with commas.
 Places = Union[Place, List[Place]]
 
