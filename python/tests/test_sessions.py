@@ -309,7 +309,7 @@ class Sessions(unittest.TestCase):
             other.release("a", token)
         with self.assertRaises(NotInTime):
             other.acquire("a", wait=0.05)
-        self.assertEqual(self.arbiter.lines["a"], [])
+        wait_until(lambda: self.arbiter.lines["a"] == [])
         self.assertEqual([it.name for it in client.status()], ["a"])
 
     @by_the_clock

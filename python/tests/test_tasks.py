@@ -55,6 +55,8 @@ class Tasks(Timed):
                 with self.assertRaises(LockLost):
                     one.check()
                 await self.in_time(asyncio.wait_for(two.acquire("a"), WAIT), error=asyncio.TimeoutError)
+                self.assertIn("nothing was asked", str(await self.in_time(two.acquire("b", wait=WAIT))))
+                await asyncio.sleep(1)
                 with self.assertRaises(LockLost):
                     two.check()
                 await self.in_time(aio.Lock(server.path, "b", wait=WAIT).acquire())

@@ -14,7 +14,7 @@ from typing import Any, Deque, NamedTuple, NoReturn, Optional, Tuple, Type, Unio
 
 from . import lines, nesting
 from .aio_session import Session
-from .client import PART, PING, STATUS, WITHDRAW
+from .client import INTERRUPTED, PART, PING, STATUS, WITHDRAW
 from .lines import Inherited, LockError, LockLost, LockStatus, NotInTime, NotWaiter, Place, Places, Question, Refused
 from .lock import Default, Function, Settings, is_too_late, left, to_connect, until
 from .process import OfOneProcess
@@ -34,8 +34,8 @@ class Client(OfOneProcess):
     """A connection, made by `await Client.connect(place)`. Tasks may share it; it waits for one lock at a time. What a
     lease is, and what a child may do with it, the client for threads says.
 
-    A task that is cancelled leaves nothing that waits or that is held, or the connection is closed: it takes a tenth of a second at
-    most, also where the server does not answer."""
+    A task that is cancelled leaves nothing that waits or that is held. Its cancellation takes WITHDRAW seconds at most: a server that
+    takes longer is told in the background, and if it does not answer within a second, the connection is closed."""
 
     def __init__(self, reader: asyncio.StreamReader, writer: asyncio.StreamWriter, sock: Optional[socket.socket] = None,
                  servers: Tuple[Any, ...] = ()):
@@ -74,10 +74,12 @@ class Client(OfOneProcess):
         return client
 
     async def acquire(self, name: str, *, label: int = 0, wait: Optional[float] = None) -> int:
-        """The token, as soon as the lock is granted. `NotInTime` if it is not within `wait` seconds, at most a tenth of a second
+        """The token, as soon as the lock is granted. `NotInTime` if it is not within `wait` seconds, at most WITHDRAW seconds
         later: what was asked is then withdrawn, or the connection is closed if the server does not answer."""
         deadline = until(wait)
-        grant = self._send(lines.acquire(name, label))
+        line = lines.acquire(name, label)
+        await self._others_undone(name, deadline)
+        grant = self._send(line)
         try:
             await asyncio.wait([grant], timeout=left(deadline))
             if not grant.done():
@@ -89,7 +91,9 @@ class Client(OfOneProcess):
 
     async def try_acquire(self, name: str, *, label: int = 0) -> Optional[int]:
         """The token, or None if another holds the lock."""
-        outcome = self._send(lines.acquire(name, label, "try"))
+        line = lines.acquire(name, label, "try")
+        await self._others_undone(name, None)
+        outcome = self._send(line)
         try:
             words = (await asyncio.shield(outcome)).words
         except asyncio.CancelledError:
@@ -182,11 +186,11 @@ class Client(OfOneProcess):
             raise NotInTime(f"{name}: it was not granted in time, and is no longer waited for")
 
     async def _undo(self, name: str, outcome: asyncio.Future[Question]) -> None:
-        """After a cancellation: nothing waits, and nothing is held that nobody knows of. It is done to its end even if
-        the task is cancelled once more."""
+        """After a cancellation: nothing waits, and nothing is held that nobody knows of. A task of its own does this to its end. It is
+        waited for as long as a server takes that is well; then the next call that asks for a lock waits for it."""
 
         async def undo() -> None:
-            deadline = time.monotonic() + WITHDRAW
+            deadline = time.monotonic() + INTERRUPTED
             try:
                 if self._lost is None and not outcome.done():
                     await self._withdraw(name, outcome, deadline)
@@ -199,7 +203,11 @@ class Client(OfOneProcess):
         task = asyncio.create_task(undo())
         self._undoing.add(task)
         task.add_done_callback(self._undoing.discard)
-        await asyncio.shield(task)
+        await asyncio.wait([task], timeout=WITHDRAW)
+
+    async def _others_undone(self, name: str, deadline: Optional[float]) -> None:
+        if self._undoing and (await asyncio.wait(list(self._undoing), timeout=left(deadline)))[1]:
+            raise NotInTime(f"{name}: a cancelled call was not withdrawn in time, so nothing was asked")
 
     async def _read(self) -> None:
         try:

@@ -19,7 +19,7 @@ __all__ = ["CONNECT", "Client", "connected"]
 
 PING, STATUS = b"ping\n", b"status\n"
 #: How long the server may take to say that a lock is no longer waited for: after a deadline, and after an interrupt.
-WITHDRAW, INTERRUPTED = 0.1, 1.0
+WITHDRAW, INTERRUPTED = 0.15, 1.0
 #: How long a server may take to say that a client that closes has left.
 CLOSE = 2.0
 #: A client speaks after a silence of this part of its lease.
@@ -74,7 +74,7 @@ class Client(OfOneProcess):
         self._spoken = self._said = time.monotonic()  # the server has heard this client by then, or later; it was told last
 
     def acquire(self, name: str, *, label: int = 0, wait: Optional[float] = None) -> int:
-        """The token, as soon as the lock is granted. `NotInTime` if it is not within `wait` seconds, at most a tenth of a second
+        """The token, as soon as the lock is granted. `NotInTime` if it is not within `wait` seconds, at most WITHDRAW seconds
         later: what was asked is then withdrawn, or the connection is closed if the server does not answer."""
         until = None if wait is None else time.monotonic() + wait
         line = lines.acquire(name, label)
@@ -322,7 +322,7 @@ class Client(OfOneProcess):
             self._put(question)
 
     def _put(self, question: Question) -> None:
-        self._said = time.monotonic()
+        self._said = question.at
         try:
             self._wire.send(question.data, question.sent, WITHDRAW)
         except Late:
@@ -338,13 +338,16 @@ class Client(OfOneProcess):
 
     def _pump(self, until: Optional[float]) -> None:
         """Hears what comes next; Late after the deadline. Speaks where the lease wants it."""
+        if until is None and not self._lease:
+            self._receive(waits=True)
+            return
         now = time.monotonic()
         if until is not None and now >= until:
             raise Late
         wake = self._speak_in_time(now) if self._lease else until
         if wake is not None:
             wake = (wake if until is None else min(wake, until)) - now
-        if self._wire.wait(wake):
+        if self._wire.has_more or self._wire.wait(wake):
             self._receive()
 
     def _speak_in_time(self, now: float) -> float:
@@ -355,22 +358,21 @@ class Client(OfOneProcess):
             self._send(PING)
         return min(self._said + self._lease / self._part, self._spoken + self._lease + 0.001)
 
-    def _receive(self) -> None:
-        wire = self._wire
+    def _receive(self, waits: bool = False) -> None:
         try:
-            is_open = wire.receive()
+            is_open = self._wire.has_more or self._wire.receive(waits)
         except OSError as fault:
             self._fail(fault)
             return
         try:
             while True:
-                line = wire.line()
+                line = self._wire.line()
                 if line is None:
                     break
                 self._heard(line)
         except LockLost as fault:
             self._lose(str(fault))
-        wire.is_torn = False
+        self._wire.is_torn = False
         if not is_open:
             self._cut("the server closed the connection")
 

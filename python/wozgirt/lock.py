@@ -130,13 +130,16 @@ class Lock(Settings):
     def release(self) -> None:
         """Gives the lock back. `LockLost` if it was lost before, and RuntimeError if this object does not hold it."""
         client, token = self.client, self._let_go()
-        if client is self._place:
-            client.release(self.name, token)
-            return
         try:
-            client._release(self.name, token, time.monotonic() + CONNECT)
+            client._release(self.name, token, None if client is self._place else time.monotonic() + CONNECT)
+        except LockError:
+            raise
+        except BaseException:
+            client._give_back(self.name, token)  # where an interrupt came before the client knew
+            raise
         finally:
-            client.close()
+            if client is not self._place:
+                client.close()
 
     def _connected(self, deadline: Optional[float]) -> Client:
         try:

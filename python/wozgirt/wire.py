@@ -20,7 +20,7 @@ ROOM = 1 << 16
 AGAIN = 0.01
 
 
-_SIZE, _QUIETLY = (ROOM,), (socket.MSG_NOSIGNAL,)
+_SIZE, _WAIT, _NOW, _QUIETLY = (ROOM,), (0,), (socket.MSG_DONTWAIT,), (socket.MSG_DONTWAIT | socket.MSG_NOSIGNAL,)
 
 
 class Late(Exception):
@@ -114,9 +114,8 @@ class Wire:
     is known, whatever is broken off; but what is made of a line is not: meanwhile the wire is torn."""
 
     def __init__(self, sock: socket.socket):
-        self._sock, self._bytes, self._chunks = sock, bytearray(), []  # type: socket.socket, bytearray, List[bytes]
+        self._sock, self._bytes, self._chunks = sock, b"", []  # type: socket.socket, bytes, List[bytes]
         self.is_torn = False
-        sock.setblocking(False)
         self._poll = select.poll()
         self._poll.register(sock, select.POLLIN)
 
@@ -136,10 +135,15 @@ class Wire:
                 if not writable.poll(patience * 1000):
                     raise Late from None
 
-    def receive(self) -> bool:
-        """Takes what has come, and never waits. False if the other end has closed the connection."""
+    @property
+    def has_more(self) -> bool:
+        """Whether something was received that `line` has not looked at, since a call was broken off."""
+        return bool(self._chunks)
+
+    def receive(self, waits: bool = False) -> bool:
+        """Takes what has come; it waits for that only if it is told to. False if the other end has closed the connection."""
         try:
-            self._chunks.extend(map(self._sock.recv, _SIZE))
+            self._chunks.extend(map(self._sock.recv, _SIZE, _WAIT if waits else _NOW))
         except BlockingIOError:
             return True
         return bool(self._chunks[-1])
@@ -148,16 +152,15 @@ class Wire:
         """The next line that is complete, without its end. It is torn from here on, until the caller has noted what it means."""
         self.is_torn = True
         if self._chunks:
-            self._bytes += b"".join(self._chunks)
+            self._bytes += self._chunks[0] if len(self._chunks) == 1 else b"".join(self._chunks)
             self._chunks.clear()
-        end = self._bytes.find(b"\n")
-        if end < 0:
-            if len(self._bytes) > ROOM:
-                raise LockLost("the server sent a line without an end")
-            return None
-        line = bytes(self._bytes[:end])
-        del self._bytes[:end + 1]
-        return line
+        line, end, rest = self._bytes.partition(b"\n")
+        if end:
+            self._bytes = rest
+            return line
+        if len(line) > ROOM:
+            raise LockLost("the server sent a line without an end")
+        return None
 
     def line_until(self, deadline: float) -> bytes:
         """The next line, or an OSError."""
@@ -172,7 +175,7 @@ class Wire:
 
     def put_back(self, more: bytes) -> None:
         """Has these be read first."""
-        self._bytes[:0] = more
+        self._bytes = more + self._bytes
 
     def fileno(self) -> int:
         """The socket's file, or -1."""
