@@ -68,6 +68,7 @@ class Client(OfOneProcess):
         self._waits: Optional[str] = None
         self._grant: Optional[Tuple[str, int]] = None  # that no caller has yet
         self._held: Dict[str, int] = {}
+        self._unclaimed: Dict[str, int] = {}  # holds whose holder was never told, or gave up
         self._lost: Optional[str] = None
         self._is_closed, self._wake = False, threading.Event()
         self._lease = 0.0
@@ -180,6 +181,7 @@ class Client(OfOneProcess):
             return self._in_turn(take, until)
         except BaseException:
             if token is not None:
+                self._unclaimed[name] = token
                 self._give_back(name, token)
             raise
 
@@ -251,11 +253,12 @@ class Client(OfOneProcess):
         self._flush()
         self._withdraw(until)
         if self._grant is not None:
+            self._unclaimed[self._grant[0]] = self._grant[1]
+        for name, token in list(self._unclaimed.items()):
             try:
-                self._ask(lines.release(*self._grant), until)
+                self._ask(lines.release(name, token), until)
             except NotHolder:
-                pass
-            self._grant = None
+                self._let_go(name)
 
     def _clean_up(self) -> None:
         """After an exception: in order, or given up."""
@@ -270,10 +273,11 @@ class Client(OfOneProcess):
 
     def _give_back(self, name: str, token: int) -> None:
         """Ends a hold whose holder does not know of it, or the connection."""
-        until = time.monotonic() + INTERRUPTED
+        if self._held.get(name) != token or self._caller == threading.get_ident():
+            return
+        self._unclaimed[name] = token
         try:
-            if self._held.get(name) == token and self._caller != threading.get_ident():
-                self._in_turn(lambda: self._ask(lines.release(name, token), until), until)
+            self._in_turn(lambda: None, time.monotonic() + INTERRUPTED)
         except LockError:
             pass  # it is over
         except BaseException as fault:
@@ -283,7 +287,7 @@ class Client(OfOneProcess):
 
     def _is_quiet(self) -> bool:
         """Whether nothing is asked or waited for, and nothing granted that nobody knows of."""
-        return not (self._wire.is_torn or self._waits or self._grant or self._is_asking())
+        return not (self._wire.is_torn or self._waits or self._grant or self._unclaimed or self._is_asking())
 
     def _is_asking(self) -> bool:
         return bool(self._questions) and any(question.verb != "ping" for question in self._questions)
@@ -406,12 +410,14 @@ class Client(OfOneProcess):
         elif word == "left":
             self._waits = self._grant = None
             self._held.clear()
+            self._unclaimed.clear()
 
     def _hold(self, name: str, token: int) -> None:
         self._held[name], self._grant, self._waits = token, (name, token), None
 
     def _let_go(self, name: str) -> None:
         self._held.pop(name, None)
+        self._unclaimed.pop(name, None)
         if self._grant is not None and self._grant[0] == name:
             self._grant = None
 
