@@ -66,7 +66,9 @@ class Trial:
 
     def interrupt(self, _, frame):
         """Raises, but not in the lines round the call: what a call returned can be lost there, whatever the client does."""
-        is_inside = frame.f_code not in (Trial.call.__code__, Trial.interrupt.__code__)
+        outside = {Trial.call.__code__, Trial.interrupt.__code__}
+        # before Python 3.11 handlers run between the return of a function and the next step of its caller, too
+        is_inside = frame.f_code not in outside and (sys.version_info >= (3, 11) or frame.f_back.f_code not in outside)
         if self.is_inside and is_inside and self.left > 0:
             self.left -= 1
             raise Interrupt

@@ -223,7 +223,7 @@ class Sessions(unittest.TestCase):
                         client.leave()
                     else:
                         with self.assertRaises(NotWaiter):
-                            client._ask(lines.cancel("a"))
+                            client._call(lines.cancel("a"))
                     self.assertEqual([it[2] for it in self.arbiter.done[before:]], [verb])
 
     def test_a_wait_goes_on(self):

@@ -4,6 +4,8 @@ from __future__ import annotations
 
 import collections
 import errno
+import inspect
+import itertools
 import os
 import threading
 import time
@@ -78,16 +80,23 @@ class Client(OfOneProcess):
         """The token, as soon as the lock is granted. `NotInTime` if it is not within `wait` seconds, at most WITHDRAW seconds
         later: what was asked is then withdrawn, or the connection is closed if the server does not answer."""
         until = None if wait is None else time.monotonic() + wait
-        line = lines.acquire(name, label)
+        line, taken = lines.acquire(name, label), []  # type: bytes, List[int]
         try:
-            return self._hand_over(name, lambda: self._acquired(line, name, until), until)
+            return self._hand_over(taken, lambda: self._acquired(line, name, until), until)
         except Late:
             raise NotInTime(f"{name}: this client was busy all the time, so nothing was asked") from None
+        except BaseException:
+            self._disown(name, taken)
+            raise
 
     def try_acquire(self, name: str, *, label: int = 0) -> Optional[int]:
         """The token, or None if another holds the lock."""
-        line = lines.acquire(name, label, "try")
-        return self._hand_over(name, lambda: self._tried(line))
+        line, taken = lines.acquire(name, label, "try"), []  # type: bytes, List[int]
+        try:
+            return self._hand_over(taken, lambda: self._tried(line))
+        except BaseException:
+            self._disown(name, taken)
+            raise
 
     def release(self, name: str, token: int) -> None:
         """Ends the hold with this token, also where an interrupt ends the call."""
@@ -115,17 +124,10 @@ class Client(OfOneProcess):
     def check(self) -> None:
         """Raises `LockLost` if others may hold what this client held. Never waits."""
         self._refuse_a_child()
-        if self._caller != threading.get_ident() and self._mutex.acquire(blocking=False):
-            try:
-                if self._lost is None:
-                    self._look()
-            finally:
-                self._mutex.release()
-        self._check_the_clock("the server has not answered for half of the lease")
-
-    def _check_the_clock(self, why: str) -> None:
+        if self._caller != threading.get_ident():
+            self._look_if_free()
         if self._lost is None and self._lease and time.monotonic() > self._spoken + self._lease / 2:
-            self._lost = why
+            self._lost = "the server has not answered for half of the lease"
         if self._lost is not None:
             raise LockLost(self._lost)
 
@@ -161,34 +163,43 @@ class Client(OfOneProcess):
         if os.getpid() != self._process:
             self._refuse_a_child()
         if self._caller == threading.get_ident():
-            raise RuntimeError("a call of this client is at work in this thread: a signal handler can only check or close it")
+            if self._is_within_a_call():
+                raise RuntimeError("a call of this client is at work in this thread: a signal handler can only check or close it")
+            self._end_turn([True])  # its end was broken off twice
+            self._lose("a call was broken off twice")
+
+    def _is_within_a_call(self) -> bool:
+        frame = inspect.currentframe()
+        while frame is not None and not (frame.f_code is Client._in_turn.__code__ and frame.f_locals.get("self") is self):
+            frame = frame.f_back
+        return frame is not None
 
     def _call(self, line: bytes) -> Question:
         self._refuse_misuse()
         return self._in_turn(lambda: self._ask(line))
 
-    def _hand_over(self, name: str, do: Callable[[], Answer], until: Optional[float] = None) -> Answer:
-        """What `do` returns, a token or None. If an exception keeps the caller from having it, the hold is ended."""
+    def _hand_over(self, taken: List[int], do: Callable[[], Answer], until: Optional[float] = None) -> Answer:
+        """What `do` returns, a token or None. A token is noted, for a caller that an exception keeps from having it."""
         self._refuse_misuse()
-        token = None
 
         def take() -> Answer:
-            nonlocal token
             token = do()
-            self._grant = None
-            return token
-        try:
-            return self._in_turn(take, until)
-        except BaseException:
             if token is not None:
-                self._unclaimed[name] = token
-                self._give_back(name, token)
-            raise
+                taken.append(token)
+                self._grant = None
+            return token
+        return self._in_turn(take, until)
+
+    def _disown(self, name: str, taken: List[int]) -> None:
+        """Ends the hold that nobody was told of, if there is one."""
+        if taken:
+            self._unclaimed[name] = taken[0]
+            self._give_back(name, taken[0])
 
     def _in_turn(self, do: Callable[[], Result], until: Optional[float] = None) -> Result:
         """Does it when it is this thread's turn with the connection; Late if that does not come by then. What a call that was broken
         off has left is put in order behind it, or before the next one."""
-        taken: List[bool] = []
+        taken: List[Optional[bool]] = []
         left = -1.0 if until is None else min(threading.TIMEOUT_MAX, max(0.0, until - time.monotonic()))
         try:
             taken.extend(map(self._mutex.acquire, (True,), (left,)))  # in one step for signal handlers, see Wire
@@ -207,11 +218,19 @@ class Client(OfOneProcess):
                     raise
             raise
         finally:
-            if taken and taken[0]:
-                self._caller = None
-                if self._lost is not None:
-                    self._wire.close()
-                self._mutex.release()
+            try:
+                self._end_turn(taken)
+            except BaseException:
+                self._end_turn(taken)
+                raise
+
+    def _end_turn(self, taken: List[Optional[bool]]) -> None:
+        """Lets others have the mutex, if it was taken. If this is broken off, it can be called again."""
+        if len(taken) == 1 and taken[0]:
+            self._caller = None
+            if self._lost is not None:
+                self._wire.close()
+            taken.extend(itertools.starmap(self._mutex.release, ((),)))
 
     def _acquired(self, line: bytes, name: str, until: Optional[float]) -> int:
         try:
@@ -420,6 +439,19 @@ class Client(OfOneProcess):
         self._unclaimed.pop(name, None)
         if self._grant is not None and self._grant[0] == name:
             self._grant = None
+
+    def _look_if_free(self) -> None:
+        taken: List[Optional[bool]] = []
+        try:
+            taken.extend(map(self._mutex.acquire, (False,)))
+            if taken[0] and self._lost is None:
+                self._look()
+        finally:
+            try:
+                self._end_turn(taken)
+            except BaseException:
+                self._end_turn(taken)
+                raise
 
     def _look(self) -> None:
         """Sees whether the connection was closed, without waiting."""

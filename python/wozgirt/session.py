@@ -52,17 +52,6 @@ class Session(Client):
             raise
         self._start_keeper()
 
-    def check(self) -> None:
-        """Raises `LockLost` if others may hold what this client held. Never waits."""
-        self._refuse_a_child()
-        if self._caller != threading.get_ident() and self._mutex.acquire(blocking=False):
-            try:
-                if self._lost is None and not self._is_broken:
-                    self._look()
-            finally:
-                self._mutex.release()
-        self._check_the_clock("no server has answered for half of the lease")
-
     def close(self) -> None:
         """Leaves, and closes the connection. Without a server, others get what this client held when its lease is over."""
         super().close()
@@ -163,6 +152,10 @@ class Session(Client):
             self._try_next(now, until)
         else:
             super()._pump(until)
+
+    def _look(self) -> None:
+        if not self._is_broken:
+            super()._look()
 
     def _cut(self, why: str) -> None:
         self._break(why)
