@@ -90,7 +90,7 @@ class Annotations(unittest.TestCase):
 
     def functions(self):
         for name in ("aio", "aio_session", "client", "library", "lines", "local", "lock", "nesting", "process", "refusals", "ring",
-                     "session", "wire"):
+                     "session", "turns", "wire"):
             module = importlib.import_module(f"wozgirt.{name}")
             for it in vars(module).values():
                 if getattr(it, "__module__", None) == module.__name__:

@@ -4,9 +4,6 @@ from __future__ import annotations
 
 import collections
 import errno
-import inspect
-import itertools
-import os
 import threading
 import time
 import weakref
@@ -14,7 +11,7 @@ from typing import Callable, Deque, Dict, List, NoReturn, Optional, Tuple, TypeV
 
 from . import lines
 from .lines import LockError, LockLost, LockStatus, NotHolder, NotInTime, NotWaiter, Place, Question
-from .process import OfOneProcess
+from .turns import Turns
 from .wire import CONNECT, Late, Wire, connected
 
 __all__ = ["CONNECT", "Client", "connected"]
@@ -27,11 +24,10 @@ CLOSE = 2.0
 #: A client speaks after a silence of this part of its lease.
 PART = 4
 
-Result = TypeVar("Result")
 Answer = TypeVar("Answer", int, Optional[int])
 
 
-class Client(OfOneProcess):
+class Client(Turns):
     """A connection, made within `timeout` seconds. Threads may share it, but a call waits until the one before it is answered; while
     one waits for a lock, the others wait for that. A child that inherits it over a fork cannot use it (`Inherited`).
 
@@ -61,17 +57,14 @@ class Client(OfOneProcess):
         self._start_keeper()
 
     def _prepare(self, servers: List[Place], wire: Wire) -> None:
-        OfOneProcess.__init__(self)
-        self.servers, self._wire = servers, wire
-        self._mutex = threading.RLock()
-        self._caller: Optional[int] = None  # the thread whose turn it is
+        super().__init__(wire)
+        self.servers = servers
         self._questions: Deque[Question] = collections.deque()  # without an answer yet
         self._latest = Question(PING, 0.0)  # what was asked last
         self._waits: Optional[str] = None
         self._grant: Optional[Tuple[str, int]] = None  # that no caller has yet
         self._held: Dict[str, int] = {}
         self._unclaimed: Dict[str, int] = {}  # holds whose holder was never told, or gave up
-        self._lost: Optional[str] = None
         self._is_closed, self._wake = False, threading.Event()
         self._lease = 0.0
         self._spoken = self._said = time.monotonic()  # the server has heard this client by then, or later; it was told last
@@ -155,25 +148,6 @@ class Client(OfOneProcess):
     def __exit__(self, *_: object) -> None:
         self.close()
 
-    def _close_copy(self) -> None:
-        self._lost = "this client is that of the parent"
-        self._wire.close()
-
-    def _refuse_misuse(self) -> None:
-        if os.getpid() != self._process:
-            self._refuse_a_child()
-        if self._caller == threading.get_ident():
-            if self._is_within_a_call():
-                raise RuntimeError("a call of this client is at work in this thread: a signal handler can only check or close it")
-            self._end_turn([True])  # its end was broken off twice
-            self._lose("a call was broken off twice")
-
-    def _is_within_a_call(self) -> bool:
-        frame = inspect.currentframe()
-        while frame is not None and not (frame.f_code is Client._in_turn.__code__ and frame.f_locals.get("self") is self):
-            frame = frame.f_back
-        return frame is not None
-
     def _call(self, line: bytes) -> Question:
         self._refuse_misuse()
         return self._in_turn(lambda: self._ask(line))
@@ -195,42 +169,6 @@ class Client(OfOneProcess):
         if taken:
             self._unclaimed[name] = taken[0]
             self._give_back(name, taken[0])
-
-    def _in_turn(self, do: Callable[[], Result], until: Optional[float] = None) -> Result:
-        """Does it when it is this thread's turn with the connection; Late if that does not come by then. What a call that was broken
-        off has left is put in order behind it, or before the next one."""
-        taken: List[Optional[bool]] = []
-        left = -1.0 if until is None else min(threading.TIMEOUT_MAX, max(0.0, until - time.monotonic()))
-        try:
-            taken.extend(map(self._mutex.acquire, (True,), (left,)))  # in one step for signal handlers, see Wire
-            if not taken[0]:
-                raise Late
-            self._caller = threading.get_ident()
-            if not self._is_quiet():
-                self._settle(until)
-            return do()
-        except BaseException:
-            if taken and taken[0]:
-                try:
-                    self._clean_up()
-                except BaseException:
-                    self._give_up("a call was broken off twice")
-                    raise
-            raise
-        finally:
-            try:
-                self._end_turn(taken)
-            except BaseException:
-                self._end_turn(taken)
-                raise
-
-    def _end_turn(self, taken: List[Optional[bool]]) -> None:
-        """Lets others have the mutex, if it was taken. If this is broken off, it can be called again."""
-        if len(taken) == 1 and taken[0]:
-            self._caller = None
-            if self._lost is not None:
-                self._wire.close()
-            taken.extend(itertools.starmap(self._mutex.release, ((),)))
 
     def _acquired(self, line: bytes, name: str, until: Optional[float]) -> int:
         try:
@@ -439,19 +377,6 @@ class Client(OfOneProcess):
         self._unclaimed.pop(name, None)
         if self._grant is not None and self._grant[0] == name:
             self._grant = None
-
-    def _look_if_free(self) -> None:
-        taken: List[Optional[bool]] = []
-        try:
-            taken.extend(map(self._mutex.acquire, (False,)))
-            if taken[0] and self._lost is None:
-                self._look()
-        finally:
-            try:
-                self._end_turn(taken)
-            except BaseException:
-                self._end_turn(taken)
-                raise
 
     def _look(self) -> None:
         """Sees whether the connection was closed, without waiting."""
