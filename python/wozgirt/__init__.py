@@ -21,7 +21,6 @@ from .lines import (Circle, Holds, Inherited, LockError, LockLost, LockStatus, N
 from .lock import Lock
 from .session import Session
 
-__all__ = ["Circle", "Client", "Holds", "Inherited", "Lock", "LockError", "LockLost", "LockStatus", "NoSuchLock", "NotHolder", "NotInTime",
-           "NotPermitted", "NotWaiter", "Place", "Places", "Refused", "Session",
-           "TooMany", "Waits"]
+__all__ = ["Circle", "Client", "Holds", "Inherited", "Lock", "LockError", "LockLost", "LockStatus", "NoSuchLock", "NotHolder",
+           "NotInTime", "NotPermitted", "NotWaiter", "Place", "Places", "Refused", "Session", "TooMany", "Waits"]
 __version__ = "0.1.0"
