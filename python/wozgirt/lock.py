@@ -13,6 +13,9 @@ from .client import CONNECT, WITHDRAW, Client
 from .lines import Inherited, LockError, LockLost, NotInTime, Places, Refused
 from .session import Session
 
+#: How much earlier than asked for the system may end a wait, in seconds.
+EARLY = 0.005
+
 Function = TypeVar("Function", bound=Callable[..., Any])
 
 
@@ -44,7 +47,7 @@ def to_connect(deadline: Optional[float]) -> float:
 
 def is_too_late(fault: OSError, deadline: Optional[float]) -> bool:
     """Whether the deadline ended the try to connect, and not something else or a signal handler."""
-    return deadline is not None and time.monotonic() >= deadline and lines.is_own(fault)
+    return deadline is not None and time.monotonic() >= deadline - EARLY and lines.is_own(fault)
 
 
 class Settings:
