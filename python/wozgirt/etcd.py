@@ -31,6 +31,10 @@ class Denied(NoAnswer):
     """A member answered that it will not."""
 
 
+class NoRoom(Denied):
+    """It will not, since etcd's database has reached its quota."""
+
+
 def coded(text: Union[str, bytes]) -> str:
     """As keys and values are written in JSON."""
     return base64.b64encode(text.encode() if isinstance(text, str) else text).decode()
@@ -129,7 +133,8 @@ class Member:
             safe, host, port = self._places[self._at]
             self._line = Line(host, port, self._tls if safe else None, self._patience)
         if self._line.post(f"/v3/{path}", "".join(map(json.dumps, bodies)).encode()) != 200:
-            raise Denied(f"{self.name}: {reason(self._body(self._line).decode('utf-8', 'replace'))}")
+            why = reason(self._body(self._line).decode("utf-8", "replace"))
+            raise (NoRoom if "database space exceeded" in why else Denied)(f"{self.name}: {why}")
         return self._line
 
     def _body(self, line: Line) -> bytes:

@@ -424,12 +424,12 @@ class Checkpoints(Trial):
         self.log.identity = "other"
         status, text = self.restarted(a)
         self.assertEqual(status, 4)
-        self.assertIn("the checkpoint is of another log than other: was etcd replaced?", text)
+        self.assertIn("etcd has another log than this server has read, or an earlier state of it (it has another identity)", text)
         self.log.identity = "double"
         self.log.begun = 1000
         status, text = self.restarted(b)
         self.assertEqual(status, 4)
-        self.assertIn("the log is another one, or does not reach back to the checkpoint", text)
+        self.assertIn("the log does not reach back to this server's checkpoint (it begins with entry 1000): begin again with another server's", text)
 
     def test_damaged_checkpoints(self):
         a, b, c = (self.server(name, checkpoint=30) for name in "abc")

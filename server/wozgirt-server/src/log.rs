@@ -76,6 +76,7 @@ pub enum Event<'a> {
     LogEnded { status: String },
     LogUnreadable { line: &'a str },
     LogLeft { why: &'a str },
+    LogFull,
     LogJoined { identity: &'a str, server: &'a dyn fmt::Display, position: u64 },
     ServerOver { server: &'a dyn fmt::Display, position: u64 },
     SessionOver { session: Client, held: &'a str },
@@ -120,6 +121,7 @@ impl fmt::Display for Event<'_> {
             Event::LogEnded { status } => write!(f, "wozgirt-log ended: {status}"),
             Event::LogUnreadable { line } => write!(f, "wozgirt-log said what it should not: {line}"),
             Event::LogLeft { why } => write!(f, "out of the log ({why}): all connections end"),
+            Event::LogFull => f.write_str("etcd has no room for entries: nothing is granted until it has"),
             Event::LogJoined { identity, server, position } => {
                 write!(f, "in the log {identity} as {server}, behind position {position}")
             }

@@ -3,7 +3,8 @@
 use super::{Server, ENGINE, ENGINE_INPUT};
 use crate::board::Board;
 use crate::cluster::{
-    holders, Applied, BadCheckpoint, Block, Checkpoint, Cluster, Effect, Key, Phase, Read, Server as LogServer, Verdict,
+    holders, Applied, BadCheckpoint, Block, Checkpoint, Cluster, Effect, Key, Phase, Read, Server as LogServer,
+    Verdict,
 };
 use crate::engine::{Outcome, Unheard};
 use crate::log::{End, Event};
@@ -34,10 +35,11 @@ impl Server {
                 let found = Checkpoint::parse(&text, cluster.applied.most_lines);
                 let Checkpoint { identity, segment, applied, state } =
                     found.map_err(|BadCheckpoint(line)| CannotServe::Checkpoint(cluster.folder.checkpoint(), line))?;
-                cluster.identity = Some(identity);
+                cluster.place.raise(&identity, applied.position, applied.revision)?;
                 (applied, state, segment)
             }
         };
+        cluster.place.begin(applied.position);
         cluster.folder.restore(segment, applied.position)?;
         cluster.folder.write_holders(&holders(&state))?;
         cluster.saved = (segment, applied.position);
@@ -110,9 +112,10 @@ impl Server {
         let segment = cluster.folder.sync_from(cluster.saved.0)?;
         let (position, revision) = (cluster.applied.position, cluster.applied.revision);
         cluster.folder.keep(segment, position)?;
-        let identity = cluster.identity.clone().unwrap_or_default();
+        let identity = cluster.place.known().map(|known| known.identity.clone()).unwrap_or_default();
         let checkpoint = Checkpoint { identity, segment, applied: cluster.applied.clone(), state };
         cluster.folder.write(&checkpoint.text())?;
+        cluster.place.rewrite()?;
         cluster.folder.write_holders(&checkpoint.holders())?;
         cluster.folder.forget(cluster.saved.1, position)?;
         cluster.saved = (segment, position);
@@ -248,6 +251,7 @@ impl Server {
         }
         if let Some(digest) = cluster.state.last().and_then(|line| line.rsplit(' ').next()) {
             if !cluster.is_restored {
+                cluster.place.done(cluster.applied.position, digest)?;
                 cluster.digests.note(cluster.applied.position, digest.into());
             }
         }
@@ -281,12 +285,14 @@ impl Server {
         }
     }
 
-    /// Gives the engine what is there of the log.
+    /// Gives the engine what is there of the log. How far that was read is written before anybody is told what comes of it.
     pub(super) fn pump(&mut self) -> Result<(), CannotServe> {
         loop {
             let waiting = self.desk.engine.waiting();
+            let now = self.desk.now;
             let Some(cluster) = &mut self.desk.cluster else { return Ok(()) };
-            let Some(read) = cluster.next_read(waiting) else { return Ok(()) };
+            let Some(read) = cluster.next_read(waiting) else { return Ok(cluster.place.write(now)?) };
+            cluster.place.read(read.position, read.revision)?;
             self.give(read)?;
         }
     }
@@ -379,6 +385,7 @@ impl Server {
     fn done(&mut self, position: u64, digest: String) -> Result<(), CannotServe> {
         let desk = &mut self.desk;
         let Some(cluster) = &mut desk.cluster else { return Ok(()) };
+        cluster.place.done(position, &digest)?;
         cluster.digests.note(position, digest);
         let Some(block) = cluster.blocks.pop_front() else { return Ok(()) };
         if block.is_checkpoint {
