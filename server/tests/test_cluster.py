@@ -226,12 +226,25 @@ class Sessions(Trial):
         wait_until(lambda: "did not come back; it held a" in a.text_of_log())
         self.session(b, 3)
 
+    def test_each_client_has_a_lease(self):
+        """Since a server that stands still tells its clients nothing, and its locks go to others."""
+        a, b = self.server("a", lease="1"), self.server("b", lease="1")
+        silent, other = self.raw(a), self.raw(b)
+        self.assertEqual(say(silent, "lease\nacquire a 1\n", 2), ["lease 1000", "granted a 1"])
+        self.assertEqual(say(other, "lease 100000\nlease\nacquire a 2\n", 3), ["lease 1000", "lease 1000", "waiting a 0"])
+        while not (line := "".join(say(other, "ping\n"))).startswith("granted"):
+            time.sleep(0.1)
+        self.assertEqual((line, silent.recv(10)), ("granted a 2", b""))
+        self.assertIn(" went (lease): ", a.text_of_log())
+        with Server() as alone, alone.raw() as sock:
+            self.assertEqual(say(sock, "lease\nlease 7\nlease\n", 3), ["lease 0", "lease 7", "lease 7"])
+
     def test_the_number_is_not_the_key(self):
         a = self.server("a")
         (one, _), (two, _) = self.session(a, 12345), self.session(a, 678)
         self.assertEqual(say(two, "1 acquire a 5\n"), ["1 granted a 1"])
         self.assertIn("lock a held 2 5 1 ", a.operate("status", 4))
-        self.assertIn("client 2 0 a - ", a.operate("clients", 4))
+        self.assertIn("client 2 30000 a - ", a.operate("clients", 4))
         self.assertEqual(say(two, "2 leave\n3 acquire b 5\n", 2), ["2 left", "3 granted b 1"])
         self.assertIn("lock b held 3 5 1 ", a.operate("status", 4))
 
