@@ -55,13 +55,12 @@ impl Alone {
     /// Connects, and asks for a lease if there is to be one.
     pub fn open(place: &Place, hold: &Hold) -> Result<Alone, Fault> {
         let mut client = Client::open(place)?;
-        let lease = match hold.lease.or(client.is_tcp().then_some(LEASE)) {
-            None => None,
-            Some(asked) => {
-                let heard = Instant::now();
-                Some(Lease { time: client.lease(asked)?, heard, pinged: None })
-            }
+        let heard = Instant::now();
+        let time = match hold.lease.or(client.is_tcp().then_some(LEASE)) {
+            None => client.given_lease()?,
+            Some(asked) => Some(client.lease(asked)?),
         };
+        let lease = time.map(|time| Lease { time, heard, pinged: None });
         Ok(Alone { client, lease, name: hold.name.clone(), closes: hold.closes, poller: Poller::new()? })
     }
 

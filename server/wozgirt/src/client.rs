@@ -221,6 +221,15 @@ impl Client {
         milliseconds.map(Duration::from_millis).ok_or_else(|| unexpected(line))
     }
 
+    /// The lease that the server gives each connection, if it does.
+    pub fn given_lease(&mut self) -> Result<Option<Duration>, Fault> {
+        self.send("lease")?;
+        let line = self.line(Some(Instant::now() + SOON))?;
+        // a server that does not know the question gives none on a Unix socket
+        let milliseconds = line.strip_prefix("lease ").and_then(|word| word.parse().ok()).unwrap_or(0);
+        Ok((milliseconds > 0).then(|| Duration::from_millis(milliseconds)))
+    }
+
     /// How all locks are: a line for each.
     pub fn status(&mut self) -> Result<Vec<String>, Fault> {
         self.send("status")?;
