@@ -4,7 +4,9 @@ import filecmp
 import os
 import shutil
 import signal
+import socket
 import subprocess
+import sys
 import tempfile
 import threading
 import time
@@ -24,6 +26,29 @@ def granted(sock):
     while not lines[-1].startswith("granted "):
         lines += read_lines(sock, 1) or [f"granted by nobody: {lines}"]
     return lines[-1]
+
+
+def granted_late(sock, *others):
+    """The line of the grant, to a client that speaks meanwhile, as others do."""
+    while True:
+        for other in others:
+            say(other, "ping\n")
+        for line in say(sock, "ping\n") or ["granted by nobody"]:
+            if line.startswith("granted "):
+                return line
+        time.sleep(0.05)
+
+
+#: What another user tries: the session's key, and then a lock of its own.
+OTHER_USER = """
+import socket, sys
+sock = socket.socket(socket.AF_UNIX)
+sock.connect(sys.argv[1])
+sock.sendall(b"session 77\\n")
+print(sock.recv(100).decode(), end="")
+sock.sendall(b"acquire b 9\\n")
+print(sock.recv(100).decode(), end="")
+"""
 
 
 class Trial(unittest.TestCase):
@@ -232,12 +257,35 @@ class Sessions(Trial):
         silent, other = self.raw(a), self.raw(b)
         self.assertEqual(say(silent, "lease\nacquire a 1\n", 2), ["lease 1000", "granted a 1"])
         self.assertEqual(say(other, "lease 100000\nlease\nacquire a 2\n", 3), ["lease 1000", "lease 1000", "waiting a 0"])
-        while not (line := "".join(say(other, "ping\n"))).startswith("granted"):
-            time.sleep(0.1)
-        self.assertEqual((line, silent.recv(10)), ("granted a 2", b""))
+        self.assertEqual((granted_late(other), silent.recv(10)), ("granted a 2", b""))
         self.assertIn(" went (lease): ", a.text_of_log())
         with Server() as alone, alone.raw() as sock:
             self.assertEqual(say(sock, "lease\nlease 7\nlease\n", 3), ["lease 0", "lease 7", "lease 7"])
+
+    def test_a_session_is_not_another_users(self):
+        """Nor another address's: who only knows the key has nothing of it, and the client stays where it is."""
+        a, b = (self.server(name, "--tcp", "127.0.0.1:0", "--mode", "666") for name in "ab")
+        one, _ = self.session(a, 77)
+        self.assertEqual(say(one, "1 acquire a 5\n"), ["1 granted a 1"])
+        port = b.port("clients")
+
+        def over_tcp(source):
+            sock = socket.create_connection(("127.0.0.1", port), PATIENCE, (source, 0))
+            self.addCleanup(sock.close)
+            return say(sock, "session 77\nping\n", 2)[:2]
+        if os.geteuid() == 0 and shutil.which("setpriv"):
+            os.chmod(self.folder, 0o755)
+            for server in (a, b):
+                it = subprocess.run(["setpriv", "--reuid=65534", "--clear-groups", sys.executable, "-c", OTHER_USER, server.path],
+                                    capture_output=True, text=True, timeout=PATIENCE, check=False)
+                self.assertEqual(it.stdout.split("\n")[:2], ["refused session", "granted b 1" if server is a else "granted b 2"], it.stderr)
+                self.assertIn("refused, the session is somebody else's: nobody, process ", server.text_of_log())
+        self.assertEqual(say(one, "ping\n"), ["pong"])
+        self.assertEqual(over_tcp("127.0.0.1"), ["session 77 1", "holds a 1"])  # its client may go from the socket to TCP
+        self.assertEqual(over_tcp("127.0.0.2"), ["refused session", "pong"])
+        self.assertEqual(one.recv(10), b"")
+        two, lines = self.session(b, 77, 1)
+        self.assertEqual((lines, say(two, "2 release a 1\n")), (["holds a 1"], ["2 released a"]))
 
     def test_the_number_is_not_the_key(self):
         a = self.server("a")
@@ -268,7 +316,7 @@ class Ends(Trial):
         self.kill(a)
         again, lines = self.session(b, 4, 1)
         self.assertEqual(lines, ["holds b 1"])
-        self.assertEqual(read_lines(other, 1), ["granted a 2"])
+        self.assertEqual(granted_late(other, again), "granted a 2")
         self.assertGreater(time.monotonic() - begun, 1)
         wait_until(lambda: "server a 1 is over at position " in b.text_of_log())
         self.assertEqual(say(again, "2 release b 1\n"), ["2 released b"])
@@ -294,7 +342,7 @@ class Ends(Trial):
         self.assertEqual(say(sock, "acquire a 1\n"), ["waiting a 0"])
         a.process.send_signal(signal.SIGSTOP)
         self.assertEqual(say(other, "release a 1\n"), ["released a"])
-        wait_until(lambda: "server a 1 is over" in b.text_of_log())
+        wait_until(lambda: say(other, "ping\n") == ["pong"] and "server a 1 is over" in b.text_of_log())
         self.assertEqual(say(other, "acquire a 1\n"), ["granted a 3"])
         a.process.send_signal(signal.SIGCONT)
         self.assertEqual(sock.recv(100), b"")

@@ -79,6 +79,7 @@ pub enum Event<'a> {
     LogFull,
     LogJoined { identity: &'a str, server: &'a dyn fmt::Display, position: u64 },
     ServerOver { server: &'a dyn fmt::Display, position: u64 },
+    SessionRefused { who: &'a str },
     SessionOver { session: Client, held: &'a str },
     Contradiction { name: &'a str, position: u64 },
     HostAway { name: &'a str, seconds: u64 },
@@ -128,6 +129,7 @@ impl fmt::Display for Event<'_> {
             Event::ServerOver { server, position } => {
                 write!(f, "server {server} is over at position {position}, with all its sessions")
             }
+            Event::SessionRefused { who } => write!(f, "refused, the session is somebody else's: {who}"),
             Event::SessionOver { session, held } => write!(f, "session {session} did not come back; it held {held}"),
             Event::Contradiction { name, position } => {
                 write!(f, "CONTRADICTION: server {name} had other answers up to position {position}")

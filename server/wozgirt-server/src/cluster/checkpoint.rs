@@ -2,6 +2,7 @@
 
 use super::apply::{Applied, Known};
 use super::entries::server;
+use super::owner::Owner;
 use std::fmt::Write as _;
 use std::fs::{self, File};
 use std::io::{self, Write as _};
@@ -12,7 +13,7 @@ use wozgirt_engine::decimal;
 use wozgirt_system::{inherit, try_lock};
 
 /// Its first line.
-const FIRST: &str = "wozgirt checkpoint 1";
+const FIRST: &str = "wozgirt checkpoint 2";
 
 /// A checkpoint.
 #[derive(Debug, Clone, PartialEq, Eq)]
@@ -47,9 +48,9 @@ impl Checkpoint {
             let _ = writeln!(text, "over {name} {incarnation}");
         }
         let _ = writeln!(text, "sessions {}", applied.last_session);
-        for (key, Known { session, home, last }) in &applied.sessions {
+        for (key, Known { session, home, last, owner }) in &applied.sessions {
             let last = last.map_or("-".into(), |last| last.to_string());
-            let _ = writeln!(text, "session {session} {key} {home} {last}");
+            let _ = writeln!(text, "session {session} {key} {home} {last} {owner}");
         }
         let _ = writeln!(text, "state {}", state.len());
         for line in state {
@@ -108,10 +109,11 @@ impl Checkpoint {
                 applied.over.insert(it.name, it.incarnation);
             }
             ["sessions", last] => applied.last_session = number(last)?,
-            ["session", session, key, name, incarnation, last] => {
+            ["session", session, key, name, incarnation, last, user, address] => {
                 let last = if last == "-" { None } else { Some(number(last)?) };
+                let owner = Owner::parse(user, address).ok()?;
                 let (session, home) = (number(session)?, server(name, incarnation).ok()?);
-                applied.sessions.insert(number(key)?, Known { session, home, last });
+                applied.sessions.insert(number(key)?, Known { session, home, last, owner });
             }
             _ => return None,
         }
@@ -302,8 +304,9 @@ mod tests {
         applied.servers.insert(server("a", "3").unwrap(), 9);
         applied.over.insert("b".into(), 2);
         applied.last_session = 9;
-        applied.sessions.insert(70, Known { session: 7, home: server("a", "3").unwrap(), last: Some(4) });
-        applied.sessions.insert(80, Known { session: 8, home: server("a", "3").unwrap(), last: None });
+        let owner = Owner::parse("u7", "a10.0.0.1").unwrap();
+        applied.sessions.insert(70, Known { session: 7, home: server("a", "3").unwrap(), last: Some(4), owner });
+        applied.sessions.insert(80, Known { session: 8, home: server("a", "3").unwrap(), last: None, owner: Owner::default() });
         let state = ["hold 0 3 7", "8 acquire 0 1", "7 4 did 7 granted 0 3", "at 12 00"].map(String::from).into();
         Checkpoint { identity: "x".into(), segment: 6, applied, state }
     }
@@ -313,8 +316,8 @@ mod tests {
         let checkpoint = a_checkpoint();
         let text = checkpoint.text();
         assert_eq!(Checkpoint::parse(&text, 5), Ok(checkpoint));
-        assert!(text.contains("\nsessions 9\nsession 7 70 a 3 4\nsession 8 80 a 3 -\nstate 4\nhold 0 3 7\n"));
-        for (wrong, line) in [("", 1), ("wozgirt checkpoint 2\n", 1), (&text[..text.len() - 1], 15), (&text[..60], 5)] {
+        assert!(text.contains("\nsessions 9\nsession 7 70 a 3 4 u7 a10.0.0.1\nsession 8 80 a 3 - - -\nstate 4\nhold 0 3 7\n"));
+        for (wrong, line) in [("", 1), ("wozgirt checkpoint 1\n", 1), (&text[..text.len() - 1], 15), (&text[..60], 5)] {
             assert_eq!(Checkpoint::parse(wrong, 5), Err(BadCheckpoint(line)), "{wrong}");
         }
         assert_eq!(Checkpoint::parse(&text.replace("over b 2", "over b"), 5), Err(BadCheckpoint(6)));

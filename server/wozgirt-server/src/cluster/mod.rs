@@ -10,6 +10,7 @@ mod digests;
 mod entries;
 mod log;
 mod mirror;
+mod owner;
 mod place;
 mod sessions;
 mod words;
@@ -22,6 +23,7 @@ pub use digests::{Digests, Verdict};
 pub use entries::{is_name, Entry, Key, Line, Server, Session};
 pub use log::Told;
 pub use mirror::{Effect, Mirror, Standing};
+pub use owner::Who;
 pub use place::{Other, Place};
 pub use sessions::{draw, Owns};
 pub use words::{OverEtcd, ReadingOverEtcd};
@@ -297,7 +299,7 @@ impl Cluster {
     /// on its way to this one.
     pub fn give(&mut self, given: Given, is_own: bool) {
         match given {
-            Given::Here(..) | Given::Gone(_) if !is_own => return,
+            Given::Here(..) | Given::Closed(_) | Given::Gone(_) if !is_own => return,
             Given::Here(key, session) | Given::Do { key, session, .. } if is_own => self.owns.name(key, session),
             _ => {}
         }

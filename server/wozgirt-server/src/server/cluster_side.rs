@@ -6,6 +6,7 @@ use crate::cluster::{
     holders, Applied, BadCheckpoint, Block, Checkpoint, Cluster, Effect, Key, Phase, Read, Server as LogServer,
     Verdict,
 };
+use crate::connection::Connection;
 use crate::engine::{Outcome, Unheard};
 use crate::log::{End, Event};
 use crate::CannotServe;
@@ -353,8 +354,15 @@ impl Server {
                 cluster.owns.forget(*session);
                 return Ok(());
             }
-            // a client may have come twice, and is told what it has where it came last
-            Effect::Here(..) => cluster.opening.pop_front(),
+            Effect::Here(key, _) => {
+                let key = *key;
+                return self.opened(key, effect);
+            }
+            Effect::Closed(key) => {
+                let client = cluster.opening.pop_front();
+                client.map(|client| cluster.owns.go(*key, client));
+                client
+            }
             Effect::Gone(key) => cluster.owns.client(*key),
             Effect::Granted { session, .. } => cluster.owns.client_of(*session),
             Effect::Answered { session, input, answer, .. } => {
@@ -369,15 +377,41 @@ impl Server {
         match effect {
             Effect::Answered { number, answer, .. } => desk.tell_numbered(connection, number, &answer),
             Effect::Granted { lock, token, .. } => desk.tell_grant(connection, lock, token),
-            Effect::Here(_, session) => desk.tell_here(connection, session),
+            Effect::Closed(_) => desk.tell_closed(connection),
             Effect::Gone(_) => desk.tell_left(connection),
-            Effect::Left(..) | Effect::Done { .. } => {}
+            Effect::Here(..) | Effect::Left(..) | Effect::Done { .. } => {}
         }
         let client = connection.client;
-        if connection.has_line() {
+        self.go_on(client);
+        Ok(())
+    }
+
+    /// The connection was told something, and may say more.
+    fn go_on(&mut self, client: Client) {
+        if self.connections.get(&client).is_some_and(Connection::has_line) {
             self.backlog.push_back(client);
         }
         self.touch(client);
+    }
+
+    /// The session has come here. A client may have come twice, and is told what it has where it came last.
+    fn opened(&mut self, key: Key, effect: Effect) -> Result<(), CannotServe> {
+        let (now, lease) = (self.desk.now, self.desk.settings.longest_lease);
+        let Some(cluster) = &mut self.desk.cluster else { return Ok(()) };
+        let (Some(client), Effect::Here(_, session)) = (cluster.opening.pop_front(), effect) else { return Ok(()) };
+        let Some(connection) = self.connections.get_mut(&client) else {
+            cluster.owns.await_gone(key, now + lease);
+            return Ok(());
+        };
+        if !connection.is_opening() {
+            return Ok(()); // it has left before, and begins again
+        }
+        let before = cluster.owns.come(key, connection.identity(), client);
+        self.desk.tell_here(connection, session);
+        if let Some(before) = before.filter(|before| *before != client) {
+            self.part(before, End::Moved);
+        }
+        self.go_on(client);
         Ok(())
     }
 
