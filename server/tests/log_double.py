@@ -22,7 +22,7 @@ class Log:
         self.path, self.identity, self.entries, self.started = path, "double", [], 0
         self.lock, self.lines, self.leases, self.names, self.lease = threading.RLock(), {}, {}, {}, {}
         self.following, self.needs, self.lost, self.twice, self.silent, self.begun = set(), {}, False, False, set(), 1
-        self.shift, self.is_full = 0, False
+        self.shift, self.is_full, self.ended = 0, False, set()
         self.door = socket.socket(socket.AF_UNIX)
         self.door.bind(path)
         self.door.listen(100)
@@ -106,6 +106,8 @@ class Log:
 
     def _hear(self, sock, line):
         kind, *rest = line[:-1].split(" ", 1) if line.startswith("append ") else line.split()
+        if sock in self.ended:
+            return
         if kind == "hello":
             self.lines[sock], self.lease[sock] = (rest[0], 0), float(rest[1])
         elif kind == "known":
@@ -154,6 +156,7 @@ class Log:
 
     def _lose(self, sock, kind, why):
         self.following.discard(sock)
+        self.ended.add(sock)
         self._tell(sock, f"lost {kind} {why}\nexit 4")
 
     def _revision(self, position):

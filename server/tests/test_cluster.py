@@ -389,6 +389,33 @@ class Ends(Trial):
         return [SERVER, "--engine", ENGINE, "--journal", folder, "--socket", folder + ".sock", "--etcd", self.log.path, "--name", name,
                 "--log-program", RELAY, "--locks", "a,b,c", "--faults", *more]
 
+    def files(self, folder):
+        """What lies in a folder, but for the locks of the system."""
+        found = {}
+        for path, _, names in os.walk(folder):
+            for name in names:
+                if name != "lock":
+                    with open(os.path.join(path, name), "rb") as file:
+                        found[os.path.join(path, name)] = file.read()
+        return found
+
+    def test_a_start_that_fails_changes_no_file(self):
+        for name, checkpoint in (("a", "30"), ("b", "100000")):
+            log = os.path.join(self.folder, "log")
+            server = self.server(name, checkpoint=checkpoint)
+            self.hand_over(server, count=40)
+            self.catch_up(server)
+            server.stop()
+            kept = self.files(server.journal)
+            for locks in ("b,a,c", "a,b:3,c", "a,b,d"):
+                it = subprocess.run([*server.words, "--locks", locks], capture_output=True, text=True, timeout=PATIENCE, check=False)
+                self.assertEqual(it.returncode, 1, it.stderr)
+                self.assertIn("are the same for all servers; in the log they are `", it.stderr)
+                self.assertEqual(self.files(server.journal), kept)
+            self.hand_over(self.server(name, checkpoint=checkpoint))
+            self.log.replace("double", [])
+            self.assertTrue(os.path.exists(log))
+
     def test_other_settings(self):
         self.server("a")
         for more in (["--checkpoint", "7"], ["--checkpoint", "100000", "--segment", "9"]):
@@ -451,6 +478,37 @@ class Checkpoints(Trial):
         b.stop()
         self.assertGreater(self.compare("a", "b"), 8)
         self.assertGreater(self.log.needs["a"][0], 50)
+
+    def test_more_locks(self):
+        """One server that begins with more locks adds them for all: holds stay, and all hosts have the same files."""
+        a, b = (self.server(name, checkpoint=60) for name in "ab")
+        (held, _), waiting = self.session(b, 8), self.raw(b)
+        self.assertEqual(say(held, "1 acquire a 7\n"), ["1 granted a 1"])
+        self.assertEqual(say(waiting, "acquire a 8\nacquire d 1\n", 2), ["waiting a 0", "refused lock d"])
+        self.hand_over(a, count=10)
+        a.stop()
+        a = self.server("a", checkpoint=60, locks="a,b,c,d:3")
+        wait_until(lambda: say(waiting, "acquire d 1\ncancel d\n", 2) != ["refused lock d", "refused lock d"])
+        wait_until(lambda: "the log has 4 locks, and this server's list another number: put them all into --locks: a:8:8,b:8:8,c:8:8,d:3:3"
+                   in b.text_of_log())
+        with b.raw() as sock:
+            self.assertTrue(say(sock, "acquire d 5\n")[0].startswith("granted d "))
+            self.assertEqual(say(self.raw(a), "stats d\ntry d 1\n", 2)[1], "busy d")
+        self.assertEqual(say(held, "2 release a 1\n"), ["2 released a"])
+        self.assertEqual(read_lines(waiting, 1), ["granted a 2"])
+        self.kill(b)
+        b = self.server("b", checkpoint=60)  # with the list as it was
+        c, d = self.server("c", checkpoint=60, locks="a,b,c,d:3,e"), self.server("d", checkpoint=60, locks="a,b")
+        servers = [a, b, c, d]
+        for server in servers:
+            wait_until(lambda: server.operate("stats e").startswith("stats e "))
+        self.hand_over(d, "d", count=40)
+        self.hand_over(b, "e", count=1)
+        self.catch_up(*servers)
+        [server.stop() for server in servers]
+        self.assertGreater(self.compare("a", "b", "c", "d"), 0)
+        with open(a.journal + "/journal/locks", encoding="ascii") as file:
+            self.assertEqual(file.read().split()[::1 if IS_DOUBLE else 3], ["a", "b", "c", "d", "e"])
 
     def test_a_new_host(self):
         a, b = (self.server(name, checkpoint=30) for name in "ab")

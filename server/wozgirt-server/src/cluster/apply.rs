@@ -1,5 +1,6 @@
 //! What an entry of the log means: a function of the log alone, so that the engines of all servers get the same lines.
 
+use super::common::extends;
 use super::entries::{Entry, Key, Line, Server, Session};
 use super::owner::{Owner, Who};
 use std::collections::BTreeMap;
@@ -98,6 +99,8 @@ pub struct Step {
     pub moved: Vec<(Key, Server)>,
     /// Whether there is a checkpoint behind it.
     pub is_checkpoint: bool,
+    /// Whether there are more locks behind it.
+    pub has_more_locks: bool,
 }
 
 impl Applied {
@@ -120,13 +123,14 @@ impl Applied {
     pub fn apply(&mut self, position: u64, revision: u64, entry: Option<&Entry>) -> Step {
         let mut step = Step::default();
         (self.position, self.revision) = (position, revision);
-        if let Some(entry) = entry.filter(|entry| self.is_taken(entry)) {
+        if let Some(entry) = entry.filter(|entry| self.is_taken(entry, &mut step)) {
             step.is_taken = true;
             for line in &entry.lines {
                 self.line(&entry.writer, line, &mut step);
             }
             self.lines += entry.lines.len() as u64;
-            if self.lines >= self.most_lines {
+            // the engines of all have more locks from the same entry on
+            if self.lines >= self.most_lines || step.has_more_locks {
                 self.lines = 0;
                 step.is_checkpoint = true;
             }
@@ -139,7 +143,7 @@ impl Applied {
         self.over.get(&server.name).is_some_and(|&last| server.incarnation <= last)
     }
 
-    fn is_taken(&mut self, entry: &Entry) -> bool {
+    fn is_taken(&mut self, entry: &Entry, step: &mut Step) -> bool {
         if self.is_over(&entry.writer) {
             return false;
         }
@@ -148,9 +152,14 @@ impl Applied {
             *last = entry.serial.max(*last);
             return is_later;
         }
-        // a server begins with the settings of all
+        // a server begins with the settings of all, but for the end of the list of locks
         let Some(Line::With(settings)) = entry.lines.first() else { return false };
-        let is_as_all = self.settings.get_or_insert_with(|| settings.clone()) == settings;
+        let of_all = self.settings.get_or_insert_with(|| settings.clone());
+        step.has_more_locks = extends(settings, of_all);
+        if step.has_more_locks {
+            of_all.clone_from(settings);
+        }
+        let is_as_all = settings == of_all || extends(of_all, settings);
         if is_as_all {
             self.servers.insert(entry.writer.clone(), entry.serial);
         }
@@ -319,6 +328,19 @@ mod tests {
         assert_eq!(applied.settings.as_deref(), Some("s"));
         assert!(!applied.apply(9, 9, None).is_taken);
         assert_eq!(applied.position, 9);
+    }
+
+    #[test]
+    fn more_locks() {
+        let mut applied = Applied::new(100);
+        let mut begin = |name: &str, settings: &str| {
+            let step = applied.apply(applied.position + 1, 1, Some(&entry(name, 1, 1, &[&format!("with {settings}")])));
+            (step.is_taken, step.has_more_locks && step.is_checkpoint, applied.settings.clone().unwrap())
+        };
+        assert_eq!(begin("a", "9 - 0 x:8:8"), (true, false, "9 - 0 x:8:8".into()));
+        assert_eq!(begin("b", "9 - 0 x:8:8,y:8:8"), (true, true, "9 - 0 x:8:8,y:8:8".into()));
+        assert_eq!(begin("c", "9 - 0 x:8:8"), (true, false, "9 - 0 x:8:8,y:8:8".into()));
+        assert_eq!(begin("d", "9 - 0 x:8:8,z:8:8"), (false, false, "9 - 0 x:8:8,y:8:8".into()));
     }
 
     #[test]

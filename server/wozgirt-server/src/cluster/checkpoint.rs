@@ -233,7 +233,10 @@ impl Folder {
             fs::remove_file(self.segment(number))?;
         }
         if last == 0 {
-            return Ok(());
+            return match fs::remove_file(self.journal().join("locks")) {
+                Err(fault) if fault.kind() != io::ErrorKind::NotFound => Err(fault),
+                _ => Ok(()),
+            };
         }
         let kept = self.kept(position);
         fs::hard_link(&kept, self.segment(last))
@@ -348,6 +351,7 @@ mod tests {
         assert_eq!([70, 80, 90].map(|position| folder.kept(position).exists()), [false, true, true]);
         folder.restore(0, 0).unwrap();
         assert_eq!(folder.segments().unwrap(), []);
+        assert!(!folder.journal().join("locks").exists());
         folder.write(&a_checkpoint().text()).unwrap();
         assert_eq!(Checkpoint::parse(&folder.read().unwrap().unwrap(), 5), Ok(a_checkpoint()));
         assert_eq!(a_checkpoint().holders(), "hold 0 3 7\n");

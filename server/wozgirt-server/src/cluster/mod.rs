@@ -5,6 +5,7 @@
 
 mod apply;
 mod checkpoint;
+mod common;
 mod desk;
 mod digests;
 mod entries;
@@ -19,6 +20,7 @@ mod writer;
 pub use apply::Applied;
 use apply::Given;
 pub use checkpoint::{holders, BadCheckpoint, Checkpoint, Folder, NoFolder};
+pub use common::{agrees, list};
 pub use digests::{Digests, Verdict};
 pub use entries::{is_name, Entry, Key, Line, Server, Session};
 pub use log::Told;
@@ -81,7 +83,7 @@ pub struct Block {
 
 /// What a server has that is one of several.
 pub struct Cluster {
-    /// The settings that all servers have in common.
+    /// The settings of this server that are those of all; the log may have a longer list of locks.
     pub with: String,
     /// The folder of the checkpoint.
     pub folder: Folder,

@@ -3,10 +3,11 @@
 //! ```text
 //! wozgirt place 1
 //! log IDENTITY INCARNATION
+//! with SETTINGS
 //! POSITION REVISION DONE DIGEST
 //! ```
 //!
-//! The last line counts: the last entry that was read, and the last that the engine has done, with the digest there. A line is written
+//! SETTINGS are those with which the log began, or `-` as long as this server has not read them. The last line counts: the last entry that was read, and the last that the engine has done, with the digest there. A line is written
 //! before anybody is told an answer of its entry, so that an etcd that was wiped or restored is known by it; it is on the disk
 //! within a second, and at once where this server comes into the log and at checkpoints.
 
@@ -34,6 +35,8 @@ pub struct Known {
     pub identity: String,
     /// The number of this server's last start in it; 0 if there was none.
     pub incarnation: u64,
+    /// The settings with which the log began, if they were read.
+    pub settings: Option<String>,
     /// The last entry that was read, and its revision; 0 before the first.
     pub position: u64,
     /// The revision.
@@ -53,7 +56,7 @@ impl fmt::Display for Known {
 impl Known {
     /// Nothing was read of this log.
     pub fn new(identity: String) -> Known {
-        Known { identity, incarnation: 0, position: 0, revision: 0, done: 0, digest: "0".repeat(64) }
+        Known { identity, incarnation: 0, settings: None, position: 0, revision: 0, done: 0, digest: "0".repeat(64) }
     }
 
     /// Nothing if it is no such text. A last line that is not whole, as after a loss of power, does not count.
@@ -64,7 +67,8 @@ impl Known {
             return None;
         }
         let (identity, incarnation) = whole()?.strip_prefix("log ")?.split_once(' ')?;
-        let known = Known { incarnation: decimal(incarnation).ok()?, ..Known::new(identity.into()) };
+        let settings = Some(whole()?.strip_prefix("with ")?.to_string()).filter(|settings| settings != "-");
+        let known = Known { incarnation: decimal(incarnation).ok()?, settings, ..Known::new(identity.into()) };
         let mut last = None;
         while let Some(found) = whole().and_then(|line| known.with(line)) {
             last = Some(found);
@@ -157,6 +161,15 @@ impl Place {
         Ok(self.rewrite())
     }
 
+    /// The log began with these settings.
+    pub fn note_settings(&mut self, settings: &str) -> io::Result<()> {
+        match &mut self.known {
+            Some(known) if known.settings.is_none() => known.settings = Some(settings.into()),
+            _ => return Ok(()),
+        }
+        self.rewrite()
+    }
+
     /// An entry was read.
     pub fn read(&mut self, position: u64, revision: u64) -> Result<(), Other> {
         let Some(known) = &mut self.known else { return Ok(()) };
@@ -220,7 +233,8 @@ impl Place {
     pub fn rewrite(&mut self) -> io::Result<()> {
         let Some(known) = &self.known else { return Ok(()) };
         let part = self.path.with_extension("part");
-        let text = format!("{FIRST}\nlog {} {}\n{known}\n", known.identity, known.incarnation);
+        let settings = known.settings.as_deref().unwrap_or("-");
+        let text = format!("{FIRST}\nlog {} {}\nwith {settings}\n{known}\n", known.identity, known.incarnation);
         let mut file = OpenOptions::new().create(true).write(true).truncate(true).open(&part)?;
         file.write_all(text.as_bytes())?;
         file.sync_all()?;
@@ -288,6 +302,8 @@ mod tests {
         assert!(!folder.join(NAME).exists());
         place.join("x", 3).unwrap().unwrap();
         place.begin(0);
+        place.note_settings("9 - 0 a:8:8,b:8:8").unwrap();
+        place.note_settings("9 - 0 a:8:8").unwrap();
         for position in 1..=5 {
             place.read(position, position + 10).unwrap();
             place.write(now + SYNC).unwrap();
@@ -297,6 +313,7 @@ mod tests {
         let known = Known {
             identity: "x".into(),
             incarnation: 3,
+            settings: Some("9 - 0 a:8:8,b:8:8".into()),
             position: 5,
             revision: 15,
             done: 4,
@@ -304,16 +321,16 @@ mod tests {
         };
         assert_eq!(Place::open(&folder, now).unwrap().known(), Some(&known));
         let text = fs::read_to_string(folder.join(NAME)).unwrap();
-        assert_eq!(text.lines().count(), 9);
+        assert_eq!(text.lines().count(), 10);
         place.rewrite().unwrap();
-        assert_eq!(fs::read_to_string(folder.join(NAME)).unwrap().lines().count(), 3);
+        assert_eq!(fs::read_to_string(folder.join(NAME)).unwrap().lines().count(), 4);
         assert_eq!(Place::open(&folder, now).unwrap().known(), Some(&known));
         fs::remove_dir_all(folder).unwrap();
     }
 
     #[test]
     fn a_last_line_that_is_not_whole_does_not_count() {
-        let whole = format!("{FIRST}\nlog x 3\n5 15 4 {}\n", digest('a'));
+        let whole = format!("{FIRST}\nlog x 3\nwith -\n5 15 4 {}\n", digest('a'));
         let known = Known::parse(&whole).unwrap();
         for rest in ["6", "6 16 5 aa\n7 17 6 bb", &format!("6 16 5 {}", digest('b')), "\0\0\0"] {
             assert_eq!(Known::parse(&format!("{whole}{rest}")).as_ref(), Some(&known), "{rest:?}");

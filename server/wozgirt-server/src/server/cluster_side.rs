@@ -1,14 +1,16 @@
 //! One of several servers: the log is read, the engine does what it says, and clients are told.
 
+use super::opening::read_rules;
 use super::{Server, ENGINE, ENGINE_INPUT};
 use crate::board::Board;
 use crate::cluster::{
-    holders, Applied, BadCheckpoint, Block, Checkpoint, Cluster, Effect, Key, Phase, Read, Server as LogServer,
+    agrees, holders, list, Applied, BadCheckpoint, Block, Checkpoint, Cluster, Effect, Key, Phase, Read, Server as LogServer,
     Verdict,
 };
 use crate::connection::Connection;
 use crate::engine::{Outcome, Unheard};
 use crate::log::{End, Event};
+use crate::names::Names;
 use crate::CannotServe;
 use std::mem;
 use std::process::ExitStatus;
@@ -40,6 +42,9 @@ impl Server {
                 (applied, state, segment)
             }
         };
+        let settings = applied.settings.clone().or_else(|| cluster.place.known().and_then(|it| it.settings.clone()));
+        let settings = settings.unwrap_or_else(|| cluster.with.clone());
+        check_settings(cluster, &settings)?;
         cluster.place.begin(applied.position);
         cluster.folder.restore(segment, applied.position)?;
         cluster.folder.write_holders(&holders(&state))?;
@@ -53,7 +58,31 @@ impl Server {
         desk.board.forget();
         put_state(cluster, &mut desk.board, &state, now);
         cluster.state = state;
-        check_settings(cluster)
+        self.take_list(list(&settings))
+    }
+
+    /// The log has this list of locks, which may be another one than this server's.
+    fn take_list(&mut self, list: &str) -> Result<(), CannotServe> {
+        let desk = &mut self.desk;
+        if list == desk.names.list() && desk.settings.locks.is_some() {
+            return Ok(());
+        }
+        let names = Names::parse(list).map_err(CannotServe::Names)?;
+        if names.count() > desk.names.count() {
+            match read_rules(&desk.settings, &names, &self.accounts) {
+                Ok(rules) => desk.rules = rules,
+                Err(fault) => desk.log.say(&Event::RulesNotRead { fault: &fault }),
+            }
+        }
+        desk.board.resize(names.count());
+        desk.names = names;
+        desk.settings.locks = Some(list.into());
+        desk.engine.set_words(desk.settings.engine_words());
+        let is_own = desk.cluster.as_ref().is_some_and(|cluster| cluster.with.ends_with(&format!(" {list}")));
+        if !is_own {
+            desk.log.say(&Event::MoreLocks { count: desk.names.count(), list });
+        }
+        Ok(())
     }
 
     /// Both processes: whether they have ended, and whether they are to be started.
@@ -121,10 +150,14 @@ impl Server {
         cluster.folder.forget(cluster.saved.1, position)?;
         cluster.saved = (segment, position);
         cluster.state = checkpoint.state;
+        let settings = cluster.applied.settings.clone();
         if cluster.me.is_some() {
             cluster.log.ask_line(format_args!("checkpoint {position} {revision}"));
         }
         self.desk.log.say(&Event::Checkpoint { position, segment });
+        if let Some(settings) = settings {
+            self.take_list(list(&settings))?;
+        }
         self.desk.engine.start_at_once(now);
         Ok(())
     }
@@ -303,8 +336,16 @@ impl Server {
         let desk = &mut self.desk;
         let Some(cluster) = &mut desk.cluster else { return Ok(()) };
         let Read { position, revision, entry } = read;
+        let is_first = cluster.applied.settings.is_none();
         let step = cluster.applied.apply(position, revision, entry.as_ref());
-        check_settings(cluster)?;
+        if let (true, Some(settings)) = (is_first, cluster.applied.settings.clone()) {
+            check_settings(cluster, &settings)?;
+            cluster.place.note_settings(&settings)?;
+            if list(&settings) != desk.names.list() {
+                self.lose_engine_of_cluster(false); // it begins again, with the list of the log
+                return Ok(());
+            }
+        }
         let is_own = entry.as_ref().is_some_and(|entry| Some(&entry.writer) == cluster.me.as_ref());
         for given in step.given {
             let line = given.to_string();
@@ -471,12 +512,10 @@ fn put_state(cluster: &mut Cluster, board: &mut Board, state: &[String], now: In
     }
 }
 
-/// The settings of this server are those of the log.
-fn check_settings(cluster: &Cluster) -> Result<(), CannotServe> {
-    match &cluster.applied.settings {
-        Some(settings) if *settings != cluster.with => {
-            Err(CannotServe::Settings { log: settings.clone(), own: cluster.with.clone() })
-        }
-        _ => Ok(()),
+/// The settings of this server are those of the log, but for the end of the list of locks.
+fn check_settings(cluster: &Cluster, log: &str) -> Result<(), CannotServe> {
+    if agrees(&cluster.with, log) {
+        return Ok(());
     }
+    Err(CannotServe::Settings { log: log.into(), own: cluster.with.clone() })
 }
