@@ -14,6 +14,7 @@ import unittest
 
 sys.path.insert(0, os.path.dirname(os.path.dirname(os.path.abspath(__file__))))
 
+import journals  # noqa: E402
 from etcd_members import ETCD, ETCDCTL, Members  # noqa: E402
 from harness import FOLDER, IS_BUILT, PATIENCE, RUNNING, TOP, Server, say, stop_all, wait_until  # noqa: E402
 
@@ -192,6 +193,25 @@ class Restores(unittest.TestCase):
         RUNNING.remove(server)
         self.assertEqual(self.take(self.server("h1"), 1), [3])  # at once: the start before was its own
         self.assertEqual(len([it for it in self.keys() if "aG9zdHMv" in it["key"]]), 1)
+
+    def test_more_locks(self):
+        """One server begins with more locks, and all have them; the others are not started again."""
+        one, two = (self.server(name, checkpoint=50) for name in ("h1", "h2"))
+        self.take(one, 20)
+        with two.raw() as held:
+            self.assertEqual(say(held, "acquire b 1\n"), ["granted b 1"])
+            one.stop()
+            one = self.server("h1", checkpoint=50, locks="a,b,c,d:3")
+            wait_until(lambda: say(held, "stats d\n")[0].startswith("stats d 3 "))
+            self.assertEqual(say(held, "release b 1\n"), ["released b"])
+        self.assertEqual(self.take(two, 30, "d"), list(range(1, 31)))
+        wait_until(lambda: one.operate("cluster").split()[3:6] == two.operate("cluster").split()[3:6])
+        for server in (one, two):
+            server.stop()
+        segments = [[*journals.texts(server.journal + "/journal")] for server in (one, two)]
+        self.assertEqual(segments[0][:-1], segments[1][:-1])
+        shorter, longer = sorted((it[-1] for it in segments), key=len)
+        self.assertTrue(shorter and longer.startswith(shorter))
 
     def test_etcd_without_room(self):
         self.members.wipe()
