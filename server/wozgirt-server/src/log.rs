@@ -79,7 +79,7 @@ pub enum Event<'a> {
     LogFull,
     LogJoined { identity: &'a str, server: &'a dyn fmt::Display, position: u64 },
     ServerOver { server: &'a dyn fmt::Display, position: u64 },
-    MoreLocks { count: usize, list: &'a str },
+    MoreLocks { count: usize, own: usize, list: &'a str },
     RulesNotRead { fault: &'a dyn fmt::Display },
     SessionRefused { who: &'a str },
     SessionOver { session: Client, held: &'a str },
@@ -131,10 +131,12 @@ impl fmt::Display for Event<'_> {
             Event::ServerOver { server, position } => {
                 write!(f, "server {server} is over at position {position}, with all its sessions")
             }
-            Event::MoreLocks { count, list } => {
-                write!(f, "the log has {count} locks, and this server's list another number: put them all into --locks: {list}")
+            Event::MoreLocks { count, own, list } => {
+                write!(f, "the log has {count} locks, and --locks {own} of them: put them all there: {list}")
             }
-            Event::RulesNotRead { fault } => write!(f, "rules not read for the new locks, which are for those of the line *: {fault}"),
+            Event::RulesNotRead { fault } => {
+                write!(f, "rules not read for the new locks, which are for those of the line *: {fault}")
+            }
             Event::SessionRefused { who } => write!(f, "refused, the session is somebody else's: {who}"),
             Event::SessionOver { session, held } => write!(f, "session {session} did not come back; it held {held}"),
             Event::Contradiction { name, position } => {

@@ -277,7 +277,10 @@ mod tests {
         let all =
             ["1 1 1 acquire 0 5", "2 1 2 acquire 0 6", "3 4 3 try 1 0", "1 leave", "1 1 forget", "4 1 4 acquire 0 5"];
         assert_eq!(lines, all);
-        assert_eq!(applied.sessions[&90], Known { session: 2, home: entry("b", 2, 1, &[]).writer, last: Some(1), owner: owner_of("u0", "-") });
+        assert_eq!(
+            applied.sessions[&90],
+            Known { session: 2, home: entry("b", 2, 1, &[]).writer, last: Some(1), owner: owner_of("u0", "-") }
+        );
     }
 
     #[test]
@@ -310,7 +313,12 @@ mod tests {
     #[test]
     fn a_server_that_is_over_is_heard_no_more() {
         let mut applied = Applied::new(100);
-        let a = entry("a", 4, 1, &["with s", "here 70 u0", "70 1 acquire 0 5", "here 30 u0", "here 90 u0", "90 1 acquire 1 5"]);
+        let a = entry(
+            "a",
+            4,
+            1,
+            &["with s", "here 70 u0", "70 1 acquire 0 5", "here 30 u0", "here 90 u0", "90 1 acquire 1 5"],
+        );
         let b = entry("b", 5, 1, &["with s", "here 90 u0", "90 2 cancel 1", "server a 4", "server a 3"]);
         let late = entry("a", 4, 2, &["70 2 release 0 1"]);
         let again = entry("a", 6, 1, &["with s", "here 70 u0", "70 1 acquire 0 5"]);

@@ -179,6 +179,11 @@ impl Cluster {
         }))
     }
 
+    /// How many locks this server's own list has.
+    pub fn count(&self) -> usize {
+        list(&self.with).split(',').count()
+    }
+
     /// Whether clients are heard.
     pub fn is_ready(&self) -> bool {
         self.is_restored && self.lease.is_some()

@@ -120,7 +120,18 @@ impl Place {
         };
         let (file, syncer) = (None, Syncer::start()?);
         let (is_right, ahead) = (false, None);
-        Ok(Place { path, known, is_right, ahead, file, size: 0, is_written: true, synced: now, is_synced: true, syncer })
+        Ok(Place {
+            path,
+            known,
+            is_right,
+            ahead,
+            file,
+            size: 0,
+            is_written: true,
+            synced: now,
+            is_synced: true,
+            syncer,
+        })
     }
 
     /// What is known of the log, if something is.
@@ -335,7 +346,9 @@ mod tests {
         for rest in ["6", "6 16 5 aa\n7 17 6 bb", &format!("6 16 5 {}", digest('b')), "\0\0\0"] {
             assert_eq!(Known::parse(&format!("{whole}{rest}")).as_ref(), Some(&known), "{rest:?}");
         }
-        for wrong in ["", FIRST, &whole[..whole.len() - 1], &whole.replace("place 1", "place 2"), &whole.replace("log x", "log")] {
+        for wrong in
+            ["", FIRST, &whole[..whole.len() - 1], &whole.replace("place 1", "place 2"), &whole.replace("log x", "log")]
+        {
             assert_eq!(Known::parse(wrong), None, "{wrong:?}");
         }
         let folder = folder("damaged");
