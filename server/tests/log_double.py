@@ -29,12 +29,14 @@ class Log:
         self.is_over = False
 
     def __enter__(self):
-        for work in (self._accept, self._expire):
-            threading.Thread(target=work, daemon=True).start()
+        self.threads = [threading.Thread(target=work, daemon=True) for work in (self._accept, self._expire)]
+        [it.start() for it in self.threads]
         return self
 
     def __exit__(self, *_):
         self.is_over = True
+        self.door.shutdown(socket.SHUT_RDWR)
+        [it.join() for it in self.threads]  # else one might accept what comes to the next log, at the same number of a file
         with self.lock:
             for sock in list(self.lines):
                 sock.close()

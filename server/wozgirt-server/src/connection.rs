@@ -7,7 +7,6 @@ use crate::requests::LONGEST_LINE;
 use crate::stream::Stream;
 use std::collections::VecDeque;
 use std::io::{self, ErrorKind, Read};
-use std::net::SocketAddr;
 use std::time::{Duration, Instant};
 use wozgirt_engine::{Client, Input, Lock};
 use wozgirt_system::{Interest, Peer};
@@ -142,9 +141,8 @@ impl Connection {
 
     /// Who is at the other end, as far as sessions are concerned.
     pub fn identity(&self) -> Who {
-        let address = || self.who.parse().map(|from: SocketAddr| Who::at(from.ip())).ok();
-        let user = self.peer.as_ref().map(|peer| Who::User(peer.user));
-        if self.door == Door::Network { address() } else { user }.unwrap_or(Who::Unknown)
+        let user = || self.peer.as_ref().map(|peer| Who::User(peer.user));
+        self.stream.address().map(Who::at).or_else(user).unwrap_or(Who::Unknown)
     }
 
     /// Its socket.
