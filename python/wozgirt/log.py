@@ -130,7 +130,8 @@ class Keeper:
     def __init__(self, program: Program, before: int):
         self._program, self._member = program, program.member()
         # the starts of this server, of which some may not have ended for etcd: up to the last before this, and those of this process
-        self._before, self._drawn = before, set()  # type: int, Set[int]
+        self._before = before
+        self._drawn: Set[int] = set()
         self._latest = time.monotonic() + program.lease + LATE
         self.incarnation, self._id, self._kept = self._begin()
 

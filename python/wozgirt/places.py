@@ -29,7 +29,8 @@ class Place:
 
     def __init__(self, identity: Optional[str], position: int, revision: int):
         self.identity, self._mutex = identity, threading.Lock()
-        self._position, self._revision, self._value = position, revision, None  # type: int, int, Optional[str]
+        self._position, self._revision = position, revision
+        self._value: Optional[str] = None
 
     def get(self) -> Tuple[int, int, Optional[str]]:
         """Position, revision, and the entry as JSON has it, if it was read by this process."""
