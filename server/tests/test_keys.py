@@ -8,7 +8,7 @@ import sys
 import unittest
 
 from harness import PATIENCE, Server, needs_programs, read_lines, say, wait_until
-from test_cluster import Trial, granted, granted_late, needs_strict
+from test_cluster import Trial, granted_late, needs_strict
 
 #: What another user tries: the session's key, and then a lock of its own.
 OTHER_USER = """
@@ -82,7 +82,7 @@ class Sessions(Trial):
         self.assertEqual(say(one, "1 acquire a 5\n"), ["1 granted a 1"])
         one.close()
         other.sendall(b"acquire a 5\n")
-        self.assertEqual(granted(other), "granted a 2")
+        self.assertEqual(granted_late(other), "granted a 2")
         wait_until(lambda: "did not come back; it held a" in a.text_of_log())
         self.session(b, 3)
 

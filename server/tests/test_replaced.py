@@ -134,7 +134,7 @@ class Replaced(Trial):
         a = self.server("a")
         self.take(a, 10)
         a.kill_engine()
-        wait_until(lambda: "cluster a 2 " in a.operate("cluster"))
+        wait_until(lambda: "in the log double as a 2, behind" in a.text_of_log())
         self.assertEqual(self.take(a, 2), [11, 12])
 
 
