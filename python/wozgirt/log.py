@@ -347,20 +347,27 @@ class Shortener:
 
 def append_all(program: Program) -> None:
     """Puts one entry after the other: the next one is begun only when this one is there, else it might come first. Nothing is put into
-    another log, or into one that has fewer entries than were read."""
-    member, key = program.member(), program.key("log")
+    another log, or into one that has fewer entries than were read: etcd cannot get that while a member runs and the connection lasts, so
+    the first put over each has the conditions."""
+    member, key, verified = program.member(), program.key("log"), 0
 
     def put(member: Member, value: bytes) -> None:
-        position, revision, _ = program.place.get()
-        conditions = [is_identity(program.key("identity"), program.place.identity or ""), *reaches(key, position, revision)]
+        nonlocal verified
+        entry = {"key": coded(key), "value": coded(value)}
         try:
-            said = member.ask("kv/txn", {"compare": conditions, "success": [{"request_put": {"key": coded(key), "value": coded(value)}}]})
+            if 0 < member.connection == verified:
+                member.ask("kv/put", entry)
+                return
+            position, revision, _ = program.place.get()
+            conditions = [is_identity(program.key("identity"), program.place.identity or ""), *reaches(key, position, revision)]
+            said = member.ask("kv/txn", {"compare": conditions, "success": [{"request_put": entry}]})
         except Denied as denied:
             if "too large" in str(denied):
                 program.end(1, str(denied))
             raise
         if not said.get("succeeded"):
             raise Lost("other", f"it is another one, or has fewer than the {position} entries that were read")
+        verified = member.connection
     while True:
         value = program.appends.get()
         program.done(member, lambda it: put(it, value))
