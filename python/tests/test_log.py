@@ -18,6 +18,8 @@ sys.path.insert(0, os.path.join(os.path.dirname(os.path.abspath(__file__)), ".."
 from etcd_members import ETCD, ETCDCTL, Members  # noqa: E402
 from harness import FOLDER, PATIENCE, by_the_clock, needs_loopback, wait_until  # noqa: E402
 
+#: Seconds after which a stream that says nothing ends.
+SILENCE = 2
 PROGRAM = os.path.join(os.path.dirname(os.path.dirname(os.path.abspath(__file__))), "wozgirt-log")
 needs_etcd = unittest.skipUnless(ETCD and ETCDCTL, "etcd is not installed (Debian: etcd-server and etcd-client)")
 
@@ -369,8 +371,9 @@ class Etcd(unittest.TestCase):
             wait_until(lambda: log.texts() == ["one", "two"])
             identity, (position, revision, _) = log.lines[0].split()[1], log.entries()[-1]
             kept = self.state(members)
-            for place, why in (((position + 1, revision + 1), "is not there yet"), ((position, revision - 1), "another entry than 2"),
-                               ((position - 1, revision), "another entry than 1")):
+            for place, why in (((position + 1, revision + 1), "it has 2 entries, and 3 were read"),
+                               ((position, revision - 1), "another entry than 2"), ((position - 1, revision), "another entry than 1"),
+                               ((position - 1, revision + 9), "entry 1 is not there yet")):
                 with Log(members.urls(), known="%s %d %d 1" % (identity, *place)) as late:
                     self.assertEqual(late.status(), 4)
                     self.assertEqual(late.lines[0].split()[:2], ["lost", "other"])
@@ -379,6 +382,23 @@ class Etcd(unittest.TestCase):
             with Log(members.urls(), known=f"{identity} {position} {revision} 1") as late:
                 late.say("follow 0 0")
                 wait_until(lambda: late.texts() == ["one", "two"])
+
+    def test_a_log_that_stands_outlives_a_compaction_of_all(self):
+        """Which nobody should do by hand: the last entry has its value only."""
+        members = self.members()
+        with Log(members.urls()) as log:
+            log.say("follow 0 0")
+            log.append("one", "two")
+            wait_until(lambda: log.texts() == ["one", "two"])
+            identity, (position, revision, _) = log.lines[0].split()[1], log.entries()[-1]
+            members.etcdctl("put", "other", "1")
+            members.etcdctl("compaction", members.ask("a", "kv/range", {"key": "eA=="})["header"]["revision"])
+            time.sleep(2 * SILENCE)  # a stream ends meanwhile, and another begins
+            with Log(members.urls(), known=f"{identity} {position} {revision} 1") as late:
+                late.say(f"follow {position} {revision}")
+                wait_until(late.last_alive)  # it reads
+                log.append("three")
+                wait_until(lambda: log.texts() == ["one", "two", "three"] and late.texts() == ["three"])
 
     def test_one_server_of_a_name(self):
         """A second one is refused while the first one is alive, waits where that may have ended, and a server's own starts are its own."""

@@ -73,19 +73,28 @@ def compare(member: Member, key: str, position: int, revision: int, value: Optio
     """An entry that was read has to be where it was, with this text if that is known; `Lost` if it is not."""
     if position == 0:
         return
+    found = member.ask("kv/range", {"key": coded(key)}).get("kvs", [])
+    count = int(found[0]["version"]) if found else 0
+    if count < position:
+        raise Lost("other", f"it has {count} entries, and {position} were read")
+    if count > position:  # only then: of the last entry etcd may have compacted all but the value
+        found = _at(member, key, position, revision)
+    if [(int(it["version"]), int(it["mod_revision"])) for it in found] != [(position, revision)]:
+        raise Lost("other", f"it has another entry than {position} at revision {revision}")
+    if value is not None and found[0].get("value", "") != value:
+        raise Lost("other", f"entry {position} is another one than was read")
+
+
+def _at(member: Member, key: str, position: int, revision: int) -> List[Answer]:
+    """The entry as it was at a revision."""
     try:
-        said = member.ask("kv/range", {"key": coded(key), "revision": str(revision)})
+        return member.ask("kv/range", {"key": coded(key), "revision": str(revision)}).get("kvs", [])
     except Denied as denied:
         if "compacted" in str(denied):
             raise Lost("gone", f"entry {position} is gone: {denied}") from denied
         if "future" in str(denied):
             raise Lost("other", f"entry {position} is not there yet: {denied}") from denied
         raise
-    found = said.get("kvs", [])
-    if [(int(it["version"]), int(it["mod_revision"])) for it in found] != [(position, revision)]:
-        raise Lost("other", f"it has another entry than {position} at revision {revision}")
-    if value is not None and found[0].get("value", "") != value:
-        raise Lost("other", f"entry {position} is another one than was read")
 
 
 def alone(member: Member, prefix: str, is_own: Callable[[int], bool]) -> int:
