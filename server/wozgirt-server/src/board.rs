@@ -94,6 +94,11 @@ impl Board {
         Board { locks: (0..locks).map(|_| Sight::default()).collect() }
     }
 
+    /// There are so many locks now; nothing is known of those that are new.
+    pub fn resize(&mut self, locks: usize) {
+        self.locks.resize_with(locks, Sight::default);
+    }
+
     /// Each lock, in order.
     pub fn locks(&self) -> &[Sight] {
         &self.locks

@@ -1,5 +1,6 @@
 //! One connection: what it said and was not answered yet, and what it was told and did not read yet.
 
+use crate::cluster::Who;
 use crate::log::End;
 use crate::outbox::Outbox;
 use crate::requests::LONGEST_LINE;
@@ -138,6 +139,12 @@ impl Connection {
         }
     }
 
+    /// Who is at the other end, as far as sessions are concerned.
+    pub fn identity(&self) -> Who {
+        let user = || self.peer.as_ref().map(|peer| Who::User(peer.user));
+        self.stream.address().map(Who::at).or_else(user).unwrap_or(Who::Unknown)
+    }
+
     /// Its socket.
     pub fn stream(&self) -> &Stream {
         &self.stream
@@ -198,7 +205,14 @@ impl Connection {
 
     /// Whether more of its lines may be taken: not as long as many are unanswered, or the answers unread.
     pub fn takes_more(&self) -> bool {
-        self.ending.is_none() && self.pending.len() < MOST_PENDING && self.outbox.len() < MOST_UNREAD
+        // whose the session is, that it said, is not known before the log says so
+        let is_opening = matches!(self.pending.back(), Some(Pending::Opening));
+        self.ending.is_none() && !is_opening && self.pending.len() < MOST_PENDING && self.outbox.len() < MOST_UNREAD
+    }
+
+    /// Whether its session begins next, when the log says so.
+    pub fn is_opening(&self) -> bool {
+        matches!(self.pending.front(), Some(Pending::Opening))
     }
 
     /// Tells it something that the server says itself, after the answers to what it said before.

@@ -127,6 +127,10 @@ impl Desk {
                 connection.lease = Some(lease);
                 connection.tell_in_order(format_args!("lease {}", lease.as_millis()));
             }
+            Ok(Request::GivenLease) => {
+                let lease = connection.lease.map_or(0, |lease| lease.as_millis());
+                connection.tell_in_order(format_args!("lease {lease}"));
+            }
             Ok(Request::Status) => {
                 let (peer, is_operator) = (connection.peer.clone(), connection.door == Door::Operators);
                 let is_shown = |lock| is_operator || self.rules.permits(lock, peer.as_ref());
@@ -316,11 +320,12 @@ impl Desk {
         }
     }
 
-    /// The lease of a new connection.
+    /// The lease of a new connection. Where servers share a log, the lock of a client that hears nothing of its server is given to
+    /// another by the next server, so each has one.
     pub fn first_lease(&self, door: Door) -> Option<Duration> {
         let has_one = match door {
             Door::Network => true,
-            Door::Clients => self.settings.is_lease_for_all,
+            Door::Clients => self.settings.is_lease_for_all || self.cluster.is_some(),
             Door::Operators => false,
         };
         has_one.then_some(self.settings.longest_lease)

@@ -113,6 +113,11 @@ impl Engine {
         }
     }
 
+    /// The words with which it is started next.
+    pub fn set_words(&mut self, words: Vec<String>) {
+        self.words = words;
+    }
+
     /// Whether it takes inputs.
     pub fn is_running(&self) -> bool {
         matches!(self.state, State::Running(..))

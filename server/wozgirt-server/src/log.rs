@@ -76,8 +76,12 @@ pub enum Event<'a> {
     LogEnded { status: String },
     LogUnreadable { line: &'a str },
     LogLeft { why: &'a str },
+    LogFull,
     LogJoined { identity: &'a str, server: &'a dyn fmt::Display, position: u64 },
     ServerOver { server: &'a dyn fmt::Display, position: u64 },
+    MoreLocks { count: usize, own: usize, list: &'a str },
+    RulesNotRead { fault: &'a dyn fmt::Display },
+    SessionRefused { who: &'a str },
     SessionOver { session: Client, held: &'a str },
     Contradiction { name: &'a str, position: u64 },
     HostAway { name: &'a str, seconds: u64 },
@@ -120,12 +124,20 @@ impl fmt::Display for Event<'_> {
             Event::LogEnded { status } => write!(f, "wozgirt-log ended: {status}"),
             Event::LogUnreadable { line } => write!(f, "wozgirt-log said what it should not: {line}"),
             Event::LogLeft { why } => write!(f, "out of the log ({why}): all connections end"),
+            Event::LogFull => f.write_str("etcd has no room for entries: nothing is granted until it has"),
             Event::LogJoined { identity, server, position } => {
                 write!(f, "in the log {identity} as {server}, behind position {position}")
             }
             Event::ServerOver { server, position } => {
                 write!(f, "server {server} is over at position {position}, with all its sessions")
             }
+            Event::MoreLocks { count, own, list } => {
+                write!(f, "the log has {count} locks, and --locks {own} of them: put them all there: {list}")
+            }
+            Event::RulesNotRead { fault } => {
+                write!(f, "rules not read for the new locks, which are for those of the line *: {fault}")
+            }
+            Event::SessionRefused { who } => write!(f, "refused, the session is somebody else's: {who}"),
             Event::SessionOver { session, held } => write!(f, "session {session} did not come back; it held {held}"),
             Event::Contradiction { name, position } => {
                 write!(f, "CONTRADICTION: server {name} had other answers up to position {position}")

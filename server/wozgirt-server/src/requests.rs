@@ -18,6 +18,8 @@ pub enum Request<'a> {
     Ping,
     /// To be taken for dead after such a silence; of 0, the longest that there may be.
     Lease(Duration),
+    /// What lease the connection has.
+    GivenLease,
     /// How all locks are.
     Status,
     /// To go on with the session that has this key.
@@ -89,6 +91,7 @@ pub fn parse(line: &str, is_operator: bool) -> Result<Request<'_>, BadRequest> {
         "ping" => alone(rest, Request::Ping),
         "status" => alone(rest, Request::Status),
         "session" => Ok(Request::Session(decimal(rest.unwrap_or(""))?)),
+        "lease" if rest.is_none() => Ok(Request::GivenLease),
         "lease" => Ok(Request::Lease(Duration::from_millis(decimal(rest.unwrap_or(""))?))),
         "cluster" if is_operator => alone(rest, Request::Cluster),
         "clients" if is_operator => alone(rest, Request::Clients),
@@ -145,6 +148,7 @@ mod tests {
             ("leave", Request::Leave),
             ("ping", Request::Ping),
             ("status", Request::Status),
+            ("lease", Request::GivenLease),
             ("lease 1500", Request::Lease(Duration::from_millis(1500))),
             ("session 18446744073709551615", Request::Session(u64::MAX)),
             ("cluster", Request::Cluster),
@@ -190,7 +194,7 @@ mod tests {
             "cancel ",
             "cancel a b",
             "ping 1",
-            "lease",
+            "lease ",
             "lease -1",
             "session",
             "session x",

@@ -140,6 +140,7 @@ impl Writer {
 
 #[cfg(test)]
 mod tests {
+    use super::super::owner::Who;
     use super::*;
 
     fn server(name: &str) -> Server {
@@ -151,13 +152,17 @@ mod tests {
         writer.next(&server(name), &Digests::default(), now)
     }
 
+    fn here(key: u64) -> Line {
+        Line::Here(key, Who::Unknown)
+    }
+
     fn put(writer: &mut Writer, count: u64) {
-        (0..count).for_each(|key| writer.put(Line::Here(key)));
+        (0..count).for_each(|key| writer.put(here(key)));
     }
 
     /// An entry of another server, with so many lines.
     fn other(name: &str, count: u64) -> Entry {
-        let lines = (0..count).map(Line::Here).collect();
+        let lines = (0..count).map(here).collect();
         Entry { writer: server(name), serial: 1, position: 0, digest: String::new(), lines }
     }
 

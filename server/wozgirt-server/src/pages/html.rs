@@ -65,6 +65,9 @@ fn log(text: &mut String, it: &InLog) {
         "<p>This server {log} of all servers, of which {} are alive. Position: {}, last checkpoint: {}.",
         it.alive, it.position, it.checkpoint
     );
+    if it.is_full {
+        text.push_str(" <span class=\"down\">etcd has no room for entries.</span>");
+    }
     if it.contradictions > 0 {
         let _ = write!(text, " <span class=\"down\">Another had other answers {} times.</span>", it.contradictions);
     }
@@ -154,7 +157,7 @@ mod tests {
             connected: 2,
             engine_starts: 1,
             is_engine_ready: true,
-            in_log: Some(InLog { is_in_log: true, position: 40, checkpoint: 30, alive: 3, contradictions: 1 }),
+            in_log: Some(InLog { is_in_log: true, is_full: false, position: 40, checkpoint: 30, alive: 3, contradictions: 1 }),
             journal: JournalSize { bytes: 99, segments: 1, last: "0000000001.ring".into() },
             started,
             now: started + Duration::from_secs(3),

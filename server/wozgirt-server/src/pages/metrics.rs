@@ -64,8 +64,9 @@ fn server(text: &mut String, view: &View<'_>) {
 }
 
 fn log(text: &mut String, it: &InLog) {
-    let values: [(&str, &str, &str, &dyn Display); 5] = [
+    let values: [(&str, &str, &str, &dyn Display); 6] = [
         ("wozgirt_in_log", "gauge", "1 if this server is in the log of all servers.", &u8::from(it.is_in_log)),
+        ("wozgirt_log_full", "gauge", "1 if etcd has no room for entries.", &u8::from(it.is_full)),
         ("wozgirt_log_position", "gauge", "The last entry of the log that the engine has done.", &it.position),
         ("wozgirt_checkpoint_position", "gauge", "The entry of the last checkpoint.", &it.checkpoint),
         ("wozgirt_servers_alive", "gauge", "Servers whose lease in etcd lives.", &it.alive),

@@ -17,6 +17,8 @@ use std::time::Instant;
 pub struct InLog {
     /// Whether it is in the log now.
     pub is_in_log: bool,
+    /// Whether etcd has no room for entries.
+    pub is_full: bool,
     /// The last entry that its engine has done.
     pub position: u64,
     /// The entry of the last checkpoint.

@@ -1,6 +1,7 @@
 //! The loop: rounds of what happened, and what time brings.
 
 mod arrivals;
+mod checkpoints;
 mod cluster_side;
 mod engine_side;
 mod log_side;

@@ -2,7 +2,7 @@
 
 use super::{MOST_VISITORS, OTHER_FILES, PLACES_OF_OPERATORS};
 use crate::accounts::Accounts;
-use crate::cluster::{NoFolder, LONGEST_LIST};
+use crate::cluster::{NoFolder, Other, LONGEST_LIST};
 use crate::doors::CannotListen;
 use crate::engine::CannotStart;
 use crate::names::{BadNames, Names};
@@ -54,10 +54,14 @@ pub enum CannotServe {
         /// Those of this server.
         own: String,
     },
-    /// The checkpoint is not of this log.
+    /// etcd has another log than this server has read, or an earlier state of it: how that is known.
     OtherLog(String),
-    /// The log is not there as far as it is needed.
+    /// The log does not reach back to the checkpoint: how that is known.
+    LogGone(String),
+    /// One of the two, and it is not known which.
     LogLost,
+    /// Another server of this name is alive: this start of it.
+    NameTaken(u64),
     /// The engine has not come back to the state of the checkpoint.
     Restored,
     /// Two other servers had other answers.
@@ -98,12 +102,23 @@ impl fmt::Display for CannotServe {
                 f,
                 "--checkpoint, --segment, --faults and --locks are the same for all servers; in the log they are `{log}`, here `{own}`"
             ),
-            CannotServe::OtherLog(identity) => write!(
+            CannotServe::OtherLog(why) => write!(
                 f,
-                "the checkpoint is of another log than {identity}: was etcd replaced? Begin again with the folder of a server of this log"
+                "etcd has another log than this server has read, or an earlier state of it ({why}): it was wiped, restored or replaced. \
+                 Tokens would be given twice, so nothing is served. Stop all servers, and do what CLUSTER says of an etcd that was lost or restored"
+            ),
+            CannotServe::LogGone(why) => write!(
+                f,
+                "the log does not reach back to this server's checkpoint ({why}): begin again with another server's folder, as CLUSTER says of a \
+                 host that is replaced"
             ),
             CannotServe::LogLost => f.write_str(
-                "the log is another one, or does not reach back to the checkpoint: begin again with another server's folder",
+                "the log is another one, or does not reach back to the checkpoint: do what CLUSTER says of an etcd that was restored, or of a \
+                 host that is replaced",
+            ),
+            CannotServe::NameTaken(incarnation) => write!(
+                f,
+                "--name: another server of this name is in the log, as start {incarnation}, and is alive: each server has a name of its own"
             ),
             CannotServe::Restored => f.write_str(
                 "the engine does not come back to the state of the checkpoint: keep the folder for an inquiry, and begin again with another server's",
@@ -125,7 +140,7 @@ impl CannotServe {
     pub fn status(&self) -> u8 {
         match self {
             CannotServe::Restored | CannotServe::Contradicted(_) => 3,
-            CannotServe::OtherLog(_) | CannotServe::LogLost => 4,
+            CannotServe::OtherLog(_) | CannotServe::LogGone(_) | CannotServe::LogLost => 4,
             _ => 1,
         }
     }
@@ -134,6 +149,12 @@ impl CannotServe {
 impl From<io::Error> for CannotServe {
     fn from(fault: io::Error) -> CannotServe {
         CannotServe::System(fault)
+    }
+}
+
+impl From<Other> for CannotServe {
+    fn from(Other(why): Other) -> CannotServe {
+        CannotServe::OtherLog(why)
     }
 }
 
