@@ -2,18 +2,23 @@
 
 use crate::board::Board;
 use crate::cluster::Cluster;
-use crate::connection::{Connection, Door, Pending};
+use crate::connection::{Connection, Door, Pending, MOST_PENDING};
 use crate::engine::Engine;
 use crate::log::{End, Event, Log};
 use crate::names::Names;
+use crate::questions::Questions;
 use crate::requests::{numbered, parse, BadRequest, Request, Verb, LONGEST_LINE};
 use crate::rules::Rules;
 use crate::settings::Settings;
-use crate::status::Status;
+use crate::status::{Listing, Locks};
 use crate::sums::Sums;
 use std::fmt;
+use std::rc::Rc;
 use std::time::{Duration, Instant};
-use wozgirt_engine::{Answer, Asked, Client, Input, Lock, NotALine, Stats};
+use wozgirt_engine::{Answer, Asked, Client, Input, Lock, NotALine, Stats, NOBODY};
+
+/// With so many lines that wait to be put into the log, no more are taken.
+const MOST_FOR_LOG: usize = 10_000;
 
 /// What is left to do after some lines.
 #[derive(Debug, PartialEq, Eq)]
@@ -41,9 +46,13 @@ pub struct Desk {
     /// The names of locks.
     pub names: Names,
     /// Who may use them.
-    pub rules: Rules,
+    pub rules: Rc<Rules>,
     /// The engine.
     pub engine: Engine,
+    /// How far it is with what it was asked.
+    pub questions: Questions,
+    /// So much waits for it that nothing more is taken of clients, and nobody is let in.
+    pub is_full: bool,
     /// What it told.
     pub board: Board,
     /// What is counted.
@@ -85,11 +94,14 @@ impl fmt::Display for AnswerLine<'_> {
 }
 
 impl Desk {
-    /// Takes lines of the connection as long as it may say more.
-    pub fn take_lines(&mut self, connection: &mut Connection) -> Then {
+    /// Takes lines of the connection as long as it may say more, but none after this time except the first.
+    pub fn take_lines(&mut self, connection: &mut Connection, until: Instant) -> Then {
         let input = connection.take_input();
         let (mut taken, mut then) = (0, Then::Wait);
-        while then == Then::Wait && connection.takes_more() {
+        while then == Then::Wait && connection.takes_more() && self.may_ask(connection) {
+            if taken > 0 && Instant::now() >= until {
+                break;
+            }
             let Some(length) = input[taken..].iter().take(LONGEST_LINE).position(|&b| b == b'\n') else { break };
             then = match std::str::from_utf8(&input[taken..taken + length]) {
                 Ok(line) => self.take(connection, line),
@@ -103,6 +115,56 @@ impl Desk {
             return Then::End(End::Line);
         }
         then
+    }
+
+    /// Whether the connection has a line that may be taken now.
+    pub fn has_work(&mut self, connection: &Connection) -> bool {
+        connection.has_line() && self.may_ask(connection)
+    }
+
+    /// Whether one more line of the connection may wait for the engine. Operators may ask when clients may not.
+    fn may_ask(&mut self, connection: &Connection) -> bool {
+        let (waiting, most) = match &self.cluster {
+            None => (self.questions.waiting(), self.questions.most()),
+            Some(cluster) => (cluster.waiting_lines(), MOST_FOR_LOG),
+        };
+        self.is_full |= waiting >= most;
+        let is_refused = match connection.door {
+            Door::Operators => waiting >= 2 * most,
+            Door::Clients | Door::Network => self.is_full,
+        };
+        !is_refused && self.questions.permits(connection.asked, MOST_PENDING)
+    }
+
+    /// Whether the engine has done so much that clients may ask again.
+    pub fn is_free_again(&mut self) -> bool {
+        let is_done = match &self.cluster {
+            None => self.questions.waiting() <= self.questions.most() / 2,
+            Some(cluster) => cluster.waiting_lines() <= MOST_FOR_LOG / 2,
+        };
+        self.is_full && is_done
+    }
+
+    /// Asks the engine. Where there is a log, what goes to the engine comes from there.
+    pub fn ask_engine(&mut self, client: Client, input: Input) {
+        self.engine.ask(Asked { client, input });
+        if self.questions.ask() {
+            self.mark();
+        }
+    }
+
+    /// Asks the engine how far it is.
+    pub fn mark(&mut self) {
+        let input = self.questions.mark(self.now);
+        self.engine.ask(Asked { client: NOBODY, input });
+    }
+
+    /// Tells more of the list of all locks, until this time.
+    pub fn tell_listing(&mut self, connection: &mut Connection, until: Instant) {
+        let peer = connection.peer.take();
+        let view = Locks { board: &self.board, names: &self.names, peer: peer.as_ref(), now: self.now };
+        connection.tell_listing(|listing, text, most| listing.go_on(text, &view, most, until));
+        connection.peer = peer;
     }
 
     fn take(&mut self, connection: &mut Connection, line: &str) -> Then {
@@ -128,10 +190,8 @@ impl Desk {
                 connection.tell_in_order(format_args!("lease {}", lease.as_millis()));
             }
             Ok(Request::Status) => {
-                let (peer, is_operator) = (connection.peer.clone(), connection.door == Door::Operators);
-                let is_shown = |lock| is_operator || self.rules.permits(lock, peer.as_ref());
-                let status = Status::new(&self.board, &self.names, self.now, is_shown);
-                connection.tell_in_order(status);
+                let rules = (connection.door != Door::Operators).then(|| self.rules.clone());
+                connection.pending.push_back(Pending::Listing(Listing::new(rules)));
             }
             Ok(Request::Clients) => return Then::Clients,
             Ok(Request::Stop) => {
@@ -173,8 +233,21 @@ impl Desk {
         if self.cluster.is_some() {
             return self.put_input(connection, number, input);
         }
-        self.engine.ask(Asked { client: connection.client, input });
-        connection.pending.push_back(Pending::Asked(input));
+        self.ask_engine(connection.client, input);
+        self.note_asked(connection, Pending::Asked(input));
+    }
+
+    fn note_asked(&mut self, connection: &mut Connection, pending: Pending) {
+        self.questions.askers += usize::from(connection.asked == 0);
+        connection.asked += 1;
+        connection.has_asked = true;
+        connection.pending.push_back(pending);
+    }
+
+    /// One line of the connection is answered.
+    fn note_answered(&mut self, connection: &mut Connection) {
+        connection.asked -= 1;
+        self.questions.askers -= usize::from(connection.asked == 0);
     }
 
     /// The engine's input, or why the server refuses it.
@@ -204,9 +277,9 @@ impl Desk {
     fn ask_to_leave(&mut self, connection: &mut Connection) {
         self.sums.inputs += 1;
         for input in [Input::Leave, Input::Stats { lock: 0 }] {
-            self.engine.ask(Asked { client: connection.client, input });
+            self.ask_engine(connection.client, input);
         }
-        connection.pending.push_back(Pending::Left);
+        self.note_asked(connection, Pending::Left);
     }
 
     /// Tells the connection an answer of the engine.
@@ -220,7 +293,11 @@ impl Desk {
                 return Ok(());
             }
         }
-        match (connection.pending.pop_front(), &answer) {
+        let pending = connection.pending.pop_front();
+        if matches!(pending, Some(Pending::Left | Pending::Asked(_))) {
+            self.note_answered(connection);
+        }
+        match (pending, &answer) {
             (Some(Pending::Left), Answer::Stats(_)) => {
                 self.forget(connection);
                 connection.tell("left");
@@ -306,8 +383,10 @@ impl Desk {
             }
         }
         let held = if self.cluster.is_some() { self.end_seat(connection, end) } else { self.forget(connection) };
-        if !matches!(end, End::Engine | End::Stop) && self.cluster.is_none() {
-            self.engine.ask(Asked { client: connection.client, input: Input::Leave });
+        self.questions.askers -= usize::from(connection.asked > 0);
+        // of one that never asked the engine knows nothing
+        if connection.has_asked && !matches!(end, End::Engine | End::Stop) && self.cluster.is_none() {
+            self.ask_engine(connection.client, Input::Leave);
         }
         self.sums.ended(end);
         let is_wanted = !held.is_empty() || !matches!(end, End::Closed | End::Stop);

@@ -2,13 +2,18 @@
 
 use std::fmt;
 use std::io::Write;
+use std::sync::atomic::{AtomicUsize, Ordering};
 use std::sync::mpsc::{sync_channel, SyncSender};
+use std::sync::Arc;
 use std::thread::{self, JoinHandle};
-use std::time::{Duration, SystemTime, UNIX_EPOCH};
+use std::time::{Duration, Instant, SystemTime, UNIX_EPOCH};
 use wozgirt_engine::{Client, NotALine};
 
-/// How many lines may wait to be written. The server never waits for its log.
+/// How many lines, and bytes, may wait to be written. The server never waits for its log.
 const ROOM: usize = 4096;
+const MOST_BYTES: usize = 1 << 20;
+/// But at its end it gives the log so long to be written.
+const LAST_LINES: Duration = Duration::from_secs(1);
 
 /// Why a connection ended.
 #[derive(Debug, Clone, Copy, PartialEq, Eq, Hash, PartialOrd, Ord)]
@@ -144,6 +149,8 @@ impl fmt::Display for Event<'_> {
 pub struct Log {
     lines: Option<SyncSender<String>>,
     thread: Option<JoinHandle<()>>,
+    /// How many bytes wait.
+    waiting: Arc<AtomicUsize>,
     lost: u64,
 }
 
@@ -151,34 +158,48 @@ impl Log {
     /// Starts the thread that writes.
     pub fn start() -> std::io::Result<Log> {
         let (lines, written) = sync_channel::<String>(ROOM);
+        let waiting = Arc::new(AtomicUsize::new(0));
+        let left = waiting.clone();
         let write = move || {
             for line in written {
                 let _ = std::io::stderr().write_all(line.as_bytes()); // nobody can be told
+                left.fetch_sub(line.len(), Ordering::Relaxed);
             }
         };
         let thread = thread::Builder::new().name("log".into()).spawn(write)?;
-        Ok(Log { lines: Some(lines), thread: Some(thread), lost: 0 })
+        Ok(Log { lines: Some(lines), thread: Some(thread), waiting, lost: 0 })
     }
 
     /// Logs the event. If the log is far behind, only that something was lost is logged later.
     pub fn say(&mut self, event: &Event<'_>) {
         let time = Utc::now();
-        let Some(lines) = &self.lines else { return };
-        if self.lost > 0 && lines.try_send(format!("{time} {} lines of the log are lost\n", self.lost)).is_ok() {
+        if self.lost > 0 && self.put(format!("{time} {} lines of the log are lost\n", self.lost)) {
             self.lost = 0;
         }
-        if lines.try_send(format!("{time} {event}\n")).is_err() {
+        if !self.put(format!("{time} {event}\n")) {
             self.lost += 1;
         }
+    }
+
+    /// Whether there was room for the line.
+    fn put(&mut self, line: String) -> bool {
+        let length = line.len();
+        let is_put = self.waiting.fetch_add(length, Ordering::Relaxed) + length <= MOST_BYTES
+            && self.lines.as_ref().is_some_and(|lines| lines.try_send(line).is_ok());
+        if !is_put {
+            self.waiting.fetch_sub(length, Ordering::Relaxed);
+        }
+        is_put
     }
 }
 
 impl Drop for Log {
-    /// What was said is written first.
+    /// What was said is written first, if standard error takes it in time: a pipe that nobody reads keeps no server from its end.
     fn drop(&mut self) {
         self.lines = None;
-        if let Some(thread) = self.thread.take() {
-            let _ = thread.join();
+        let end = Instant::now() + LAST_LINES;
+        while self.thread.as_ref().is_some_and(|thread| !thread.is_finished()) && Instant::now() < end {
+            thread::sleep(Duration::from_millis(1));
         }
     }
 }

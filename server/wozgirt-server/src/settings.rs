@@ -47,7 +47,8 @@ Limits:
   --longest-lease SECONDS  the longest lease of a client, and of each over TCP that asks for none [30]
   --lease-for-all          clients on the Unix socket who ask for none have it too
   --grace SECONDS          how long what was held when the engine, or another server, ended stays held [the longest lease]
-  --connections COUNT      how many clients at once [1000]
+  --connections COUNT      how many clients at once on the Unix socket, and as many over TCP [1000]
+  --memory MIB             how much memory all connections may take together [128, or what COUNT needs]
   --waiters COUNT          how many wait for one lock at once [10000]
   --deaf SECONDS           how long a client may leave its answers unread [30]
 
@@ -97,8 +98,10 @@ pub struct Settings {
     pub is_lease_for_all: bool,
     /// How long open holds stay held after the engine started.
     pub grace: Duration,
-    /// How many clients there may be.
+    /// How many clients there may be at each door.
     pub connections: usize,
+    /// How much memory all connections may take together, in MiB, if it is given.
+    pub memory: Option<usize>,
     /// How many may wait for one lock.
     pub waiters: usize,
     /// How long answers may stay unread.
@@ -193,6 +196,7 @@ struct Reading {
     is_lease_for_all: bool,
     grace: Option<Duration>,
     connections: Option<usize>,
+    memory: Option<usize>,
     waiters: Option<usize>,
     deaf: Option<Duration>,
     logs_connections: bool,
@@ -239,7 +243,8 @@ impl Reading {
             "--rules" => self.rules = Some(value.into()),
             "--longest-lease" => self.longest_lease = Some(seconds(value).filter(|time| !time.is_zero())?),
             "--grace" => self.grace = Some(seconds(value)?),
-            "--connections" => self.connections = Some(value.parse().ok().filter(|&count| count > 0)?),
+            "--connections" => self.connections = Some(count(value)?),
+            "--memory" => self.memory = Some(count(value)?),
             "--waiters" => self.waiters = Some(value.parse().ok()?),
             "--deaf" => self.deaf = Some(seconds(value).filter(|time| !time.is_zero())?),
             _ => return self.cluster.put(word, value),
@@ -277,6 +282,7 @@ impl Reading {
             is_lease_for_all: self.is_lease_for_all,
             grace,
             connections: self.connections.unwrap_or(1000),
+            memory: self.memory,
             waiters: self.waiters.unwrap_or(10_000),
             deaf: self.deaf.unwrap_or(Duration::from_secs(30)),
             logs_connections: self.logs_connections,
@@ -286,7 +292,7 @@ impl Reading {
 }
 
 /// The options that have a value.
-const VALUED: [&str; 27] = [
+const VALUED: [&str; 28] = [
     "--engine",
     "--journal",
     "--locks",
@@ -303,6 +309,7 @@ const VALUED: [&str; 27] = [
     "--longest-lease",
     "--grace",
     "--connections",
+    "--memory",
     "--waiters",
     "--deaf",
     "--etcd",
@@ -318,6 +325,13 @@ const VALUED: [&str; 27] = [
 
 fn mode(value: &str) -> Option<u32> {
     u32::from_str_radix(value, 8).ok().filter(|&mode| mode <= 0o777)
+}
+
+/// The greatest count of connections, and of MiB.
+const MOST_COUNT: usize = 1_000_000;
+
+fn count(value: &str) -> Option<usize> {
+    value.parse().ok().filter(|count| (1..=MOST_COUNT).contains(count))
 }
 
 /// A time of at most a year.
@@ -386,7 +400,7 @@ mod tests {
         let settings = read(
             "--engine e --journal j --locks a,b:3 --segment 9 --no-sync --faults --socket s --mode 660 --group g \
              --operators o --operators-mode 640 --operators-group h --tcp 127.0.0.1:1 --page [::1]:2 --rules r \
-             --longest-lease 0.5 --lease-for-all --grace 2 --connections 7 --waiters 8 --deaf 9 --log-connections",
+             --longest-lease 0.5 --lease-for-all --grace 2 --connections 7 --memory 64 --waiters 8 --deaf 9 --log-connections",
         )
         .unwrap();
         let words = ["locks", "--journal", "j", "--locks", "a,b:3", "--segment", "9", "--no-sync", "--faults"];
@@ -397,6 +411,7 @@ mod tests {
         assert_eq!(settings.page, Some("[::1]:2".parse().unwrap()));
         assert_eq!((settings.longest_lease, settings.grace), (Duration::from_millis(500), Duration::from_secs(2)));
         assert_eq!((settings.connections, settings.waiters, settings.deaf.as_secs()), (7, 8, 9));
+        assert_eq!(settings.memory, Some(64));
         assert!(settings.is_lease_for_all && settings.logs_connections);
     }
 
@@ -430,6 +445,9 @@ mod tests {
             ("--journal j --grace -1", "--grace: bad value `-1`"),
             ("--journal j --grace inf", "--grace: bad value `inf`"),
             ("--journal j --deaf 0", "--deaf: bad value `0`"),
+            ("--journal j --connections 18446744073709551615", "--connections: bad value `18446744073709551615`"),
+            ("--journal j --connections 1000001", "--connections: bad value `1000001`"),
+            ("--journal j --memory 0", "--memory: bad value `0`"),
             ("--journal j --etcd e", "--name is missing"),
             ("--journal j --etcd e --name a:b", "--name: bad value `a:b`"),
             ("--journal j --etcd e --name a --host-lease 0.5", "--host-lease: bad value `0.5`"),

@@ -4,6 +4,7 @@ use super::{InLog, View};
 use crate::board::Sight;
 use crate::log::End;
 use std::fmt::{Display, Write};
+use wozgirt_engine::Lock;
 
 /// A family of values, with its help and type in front.
 struct Family<'a> {
@@ -27,13 +28,10 @@ impl<'a> Family<'a> {
     }
 }
 
-/// The text.
-pub fn text(view: &View<'_>) -> String {
-    let mut text = String::new();
-    server(&mut text, view);
-    view.in_log.iter().for_each(|it| log(&mut text, it));
-    each_lock(&mut text, view);
-    text
+/// What is not of one lock.
+pub fn head(text: &mut String, view: &View<'_>) {
+    server(text, view);
+    view.in_log.iter().for_each(|it| log(text, it));
 }
 
 fn server(text: &mut String, view: &View<'_>) {
@@ -76,32 +74,29 @@ fn log(text: &mut String, it: &InLog) {
     }
 }
 
-/// One value of each lock.
-type Value = fn(&Sight, &View<'_>) -> f64;
+/// A family with a value of each lock: its name, kind and help, and the value.
+type OfLock = (&'static str, &'static str, &'static str, fn(&Sight, &View<'_>) -> f64);
 
-fn each_lock(text: &mut String, view: &View<'_>) {
-    let families: [(&str, &str, &str, Value); 8] = [
-        ("wozgirt_held", "gauge", "1 if the lock is held.", |it, _| f64::from(u8::from(it.holder.is_some()))),
-        ("wozgirt_held_seconds", "gauge", "Age of the hold.", |it, view| {
-            it.holder.map_or(0.0, |holder| view.now.saturating_duration_since(holder.since).as_secs_f64())
-        }),
-        ("wozgirt_waiting", "gauge", "Clients that wait.", |it, _| it.line.len() as f64),
-        ("wozgirt_oldest_wait_seconds", "gauge", "How long the first of the line has waited.", |it, view| {
-            it.line.front().map_or(0.0, |waiter| view.now.saturating_duration_since(waiter.since).as_secs_f64())
-        }),
-        ("wozgirt_grants_total", "counter", "Grants.", |it, _| it.grants as f64),
-        ("wozgirt_waited_seconds_total", "counter", "Time that was waited for grants.", |it, _| {
-            it.waited.as_secs_f64()
-        }),
-        ("wozgirt_longest_wait_seconds", "gauge", "The longest wait for a grant.", |it, _| {
-            it.longest_wait.as_secs_f64()
-        }),
-        ("wozgirt_faults_total", "counter", "Faults that were written.", |it, _| it.faults as f64),
-    ];
-    for (name, kind, help, value) in families {
-        let mut family = Family::new(text, name, kind, help);
-        for (lock, sight) in view.board.locks().iter().enumerate() {
-            family.labelled("lock", view.names.name(lock), value(sight, view));
-        }
+/// All of them.
+pub const OF_LOCKS: [OfLock; 8] = [
+    ("wozgirt_held", "gauge", "1 if the lock is held.", |it, _| f64::from(u8::from(it.holder.is_some()))),
+    ("wozgirt_held_seconds", "gauge", "Age of the hold.", |it, view| {
+        it.holder.map_or(0.0, |holder| view.now.saturating_duration_since(holder.since).as_secs_f64())
+    }),
+    ("wozgirt_waiting", "gauge", "Clients that wait.", |it, _| it.line.len() as f64),
+    ("wozgirt_oldest_wait_seconds", "gauge", "How long the first of the line has waited.", |it, view| {
+        it.line.front().map_or(0.0, |waiter| view.now.saturating_duration_since(waiter.since).as_secs_f64())
+    }),
+    ("wozgirt_grants_total", "counter", "Grants.", |it, _| it.grants as f64),
+    ("wozgirt_waited_seconds_total", "counter", "Time that was waited for grants.", |it, _| it.waited.as_secs_f64()),
+    ("wozgirt_longest_wait_seconds", "gauge", "The longest wait for a grant.", |it, _| it.longest_wait.as_secs_f64()),
+    ("wozgirt_faults_total", "counter", "Faults that were written.", |it, _| it.faults as f64),
+];
+
+/// The value of one lock, behind the head of its family if it is the first.
+pub fn of_lock(text: &mut String, view: &View<'_>, (name, kind, help, value): &OfLock, lock: Lock) {
+    let mut family = if lock == 0 { Family::new(text, name, kind, help) } else { Family { text, name } };
+    if let Some(sight) = view.board.lock(lock) {
+        family.labelled("lock", view.names.name(lock), value(sight, view));
     }
 }

@@ -3,8 +3,10 @@
 mod html;
 mod http;
 mod metrics;
+mod telling;
 mod visitor;
 
+use telling::Telling;
 pub use visitor::{Next, Visitor};
 
 use crate::board::Board;
@@ -44,7 +46,7 @@ pub struct View<'a> {
     /// The log that it has with others, if it has one.
     pub in_log: Option<InLog>,
     /// Its journal.
-    pub journal: JournalSize,
+    pub journal: &'a JournalSize,
     /// When the server started.
     pub started: Instant,
     /// The time.

@@ -368,9 +368,7 @@ impl Server {
             Effect::Left(..) | Effect::Done { .. } => {}
         }
         let client = connection.client;
-        if connection.has_line() {
-            self.backlog.push_back(client);
-        }
+        self.queue(client);
         self.touch(client);
         Ok(())
     }

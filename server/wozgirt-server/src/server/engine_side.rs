@@ -3,6 +3,7 @@
 use super::{Server, ENGINE, ENGINE_INPUT};
 use crate::engine::{Outcome, Unheard};
 use crate::log::{End, Event};
+use crate::questions::Own;
 use crate::CannotServe;
 use wozgirt_engine::{Answer, Answered, Asked, Input, NOBODY};
 use wozgirt_system::Interest;
@@ -38,9 +39,7 @@ impl Server {
             let kept = answer.clone();
             match self.desk.tell_answer(connection, answer) {
                 Ok(()) => {
-                    if connection.has_line() {
-                        self.backlog.push_back(client);
-                    }
+                    self.queue(client);
                     self.touch(client);
                     return true;
                 }
@@ -53,21 +52,29 @@ impl Server {
         false
     }
 
-    /// How a lock is, which was asked when the engine started.
-    pub(super) fn answer_own(&mut self, answer: &Answer) -> bool {
-        let Answer::Stats(stats) = answer else { return false };
-        if self.own.pop_front() != Some(stats.lock) {
-            return false;
-        }
-        if self.desk.board.begin(stats, self.desk.now) {
-            self.held_before.push(stats.lock);
-        }
-        if self.own.is_empty() {
-            self.desk.engine.note_ready();
-            self.desk.log.say(&Event::EngineReady { held: self.held_before.len() });
-            self.touch_all();
+    /// The answer to a question of the server's own. False if it is none.
+    fn answer_own(&mut self, answer: &Answer) -> bool {
+        let Some(own) = self.desk.questions.answered(answer) else { return false };
+        if let (Own::Begin(lock), Answer::Stats(stats)) = (own, answer) {
+            if self.desk.board.begin(stats, self.desk.now) {
+                self.held_before.push(lock);
+            }
+            if self.desk.questions.has_begun() {
+                self.is_begun = true;
+                self.desk.engine.note_ready();
+                self.desk.log.say(&Event::EngineReady { held: self.held_before.len() });
+                self.touch_all();
+            }
         }
         true
+    }
+
+    /// Asks the engine each second whether it is there.
+    pub(super) fn watch_engine(&mut self) {
+        let is_watched = self.desk.cluster.is_none() && self.is_engine_ready();
+        if is_watched && self.desk.questions.next_mark().is_some_and(|due| due <= self.desk.now) {
+            self.desk.mark();
+        }
     }
 
     /// The engine ended, or has to: all that was held is its past, and every connection hears that by its end.
@@ -79,7 +86,8 @@ impl Server {
         self.desk.engine.give_up(is_ended, self.desk.now);
         self.part_all(if self.stopping.is_some() { End::Stop } else { End::Engine });
         self.desk.board.forget();
-        self.own.clear();
+        self.desk.questions.forget(self.desk.now);
+        self.is_begun = false;
         self.held_before.clear();
         self.grace_until = None;
     }
@@ -109,7 +117,7 @@ impl Server {
         }
         self.grace_until = Some(now + grace);
         for lock in 0..self.desk.names.count() {
-            self.own.push_back(lock);
+            self.desk.questions.put(Own::Begin(lock));
             self.desk.engine.ask(Asked { client: NOBODY, input: Input::Stats { lock } });
         }
         Ok(())
@@ -118,7 +126,7 @@ impl Server {
     /// Who held a lock when the engine ended has heard by now that it lost it, or its lease is over.
     pub(super) fn end_grace(&mut self) {
         self.grace_until = None;
-        self.desk.engine.ask(Asked { client: NOBODY, input: Input::Leave });
+        self.desk.ask_engine(NOBODY, Input::Leave);
         for lock in std::mem::take(&mut self.held_before) {
             self.desk.board.left(lock, NOBODY);
         }

@@ -1,35 +1,52 @@
 //! Connections: read, written, ended.
 
-use super::{Server, CONNECTIONS, ENGINE_INPUT};
-use crate::connection::{Connection, Reading, SHARE};
+use super::{Server, CONNECTIONS, ENGINE_INPUT, LONGEST_TURN, SHORTEST_TURN, TURNS};
+use crate::connection::{Connection, Door, Reading, SHARE};
 use crate::desk::Then;
 use crate::log::End;
 use crate::CannotServe;
+use std::collections::VecDeque;
+use std::time::Instant;
 use wozgirt_engine::{Client, Lock};
 use wozgirt_system::Event as Ready;
 
 impl Server {
     pub(super) fn read(&mut self, client: Client, event: &Ready, buffer: &mut [u8; SHARE]) {
-        let is_ready = self.is_engine_ready() && self.stopping.is_none();
         self.touch(client);
-        let Some(connection) = self.connections.get_mut(&client) else { return };
-        let is_read = event.is_readable && is_ready && connection.takes_more();
-        if !is_read && !event.is_gone {
-            return;
-        }
-        match connection.read(buffer, self.desk.now) {
-            Ok(Reading::Open) => self.take_lines(client),
+        let Some(connection) = self.connections.get(&client) else { return };
+        let is_open = connection.takes_more() && !connection.is_read_enough();
+        let is_read = event.is_readable && is_open && self.hears(connection.door);
+        let now = self.desk.now;
+        let Some(connection) = self.connections.get_mut(&client).filter(|_| is_read) else {
+            // nobody reads what it would be answered
+            return if event.is_gone {
+                self.part(client, End::Closed)
+            };
+        };
+        match connection.read(buffer, now) {
+            Ok(Reading::Open) => {
+                if self.has_turn(client) {
+                    self.fresh.push_back(client);
+                }
+            }
             Ok(Reading::Ended) if !event.is_gone => connection.has_said_all = true,
             Ok(Reading::Ended) | Err(_) => self.part(client, End::Closed),
         }
     }
 
-    pub(super) fn take_lines(&mut self, client: Client) {
-        if !self.is_engine_ready() || self.stopping.is_some() {
-            return;
-        }
+    /// Whether anything is read of connections of this door.
+    fn hears(&self, door: Door) -> bool {
+        let has_room = door == Door::Operators || !self.desk.is_full;
+        self.is_engine_ready() && self.stopping.is_none() && has_room
+    }
+
+    fn take_lines(&mut self, client: Client, until: Instant) {
+        let Some(door) = self.connections.get(&client).map(|connection| connection.door) else { return };
+        let hears = self.hears(door);
         let Some(connection) = self.connections.get_mut(&client) else { return };
-        match self.desk.take_lines(connection) {
+        self.desk.tell_listing(connection, until);
+        let then = if hears { self.desk.take_lines(connection, until) } else { Then::Wait };
+        match then {
             Then::Wait => {}
             Then::End(end) => {
                 connection.ending = Some(end);
@@ -43,17 +60,69 @@ impl Server {
             Then::Moved(before) => self.part(before, End::Moved),
             Then::Stop => self.stop("an operator said so"),
         }
-        let has_more = self.connections.get(&client).is_some_and(Connection::has_line);
-        if has_more {
-            self.backlog.push_back(client);
-        }
+        self.note_deadline(client);
+        self.queue(client);
         self.touch(client);
     }
 
-    /// Lines that were read in earlier rounds, and may be taken now.
-    pub(super) fn take_backlog(&mut self) {
-        for client in std::mem::take(&mut self.backlog) {
-            self.take_lines(client);
+    /// Has the connection's turn come again, if it has more lines that may be taken, or more is to be told to it.
+    pub(super) fn queue(&mut self, client: Client) {
+        if self.has_turn(client) {
+            self.backlog.push_back(client);
+        }
+    }
+
+    /// Whether the connection gets a turn that it did not have yet.
+    fn has_turn(&mut self, client: Client) -> bool {
+        let Some(door) = self.connections.get(&client).map(|connection| connection.door) else { return false };
+        let hears = self.hears(door);
+        let Some(connection) = self.connections.get_mut(&client) else { return false };
+        let has_work = connection.is_listing() || hears && self.desk.has_work(connection);
+        has_work && !std::mem::replace(&mut connection.is_queued, true)
+    }
+
+    /// Takes lines of those who have just spoken, and then of those who have said more; each time for a while.
+    pub(super) fn take_turns(&mut self) {
+        let fresh = std::mem::take(&mut self.fresh);
+        self.fresh = self.take_some(fresh);
+        let backlog = std::mem::take(&mut self.backlog);
+        let mut rest = self.take_some(backlog);
+        rest.append(&mut self.backlog);
+        self.backlog = rest;
+    }
+
+    /// Those who had no turn.
+    fn take_some(&mut self, mut line: VecDeque<Client>) -> VecDeque<Client> {
+        if line.is_empty() {
+            return line;
+        }
+        let turn = TURNS / u32::try_from(line.len()).unwrap_or(u32::MAX);
+        let turn = turn.clamp(SHORTEST_TURN, LONGEST_TURN);
+        let begun = Instant::now();
+        let mut now = begun;
+        while now < begun + TURNS {
+            let Some(client) = line.pop_front() else { break };
+            if let Some(connection) = self.connections.get_mut(&client) {
+                connection.is_queued = false;
+                self.take_lines(client, now + turn);
+            }
+            now = Instant::now();
+        }
+        line
+    }
+
+    /// Whether the engine has got too much to do, or has done enough: then nobody is heard, or all are again.
+    fn note_full(&mut self) {
+        if self.desk.is_free_again() {
+            self.desk.is_full = false;
+        }
+        if std::mem::replace(&mut self.was_full, self.desk.is_full) == self.desk.is_full {
+            return;
+        }
+        self.set_doors();
+        for client in self.connections.keys().copied().collect::<Vec<_>>() {
+            self.queue(client);
+            self.touch(client);
         }
     }
 
@@ -94,6 +163,8 @@ impl Server {
 
     pub(super) fn part(&mut self, client: Client, end: End) {
         if let Some(mut connection) = self.connections.remove(&client) {
+            self.places.give_back(connection.door, connection.guest);
+            self.desk.questions.clients = self.connections.len();
             self.desk.part(&mut connection, end);
         }
     }
@@ -105,33 +176,38 @@ impl Server {
     }
 
     pub(super) fn write_all(&mut self, buffer: &mut [u8; SHARE]) -> Result<(), CannotServe> {
-        let is_ready = self.is_engine_ready() && self.stopping.is_none();
+        self.note_full();
         for client in std::mem::take(&mut self.dirty) {
-            let Some(connection) = self.connections.get_mut(&client) else { continue };
-            connection.is_dirty = false;
-            if connection.write(self.desk.now).is_err() {
-                self.part(client, End::Closed);
-                continue;
-            }
-            if connection.has_line() {
-                self.backlog.push_back(client); // it may say more, since it has read what it was told
-            }
-            if let Some(end) = connection.is_over() {
-                connection.drain(buffer);
-                self.part(client, end);
-                continue;
-            }
-            if let Some(interest) = connection.new_interest(is_ready) {
-                let changed = self.poller.change(connection.stream(), CONNECTIONS + client, interest);
-                if changed.is_err() {
-                    self.part(client, End::Closed);
-                }
-            }
+            self.write(client, buffer);
         }
         self.desk.engine.write();
         if let Some((input, interest)) = self.desk.engine.awaited_input() {
             self.poller.change(input, ENGINE_INPUT, interest)?;
         }
         self.write_log()
+    }
+
+    fn write(&mut self, client: Client, buffer: &mut [u8; SHARE]) {
+        let Some(connection) = self.connections.get_mut(&client) else { return };
+        connection.is_dirty = false;
+        if connection.write(self.desk.now).is_err() {
+            return self.part(client, End::Closed);
+        }
+        if let Some(end) = connection.is_over() {
+            connection.drain(buffer);
+            return self.part(client, end);
+        }
+        if connection.is_stuck() {
+            self.note_deadline(client);
+        }
+        self.queue(client); // it may say more, since it has read what it was told
+        let hears = self.connections.get(&client).is_some_and(|connection| self.hears(connection.door));
+        let Some(connection) = self.connections.get_mut(&client) else { return };
+        if let Some(interest) = connection.new_interest(hears) {
+            let changed = self.poller.change(connection.stream(), CONNECTIONS + client, interest);
+            if changed.is_err() {
+                self.part(client, End::Closed);
+            }
+        }
     }
 }
