@@ -50,8 +50,9 @@ const MOST_COMERS: usize = 64;
 const MOST_VISITORS: usize = 32;
 /// Files that are open besides connections.
 const OTHER_FILES: usize = 32;
-/// How long an end in good order may take.
+/// How long an end in good order may take; and how long after that the server waits for its processes to be gone.
 const LONGEST_STOP: Duration = Duration::from_secs(10);
+const LONGEST_KILL: Duration = Duration::from_secs(2);
 /// How long lines are taken in a round, of those who have just spoken, and then of those whose turn comes again: each has its part
 /// of that.
 const TURNS: Duration = Duration::from_millis(2);
@@ -159,7 +160,7 @@ impl Server {
         let mut buffer = [0; SHARE];
         self.begin_cluster()?;
         self.look_at_engine()?;
-        while !self.is_over() {
+        while !self.is_over() && !self.is_late() {
             let before = Instant::now();
             let is_all = self.poller.wait(Some(self.next_time()), &mut events)?;
             self.desk.now = Instant::now();
@@ -197,6 +198,11 @@ impl Server {
     /// Whether all processes have ended, and are not started any more.
     fn is_over(&self) -> bool {
         self.desk.engine.is_over() && self.desk.cluster.as_ref().map_or(true, |cluster| cluster.log.is_over())
+    }
+
+    /// Whether the server was to end long ago: a process may stand still in the system, where nothing ends it.
+    fn is_late(&self) -> bool {
+        self.stopping.is_some_and(|until| until + LONGEST_KILL <= self.desk.now)
     }
 
     /// Whether the engine has answered how all locks are, or this server is in the log that it has with others.
