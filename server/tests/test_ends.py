@@ -8,8 +8,9 @@ import subprocess
 import tempfile
 import time
 import unittest
+import urllib.request
 
-from harness import FOLDER, PATIENCE, SERVER, Server, needs_programs, read_lines, say
+from harness import FOLDER, PATIENCE, SERVER, Server, needs_loopback, needs_programs, read_lines, say, wait_until
 
 # seconds in which the server has ended, on a machine that is busy: 10 for what was asked, and some more for what stands still
 LIMIT = 25
@@ -95,6 +96,56 @@ class InTime(unittest.TestCase):
                 os.kill(engine, signal.SIGCONT)
                 self.assertEqual(read_lines(sock, 9), ["granted a 1"])
             self.assertEqual(process.wait(PATIENCE), 0)
+
+
+@needs_programs
+class Hangs(unittest.TestCase):
+    """An engine that stands still is seen, and in the end another one is started."""
+
+    @needs_loopback
+    def test_it_is_shown_and_logged(self):
+        with Server("--page", "127.0.0.1:0") as server:
+            port, engine = server.port("page"), server.engine_number()
+
+            def shown(target):
+                with urllib.request.urlopen(f"http://127.0.0.1:{port}{target}", timeout=PATIENCE) as answer:
+                    return answer.read().decode()
+
+            self.assertIn("\nwozgirt_engine_up 1\n", shown("/metrics"))
+            os.kill(engine, signal.SIGSTOP)
+            with server.raw() as sock:
+                sock.sendall(b"acquire a 1\n")
+                wait_until(lambda: "engine has not answered for 2." in server.text_of_log())
+                self.assertIn("\nwozgirt_engine_up 0\n", shown("/metrics"))
+                age = float(shown("/metrics").split("\nwozgirt_engine_oldest_question_seconds ")[1].split("\n")[0])
+                self.assertGreater(age, 2)
+                waiting = int(shown("/metrics").split("\nwozgirt_engine_lines_waiting ")[1].split("\n")[0])
+                self.assertGreaterEqual(waiting, 1)
+                self.assertRegex(shown("/"), "The engine <span class=.down.>has not answered for ")
+                os.kill(engine, signal.SIGCONT)
+                self.assertEqual(read_lines(sock, 1), ["granted a 1"])
+            wait_until(lambda: "engine answers again, after " in server.text_of_log())
+            self.assertIn("\nwozgirt_engine_up 1\n", shown("/metrics"))
+
+    def test_it_is_ended_in_the_end(self):
+        with Server("--engine-patience", "1.5", lease="1") as server, server.raw() as sock:
+            first = server.engine_number()
+            os.kill(first, signal.SIGSTOP)
+            self.assertEqual(sock.recv(10), b"")  # what it held is the past of that engine
+            wait_until(lambda: server.text_of_log().count("engine ready") == 2)
+            self.assertNotEqual(server.engine_number(), first)
+            self.assertIn(" s, and is ended\n", server.text_of_log())
+            with server.raw() as sock:
+                self.assertEqual(say(sock, "acquire a 1\n"), ["granted a 1"])
+
+    def test_a_server_that_stood_still_itself_ends_no_engine(self):
+        with Server("--engine-patience", "1.2") as server:
+            for _ in range(3):
+                server.process.send_signal(signal.SIGSTOP)
+                time.sleep(2)
+                server.process.send_signal(signal.SIGCONT)
+                self.assertEqual(server.operate("ping"), "pong")
+            self.assertEqual(server.text_of_log().count("engine started"), 1)
 
 
 @needs_programs

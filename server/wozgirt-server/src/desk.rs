@@ -124,10 +124,7 @@ impl Desk {
 
     /// Whether one more line of the connection may wait for the engine. Operators may ask when clients may not.
     fn may_ask(&mut self, connection: &Connection) -> bool {
-        let (waiting, most) = match &self.cluster {
-            None => (self.questions.waiting(), self.questions.most()),
-            Some(cluster) => (cluster.waiting_lines(), MOST_FOR_LOG),
-        };
+        let (waiting, most) = (self.waiting_lines(), self.most_waiting());
         self.is_full |= waiting >= most;
         let is_refused = match connection.door {
             Door::Operators => waiting >= 2 * most,
@@ -138,11 +135,15 @@ impl Desk {
 
     /// Whether the engine has done so much that clients may ask again.
     pub fn is_free_again(&mut self) -> bool {
-        let is_done = match &self.cluster {
-            None => self.questions.waiting() <= self.questions.most() / 2,
-            Some(cluster) => cluster.waiting_lines() <= MOST_FOR_LOG / 2,
-        };
-        self.is_full && is_done
+        self.is_full && self.waiting_lines() <= self.most_waiting() / 2
+    }
+
+    fn most_waiting(&self) -> usize {
+        if self.cluster.is_some() {
+            MOST_FOR_LOG
+        } else {
+            self.questions.most()
+        }
     }
 
     /// Asks the engine. Where there is a log, what goes to the engine comes from there.
@@ -157,6 +158,16 @@ impl Desk {
     pub fn mark(&mut self) {
         let input = self.questions.mark(self.now);
         self.engine.ask(Asked { client: NOBODY, input });
+    }
+
+    /// How long the oldest question of the server's own has been unanswered.
+    pub fn engine_silence(&self) -> Duration {
+        self.questions.oldest().map_or(Duration::ZERO, |asked| self.now.saturating_duration_since(asked))
+    }
+
+    /// How many lines may wait for the engine, or for the log that this server has with others.
+    pub fn waiting_lines(&self) -> usize {
+        self.cluster.as_ref().map_or_else(|| self.questions.waiting(), |cluster| cluster.waiting_lines())
     }
 
     /// Tells more of the list of all locks, until this time.

@@ -68,6 +68,9 @@ pub enum Event<'a> {
     EngineReady { held: usize },
     EngineEnded { status: String },
     EngineUnreadable { line: String, fault: Option<NotALine> },
+    EngineSilent { time: Duration },
+    EngineAnswers { time: Duration },
+    EngineHangs { time: Duration },
     GraceOver,
     Came { client: Client, who: &'a str },
     Went { client: Client, who: &'a str, end: End, held: &'a str },
@@ -103,6 +106,11 @@ impl fmt::Display for Event<'_> {
                 write!(f, "engine said what is no answer ({fault}): {line}")
             }
             Event::EngineUnreadable { line, fault: None } => write!(f, "engine answered what nobody asked: {line}"),
+            Event::EngineSilent { time } => write!(f, "engine has not answered for {:.1} s", time.as_secs_f64()),
+            Event::EngineAnswers { time } => write!(f, "engine answers again, after {:.1} s", time.as_secs_f64()),
+            Event::EngineHangs { time } => {
+                write!(f, "engine has not answered for {:.1} s, and is ended", time.as_secs_f64())
+            }
             Event::GraceOver => f.write_str("grace over: what was held from before is free"),
             Event::Came { client, who } => write!(f, "client {client} came: {who}"),
             Event::Went { client, who, end, held } => {

@@ -18,6 +18,7 @@ The engine, which is run as `PROGRAM locks --journal FOLDER [--locks ..] ..`:
   --locks NAME[:N[:K]],..  the locks; without it those of FOLDER
   --segment LINES          how many lines a file of the journal has
   --no-sync                answers do not wait for the disk
+  --engine-patience SECONDS  an engine that leaves a question unanswered for so long is ended, and started again [60]
   --faults                 operators may write faults
 
 Sockets:
@@ -82,6 +83,8 @@ pub struct Settings {
     pub is_synced: bool,
     /// Whether operators may write faults.
     pub permits_faults: bool,
+    /// How long the engine may leave a question unanswered.
+    pub engine_patience: Duration,
     /// The socket of clients.
     pub clients: Named,
     /// The socket of operators.
@@ -187,6 +190,7 @@ struct Reading {
     segment: Option<u64>,
     is_not_synced: bool,
     permits_faults: bool,
+    engine_patience: Option<Duration>,
     sockets: [(Option<PathBuf>, Option<u32>, Option<String>); 2],
     tcp: Option<SocketAddr>,
     page: Option<SocketAddr>,
@@ -232,6 +236,7 @@ impl Reading {
             "--journal" => self.journal = Some(value.into()),
             "--locks" => self.locks = Some(value.into()),
             "--segment" => self.segment = Some(value.parse().ok().filter(|&lines| lines > 0)?),
+            "--engine-patience" => self.engine_patience = Some(seconds(value).filter(|time| !time.is_zero())?),
             "--socket" => self.sockets[0].0 = Some(value.into()),
             "--mode" => self.sockets[0].1 = Some(mode(value)?),
             "--group" => self.sockets[0].2 = Some(value.into()),
@@ -273,6 +278,7 @@ impl Reading {
             segment: self.segment,
             is_synced: !self.is_not_synced,
             permits_faults: self.permits_faults,
+            engine_patience: self.engine_patience.unwrap_or(Duration::from_secs(60)),
             clients: named(clients.0.unwrap_or_else(|| "/run/wozgirt/lock.sock".into()), clients.1, clients.2),
             operators: operators.0.map(|path| named(path, operators.1, operators.2)),
             tcp: self.tcp,
@@ -292,11 +298,12 @@ impl Reading {
 }
 
 /// The options that have a value.
-const VALUED: [&str; 28] = [
+const VALUED: [&str; 29] = [
     "--engine",
     "--journal",
     "--locks",
     "--segment",
+    "--engine-patience",
     "--socket",
     "--mode",
     "--group",
@@ -398,7 +405,7 @@ mod tests {
     #[test]
     fn all_words() {
         let settings = read(
-            "--engine e --journal j --locks a,b:3 --segment 9 --no-sync --faults --socket s --mode 660 --group g \
+            "--engine e --journal j --locks a,b:3 --segment 9 --no-sync --faults --engine-patience 3 --socket s --mode 660 --group g \
              --operators o --operators-mode 640 --operators-group h --tcp 127.0.0.1:1 --page [::1]:2 --rules r \
              --longest-lease 0.5 --lease-for-all --grace 2 --connections 7 --memory 64 --waiters 8 --deaf 9 --log-connections",
         )
@@ -411,7 +418,7 @@ mod tests {
         assert_eq!(settings.page, Some("[::1]:2".parse().unwrap()));
         assert_eq!((settings.longest_lease, settings.grace), (Duration::from_millis(500), Duration::from_secs(2)));
         assert_eq!((settings.connections, settings.waiters, settings.deaf.as_secs()), (7, 8, 9));
-        assert_eq!(settings.memory, Some(64));
+        assert_eq!((settings.memory, settings.engine_patience.as_secs()), (Some(64), 3));
         assert!(settings.is_lease_for_all && settings.logs_connections);
     }
 

@@ -42,7 +42,13 @@ pub const TAIL: &str = "</tbody></table>
 ";
 
 fn summary(text: &mut String, view: &View<'_>) {
-    let engine = if view.is_engine_ready { "answers" } else { "<span class=\"down\">is away</span>" };
+    let engine = match view.is_engine_ready {
+        false => "<span class=\"down\">is away</span>".into(),
+        true if view.is_engine_silent => {
+            format!("<span class=\"down\">has not answered for {}</span>", time(view.engine_silence))
+        }
+        true => String::from("answers"),
+    };
     let held = view.board.locks().iter().filter(|sight| sight.holder.is_some()).count();
     let waiting: usize = view.board.locks().iter().map(|sight| sight.line.len()).sum();
     let _ = writeln!(
@@ -160,6 +166,9 @@ mod tests {
             connected: 2,
             engine_starts: 1,
             is_engine_ready: true,
+            engine_silence: Duration::from_millis(500),
+            is_engine_silent: false,
+            waiting_lines: 7,
             in_log: Some(InLog { is_in_log: true, position: 40, checkpoint: 30, alive: 3, contradictions: 1 }),
             journal: &JournalSize { bytes: 99, segments: 1, last: "0000000001.ring".into() },
             started,
@@ -205,6 +214,8 @@ mod tests {
         let text = shown(Wanted::Metrics, 1 << 20);
         for line in [
             "wozgirt_engine_up 1",
+            "wozgirt_engine_oldest_question_seconds 0.5",
+            "wozgirt_engine_lines_waiting 7",
             "wozgirt_refusals_total{reason=\"circle\"} 1",
             "wozgirt_in_log 1",
             "wozgirt_log_position 40",

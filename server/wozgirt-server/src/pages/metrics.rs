@@ -36,9 +36,18 @@ pub fn head(text: &mut String, view: &View<'_>) {
 
 fn server(text: &mut String, view: &View<'_>) {
     let uptime = view.now.saturating_duration_since(view.started).as_secs_f64();
-    let values: [(&str, &str, &str, &dyn Display); 9] = [
+    let is_up = u8::from(view.is_engine_ready && !view.is_engine_silent);
+    let silence = view.engine_silence.as_secs_f64();
+    let values: [(&str, &str, &str, &dyn Display); 11] = [
         ("wozgirt_uptime_seconds", "gauge", "Seconds since the server started.", &uptime),
-        ("wozgirt_engine_up", "gauge", "1 if the engine answers.", &u8::from(view.is_engine_ready)),
+        ("wozgirt_engine_up", "gauge", "1 if the engine answers.", &is_up),
+        (
+            "wozgirt_engine_oldest_question_seconds",
+            "gauge",
+            "Age of the oldest question that the engine has not answered; it is asked one each second.",
+            &silence,
+        ),
+        ("wozgirt_engine_lines_waiting", "gauge", "Lines that the engine may not have done.", &view.waiting_lines),
         ("wozgirt_engine_starts_total", "counter", "How often the engine was started.", &view.engine_starts),
         ("wozgirt_connections", "gauge", "Open connections.", &view.connected),
         ("wozgirt_connections_total", "counter", "Connections that were let in.", &view.sums.connections),

@@ -5,8 +5,14 @@ use crate::engine::{Outcome, Unheard};
 use crate::log::{End, Event};
 use crate::questions::Own;
 use crate::CannotServe;
+use std::time::{Duration, Instant};
 use wozgirt_engine::{Answer, Answered, Asked, Input, NOBODY};
 use wozgirt_system::Interest;
+
+/// An engine that leaves a question unanswered for so long is called silent.
+const SILENCE: Duration = Duration::from_secs(2);
+/// How many times longer it may take to answer when it starts.
+const TIMES_AT_START: u32 = 10;
 
 impl Server {
     pub(super) fn hear_engine(&mut self) {
@@ -69,12 +75,46 @@ impl Server {
         true
     }
 
-    /// Asks the engine each second whether it is there.
-    pub(super) fn watch_engine(&mut self) {
-        let is_watched = self.desk.cluster.is_none() && self.is_engine_ready();
-        if is_watched && self.desk.questions.next_mark().is_some_and(|due| due <= self.desk.now) {
+    /// Asks the engine each second whether it is there. One that leaves that unanswered for too long is ended. `seen`: all that it
+    /// had answered by then was heard.
+    pub(super) fn watch_engine(&mut self, seen: Option<Instant>) {
+        let now = self.desk.now;
+        let Some(seen) = seen else { return };
+        if self.desk.cluster.is_some() || self.stopping.is_some() || !self.desk.engine.is_running() {
+            return;
+        }
+        let patience = self.desk.settings.engine_patience;
+        if !self.is_begun {
+            // it reads its journal first
+            return self.end_engine_after(TIMES_AT_START * patience, self.engine_since, seen);
+        }
+        if self.desk.questions.next_mark().is_some_and(|due| due <= now) {
             self.desk.mark();
         }
+        let oldest = self.desk.questions.oldest();
+        if let Some(since) = self.silent_since.filter(|since| Some(*since) != oldest) {
+            let time = now.saturating_duration_since(since);
+            self.desk.log.say(&Event::EngineAnswers { time });
+            self.silent_since = None;
+        }
+        let Some(asked) = oldest else { return };
+        if self.is_engine_silent() && self.silent_since.replace(asked).is_none() {
+            self.desk.log.say(&Event::EngineSilent { time: self.desk.engine_silence() });
+        }
+        self.end_engine_after(patience, asked, seen);
+    }
+
+    fn end_engine_after(&mut self, patience: Duration, since: Instant, seen: Instant) {
+        let time = seen.saturating_duration_since(since);
+        if time > patience {
+            self.desk.log.say(&Event::EngineHangs { time });
+            self.lose_engine(false);
+        }
+    }
+
+    /// Whether the engine has left a question unanswered for a while.
+    pub(super) fn is_engine_silent(&self) -> bool {
+        self.desk.engine_silence() > SILENCE
     }
 
     /// The engine ended, or has to: all that was held is its past, and every connection hears that by its end.
@@ -88,6 +128,7 @@ impl Server {
         self.desk.board.forget();
         self.desk.questions.forget(self.desk.now);
         self.is_begun = false;
+        self.silent_since = None;
         self.held_before.clear();
         self.grace_until = None;
     }
@@ -115,6 +156,7 @@ impl Server {
             self.poller.add(output, ENGINE, Interest::READS)?;
             self.poller.add(input, ENGINE_INPUT, Interest { reads: false, writes: false })?;
         }
+        self.engine_since = now;
         self.grace_until = Some(now + grace);
         for lock in 0..self.desk.names.count() {
             self.desk.questions.put(Own::Begin(lock));

@@ -91,6 +91,9 @@ pub struct Server {
     grace_until: Option<Instant>,
     /// Whether the engine has answered how all locks are since it started.
     is_begun: bool,
+    /// When it was started, and since when it leaves a question unanswered, if the log says so.
+    engine_since: Instant,
+    silent_since: Option<Instant>,
     /// When connections are looked through for those who are silent or deaf.
     next_sweep: Instant,
     /// Until when doors are shut, since the system has no place; and whether clients' are, since the engine has enough to do.
@@ -145,6 +148,8 @@ impl Server {
             held_before: Vec::new(),
             grace_until: None,
             is_begun: false,
+            engine_since: now,
+            silent_since: None,
             next_sweep: now,
             shut_until: None,
             was_full: false,
@@ -236,8 +241,7 @@ impl Server {
         let log = self.desk.cluster.as_ref().and_then(|cluster| cluster.log.next_look(now));
         let log = log.filter(|_| self.desk.cluster.as_ref().is_some_and(|cluster| cluster.is_restored));
         let entry = self.desk.cluster.as_ref().and_then(|cluster| cluster.entry_due());
-        let mark = self.desk.questions.next_mark().filter(|_| self.desk.cluster.is_none() && self.is_engine_ready());
-        let times = [self.desk.engine.next_look(now), log, entry, grace, mark, self.shut_until, self.stopping];
+        let times = [self.desk.engine.next_look(now), log, entry, grace, self.shut_until, self.stopping];
         let next = times.into_iter().flatten().fold(self.next_sweep, Instant::min);
         next.saturating_duration_since(now)
     }
@@ -255,7 +259,7 @@ impl Server {
             self.shut_until = None;
             self.set_doors();
         }
-        self.watch_engine();
+        self.watch_engine(seen);
         if let Some(seen) = seen.filter(|_| self.next_sweep <= now) {
             self.sweep(seen, buffer);
         }
