@@ -324,7 +324,7 @@ class Ends(unittest.TestCase):
                 self.assertEqual(server.process.wait(PATIENCE), 0)
                 self.assertEqual(holder.recv(10), b"")
                 self.assertFalse(os.path.exists(server.path) or os.path.exists(server.operators))
-                self.assertEqual(server.text_of_log().splitlines()[-1].split(" ", 1)[1], "stopped")
+                self.assertEqual(server.text_of_log().splitlines()[-1].split(" ", 1)[1], "stopped stopped")
                 self.assertEqual(server.calls(), ["0 p 0 0 1 g 1 1"])  # open: nobody else gets it until the grace is over
 
     def test_two_servers(self):

@@ -9,7 +9,7 @@ use crate::stream::Stream;
 use std::collections::VecDeque;
 use std::io::{self, ErrorKind, Read};
 use std::time::{Duration, Instant};
-use wozgirt_engine::{Client, Input, Lock};
+use wozgirt_engine::{Client, Input, Lock, Token};
 use wozgirt_system::{Interest, Peer};
 
 /// How much is read of a connection before the others have their turn.
@@ -37,6 +37,10 @@ pub enum Pending {
     Asked(Input),
     /// A leave, which the engine does not answer; another input behind it shows when it is done.
     Left,
+    /// An operator, this client, ends its hold of a lock with a token: a release that it has not asked for itself.
+    Ended(Client, Lock, Token),
+    /// An operator waits for the end of a hold that it has asked for.
+    Ending,
     /// The same, with their numbers, where the log says what the engine is asked.
     Numbered(u64, Input),
     Leaving(u64),
@@ -128,7 +132,8 @@ pub struct Connection {
     most_unread: usize,
     /// How many bytes wait among the answers to be told.
     untold: usize,
-    /// What came while all locks were being told.
+    /// Whether all locks are to be told, and what came while they were.
+    has_listing: bool,
     late: Vec<u8>,
 }
 
@@ -161,6 +166,7 @@ impl Connection {
             outbox: Outbox::default(),
             most_unread,
             untold: 0,
+            has_listing: false,
             late: Vec::new(),
         }
     }
@@ -230,12 +236,44 @@ impl Connection {
 
     /// Whether more of its lines may be taken: not as long as many are unanswered, or the answers unread or untold.
     pub fn takes_more(&self) -> bool {
-        let is_listing = matches!(self.pending.back(), Some(Pending::Listing(_)));
-        self.ending.is_none() && !is_listing && self.pending.len() < MOST_PENDING && self.has_room()
+        self.ending.is_none() && !self.has_listing && self.pending.len() < MOST_PENDING && self.has_room()
     }
 
     fn has_room(&self) -> bool {
         self.outbox.len() + self.untold < self.most_unread
+    }
+
+    /// Tells all locks behind the answers to what it said before.
+    pub fn put_listing(&mut self, listing: Listing) {
+        self.has_listing = true;
+        self.pending.push_back(Pending::Listing(listing));
+    }
+
+    /// Takes out the line that the engine answers next. In front of one that an operator asked for there may be a list that is told.
+    pub fn take_asked(&mut self) -> Option<Pending> {
+        let is_asked = |it: &Pending| matches!(it, Pending::Asked(_) | Pending::Left | Pending::Ended(..));
+        let place = self.pending.iter().position(is_asked)?;
+        self.pending.remove(place)
+    }
+
+    /// All holds that operators wait to end.
+    pub fn ended(&self) -> Vec<(Client, Lock, Token)> {
+        let ended = |it: &Pending| match it {
+            Pending::Ended(operator, lock, token) => Some((*operator, *lock, *token)),
+            _ => None,
+        };
+        self.pending.iter().filter_map(ended).collect()
+    }
+
+    /// Tells an operator what came of the end of a hold that it asked for, in its place among the answers.
+    pub fn tell_ending(&mut self, line: impl std::fmt::Display) {
+        let ending = self.pending.iter_mut().find(|it| matches!(it, Pending::Ending));
+        if let Some(ending) = ending {
+            let mut lines = Vec::new();
+            self.untold += put_line(&mut lines, line);
+            *ending = Pending::Told(lines);
+        }
+        self.tell_what_waited();
     }
 
     /// Tells more of the list of all locks, if that is to be told now: by `go_on`, which is passed the text and its longest length,
@@ -247,6 +285,7 @@ impl Connection {
         let most = text.len() + room;
         if go_on(listing, text, most) {
             self.pending.pop_front();
+            self.has_listing = false;
             text.append(&mut self.late);
         }
     }

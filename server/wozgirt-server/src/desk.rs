@@ -15,7 +15,7 @@ use crate::sums::Sums;
 use std::fmt;
 use std::rc::Rc;
 use std::time::{Duration, Instant};
-use wozgirt_engine::{Answer, Asked, Client, Input, Lock, NotALine, Stats, NOBODY};
+use wozgirt_engine::{Answer, Asked, Client, Input, Lock, NotALine, Stats, Token, NOBODY};
 
 /// With so many lines that wait to be put into the log, no more are taken.
 const MOST_FOR_LOG: usize = 10_000;
@@ -31,6 +31,10 @@ pub enum Then {
     Clients,
     /// To end this other connection, whose session has come here.
     Moved(Client),
+    /// To end this connection, as an operator said.
+    Kick(Client),
+    /// To end this client's hold of a lock with a token, as an operator said.
+    EndHold(Client, Lock, Token),
     /// To end the server.
     Stop,
 }
@@ -188,6 +192,7 @@ impl Desk {
             Ok(request) if is_keyed && request.is_input() != number.is_some() => {
                 return self.refuse(connection, &BadRequest::Rest(NotALine::Syntax));
             }
+            Ok(Request::Of(name, Verb::End(token))) => return self.end_hold(connection, name, token),
             Ok(Request::Of(name, verb)) => self.ask(connection, number, name, verb),
             Ok(Request::Leave) if self.cluster.is_some() => self.put_leave(connection, number),
             Ok(Request::Leave) => self.ask_to_leave(connection),
@@ -202,9 +207,10 @@ impl Desk {
             }
             Ok(Request::Status) => {
                 let rules = (connection.door != Door::Operators).then(|| self.rules.clone());
-                connection.pending.push_back(Pending::Listing(Listing::new(rules)));
+                connection.put_listing(Listing::new(rules));
             }
             Ok(Request::Clients) => return Then::Clients,
+            Ok(Request::Kick(client)) => return Then::Kick(client),
             Ok(Request::Stop) => {
                 connection.tell_in_order("stopping");
                 return Then::Stop;
@@ -281,7 +287,32 @@ impl Desk {
             Verb::Stats => Ok(Input::Stats { lock }),
             Verb::Corrupt { .. } if !self.settings.permits_faults => Err("off"),
             Verb::Corrupt { machine, value } => Ok(Input::Corrupt { lock, machine, value }),
+            Verb::End(token) => Ok(Input::Release { lock, token }),
         }
+    }
+
+    /// An operator ends a hold. What servers share a log of is ended with its session.
+    fn end_hold(&mut self, connection: &mut Connection, name: &str, token: Token) -> Then {
+        let lock = self.names.number(name);
+        let holder = lock.and_then(|lock| self.board.lock(lock)).and_then(|sight| sight.holder);
+        let why = match (lock, holder) {
+            _ if self.cluster.is_some() => "cluster",
+            (None, _) => "lock",
+            (Some(lock), Some(holder)) if holder.token == token => {
+                connection.pending.push_back(Pending::Ending);
+                return Then::EndHold(holder.client, lock, token);
+            }
+            _ => "holder",
+        };
+        self.sums.refused(why);
+        connection.tell_in_order(format_args!("refused {why} {name}"));
+        Then::Wait
+    }
+
+    /// Asks the engine to end a client's hold, for this operator.
+    pub fn ask_to_end(&mut self, holder: &mut Connection, operator: Client, lock: Lock, token: Token) {
+        self.ask_engine(holder.client, Input::Release { lock, token });
+        self.note_asked(holder, Pending::Ended(operator, lock, token));
     }
 
     /// The engine does not answer a leave: a question behind it shows when it is done.
@@ -293,36 +324,43 @@ impl Desk {
         self.note_asked(connection, Pending::Left);
     }
 
-    /// Tells the connection an answer of the engine.
-    pub fn tell_answer(&mut self, connection: &mut Connection, answer: Answer) -> Result<(), Unasked> {
+    /// Tells the connection an answer of the engine. If it is about a hold that an operator ends: which operator, and which hold.
+    pub fn tell_answer(
+        &mut self,
+        connection: &mut Connection,
+        answer: Answer,
+    ) -> Result<Option<(Client, Lock, Token)>, Unasked> {
         if let (Answer::Granted { lock, token }, Some(waits_for)) = (&answer, connection.waits_for) {
             if *lock == waits_for {
                 connection.waits_for = None;
                 connection.holds.push(*lock);
                 self.board.granted(*lock, connection.client, *token, None, self.now);
                 self.tell(connection, &answer);
-                return Ok(());
+                return Ok(None);
             }
         }
-        let pending = connection.pending.pop_front();
-        if matches!(pending, Some(Pending::Left | Pending::Asked(_))) {
-            self.note_answered(connection);
-        }
+        let pending = connection.take_asked().ok_or(Unasked)?;
+        self.note_answered(connection);
+        let mut ended = None;
         match (pending, &answer) {
-            (Some(Pending::Left), Answer::Stats(_)) => {
+            (Pending::Ended(operator, lock, token), answer) => {
+                self.note(connection, Input::Release { lock, token }, answer)?;
+                ended = Some((operator, lock, token));
+            }
+            (Pending::Left, Answer::Stats(_)) => {
                 self.forget(connection);
                 connection.tell("left");
             }
             // an engine that refuses every line for a while has not done the leave either
-            (Some(Pending::Left), Answer::Refused { .. }) => self.tell(connection, &answer),
-            (Some(Pending::Asked(input)), _) => {
+            (Pending::Left, Answer::Refused { .. }) => self.tell(connection, &answer),
+            (Pending::Asked(input), _) => {
                 self.note(connection, input, &answer)?;
                 self.tell(connection, &answer);
             }
             _ => return Err(Unasked),
         }
         connection.tell_what_waited();
-        Ok(())
+        Ok(ended)
     }
 
     /// What the answer to an input changes on the board and at the connection.

@@ -1,5 +1,6 @@
 //! The engine's process, or another that speaks lines: started, asked, heard, and started again when it ended.
 
+use crate::notify;
 use crate::outbox::Outbox;
 use std::fmt;
 use std::io::{self, ErrorKind, Read};
@@ -171,6 +172,7 @@ impl Engine {
         command.args(&self.words).stdin(Stdio::piped()).stdout(Stdio::piped());
         // a key of the terminal is for the server alone, which has this one answer what it was asked
         command.process_group(0);
+        command.env_remove(notify::SOCKET);
         Signals::hear_all(&mut command).map_err(CannotStart::Pipes)?;
         let mut child = command.spawn().map_err(|fault| CannotStart::Program(self.program.clone(), fault))?;
         let (input, Some(output)) = (child.stdin.take(), child.stdout.take()) else { return Ok(None) };

@@ -15,6 +15,7 @@ mod journal;
 pub mod log;
 mod memory;
 pub mod names;
+mod notify;
 mod outbox;
 mod pages;
 mod places;

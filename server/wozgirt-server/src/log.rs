@@ -7,7 +7,7 @@ use std::sync::mpsc::{sync_channel, SyncSender};
 use std::sync::Arc;
 use std::thread::{self, JoinHandle};
 use std::time::{Duration, Instant, SystemTime, UNIX_EPOCH};
-use wozgirt_engine::{Client, NotALine};
+use wozgirt_engine::{Client, NotALine, Token};
 
 /// How many lines, and bytes, may wait to be written. The server never waits for its log.
 const ROOM: usize = 4096;
@@ -36,12 +36,24 @@ pub enum End {
     Log,
     /// The session goes on at another connection.
     Moved,
+    /// An operator said so.
+    Kicked,
 }
 
 impl End {
     /// Each of them.
-    pub const ALL: [End; 9] =
-        [End::Closed, End::Lease, End::Deaf, End::Syntax, End::Line, End::Engine, End::Stop, End::Log, End::Moved];
+    pub const ALL: [End; 10] = [
+        End::Closed,
+        End::Lease,
+        End::Deaf,
+        End::Syntax,
+        End::Line,
+        End::Engine,
+        End::Stop,
+        End::Log,
+        End::Moved,
+        End::Kicked,
+    ];
 
     /// One word for it.
     pub fn word(self) -> &'static str {
@@ -55,6 +67,7 @@ impl End {
             End::Stop => "stop",
             End::Log => "log",
             End::Moved => "moved",
+            End::Kicked => "kicked",
         }
     }
 }
@@ -72,6 +85,9 @@ pub enum Event<'a> {
     EngineAnswers { time: Duration },
     EngineHangs { time: Duration },
     GraceOver,
+    HoldEnded { by: &'a str, lock: &'a str, token: Token, client: Client },
+    RulesRead,
+    RulesBad { fault: &'a dyn fmt::Display },
     Came { client: Client, who: &'a str },
     Went { client: Client, who: &'a str, end: End, held: &'a str },
     TooMany { who: &'a str },
@@ -90,6 +106,45 @@ pub enum Event<'a> {
     Contradiction { name: &'a str, position: u64 },
     HostAway { name: &'a str, seconds: u64 },
     Checkpoint { position: u64, segment: u64 },
+}
+
+impl Event<'_> {
+    /// One word for its kind, which stays the same when texts change.
+    pub fn key(&self) -> &'static str {
+        match self {
+            Event::Started { .. } => "started",
+            Event::Listening { .. } => "listening",
+            Event::EngineStarted { .. } => "engine-started",
+            Event::EngineReady { .. } => "engine-ready",
+            Event::EngineEnded { .. } => "engine-ended",
+            Event::EngineUnreadable { .. } => "engine-unreadable",
+            Event::EngineSilent { .. } => "engine-silent",
+            Event::EngineAnswers { .. } => "engine-answers",
+            Event::EngineHangs { .. } => "engine-hangs",
+            Event::GraceOver => "grace-over",
+            Event::HoldEnded { .. } => "hold-ended",
+            Event::RulesRead => "rules-read",
+            Event::RulesBad { .. } => "rules-bad",
+            Event::Came { .. } => "client-came",
+            Event::Went { .. } => "client-went",
+            Event::TooMany { .. } => "client-refused",
+            Event::Fault { .. } => "fault",
+            Event::Visitor { .. } => "visitor-refused",
+            Event::Stopping { .. } => "stopping",
+            Event::CannotAccept { .. } => "cannot-accept",
+            Event::Stopped => "stopped",
+            Event::LogStarted { .. } => "log-started",
+            Event::LogEnded { .. } => "log-ended",
+            Event::LogUnreadable { .. } => "log-unreadable",
+            Event::LogLeft { .. } => "log-left",
+            Event::LogJoined { .. } => "log-joined",
+            Event::ServerOver { .. } => "server-over",
+            Event::SessionOver { .. } => "session-over",
+            Event::Contradiction { .. } => "contradiction",
+            Event::HostAway { .. } => "host-away",
+            Event::Checkpoint { .. } => "checkpoint",
+        }
+    }
 }
 
 impl fmt::Display for Event<'_> {
@@ -112,6 +167,11 @@ impl fmt::Display for Event<'_> {
                 write!(f, "engine has not answered for {:.1} s, and is ended", time.as_secs_f64())
             }
             Event::GraceOver => f.write_str("grace over: what was held from before is free"),
+            Event::HoldEnded { by, lock, token, client } => {
+                write!(f, "hold of {lock} with token {token} ended by an operator ({by}): client {client} had it")
+            }
+            Event::RulesRead => f.write_str("rules read again"),
+            Event::RulesBad { fault } => write!(f, "rules not read again, the old ones hold: {fault}"),
             Event::Came { client, who } => write!(f, "client {client} came: {who}"),
             Event::Went { client, who, end, held } => {
                 write!(f, "client {client} went ({}): {who}", end.word())?;
@@ -181,10 +241,10 @@ impl Log {
     /// Logs the event. If the log is far behind, only that something was lost is logged later.
     pub fn say(&mut self, event: &Event<'_>) {
         let time = Utc::now();
-        if self.lost > 0 && self.put(format!("{time} {} lines of the log are lost\n", self.lost)) {
+        if self.lost > 0 && self.put(format!("{time} lines-lost {} lines of the log are lost\n", self.lost)) {
             self.lost = 0;
         }
-        if !self.put(format!("{time} {event}\n")) {
+        if !self.put(format!("{time} {} {event}\n", event.key())) {
             self.lost += 1;
         }
     }

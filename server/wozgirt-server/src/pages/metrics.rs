@@ -1,7 +1,7 @@
 //! `GET /metrics`: the text format of Prometheus.
 
 use super::{InLog, View};
-use crate::board::Sight;
+use crate::board::{Sight, Waits, WAITS};
 use crate::log::End;
 use std::fmt::{Display, Write};
 use wozgirt_engine::Lock;
@@ -22,6 +22,10 @@ impl<'a> Family<'a> {
         let _ = writeln!(self.text, "{} {value}", self.name);
     }
 
+    fn end_of_range(&mut self, end: &str, count: u64) {
+        let _ = writeln!(self.text, "{}_bucket{{le=\"{end}\"}} {count}", self.name);
+    }
+
     /// Names of locks and reasons need no escapes: see `names.rs` and `answers.rs`.
     fn labelled(&mut self, label: &str, of: &str, value: impl Display) {
         let _ = writeln!(self.text, "{}{{{label}=\"{of}\"}} {value}", self.name);
@@ -31,7 +35,19 @@ impl<'a> Family<'a> {
 /// What is not of one lock.
 pub fn head(text: &mut String, view: &View<'_>) {
     server(text, view);
+    waits(text, view.board.all_waits());
     view.in_log.iter().for_each(|it| log(text, it));
+}
+
+fn waits(text: &mut String, waits: &Waits) {
+    let mut family =
+        Family::new(text, "wozgirt_wait_seconds", "histogram", "How long grants were waited for, of all locks.");
+    let mut count = 0;
+    for (i, of_range) in waits.counts.iter().enumerate() {
+        count += of_range;
+        family.end_of_range(WAITS.get(i).map_or("+Inf".into(), f64::to_string).as_str(), count);
+    }
+    let _ = writeln!(family.text, "{0}_sum {1}\n{0}_count {count}", family.name, waits.sum.as_secs_f64());
 }
 
 fn server(text: &mut String, view: &View<'_>) {

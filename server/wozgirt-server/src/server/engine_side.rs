@@ -6,7 +6,7 @@ use crate::log::{End, Event};
 use crate::questions::Own;
 use crate::CannotServe;
 use std::time::{Duration, Instant};
-use wozgirt_engine::{Answer, Answered, Asked, Input, NOBODY};
+use wozgirt_engine::{Answer, Answered, Asked, Client, Input, Lock, Token, NOBODY};
 use wozgirt_system::Interest;
 
 /// An engine that leaves a question unanswered for so long is called silent.
@@ -44,7 +44,10 @@ impl Server {
             let Some(connection) = self.connections.get_mut(&client) else { return true };
             let kept = answer.clone();
             match self.desk.tell_answer(connection, answer) {
-                Ok(()) => {
+                Ok(ended) => {
+                    if let Some((operator, lock, token)) = ended {
+                        self.tell_ended(operator, client, lock, token, &kept);
+                    }
                     self.queue(client);
                     self.touch(client);
                     return true;
@@ -61,7 +64,13 @@ impl Server {
     /// The answer to a question of the server's own. False if it is none.
     fn answer_own(&mut self, answer: &Answer) -> bool {
         let Some(own) = self.desk.questions.answered(answer) else { return false };
-        if let (Own::Begin(lock), Answer::Stats(stats)) = (own, answer) {
+        if let Own::End(operator, lock, token) = own {
+            if matches!(answer, Answer::Released { .. }) {
+                self.held_before.retain(|held| *held != lock);
+                self.desk.board.released(lock, NOBODY);
+            }
+            self.tell_ended(operator, NOBODY, lock, token, answer);
+        } else if let (Own::Begin(lock), Answer::Stats(stats)) = (own, answer) {
             if self.desk.board.begin(stats, self.desk.now) {
                 self.held_before.push(lock);
             }
@@ -73,6 +82,32 @@ impl Server {
             }
         }
         true
+    }
+
+    /// An operator has a hold end: of a client that is connected, or of one from before the engine's start.
+    pub(super) fn end_hold(&mut self, operator: Client, holder: Client, lock: Lock, token: Token) {
+        if holder == NOBODY {
+            self.desk.questions.put(Own::End(operator, lock, token));
+            self.desk.engine.ask(Asked { client: NOBODY, input: Input::Release { lock, token } });
+        } else if let Some(connection) = self.connections.get_mut(&holder) {
+            self.desk.ask_to_end(connection, operator, lock, token);
+        }
+    }
+
+    /// Tells the operator what came of that.
+    pub(super) fn tell_ended(&mut self, operator: Client, holder: Client, lock: Lock, token: Token, answer: &Answer) {
+        let is_ended = matches!(answer, Answer::Released { .. });
+        let name = self.desk.names.name(lock);
+        let by = self.connections.get(&operator).map_or("who is gone", |connection| &connection.who);
+        if is_ended {
+            self.desk.log.say(&Event::HoldEnded { by, lock: name, token, client: holder });
+        }
+        if let Some(connection) = self.connections.get_mut(&operator) {
+            let word = if is_ended { "ended" } else { "refused holder" };
+            connection.tell_ending(format_args!("{word} {name}"));
+            self.queue(operator);
+            self.touch(operator);
+        }
     }
 
     /// Asks the engine each second whether it is there. One that leaves that unanswered for too long is ended. `seen`: all that it

@@ -18,6 +18,7 @@ use crate::engine::{Engine, ROOM};
 use crate::journal::Journal;
 use crate::log::{End, Event, Log};
 use crate::memory::most_unread;
+use crate::notify::Notify;
 use crate::pages::Visitor;
 use crate::places::Places;
 use crate::questions::Questions;
@@ -78,6 +79,7 @@ pub struct Server {
     most_unread: usize,
     visitors: HashMap<u64, Visitor>,
     journal: Journal,
+    notify: Notify,
     last_client: Client,
     last_visitor: u64,
     /// Who is told something at the end of this round.
@@ -140,6 +142,7 @@ impl Server {
             most_unread,
             visitors: HashMap::new(),
             journal: Journal::new(now),
+            notify: Notify::from_environment(now),
             last_client: NOBODY,
             last_visitor: 0,
             dirty: Vec::new(),
@@ -260,6 +263,10 @@ impl Server {
             self.set_doors();
         }
         self.watch_engine(seen);
+        if self.is_engine_ready() {
+            self.notify.note_ready();
+        }
+        self.notify.note_round(now);
         if let Some(seen) = seen.filter(|_| self.next_sweep <= now) {
             self.sweep(seen, buffer);
         }
@@ -309,8 +316,23 @@ impl Server {
         match signal {
             Signal::Terminate => self.stop("SIGTERM"),
             Signal::Interrupt => self.stop("SIGINT"),
-            _ => {} // the terminal is gone, which changes nothing
+            _ => self.read_rules_again(),
         }
+    }
+
+    /// Rules hold for what is asked from now on. If they are wrong, the old ones go on.
+    fn read_rules_again(&mut self) {
+        let accounts = Accounts::of_the_system();
+        if self.desk.settings.rules.is_some() {
+            match read_rules(&self.desk.settings, &self.desk.names, &accounts) {
+                Ok(rules) => {
+                    self.desk.rules = Rc::new(rules);
+                    self.desk.log.say(&Event::RulesRead);
+                }
+                Err(fault) => self.desk.log.say(&Event::RulesBad { fault: &fault }),
+            }
+        }
+        self.accounts = accounts;
     }
 
     /// From now on nobody is let in and nothing is read; what was asked is answered.
@@ -319,6 +341,7 @@ impl Server {
             return;
         }
         self.desk.log.say(&Event::Stopping { why });
+        self.notify.note_stopping();
         self.stopping = Some(self.desk.now + LONGEST_STOP);
         self.doors = Doors::default();
         self.touch_all();

@@ -7,7 +7,7 @@ use crate::log::End;
 use crate::CannotServe;
 use std::collections::VecDeque;
 use std::time::Instant;
-use wozgirt_engine::{Client, Lock};
+use wozgirt_engine::{Answer, Client, Lock};
 use wozgirt_system::Event as Ready;
 
 impl Server {
@@ -58,6 +58,8 @@ impl Server {
                 }
             }
             Then::Moved(before) => self.part(before, End::Moved),
+            Then::Kick(number) => self.kick(client, number),
+            Then::EndHold(holder, lock, token) => self.end_hold(client, holder, lock, token),
             Then::Stop => self.stop("an operator said so"),
         }
         self.note_deadline(client);
@@ -142,6 +144,24 @@ impl Server {
         text
     }
 
+    /// An operator has this client go, by the number by which it is shown.
+    fn kick(&mut self, operator: Client, number: Client) {
+        let shown = |connection: &&Connection| number > 0 && self.number(connection) == number;
+        let found = self.connections.values().find(shown).map(|connection| connection.client);
+        if let Some(connection) = self.connections.get_mut(&operator) {
+            match found {
+                None => connection.tell_in_order(format_args!("refused client {number}")),
+                Some(_) => connection.tell_in_order(format_args!("kicked {number}")),
+            }
+            if found == Some(operator) {
+                connection.ending = Some(End::Kicked); // when it has heard that
+            }
+        }
+        if let Some(client) = found.filter(|client| *client != operator) {
+            self.part(client, End::Kicked);
+        }
+    }
+
     /// The number by which a client is shown: that of its session, where the log gives numbers.
     fn number(&self, connection: &Connection) -> Client {
         match &self.desk.cluster {
@@ -165,6 +185,10 @@ impl Server {
         if let Some(mut connection) = self.connections.remove(&client) {
             self.places.give_back(connection.door, connection.guest);
             self.desk.questions.clients = self.connections.len();
+            for (operator, lock, token) in connection.ended() {
+                self.tell_ended(operator, client, lock, token, &Answer::Released { lock });
+                // it leaves all
+            }
             self.desk.part(&mut connection, end);
         }
     }
