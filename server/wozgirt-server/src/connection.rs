@@ -252,8 +252,10 @@ impl Connection {
     /// Takes out the line that the engine answers next. In front of one that an operator asked for there may be a list that is told.
     pub fn take_asked(&mut self) -> Option<Pending> {
         let is_asked = |it: &Pending| matches!(it, Pending::Asked(_) | Pending::Left | Pending::Ended(..));
-        let place = self.pending.iter().position(is_asked)?;
-        self.pending.remove(place)
+        match self.pending.iter().position(is_asked)? {
+            0 => self.pending.pop_front(),
+            place => self.pending.remove(place),
+        }
     }
 
     /// All holds that operators wait to end.

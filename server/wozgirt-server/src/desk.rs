@@ -17,6 +17,8 @@ use std::rc::Rc;
 use std::time::{Duration, Instant};
 use wozgirt_engine::{Answer, Asked, Client, Input, Lock, NotALine, Stats, Token, NOBODY};
 
+/// After so many lines it is looked what time it is.
+const LINES_BY_CLOCK: u32 = 8;
 /// With so many lines that wait to be put into the log, no more are taken.
 const MOST_FOR_LOG: usize = 10_000;
 
@@ -98,12 +100,13 @@ impl fmt::Display for AnswerLine<'_> {
 }
 
 impl Desk {
-    /// Takes lines of the connection as long as it may say more, but none after this time except the first.
+    /// Takes lines of the connection as long as it may say more, but only a few after this time.
     pub fn take_lines(&mut self, connection: &mut Connection, until: Instant) -> Then {
         let input = connection.take_input();
-        let (mut taken, mut then) = (0, Then::Wait);
+        let (mut taken, mut count, mut then) = (0, 0, Then::Wait);
         while then == Then::Wait && connection.takes_more() && self.may_ask(connection) {
-            if taken > 0 && Instant::now() >= until {
+            count += 1;
+            if count % LINES_BY_CLOCK == 0 && Instant::now() >= until {
                 break;
             }
             let Some(length) = input[taken..].iter().take(LONGEST_LINE).position(|&b| b == b'\n') else { break };

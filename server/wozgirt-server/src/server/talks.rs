@@ -44,8 +44,16 @@ impl Server {
         let Some(door) = self.connections.get(&client).map(|connection| connection.door) else { return };
         let hears = self.hears(door);
         let Some(connection) = self.connections.get_mut(&client) else { return };
-        self.desk.tell_listing(connection, until);
-        let then = if hears { self.desk.take_lines(connection, until) } else { Then::Wait };
+        let mut then = Then::Wait;
+        loop {
+            self.desk.tell_listing(connection, until);
+            if hears {
+                then = self.desk.take_lines(connection, until);
+            }
+            if then != Then::Wait || !connection.is_listing() || Instant::now() >= until {
+                break;
+            }
+        }
         match then {
             Then::Wait => {}
             Then::End(end) => {
@@ -76,11 +84,11 @@ impl Server {
 
     /// Whether the connection gets a turn that it did not have yet.
     fn has_turn(&mut self, client: Client) -> bool {
-        let Some(door) = self.connections.get(&client).map(|connection| connection.door) else { return false };
-        let hears = self.hears(door);
-        let Some(connection) = self.connections.get_mut(&client) else { return false };
-        let has_work = connection.is_listing() || hears && self.desk.has_work(connection);
-        has_work && !std::mem::replace(&mut connection.is_queued, true)
+        let is_ready = self.is_engine_ready() && self.stopping.is_none();
+        let Some(connection) = self.connections.get_mut(&client).filter(|it| !it.is_queued) else { return false };
+        let hears = is_ready && (connection.door == Door::Operators || !self.desk.is_full);
+        connection.is_queued = connection.is_listing() || hears && self.desk.has_work(connection);
+        connection.is_queued
     }
 
     /// Takes lines of those who have just spoken, and then of those who have said more; each time for a while.
