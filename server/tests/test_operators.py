@@ -9,7 +9,7 @@ import tempfile
 import time
 import unittest
 
-from harness import FOLDER, PATIENCE, Server, needs_programs, read_lines, say, wait_until
+from harness import FOLDER, PATIENCE, TOP, Server, needs_programs, read_lines, say, wait_until
 
 
 def number_of(server, client):
@@ -179,6 +179,15 @@ class LogOfEvents(unittest.TestCase):
                 keys.append(match[1])
             for key in ("started", "listening", "engine-started", "engine-ready", "client-came", "client-went", "stopping", "stopped"):
                 self.assertIn(key, keys)
+
+
+    def test_each_key_stands_in_the_page(self):
+        with open(os.path.join(TOP, "server", "wozgirt-server", "src", "log.rs"), encoding="utf-8") as file:
+            keys = re.findall(r'Event::\w+(?: \{ \.\. \})? => "([a-z-]+)"', file.read()) + ["lines-lost"]
+        with open(os.path.join(TOP, "docs", "OPERATING.md"), encoding="utf-8") as file:
+            page = file.read()
+        self.assertGreater(len(keys), 30)
+        self.assertEqual([key for key in keys if f"`{key}`" not in page], [])
 
 
 if __name__ == "__main__":
