@@ -134,7 +134,7 @@ class Hangs(unittest.TestCase):
             self.assertEqual(sock.recv(10), b"")  # what it held is the past of that engine
             wait_until(lambda: server.text_of_log().count("engine ready") == 2)
             self.assertNotEqual(server.engine_number(), first)
-            self.assertIn(" s, and is ended\n", server.text_of_log())
+            self.assertIn(" s, and is ended\n", server.text_of_log())  # before the second start
             with server.raw() as sock:
                 self.assertEqual(say(sock, "acquire a 1\n"), ["granted a 1"])
 

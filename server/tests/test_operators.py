@@ -1,5 +1,6 @@
 """What operators do: a hold that they end, a client that they send away, rules that are read again; and what systemd is told."""
 
+import hashlib
 import os
 import re
 import signal
@@ -9,7 +10,7 @@ import tempfile
 import time
 import unittest
 
-from harness import FOLDER, PATIENCE, TOP, Server, needs_programs, read_lines, say, wait_until
+from harness import ENGINE, FOLDER, IS_DOUBLE, PATIENCE, TOP, Server, needs_programs, read_lines, say, wait_until
 
 
 def number_of(server, client):
@@ -28,6 +29,7 @@ class EndOfHolds(unittest.TestCase):
             self.assertEqual(read_lines(waiter, 1), ["granted a 2"])
             # who held it hears so when it asks; what else it holds stays
             self.assertEqual(say(holder, "release a 1\nrelease b 1\nping\n", 3), ["refused holder a", "released b", "pong"])
+            wait_until(lambda: "hold-ended" in server.text_of_log())
             self.assertRegex(server.text_of_log(), r"hold-ended hold of a with token 1 ended by an operator \(\S+, process \d+\)")
             self.assertEqual(server.calls(0)[1].split()[1:3], ["s", "1"])  # as a release is
 
@@ -95,7 +97,7 @@ class Kicks(unittest.TestCase):
             self.assertEqual(holder.recv(10), b"")
             self.assertEqual(read_lines(waiter, 1), ["granted a 2"])
             self.assertEqual(server.operate(f"kick {number}"), f"refused client {number}")
-            self.assertIn(f"client-went client {number} went (kicked)", server.text_of_log())
+            wait_until(lambda: f"client-went client {number} went (kicked)" in server.text_of_log())
 
     def test_oneself(self):
         with Server() as server, server.raw(True) as operator:
@@ -123,7 +125,7 @@ class Rules(unittest.TestCase):
                 write("lock b: nobody-has-this-name\n")
                 server.process.send_signal(signal.SIGHUP)
                 wait_until(lambda: "rules-bad rules not read again, the old ones hold: " in server.text_of_log())
-                self.assertIn("there is no user nobody-has-this-name", server.text_of_log())
+                self.assertIn("line 1: there is no user nobody-has-this-name", server.text_of_log())
                 self.assertEqual(say(sock, "release b 1\ntry b 1\n", 2), ["released b", "granted b 2"])
 
 
@@ -163,6 +165,47 @@ class Systemd(unittest.TestCase):
                         yield number
             except OSError:
                 continue
+
+
+@needs_programs
+class Retention(unittest.TestCase):
+    def segments(self, server):
+        return sorted(name for name in os.listdir(server.journal) if name.endswith(".ring"))
+
+    def test_old_segments_go_and_their_digests_stay(self):
+        with Server("--segment", "400", "--keep-segments", "2") as server:
+            kept = {}
+            with server.raw() as sock:
+                for token in range(1, 2001):
+                    say(sock, f"acquire a 1\nrelease a {token}\n", 2)
+                    if token % 100 == 0:  # what may be removed soon
+                        for name in self.segments(server)[:-1]:
+                            with open(os.path.join(server.journal, name), "rb") as file:
+                                kept[name] = hashlib.sha256(file.read()).hexdigest()
+                wait_until(lambda: len(self.segments(server)) == 2)
+                with open(server.journal + ".removed", encoding="ascii") as file:
+                    removed = dict(line.split() for line in file)
+                self.assertGreater(len(removed), 2)
+                self.assertEqual(len(set(removed) & set(self.segments(server))), 0)
+                if not IS_DOUBLE:
+                    self.assertEqual({name: digest for name, digest in kept.items() if name in removed}, removed)
+                wait_until(lambda: server.text_of_log().count("segment-removed segment ") == len(removed))
+                self.assertEqual(say(sock, "acquire b 1\n"), ["granted b 1"])
+
+    @unittest.skipIf(IS_DOUBLE, "the engine's double needs its first segment")
+    def test_the_rest_is_a_chain_that_goes_on(self):
+        with Server("--segment", "400", "--keep-segments", "2", lease="1") as server:
+            with server.raw() as sock:
+                for token in range(1, 1001):
+                    say(sock, f"acquire a 1\nrelease a {token}\n", 2)
+            wait_until(lambda: len(self.segments(server)) == 2)
+            server.kill_engine()
+            wait_until(lambda: server.text_of_log().count("engine ready") == 2)
+            with server.raw() as sock:
+                self.assertEqual(say(sock, "acquire a 1\n"), ["granted a 1001"])
+            server.stop()
+            check = subprocess.run([ENGINE, "check", server.journal], capture_output=True, text=True, check=False, timeout=PATIENCE)
+            self.assertRegex(check.stdout, r"^legal segments \d+ from \d+ ")
 
 
 @needs_programs

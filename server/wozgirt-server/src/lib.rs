@@ -21,6 +21,7 @@ mod pages;
 mod places;
 mod questions;
 pub mod requests;
+mod retention;
 pub mod rules;
 mod server;
 pub mod settings;

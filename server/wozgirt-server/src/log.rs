@@ -86,6 +86,8 @@ pub enum Event<'a> {
     EngineHangs { time: Duration },
     GraceOver,
     HoldEnded { by: &'a str, lock: &'a str, token: Token, client: Client },
+    SegmentRemoved { name: &'a str, digest: &'a str },
+    SegmentsStay { fault: &'a std::io::Error },
     RulesRead,
     RulesBad { fault: &'a dyn fmt::Display },
     Came { client: Client, who: &'a str },
@@ -123,6 +125,8 @@ impl Event<'_> {
             Event::EngineHangs { .. } => "engine-hangs",
             Event::GraceOver => "grace-over",
             Event::HoldEnded { .. } => "hold-ended",
+            Event::SegmentRemoved { .. } => "segment-removed",
+            Event::SegmentsStay { .. } => "segments-stay",
             Event::RulesRead => "rules-read",
             Event::RulesBad { .. } => "rules-bad",
             Event::Came { .. } => "client-came",
@@ -170,6 +174,8 @@ impl fmt::Display for Event<'_> {
             Event::HoldEnded { by, lock, token, client } => {
                 write!(f, "hold of {lock} with token {token} ended by an operator ({by}): client {client} had it")
             }
+            Event::SegmentRemoved { name, digest } => write!(f, "segment {name} removed; its digest was {digest}"),
+            Event::SegmentsStay { fault } => write!(f, "old segments cannot be removed: {fault}"),
             Event::RulesRead => f.write_str("rules read again"),
             Event::RulesBad { fault } => write!(f, "rules not read again, the old ones hold: {fault}"),
             Event::Came { client, who } => write!(f, "client {client} came: {who}"),

@@ -17,6 +17,7 @@ The engine, which is run as `PROGRAM locks --journal FOLDER [--locks ..] ..`:
   --journal FOLDER         where the engine keeps its journal
   --locks NAME[:N[:K]],..  the locks; without it those of FOLDER
   --segment LINES          how many lines a file of the journal has
+  --keep-segments COUNT    how many of these files are kept; what is removed is noted in FOLDER.removed [all]
   --no-sync                answers do not wait for the disk
   --engine-patience SECONDS  an engine that leaves a question unanswered for so long is ended, and started again [60]
   --faults                 operators may write faults
@@ -79,6 +80,8 @@ pub struct Settings {
     pub locks: Option<String>,
     /// How many lines a segment has, if it is given.
     pub segment: Option<u64>,
+    /// How many segments are kept, if not all.
+    pub keep_segments: Option<usize>,
     /// Whether answers wait for the disk.
     pub is_synced: bool,
     /// Whether operators may write faults.
@@ -143,6 +146,8 @@ pub enum BadWords {
     Grace,
     /// This word says nothing without `--etcd`.
     Alone(&'static str),
+    /// This word is not for several servers.
+    NotAlone(&'static str),
 }
 
 impl fmt::Display for BadWords {
@@ -156,6 +161,7 @@ impl fmt::Display for BadWords {
                 write!(f, "{address} can be reached from other machines, and nobody is asked who it is: see --listen-anywhere")
             }
             BadWords::Grace => f.write_str("--grace is shorter than --longest-lease"),
+            BadWords::NotAlone(word) => write!(f, "{word} is for a server that is alone, without --etcd"),
             BadWords::Alone(word) => write!(f, "{word} is for several servers: see --etcd"),
         }
     }
@@ -188,6 +194,7 @@ struct Reading {
     journal: Option<PathBuf>,
     locks: Option<String>,
     segment: Option<u64>,
+    keep_segments: Option<usize>,
     is_not_synced: bool,
     permits_faults: bool,
     engine_patience: Option<Duration>,
@@ -236,6 +243,7 @@ impl Reading {
             "--journal" => self.journal = Some(value.into()),
             "--locks" => self.locks = Some(value.into()),
             "--segment" => self.segment = Some(value.parse().ok().filter(|&lines| lines > 0)?),
+            "--keep-segments" => self.keep_segments = Some(count(value).filter(|&count| count > 1)?),
             "--engine-patience" => self.engine_patience = Some(seconds(value).filter(|time| !time.is_zero())?),
             "--socket" => self.sockets[0].0 = Some(value.into()),
             "--mode" => self.sockets[0].1 = Some(mode(value)?),
@@ -259,6 +267,9 @@ impl Reading {
 
     fn settings(self) -> Result<Settings, BadWords> {
         let cluster = self.cluster.settings()?;
+        if cluster.is_some() && self.keep_segments.is_some() {
+            return Err(BadWords::NotAlone("--keep-segments"));
+        }
         let longest_lease = self.longest_lease.unwrap_or(Duration::from_secs(30));
         let grace = self.grace.unwrap_or(longest_lease);
         if grace < longest_lease {
@@ -276,6 +287,7 @@ impl Reading {
             journal: self.journal.ok_or(BadWords::Missing("--journal"))?,
             locks: self.locks,
             segment: self.segment,
+            keep_segments: self.keep_segments,
             is_synced: !self.is_not_synced,
             permits_faults: self.permits_faults,
             engine_patience: self.engine_patience.unwrap_or(Duration::from_secs(60)),
@@ -298,11 +310,12 @@ impl Reading {
 }
 
 /// The options that have a value.
-const VALUED: [&str; 29] = [
+const VALUED: [&str; 30] = [
     "--engine",
     "--journal",
     "--locks",
     "--segment",
+    "--keep-segments",
     "--engine-patience",
     "--socket",
     "--mode",
@@ -454,6 +467,11 @@ mod tests {
             ("--journal j --deaf 0", "--deaf: bad value `0`"),
             ("--journal j --connections 18446744073709551615", "--connections: bad value `18446744073709551615`"),
             ("--journal j --connections 1000001", "--connections: bad value `1000001`"),
+            ("--journal j --keep-segments 1", "--keep-segments: bad value `1`"),
+            (
+                "--journal j --keep-segments 2 --etcd e --name a",
+                "--keep-segments is for a server that is alone, without --etcd",
+            ),
             ("--journal j --memory 0", "--memory: bad value `0`"),
             ("--journal j --etcd e", "--name is missing"),
             ("--journal j --etcd e --name a:b", "--name: bad value `a:b`"),

@@ -22,12 +22,14 @@ use crate::notify::Notify;
 use crate::pages::Visitor;
 use crate::places::Places;
 use crate::questions::Questions;
+use crate::retention::{self, Removal};
 use crate::settings::Settings;
 use crate::sums::Sums;
 use arrivals::Doors;
 use opening::{check_files, read_names, read_rules};
 use std::collections::{HashMap, VecDeque};
 use std::rc::Rc;
+use std::sync::mpsc::Receiver;
 use std::time::{Duration, Instant};
 use wozgirt_engine::{Client, Lock, NOBODY};
 use wozgirt_system::{Event as Ready, Interest, Poller, Signal, Signals};
@@ -80,6 +82,8 @@ pub struct Server {
     visitors: HashMap<u64, Visitor>,
     journal: Journal,
     notify: Notify,
+    /// What becomes of old segments, if not all are kept.
+    removals: Option<Receiver<Removal>>,
     last_client: Client,
     last_visitor: u64,
     /// Who is told something at the end of this round.
@@ -128,6 +132,8 @@ impl Server {
         let cluster = Cluster::new(&settings, &names, now)
             .map_err(|fault| CannotServe::Folder(settings.journal.clone(), fault))?
             .map(Box::new);
+        let kept = settings.keep_segments;
+        let removals = kept.map(|kept| retention::start(settings.engine_journal(), kept)).transpose()?;
         let board = Board::new(names.count());
         let (questions, sums, is_full) = (Questions::new(now), Sums::default(), false);
         let desk = Desk { settings, names, rules, engine, questions, is_full, board, sums, log, cluster, now };
@@ -143,6 +149,7 @@ impl Server {
             visitors: HashMap::new(),
             journal: Journal::new(now),
             notify: Notify::from_environment(now),
+            removals,
             last_client: NOBODY,
             last_visitor: 0,
             dirty: Vec::new(),
@@ -296,6 +303,12 @@ impl Server {
         }
         for (client, end) in gone {
             self.part(client, end);
+        }
+        for removal in self.removals.iter().flat_map(Receiver::try_iter) {
+            match &removal {
+                Ok((name, digest)) => self.desk.log.say(&Event::SegmentRemoved { name, digest }),
+                Err(fault) => self.desk.log.say(&Event::SegmentsStay { fault }),
+            }
         }
         self.sweep_cluster();
         self.visitors.retain(|_, visitor| visitor.deadline() > now);
