@@ -183,7 +183,7 @@ class Memory(unittest.TestCase):
             self.check(growth)
 
     def test_a_log_that_nobody_reads(self):
-        locks = ",".join("n" * 50 + str(i) for i in range(1000))
+        locks = ",".join("n" * 60 + str(i) for i in range(300))
         with Server(locks=locks) as server:
             reader, writer = os.pipe()
             words = [word.replace(server.folder, server.folder + "/2") for word in server.words]
@@ -196,18 +196,18 @@ class Memory(unittest.TestCase):
             second = type("Second", (), {"process": process})
             text = "".join(f"acquire {name} 1\n" for name in locks.split(","))
             with Growth(second) as growth:
-                for _ in range(300):
+                for _ in range(250):
                     with socket.socket(socket.AF_UNIX) as sock:
                         sock.connect(path)
                         sock.settimeout(PATIENCE)
                         sender = threading.Thread(target=sock.sendall, args=(text.encode(),))
                         sender.start()
-                        read_lines(sock, 900)
+                        read_lines(sock, 290)
                         sender.join()
             process.kill()
             process.wait()
             os.close(reader)
-            self.assertLess(growth.most, 8 * MIB)  # what is logged of each names 900 locks, in some 50 KB
+            self.assertLess(growth.most, 3 * MIB)  # what is logged of each names 290 locks or more, in some 18 KB
 
     def test_all_answers_come_if_they_are_read_late(self):
         with Server(locks=MANY) as server, server.raw() as sock:

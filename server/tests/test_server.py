@@ -1,6 +1,7 @@
 """The server, spoken to line by line."""
 
 import os
+import re
 import resource
 import signal
 import socket
@@ -427,8 +428,7 @@ class Permissions(unittest.TestCase):
                 except OSError as fault:
                     self.skipTest(f"this root cannot be another user: {fault}")
                 self.assertEqual(it.stdout, "refused permission a\ngranted b 1\n", it.stderr)
-                wait_until(lambda: ", process " in server.text_of_log())
-                self.assertRegex(server.text_of_log(), r"(nobody|65534), process ")
+                wait_until(lambda: re.search(r"(nobody|65534), process ", server.text_of_log()))
 
 
 if __name__ == "__main__":

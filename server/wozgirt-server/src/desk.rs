@@ -145,6 +145,15 @@ impl Desk {
         self.is_full && self.waiting_lines() <= self.most_waiting() / 2
     }
 
+    /// Whether the engine has done nearly all. It is asked, if that is not known.
+    pub fn has_little_to_do(&mut self) -> bool {
+        let is_little = self.waiting_lines() <= self.most_waiting() / 4;
+        if !is_little && self.cluster.is_none() && self.questions.oldest().is_none() {
+            self.mark();
+        }
+        is_little
+    }
+
     fn most_waiting(&self) -> usize {
         if self.cluster.is_some() {
             MOST_FOR_LOG

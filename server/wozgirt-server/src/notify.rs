@@ -87,7 +87,7 @@ mod tests {
             (0..2).for_each(|_| notify.note_ready());
             (0..2).for_each(|_| notify.note_round(now));
             notify.note_stopping();
-            let mut told = || {
+            let told = || {
                 let mut bytes = [0; 100];
                 let count = socket.recv(&mut bytes).unwrap();
                 String::from_utf8(bytes[..count].to_vec()).unwrap()

@@ -7,11 +7,13 @@ use std::collections::VecDeque;
 use std::time::{Duration, Instant};
 use wozgirt_engine::{Answer, Client, Input, Lock, Token};
 
-/// How many lines of all clients together should wait for the engine: what each may have there is its part of this. A few hundred
-/// keep the engine and its disk at work; one who comes new waits for as many.
-const WANTED: usize = 1024;
+/// How many lines of all clients together should wait for the engine: what each may have there is its part of this. One who comes new
+/// waits for as many; so there are fewer, between these, if a mark takes longer than it should.
+const MOST_WANTED: usize = 1024;
+const LEAST_WANTED: usize = 32;
+const LONG: Duration = Duration::from_millis(5);
 /// How many lines lie between marks at most.
-const BETWEEN_MARKS: u64 = 256;
+const BETWEEN_MARKS: u64 = 128;
 /// How long it takes at most to the next mark.
 const PERIOD: Duration = Duration::from_secs(1);
 
@@ -34,6 +36,7 @@ pub struct Questions {
     done: u64,
     marked: u64,
     last_mark: Instant,
+    wanted: usize,
     /// How many of these are beginnings.
     begins: usize,
     /// How many clients have lines there, and how many there are.
@@ -50,6 +53,7 @@ impl Questions {
             done: 0,
             marked: 0,
             last_mark: now,
+            wanted: MOST_WANTED,
             begins: 0,
             askers: 0,
             clients: 0,
@@ -81,7 +85,7 @@ impl Questions {
     }
 
     /// What the engine's answer to client 0 is the answer to, if it can be one.
-    pub fn answered(&mut self, answer: &Answer) -> Option<Own> {
+    pub fn answered(&mut self, answer: &Answer, now: Instant) -> Option<Own> {
         let own = self.own.pop_front()?;
         let is_right = match (&own, answer) {
             (Own::Begin(lock), Answer::Stats(stats)) => *lock == stats.lock,
@@ -90,11 +94,21 @@ impl Questions {
             (Own::Mark(..) | Own::End(..), Answer::Refused { .. }) => true,
             _ => false,
         };
-        if let Own::Mark(asked, _) = own {
-            self.done = asked;
+        if let Own::Mark(lines, asked) = own {
+            self.done = lines;
+            self.note_time(now.saturating_duration_since(asked));
         }
         self.begins -= usize::from(matches!(own, Own::Begin(_)));
         is_right.then_some(own)
+    }
+
+    /// A mark took so long.
+    fn note_time(&mut self, took: Duration) {
+        if took > LONG {
+            self.wanted = (self.wanted / 2).max(LEAST_WANTED);
+        } else if took < LONG / 2 {
+            self.wanted = (self.wanted * 2).min(MOST_WANTED);
+        }
     }
 
     /// Whether the engine has answered how all locks are.
@@ -109,13 +123,13 @@ impl Questions {
 
     /// With so many, those of clients that are gone included, nothing is read and nobody is let in; until half of them is done.
     pub fn most(&self) -> usize {
-        2 * WANTED + self.clients
+        2 * (self.wanted + self.clients + BETWEEN_MARKS as usize)
     }
 
     /// Whether a client that has so many lines there may have one more: its part, and never more than `most`. One always may be.
     pub fn permits(&self, asked: usize, most: usize) -> bool {
-        let part = (WANTED / self.askers.max(1)).min(most);
-        asked == 0 || asked < part && self.waiting() < WANTED
+        let part = (self.wanted / self.askers.max(1)).min(most);
+        asked == 0 || asked < part && self.waiting() < self.wanted
     }
 
     /// Since when the oldest question of the server's own is unanswered.
@@ -146,21 +160,22 @@ mod tests {
         assert_eq!((1..=BETWEEN_MARKS).filter(|_| questions.ask()).count(), 1);
         questions.mark(now);
         assert!(!questions.ask());
-        assert_eq!((questions.waiting(), questions.next_mark(), questions.oldest()), (257, None, Some(now)));
-        assert_eq!(questions.answered(&stats(0)), Some(Own::Mark(256, now)));
+        assert_eq!((questions.waiting(), questions.next_mark(), questions.oldest()), (129, None, Some(now)));
+        assert_eq!(questions.answered(&stats(0), now), Some(Own::Mark(128, now)));
         assert_eq!((questions.waiting(), questions.oldest()), (1, None));
-        assert_eq!(questions.answered(&stats(0)), None);
+        assert_eq!(questions.answered(&stats(0), now), None);
     }
 
     #[test]
     fn the_beginning_is_over_with_the_last_lock() {
-        let mut questions = Questions::new(Instant::now());
+        let now = Instant::now();
+        let mut questions = Questions::new(now);
         questions.put(Own::Begin(0));
         questions.put(Own::Begin(1));
-        assert!(questions.answered(&stats(0)).is_some() && !questions.has_begun());
-        assert!(questions.answered(&stats(1)).is_some() && questions.has_begun());
+        assert!(questions.answered(&stats(0), now).is_some() && !questions.has_begun());
+        assert!(questions.answered(&stats(1), now).is_some() && questions.has_begun());
         questions.put(Own::Begin(1));
-        assert!(questions.answered(&stats(0)).is_none());
+        assert!(questions.answered(&stats(0), now).is_none());
     }
 
     #[test]
@@ -171,7 +186,20 @@ mod tests {
             assert_eq!((0..1000).filter(|&asked| questions.permits(asked, 128)).count(), part);
         }
         questions.askers = 1;
-        (0..WANTED).for_each(|_| drop(questions.ask()));
+        for _ in 0..MOST_WANTED {
+            questions.ask();
+        }
         assert!(questions.permits(0, 128) && !questions.permits(1, 128));
+    }
+
+    #[test]
+    fn of_a_slow_engine_less_is_wanted() {
+        let mut questions = Questions::new(Instant::now());
+        (0..9).for_each(|_| questions.note_time(2 * LONG));
+        assert_eq!(questions.wanted, LEAST_WANTED);
+        questions.note_time(LONG / 4);
+        assert_eq!(questions.wanted, 2 * LEAST_WANTED);
+        (0..9).for_each(|_| questions.note_time(LONG / 4));
+        assert_eq!(questions.wanted, MOST_WANTED);
     }
 }

@@ -136,7 +136,7 @@ impl Server {
         let is_open = self.shut_until.is_none();
         let interest = |key| {
             let is_of_clients = key == CLIENTS || key == NETWORK;
-            Interest { reads: is_open && !(is_of_clients && self.desk.is_full), writes: false }
+            Interest { reads: is_open && !(is_of_clients && self.keeps_out), writes: false }
         };
         let unix = [(&self.doors.clients, CLIENTS), (&self.doors.operators, OPERATORS)];
         for (door, key) in unix.into_iter().filter_map(|(door, key)| Some((door.as_ref()?, key))) {

@@ -63,7 +63,7 @@ impl Server {
 
     /// The answer to a question of the server's own. False if it is none.
     fn answer_own(&mut self, answer: &Answer) -> bool {
-        let Some(own) = self.desk.questions.answered(answer) else { return false };
+        let Some(own) = self.desk.questions.answered(answer, self.desk.now) else { return false };
         if let Own::End(operator, lock, token) = own {
             if matches!(answer, Answer::Released { .. }) {
                 self.held_before.retain(|held| *held != lock);

@@ -104,6 +104,8 @@ pub struct Server {
     next_sweep: Instant,
     /// Until when doors are shut, since the system has no place; and whether clients' are, since the engine has enough to do.
     shut_until: Option<Instant>,
+    keeps_out: bool,
+    /// Whether clients were not heard in the last round, for the same reason.
     was_full: bool,
     /// Whether more is read of the log that this server has with others.
     reads_log: bool,
@@ -162,6 +164,7 @@ impl Server {
             silent_since: None,
             next_sweep: now,
             shut_until: None,
+            keeps_out: false,
             was_full: false,
             reads_log: true,
             stopping: None,

@@ -126,10 +126,14 @@ impl Server {
         if self.desk.is_free_again() {
             self.desk.is_full = false;
         }
+        // who is here has a turn before others come in
+        let keeps_out = self.desk.is_full || self.keeps_out && !self.desk.has_little_to_do();
+        if std::mem::replace(&mut self.keeps_out, keeps_out) != keeps_out {
+            self.set_doors();
+        }
         if std::mem::replace(&mut self.was_full, self.desk.is_full) == self.desk.is_full {
             return;
         }
-        self.set_doors();
         for client in self.connections.keys().copied().collect::<Vec<_>>() {
             self.queue(client);
             self.touch(client);
