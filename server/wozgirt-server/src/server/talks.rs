@@ -15,10 +15,11 @@ impl Server {
         self.touch(client);
         let Some(connection) = self.connections.get(&client) else { return };
         let is_open = connection.takes_more() && !connection.is_read_enough();
-        let is_read = event.is_readable && is_open && self.hears(connection.door);
+        // of a client that is gone nothing more is read: nobody hears the answers, and all that it would hold is free
+        let is_of_use = !event.is_gone || connection.door == Door::Operators;
+        let is_read = event.is_readable && is_open && is_of_use && self.hears(connection.door);
         let now = self.desk.now;
         let Some(connection) = self.connections.get_mut(&client).filter(|_| is_read) else {
-            // nobody reads what it would be answered
             return if event.is_gone {
                 self.part(client, End::Closed)
             };
