@@ -231,7 +231,7 @@ class Ends(Trial):
         a.process.terminate()
         self.assertEqual(a.process.wait(PATIENCE), 0)
         self.assertEqual(read_lines(sock, 3), ["released a", "granted b 1"])
-        self.assertEqual(a.text_of_log().splitlines()[-1].split(" ", 1)[1], "stopped")
+        self.assertEqual(a.text_of_log().splitlines()[-1].split(" ", 1)[1], "stopped stopped")
 
     def test_the_engine_is_killed(self):
         a, b = self.server("a"), self.server("b")

@@ -177,7 +177,7 @@ impl Desk {
         let held = cluster.standing(seat.key).holds;
         let held: Vec<&str> = held.into_iter().map(|(lock, _)| self.names.name(lock)).collect();
         let is_over = !seat.is_keyed && !matches!(end, End::Engine | End::Stop | End::Log | End::Moved);
-        if is_over || end == End::Lease || seat.has_left {
+        if is_over || matches!(end, End::Lease | End::Kicked) || seat.has_left {
             if cluster.owns.go(seat.key, connection.client) && !seat.has_left {
                 cluster.put(Line::Gone(seat.key));
             }

@@ -106,7 +106,20 @@ mod tests {
         assert_eq!("lost other a b".parse(), Ok(Told::Other("a b".into())));
         assert_eq!("lost gone a b".parse(), Ok(Told::Gone("a b".into())));
         assert_eq!("taken 9".parse(), Ok(Told::Taken(9)));
-        for line in ["lost", "lost x y", "taken", "full 1", "", "log x", "entry 1 2", "entry 1 x y", "alive a", "alive a:x", "away c", "bye"] {
+        for line in [
+            "lost",
+            "lost x y",
+            "taken",
+            "full 1",
+            "",
+            "log x",
+            "entry 1 2",
+            "entry 1 x y",
+            "alive a",
+            "alive a:x",
+            "away c",
+            "bye",
+        ] {
             assert_eq!(line.parse::<Told>(), Err(NotALine::Syntax), "{line:?}");
         }
     }

@@ -201,6 +201,11 @@ impl Cluster {
         }
     }
 
+    /// How many lines wait to be put into the log.
+    pub fn waiting_lines(&self) -> usize {
+        self.writer.waiting()
+    }
+
     /// Whether all that was asked is answered.
     pub fn is_idle(&self) -> bool {
         self.writer.is_idle() && self.unread.is_empty() && self.mirror.is_idle()

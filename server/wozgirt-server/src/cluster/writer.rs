@@ -59,6 +59,11 @@ impl Writer {
         self.batch.push_back(line);
     }
 
+    /// How many lines wait for an entry.
+    pub fn waiting(&self) -> usize {
+        self.batch.len()
+    }
+
     /// Whether all that was put has come back.
     pub fn is_idle(&self) -> bool {
         self.batch.is_empty() && self.serial == self.returned

@@ -8,6 +8,7 @@ use crate::log::Event;
 use crate::names::Names;
 use crate::CannotServe;
 use std::mem;
+use std::rc::Rc;
 use std::time::Instant;
 use wozgirt_engine::decimal;
 
@@ -62,8 +63,8 @@ impl Server {
         let names = Names::parse(list).map_err(CannotServe::Names)?;
         if names.count() > desk.names.count() {
             match read_rules(&desk.settings, &names, &self.accounts) {
-                Ok(rules) => desk.rules = rules,
-                Err(fault) => desk.log.say(&Event::RulesNotRead { fault: &fault }),
+                Ok(rules) => desk.rules = Rc::new(rules),
+                Err(fault) => desk.log.say(&Event::RulesBad { fault: &fault }),
             }
         }
         desk.board.resize(names.count());

@@ -3,7 +3,6 @@
 use super::checkpoints::check_settings;
 use super::{Server, ENGINE, ENGINE_INPUT};
 use crate::cluster::{list, Block, Effect, Key, Phase, Read, Server as LogServer, Verdict};
-use crate::connection::Connection;
 use crate::engine::{Outcome, Unheard};
 use crate::log::{End, Event};
 use crate::CannotServe;
@@ -330,9 +329,7 @@ impl Server {
 
     /// The connection was told something, and may say more.
     fn go_on(&mut self, client: Client) {
-        if self.connections.get(&client).is_some_and(Connection::has_line) {
-            self.backlog.push_back(client);
-        }
+        self.queue(client);
         self.touch(client);
     }
 

@@ -1,11 +1,12 @@
 //! What is read and checked before the server serves.
 
-use super::{MOST_VISITORS, OTHER_FILES, PLACES_OF_OPERATORS};
+use super::{MOST_VISITORS, OTHER_FILES};
 use crate::accounts::Accounts;
 use crate::cluster::{NoFolder, Other, LONGEST_LIST};
 use crate::doors::CannotListen;
 use crate::engine::CannotStart;
 use crate::names::{BadNames, Names};
+use crate::places::Places;
 use crate::rules::{BadRule, Rules};
 use crate::settings::Settings;
 use std::fmt;
@@ -33,6 +34,8 @@ pub enum CannotServe {
         /// How many are needed.
         needed: u64,
     },
+    /// Each connection needs some memory: so many MiB for all.
+    Memory(usize),
     /// A socket cannot be listened to.
     Listen(CannotListen),
     /// There is no engine.
@@ -82,6 +85,9 @@ impl fmt::Display for CannotServe {
                     f,
                     "{limit} files may be open, and {needed} are needed: raise that limit, or lower --connections"
                 )
+            }
+            CannotServe::Memory(needed) => {
+                write!(f, "so many connections need --memory {needed} at least: raise that, or lower --connections")
             }
             CannotServe::Listen(fault) => fault.fmt(f),
             CannotServe::Engine(fault) => fault.fmt(f),
@@ -183,7 +189,7 @@ pub(super) fn read_rules(settings: &Settings, names: &Names, accounts: &Accounts
 
 /// The system's limit of open files, which is raised as far as it may be.
 pub(super) fn check_files(settings: &Settings) -> Result<(), CannotServe> {
-    let needed = (settings.connections + PLACES_OF_OPERATORS + MOST_VISITORS + OTHER_FILES) as u64;
+    let needed = (Places::count(settings) + MOST_VISITORS + OTHER_FILES) as u64;
     let limit = permit_files(needed)?;
     if limit < needed {
         return Err(CannotServe::Files { limit, needed });
