@@ -39,6 +39,9 @@ class Double:
         try:
             for line in sock.makefile("r"):
                 line = line.rstrip("\n")
+                if line == "lease" and "lease" not in self.answers:
+                    sock.sendall(b"lease 0\n")  # each client that asks for none is told that it has none
+                    continue
                 self.heard.append(line)
                 said = self.answers.get(line, self.answers.get(line.split(" ")[0], []))
                 said = said(line) if callable(said) else said

@@ -1,18 +1,25 @@
 #!/usr/bin/env python3
-"""run.py FOLDER SECONDS: runs the unittests of a folder, each for at most LIMIT seconds: one that hangs fails, and the next begins.
-When SECONDS are over, a test that runs is given up, and no other is begun: these are skipped, since a busy machine is no fault. The
-last line is `N passed, M failed, K skipped`."""
+"""run.py FOLDER SECONDS [FILE]: runs the unittests of a folder, or of a file in it, each for at most LIMIT seconds: one that hangs fails,
+and the next begins. When SECONDS are over, a test that runs is given up, and no other is begun: these are skipped, since a busy
+machine is no fault. The files of a folder run side by side, in processes of their own, but for those that keep a machine busy:
+they come last, one after the other. The last line is `N passed, M failed, K skipped`."""
 
 import collections
 import os
+import re
 import signal
+import subprocess
 import sys
 import time
 import unittest
+from concurrent.futures import ThreadPoolExecutor
 
 from harness import stop_all
 
 LIMIT, LAST_LIMIT = 120, 30
+# Most tests wait most of their time
+SIDE_BY_SIDE = 2 * (os.cpu_count() or 1)
+BUSY = ("test_floods.py", "test_noise.py")
 
 
 class Result(unittest.TextTestResult):
@@ -56,10 +63,44 @@ class Result(unittest.TextTestResult):
         os._exit(1 if failed else 0)
 
 
+def run_file(folder, file, end):
+    """Runs the tests of a file in a process of its own. Returns what it prints, and its counts."""
+    words = [sys.executable, os.path.realpath(__file__), folder, str(end - time.monotonic()), file]
+    ran = subprocess.run(words, stdin=subprocess.DEVNULL, stdout=subprocess.PIPE, stderr=subprocess.STDOUT, text=True, errors="replace", check=False)
+    lines = ran.stdout.rstrip("\n").split("\n")
+    counts = re.fullmatch(r"(\d+) passed, (\d+) failed, (\d+) skipped", lines[-1])
+    if not counts:
+        return [*lines, f"{file} ended with status {ran.returncode}, and no counts"], (0, 1, 0)
+    return lines[:-1], tuple(map(int, counts.groups()))
+
+
+def run_folder(folder, seconds):
+    end = time.monotonic() + seconds
+    files = sorted(it for it in os.listdir(folder) if it.startswith("test_") and it.endswith(".py"))
+    with ThreadPoolExecutor(SIDE_BY_SIDE) as pool:
+        ran = list(pool.map(lambda file: run_file(folder, file, end), (it for it in files if it not in BUSY)))
+    ran += [run_file(folder, file, end) for file in files if file in BUSY]
+    reasons = collections.Counter()
+    for lines, _ in ran:
+        for line in lines:
+            reason = re.fullmatch(r"skipped: (\d+) of .*?: (.*)", line)
+            if reason:
+                reasons[reason[2]] += int(reason[1])
+            elif line:
+                print(line)
+    for reason, times in reasons.items():
+        print(f"skipped: {times} of {folder}: {reason}")
+    passed, failed, skipped = map(sum, zip(*(counts for _, counts in ran)))
+    print(f"{passed} passed, {failed} failed, {skipped} skipped", flush=True)
+    return 1 if failed else 0
+
+
 def main():
-    folder, seconds = sys.argv[1], float(sys.argv[2])
-    tests = unittest.defaultTestLoader.discover(folder, top_level_dir=folder)
-    result = Result(folder, tests, time.monotonic() + seconds)
+    folder, seconds, *files = sys.argv[1:]
+    if not files:
+        sys.exit(run_folder(folder, float(seconds)))
+    tests = unittest.defaultTestLoader.discover(folder, pattern=files[0], top_level_dir=folder)
+    result = Result(folder, tests, time.monotonic() + float(seconds))
     tests.run(result)
     result.finish({}, 0)
 

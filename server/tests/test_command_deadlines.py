@@ -42,7 +42,7 @@ class StandsStill(InTime):
     def test_the_server(self, longer):
         with Server() as server:
             server.process.send_signal(signal.SIGSTOP)
-            self.ends_in_time(server, ASKED, longer)
+            self.ends_in_time(server, NOT_ASKED, longer)  # a question on the lease comes first
             self.ends_in_time(server, NOT_ASKED, longer, "--lease", "20")
             server.process.send_signal(signal.SIGCONT)
             self.assertEqual(run(server, "try", "a", "--", "true").returncode, 0)  # nothing was left over
