@@ -13,7 +13,8 @@
  *     }
  *
  * Threads that share a client hold a mutex around each call. This client asks for no lease. Where the server gives one to all
- * (--lease-for-all), call `wozgirt_lock_check` each quarter of it. With -std=c11 include this header before the system's.
+ * (--lease-for-all, and each server that shares a log with others by --etcd), call `wozgirt_lock_check` each quarter of it. With
+ * -std=c11 include this header before the system's.
  *
  * Each call ends within 0.2 s of its deadline, whether the server answers or not. An answer to something else than what was asked
  * ends the connection. A signal whose handler returns ends no call. If a handler leaves a call by siglongjmp(), or the thread is

@@ -1,5 +1,6 @@
 """A call ends when its time is over, whatever the engine, the server or the network does."""
 
+import asyncio
 import functools
 import os
 import signal
@@ -13,7 +14,7 @@ import unittest
 sys.path.insert(0, os.path.join(os.path.dirname(os.path.abspath(__file__)), "..", "..", "server", "tests"))
 
 from harness import PATIENCE, Server, needs_loopback, needs_programs, wait_until  # noqa: E402
-from wozgirt import Client, Lock, LockLost, NotInTime, Session  # noqa: E402
+from wozgirt import Client, Lock, LockLost, NotInTime, Session, aio  # noqa: E402
 from wozgirt.wire import connected  # noqa: E402
 
 WAIT, LATE = 0.3, 0.2
@@ -105,7 +106,9 @@ class StandingStill(Timed):
                 self.in_time(lambda: client.acquire("a", wait=WAIT))
                 self.in_time(Lock(server.path, "b", wait=WAIT).acquire)
                 self.in_time(Lock(server.path, "b", wait=WAIT, lease=20).acquire)
-                self.in_time(lambda: Client(server.path, lease=20, timeout=WAIT), error=TimeoutError)
+                for lease in (20, None):
+                    self.in_time(lambda: Client(server.path, lease=lease, timeout=WAIT), error=TimeoutError)
+                    self.in_time(lambda: asyncio.run(aio.Client.connect(server.path, lease=lease, timeout=WAIT)), error=TimeoutError)
 
     @tried_again
     def test_what_is_withdrawn_leaves_the_client_as_it_was(self):

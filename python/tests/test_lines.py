@@ -27,6 +27,8 @@ class Lines(unittest.TestCase):
         self.assertEqual(lines.cancel("a"), b"cancel a\n")
         self.assertEqual(lines.lease(1.5), b"lease 1500\n")
         self.assertEqual(lines.lease(0.0001), b"lease 1\n")
+        self.assertEqual([lines.lease_of(*it) for it in ((None, "/a"), (2, "/a"), (None, ("a", 1)), (2, ("a", 1)))],
+                         [b"lease\n", b"lease 2000\n", b"lease 30000\n", b"lease 2000\n"])
 
     def test_what_is_never_said(self):
         for name in ("", "a b", "a\nleave", "\u00e9", "a\t"):
@@ -49,7 +51,8 @@ class Lines(unittest.TestCase):
                 (b"try a 1\n", "waiting a 1", False), (b"release a 7\n", "released a", True), (b"release a 7\n", "released b", False),
                 (b"cancel a\n", "cancelled a", True), (b"cancel a\n", "refused waiter a", True), (b"cancel a\n", "refused waiter b", False),
                 (b"acquire a 1\n", "refused connections", True), (b"leave\n", "left", True), (b"leave\n", "left a", False),
-                (b"lease 5\n", "lease 5", True), (b"lease 5\n", "lease x", False), (b"ping\n", "pong", True), (b"ping\n", "left", False)):
+                (b"lease 5\n", "lease 5", True), (b"lease 5\n", "lease x", False),
+                (b"lease\n", "lease 0", True), (b"lease\n", "refused syntax", True), (b"lease\n", "lease", False), (b"ping\n", "pong", True), (b"ping\n", "left", False)):
             with self.subTest(asked=asked, words=words):
                 question = lines.Question(asked, 0.0)
                 if is_taken:

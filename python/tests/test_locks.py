@@ -16,7 +16,7 @@ sys.path.insert(0, os.path.join(os.path.dirname(os.path.abspath(__file__)), ".."
 
 from harness import PATIENCE, Server, needs_loopback, needs_programs, wait_until  # noqa: E402
 from test_sessions import Arbiter, Door  # noqa: E402
-from wozgirt import Client, Holds, Inherited, Lock, LockError, LockLost, NotInTime, Session, aio, lines  # noqa: E402
+from wozgirt import Client, Holds, Inherited, Lock, LockError, LockLost, NotInTime, Session, TooMany, aio, lines  # noqa: E402
 
 
 def in_child(do):
@@ -373,7 +373,8 @@ class Hostile(unittest.IsolatedAsyncioTestCase):
                b"granted a 1 2\n", b"busy a\n", b"released a\n", b"pong\n", b"\n", b"left\n", b"waiting b 1\n", b"refused holds b\n",
                b"status 1\n", b"\xff\xfe\n", b"cancelled a\n", b"x" * 100_000, b"waiting a 1\ngranted b 2\n", b"waiting a 1\ngranted a\n")
 
-    def door(self, answer):
+    def door(self, answer, lease=b"refused syntax\n"):
+        """The place of a server that answers the first two lines so."""
         folder = tempfile.mkdtemp(dir="/tmp")
         path = os.path.join(folder, "door")
         door = socket.socket(socket.AF_UNIX)
@@ -382,8 +383,9 @@ class Hostile(unittest.IsolatedAsyncioTestCase):
 
         def serve():
             sock, _ = door.accept()
-            sock.recv(1000)
-            sock.sendall(answer)
+            for it in (lease, answer):
+                if sock.recv(1000):
+                    sock.sendall(it)
             while sock.recv(1000):
                 pass
             sock.close()
@@ -402,6 +404,34 @@ class Hostile(unittest.IsolatedAsyncioTestCase):
                 for call in (client.check, client.status, lambda: client.acquire("a")):
                     with self.assertRaises(LockLost):
                         call()
+
+    def test_a_lease_that_is_none(self):
+        for answer in self.ANSWERS + (b"lease\n", b"lease x\n", b"lease -1\n", b"lease 18446744073709551616\n", b"lease 1 2\n"):
+            with self.subTest(answer=answer[:40]):
+                with self.assertRaises(LockLost):
+                    Client(self.door(b"", answer))
+                with self.assertRaises(LockLost):
+                    asyncio.run(aio.Client.connect(self.door(b"", answer)))
+
+    def test_a_server_that_has_no_place(self):
+        with self.assertRaises(TooMany):
+            Client(self.door(b"", b"refused connections\n"))
+        with self.assertRaises(TooMany):
+            asyncio.run(aio.Client.connect(self.door(b"", b"refused connections\n")))
+
+    def test_an_older_server_that_does_not_know_the_question_for_its_lease(self):
+        def keepers():
+            return {it for it in threading.enumerate() if it.name == "wozgirt-lease"}
+
+        async def task(path):
+            async with await aio.Client.connect(path) as client:
+                return await client.acquire("a")
+        before = keepers()
+        with Client(self.door(b"granted a 7\n")) as client:
+            self.assertEqual(client.acquire("a"), 7)
+            client.check()
+            self.assertEqual(keepers() - before, set())
+        self.assertEqual(asyncio.run(task(self.door(b"granted a 8\n"))), 8)
 
     def test_a_status_that_is_none(self):
         for answer in (b"status\n", b"status x\n", b"status 1\nlock a\n", b"status 1\ngranted a 1\n", b"lock a free - - - - 0 0 0 0\n"):

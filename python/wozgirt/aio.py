@@ -54,7 +54,7 @@ class Client(OfOneProcess):
         """Connects within `timeout` seconds."""
         deadline = time.monotonic() + timeout
         server = lines.place(place)
-        wanted = lines.lease(30.0 if lease is None else lease) if lease is not None or isinstance(server, tuple) else None
+        asked = lines.lease_of(lease, server)
         sock = await _connected(server, deadline)
         try:
             opened = asyncio.open_connection if isinstance(server, tuple) else asyncio.open_unix_connection
@@ -62,16 +62,22 @@ class Client(OfOneProcess):
         except BaseException:
             sock.close()
             raise
-        if wanted is not None:
-            try:
-                client._lease = lines.milliseconds(await client._ask_until(wanted, max(deadline, time.monotonic() + WITHDRAW / 2)))
-            except BaseException as fault:
-                await client.close()
-                if isinstance(fault, LockLost) and time.monotonic() >= deadline:
-                    raise TimeoutError(errno.ETIMEDOUT, "the server does not answer") from None
-                raise
+        try:
+            client._lease = await client._granted_lease(asked, max(deadline, time.monotonic() + WITHDRAW / 2))
+        except BaseException as fault:
+            await client.close()
+            if isinstance(fault, LockLost) and time.monotonic() >= deadline:
+                raise TimeoutError(errno.ETIMEDOUT, "the server does not answer") from None
+            raise
+        if client._lease:
             client._tasks.append(asyncio.create_task(client._speak()))
         return client
+
+    async def _granted_lease(self, line: bytes, deadline: float) -> float:
+        try:
+            return lines.seconds_of(await self._ask_until(line, deadline))
+        except Refused as refused:
+            return lines.no_lease(line, refused)
 
     async def acquire(self, name: str, *, label: int = 0, wait: Optional[float] = None) -> int:
         """The token, as soon as the lock is granted. `NotInTime` if it is not within `wait` seconds, at most WITHDRAW seconds

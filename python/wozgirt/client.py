@@ -10,7 +10,7 @@ import weakref
 from typing import Callable, Deque, Dict, List, NoReturn, Optional, Tuple, TypeVar
 
 from . import lines
-from .lines import LockError, LockLost, LockStatus, NotHolder, NotInTime, NotWaiter, Place, Question
+from .lines import LockError, LockLost, LockStatus, NotHolder, NotInTime, NotWaiter, Place, Question, Refused
 from .turns import Turns
 from .wire import CONNECT, Late, Wire, connected
 
@@ -35,26 +35,31 @@ class Client(Turns):
     within a second; or the connection is closed, and the next call raises `LockLost`. A handler itself calls only `check` and `close`.
 
     With a lease (seconds) the server takes a silence so long for the client's end. A thread of this client then speaks
-    each quarter of it, and `check` raises `LockLost` when half of it is over without an answer. Over TCP the server gives
-    each connection a lease, so one is asked for there in any case."""
+    each quarter of it, and `check` raises `LockLost` when half of it is over without an answer. Over TCP each connection has a
+    lease, so one is asked for there in any case. On a Unix socket the server says whether it gave one, which is kept in the same way."""
 
     _part = PART
 
     def __init__(self, place: Place, *, lease: Optional[float] = None, timeout: float = CONNECT):
         server = lines.place(place)
         until = time.monotonic() + timeout
-        wanted = lines.lease(30.0 if lease is None else lease) if lease is not None or isinstance(server, tuple) else None
+        asked = lines.lease_of(lease, server)
         self._prepare([server], Wire(connected(server, timeout)))
-        if wanted is None:
-            return
         try:
-            self._lease = lines.milliseconds(self._in_turn(lambda: self._ask_or_lose(wanted, until)))
+            self._lease = self._in_turn(lambda: self._granted_lease(asked, until))
         except BaseException as fault:
             self.close()
             if isinstance(fault, LockLost) and time.monotonic() >= until:
                 raise TimeoutError(errno.ETIMEDOUT, "the server does not answer") from None
             raise
-        self._start_keeper()
+        if self._lease:
+            self._start_keeper()
+
+    def _granted_lease(self, line: bytes, until: float) -> float:
+        try:
+            return lines.seconds_of(self._ask_or_lose(line, until))
+        except Refused as refused:
+            return lines.no_lease(line, refused)
 
     def _prepare(self, servers: List[Place], wire: Wire) -> None:
         super().__init__(wire)

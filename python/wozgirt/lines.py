@@ -20,6 +20,10 @@ Places = Union[Place, List[Place]]
 
 MOST = 1 << 64
 LONGEST_LEASE = 365 * 24 * 3600.0
+#: The lease that a client asks for that has to have one, in seconds.
+USUAL_LEASE = 30.0
+#: The line that asks for the lease that the server gave by itself.
+GIVEN_LEASE = b"lease\n"
 
 
 class LockError(Exception):
@@ -161,6 +165,14 @@ def lease(seconds: float) -> bytes:
     return f"lease {max(1, round(seconds * 1000))}\n".encode()
 
 
+def lease_of(seconds: Optional[float], server: Union[str, Tuple[str, int]]) -> bytes:
+    """The line that asks for this lease. Without one it is the usual one over TCP, where each client has a lease, and on a Unix socket
+    the one that the server gave."""
+    if seconds is None and not isinstance(server, tuple):
+        return GIVEN_LEASE
+    return lease(USUAL_LEASE if seconds is None else seconds)
+
+
 def words_of(line: bytes) -> list[str]:
     """The words of an answer."""
     words = line.decode("ascii", "replace").split()
@@ -239,9 +251,16 @@ class Question:
         return count < 2 or (is_number(words[1]) if self.verb in ("status", "lease") else words[1] == self.name)
 
 
-def milliseconds(question: Question) -> float:
-    """The lease in an answer, in seconds."""
-    return number(question.words, 1) / 1000
+def seconds_of(lease: Question) -> float:
+    """The lease in an answer, in seconds; 0 if there is none."""
+    return number(lease.words, 1) / 1000
+
+
+def no_lease(line: bytes, refused: Refused) -> float:
+    """0, if an older server refuses the question which lease it gave, since it gives none on a Unix socket. Else it is raised."""
+    if line == GIVEN_LEASE and refused.why == "syntax":
+        return 0.0
+    raise refused
 
 
 def status(words: list[str]) -> LockStatus:

@@ -42,7 +42,7 @@ class Session(Client):
         self._asked: Optional[Question] = None  # the input that has no answer yet
         self._tokens: Dict[str, int] = {}  # the last of each lock that this client held
         self._grants: Dict[str, int] = {}  # those that came before the answer that says to wait
-        self._lease, self._is_broken, self._is_left = 30.0 if lease is None else lease, True, False
+        self._lease, self._is_broken, self._is_left = lines.USUAL_LEASE if lease is None else lease, True, False
         self._wanted = lines.lease(self._lease)
         try:
             self._find_first(until)
