@@ -5,9 +5,9 @@ use Rattle.std.proofs.lemmas.Bool.{false≢true}
 use Rattle.disks.specs.Held.{Held}
 use Rattle.ring_requests.specs.declared.requests.Request.{Request}
 use Rattle.ring_requests.specs.declared.requests.Request.TheVariants as asked
-use Rattle.ring_shell.specs.Answered.{IsAnswer, IsRefusal, IsOfLines, IsOfFile, MakesNoFile, IsSilent}
-use Rattle.ring_shell.specs.Ended.{IsRefused, HasEnded}
-use Rattle.ring_shell.specs.Left.{HasFront, HasLine, HasEndedAnswered}
+use Rattle.ring_tool.specs.Answered.{IsAnswer, IsRefusal, IsOfLines, IsOfFile, MakesNoFile, IsSilent}
+use Rattle.ring_tool.specs.Ended.{IsRefused, HasEnded}
+use Rattle.ring_tool.specs.Left.{HasFront, HasLine, HasEndedAnswered}
 use Rattle.ring_commands.proofs.ServeRefusals.{no_list}
 use Rattle.lock_commands.proofs.UnreadLists.{unread_list_keeps}
 use Rattle.ring_commands.specs.Faults.{is_bad_list, status_of}

@@ -8,10 +8,10 @@ use Rattle.clap.specs.declared.error.kind.ErrorKind.TheVariants as kind
 use Rattle.ring_requests.specs.declared.requests.Request.{Request}
 use Rattle.ring_commands.specs.Worlds.{World}
 use Rattle.ring_commands.specs.declared.faults.ToolError.TheVariants as tool
-use Rattle.ring_shell.specs.Ended.{HasEnded}
-use Rattle.ring_shell.specs.Left.{HasFront, HasText, HasLine, HasEndedAnswered}
-use Rattle.ring_program.specs.declared.asked.Asked.{Asked}
-use Rattle.ring_program.specs.declared.asked.Asked.TheVariants as asked
+use Rattle.ring_tool.specs.Ended.{HasEnded}
+use Rattle.ring_tool.specs.Left.{HasFront, HasText, HasLine, HasEndedAnswered}
+use Rattle.ring_tool.specs.declared.asked.Asked.{Asked}
+use Rattle.ring_tool.specs.declared.asked.Asked.TheVariants as asked
 
 -- the reading of words is the text of the help or of the version
 abbrev pub IsShown : Error → Type 0

@@ -1,6 +1,6 @@
 //! What words ask of the program.
 
-ghost use Rattle.ring_program.specs.Run.{IsAskedBy};
+ghost use Rattle.ring_tool.specs.Run.{IsAskedBy};
 
 use clap::Error;
 use clap::error::ErrorKind;

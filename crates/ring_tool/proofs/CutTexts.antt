@@ -4,7 +4,7 @@ use Rattle.std.specs.Io.KnownBytes.{append_known}
 use Rattle.text_lines.specs.Writing.{Writes}
 use Rattle.text_lines.specs.declared.write.WriteFault.{WriteFault}
 use Rattle.ring_commands.specs.declared.faults.ToolError.TheVariants as tool
-use Rattle.ring_shell.specs.Left.{IsCut, HasFront, HasLine, HasEndedAnswered}
+use Rattle.ring_tool.specs.Left.{IsCut, HasFront, HasLine, HasEndedAnswered}
 
 -- the rest of what was printed, and then what was not
 longer : (rest left : List ℕ) → 0 < length left → 0 < length (rest ++ left)

@@ -6,8 +6,8 @@ use Rattle.ring_commands.specs.Worlds.{World, world}
 use Rattle.ring_commands.specs.declared.faults.ToolError.{ToolError}
 use Rattle.ring_commands.specs.declared.faults.ToolError.TheVariants as tool
 use Rattle.ring_requests.specs.declared.requests.Request.{Request}
-use Rattle.ring_shell.specs.Answered.{IsAnswer, IsRefusal, IsOfLines, IsOfFile, MakesNoFile, IsSilent}
-use Rattle.ring_shell.specs.Left.{HasFront, IsCut, HasLine}
+use Rattle.ring_tool.specs.Answered.{IsAnswer, IsRefusal, IsOfLines, IsOfFile, MakesNoFile, IsSilent}
+use Rattle.ring_tool.specs.Left.{HasFront, IsCut, HasLine}
 
 -- the world before the output left its buffer: this was printed, and this said on standard error
 abbrev pub before_leaving : World → Option (List ℕ) → Option (List ℕ) → World

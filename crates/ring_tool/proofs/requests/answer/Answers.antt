@@ -2,8 +2,8 @@ use Rattle.std.proofs.Common.{ap, refl, List, ℕ, Option}
 use Rattle.ring_commands.specs.JoinedFolder.{IsJoinAnswer, IsJoinRefusal}
 use Rattle.ring_commands.specs.Worlds.{world}
 use Rattle.ring_commands.specs.declared.faults.ToolError.{ToolError}
-use Rattle.ring_shell.proofs.Asked.{told, refused, told_with, refused_with, kept_anyhow}
-use Rattle.ring_shell.proofs.requests.answer.Goals as goal
+use Rattle.ring_tool.proofs.Asked.{told, refused, told_with, refused_with, kept_anyhow}
+use Rattle.ring_tool.proofs.requests.answer.Goals as goal
 
 pub returns-in-Step : goal.returns-in-Step
 returns-in-Step g c =

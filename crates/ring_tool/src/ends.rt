@@ -4,7 +4,7 @@ ghost use Rattle.std.specs.Prelude.{◌≡◌, ◌≤◌, IfSome};
 ghost use Rattle.std.specs.Io.Buffered.{writer_contents};
 ghost use Rattle.std.specs.Io.KnownBytes.{append_known};
 ghost use Rattle.ring_commands.specs.Faults.{status_of};
-ghost use Rattle.ring_shell.specs.Left.{HasLeft, HasFront, HasText, HasLine, IsLineOf, HasEndedAnswered};
+ghost use Rattle.ring_tool.specs.Left.{HasLeft, HasFront, HasText, HasLine, IsLineOf, HasEndedAnswered};
 
 use ring_commands::faults::ToolError;
 use std::alloc::Global;

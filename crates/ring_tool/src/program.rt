@@ -2,15 +2,15 @@
 
 ghost use Rattle.std.specs.Prelude.{◌≤◌, ℕ, List, Option};
 ghost use Rattle.std.specs.Io.Buffered.{writer_contents};
-ghost use Rattle.ring_program.specs.Run.{HasRun};
-ghost use Rattle.ring_program.specs.declared.asked.Asked.{Asked};
+ghost use Rattle.ring_tool.specs.Run.{HasRun};
+ghost use Rattle.ring_tool.specs.declared.asked.Asked.{Asked};
 ghost use Rattle.ring_commands.specs.Worlds.{world};
 
 use crate::asked::{Asked, read_asked};
 use disks::Disk;
 use ring_commands::faults::ToolError;
-use ring_shell::ends::{Ending, fail, refuse, show};
-use ring_shell::requests::do_request;
+use crate::ends::{Ending, fail, refuse, show};
+use crate::requests::do_request;
 use std::io::{BufWriter, Input, Read, Write};
 use std::sync::Wait;
 use std::thread::Threads;

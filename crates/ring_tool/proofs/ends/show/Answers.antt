@@ -1,9 +1,9 @@
 use Rattle.std.proofs.Common.{ℕ, List, subst}
 use Rattle.std.specs.Io.Buffered.{writer_contents}
 use Rattle.std.specs.Io.KnownBytes.{append_known}
-use Rattle.ring_shell.specs.Left.{HasEndedAnswered}
-use Rattle.ring_shell.proofs.CutTexts.{ended_cut}
-use Rattle.ring_shell.proofs.ends.show.Goals as goal
+use Rattle.ring_tool.specs.Left.{HasEndedAnswered}
+use Rattle.ring_tool.proofs.CutTexts.{ended_cut}
+use Rattle.ring_tool.proofs.ends.show.Goals as goal
 
 pub returns-in-Err-clause-ended : goal.returns-in-Err-clause-ended
 returns-in-Err-clause-ended g c =

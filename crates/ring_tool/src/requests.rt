@@ -2,8 +2,8 @@
 
 ghost use Rattle.std.specs.Prelude.{◌≤◌};
 ghost use Rattle.std.specs.Io.Buffered.{writer_contents};
-ghost use Rattle.ring_shell.specs.Answered.{HasAnswered};
-ghost use Rattle.ring_shell.specs.Ended.{HasEnded};
+ghost use Rattle.ring_tool.specs.Answered.{HasAnswered};
+ghost use Rattle.ring_tool.specs.Ended.{HasEnded};
 ghost use Rattle.ring_commands.specs.Worlds.{world};
 
 use crate::ends::{Ending, done, fail};

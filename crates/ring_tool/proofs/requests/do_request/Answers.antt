@@ -3,9 +3,9 @@ use Rattle.std.specs.Io.Buffered.{writer_contents}
 use Rattle.ring_commands.specs.Worlds.{world}
 use Rattle.ring_commands.specs.declared.faults.ToolError.{ToolError}
 use Rattle.ring_commands.specs.declared.faults.ToolError.TheVariants as tool
-use Rattle.ring_shell.specs.Answered.{IsAnswer, IsRefusal}
-use Rattle.ring_shell.proofs.Endings.{of_ok, of_err, ended_answered, ended_refused}
-use Rattle.ring_shell.proofs.requests.do_request.Goals as goal
+use Rattle.ring_tool.specs.Answered.{IsAnswer, IsRefusal}
+use Rattle.ring_tool.proofs.Endings.{of_ok, of_err, ended_answered, ended_refused}
+use Rattle.ring_tool.proofs.requests.do_request.Goals as goal
 
 pub returns-in-Ok-clause-ended : goal.returns-in-Ok-clause-ended
 returns-in-Ok-clause-ended g c =
