@@ -15,8 +15,8 @@ def run(server, *words, **more):
 
 
 def start(server, *words, **more):
-    return subprocess.Popen([COMMAND, *words], stdout=subprocess.PIPE, stderr=subprocess.PIPE, text=True,
-                            env=dict(os.environ, WOZGIRT_SOCKET=server.path), **more)
+    return subprocess.Popen([COMMAND, *words], text=True, env=dict(os.environ, WOZGIRT_SOCKET=server.path),
+                            **{"stdout": subprocess.PIPE, "stderr": subprocess.PIPE, **more})
 
 
 def close(process):
@@ -45,7 +45,16 @@ class LockCommand(unittest.TestCase):
                 self.assertEqual(server.waiters("a"), 0)
             self.assertEqual(run(server, "lock", "-w", "10", "a", "--", "true").returncode, 0)
             server.stop()
-            self.assertEqual(run(server, "lock", "a", "--", "true").returncode, 69)
+            self.assertEqual(run(server, "lock", "--server-wait", "0", "a", "--", "true").returncode, 69)
+
+    def test_a_name_is_one_word_of_a_line(self):
+        with Server() as server:
+            for name in ("a 1\nacquire b 5\nping", "a b", "a\n", "", "\x7f", "é", b"\xff"):
+                with self.subTest(name=name):
+                    done = run(server, "lock", name, "--", "true")
+                    self.assertEqual((done.returncode, done.stdout), (64, ""))
+                    self.assertIn("wozgirt: no lock can be named `", done.stderr)
+            self.assertEqual(server.calls(), [])
 
     def test_it_waits_and_the_journal_has_the_label(self):
         with Server() as server, server.raw() as sock:
@@ -115,6 +124,26 @@ class LockCommand(unittest.TestCase):
             took = self.lose(server, start(server, "lock", "a", "--", "sh", "-c", "echo up; exec sleep 1000"))
             self.assertLess(took, PATIENCE)
 
+    def test_a_lost_lock_ends_the_command_whatever_becomes_of_the_message(self):
+        with open("/dev/full", "wb") as full, Server() as server:
+            reads, writes = os.pipe()
+            os.set_blocking(writes, False)
+            try:
+                while os.write(writes, bytes(1 << 16)):
+                    pass
+            except BlockingIOError:
+                os.set_blocking(writes, True)
+            for name, errors in (("a", full), ("b", writes)):
+                script = "echo up $$; exec sleep 1000 2>/dev/null"
+                it = start(server, "lock", name, "--", "sh", "-c", script, stderr=errors)
+                command = int(it.stdout.readline().split()[1])
+                server.kill_engine()
+                self.assertEqual(it.wait(PATIENCE), 75)
+                self.assertRaises(ProcessLookupError, os.kill, command, 0)
+                it.stdout.close()
+            os.close(reads)
+            os.close(writes)
+
     def test_a_command_that_does_not_end_is_killed(self):
         with Server() as server:
             words = ("sh", "-c", "trap '' TERM; echo up; while :; do sleep 0.05; done")
@@ -182,6 +211,27 @@ class Looks(unittest.TestCase):
             it.terminate()
             it.wait(PATIENCE)
             close(it)
+
+    @unittest.skipUnless(os.path.exists("/dev/full"), "no /dev/full")
+    def test_there_is_no_room_for_what_is_printed(self):
+        with Server() as server:
+            for words in (("status",), ("watch",), ("bench", "1", "1", "0.01"), ("--version",), ("admin", "--operators", server.operators, "clients")):
+                with self.subTest(words=words), open("/dev/full", "wb") as full:
+                    it = start(server, *words, stdout=full)
+                    self.assertEqual((it.wait(PATIENCE), it.stderr.read()),
+                                     (1, "wozgirt: standard output: No space left on device (os error 28)\n"))
+                    it.stderr.close()
+
+    def test_nobody_reads_what_is_printed(self):
+        with Server() as server:
+            for words in (("status",), ("watch",), ("--version",), ("admin", "--operators", server.operators, "clients")):
+                with self.subTest(words=words):
+                    reads, writes = os.pipe()
+                    os.close(reads)
+                    it = start(server, *words, stdout=writes)
+                    os.close(writes)
+                    self.assertEqual((it.wait(PATIENCE), it.stderr.read()), (-signal.SIGPIPE, ""))
+                    it.stderr.close()
 
     def test_bench(self):
         with Server() as server:

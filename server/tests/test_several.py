@@ -116,11 +116,13 @@ class Several(Commands, Trial):
 
     def test_no_server_and_one_that_is_alone(self):
         self.places = ["/nonexistent/a", "/nonexistent/b"]
-        self.assertEqual(self.run_it("lock", "a", "--", "true"), (69, "", "wozgirt: /nonexistent/b: No such file or directory (os error 2)\n"))
+        self.assertEqual(self.run_it("lock", "--server-wait", "0", "a", "--", "true"),
+                         (69, "", "wozgirt: /nonexistent/b: No such file or directory (os error 2)\n"))
         self.assertEqual(self.run_it("bench")[0], 64)
         with Server() as server:
             self.places = ["/nonexistent/a", server.path]
-            self.assertEqual(self.run_it("lock", "a", "--", "true"), (76, "", f"wozgirt: {server.path}: refused: session\n"))
+            self.assertEqual(self.run_it("lock", "--server-wait", "0", "a", "--", "true"),
+                             (76, "", f"wozgirt: {server.path}: refused: session\n"))
 
 
 @needs_programs

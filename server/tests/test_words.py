@@ -102,8 +102,13 @@ class Completions(unittest.TestCase):
         self.assertEqual(offers("wozgirt", ""), commands | {"--help", "--version"})
         own = {command: options_only(offers("wozgirt", command, "")) for command in commands}
         self.assertEqual(set().union(*own.values()) | {"--help", "--version"}, options_of(text) | {"--every"})
-        self.assertEqual((own["try"], own["status"], own["bench"], own["watch"]),
-                         (own["lock"], {"--socket"}, {"--socket"}, {"--socket", "--every"}))
+        looks = {"--socket", "--server-wait"}
+        self.assertEqual((own["try"], own["status"], own["bench"], own["watch"], own["admin"]),
+                         (own["lock"], looks, {"--socket"}, looks | {"--every"}, {"--operators"}))
+        orders = re.findall(r"^    (\w+)(?: [A-Z]+)*  +\w", text.split("\nwozgirt admin ")[1].split("\n\n")[0], re.MULTILINE)
+        self.assertEqual(offers("wozgirt", "admin", "") - {"--operators"}, set(orders))
+        page = read(PAGES, "wozgirt.1").split(".Sh OPERATORS")[1].split(".Sh ")[0]
+        self.assertEqual(re.findall(r"^\.It Cm (\w+)", page, re.MULTILINE), orders)
 
     @each_shell
     def test_ring_tool(self, offers):

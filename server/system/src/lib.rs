@@ -6,7 +6,9 @@
 //! |---|---|
 //! | `getsockopt` | who is at the other end of a Unix socket ([`peer_of`]) |
 //! | `epoll_create1`, `epoll_ctl`, `epoll_wait` | one thread that serves all connections ([`Poller`]) |
-//! | `sigemptyset`, `sigaddset`, `pthread_sigmask`, `signalfd` | signals as a file that is read ([`Signals`]) |
+//! | `sigemptyset`, `sigfillset`, `sigaddset`, `pthread_sigmask`, `signalfd` | signals as a file that is read ([`Signals`]) |
+//! | `signal`, `raise` | what a signal does by default ([`Signal::reset`], [`Signal::end_program`]) |
+//! | `socket`, `connect` | a Unix socket that is waited for only so long ([`connect_within`]) |
 //! | `kill` | the end of a command, asked for ([`send_signal`]) |
 //! | `getrlimit`, `setrlimit` | how many files may be open ([`permit_files`]) |
 //! | `flock` | a folder that only one server has ([`try_lock`]) |
@@ -19,12 +21,14 @@ mod peers;
 mod polling;
 mod processes;
 mod signals;
+mod sockets;
 
 pub use limits::permit_files;
 pub use peers::{peer_of, Peer};
 pub use polling::{Event, Interest, Poller};
 pub use processes::{inherit, never_wait, send_signal, try_lock};
-pub use signals::{Signal, Signals};
+pub use signals::{hear_nothing, Heard, Signal, Signals};
+pub use sockets::connect_within;
 
 use std::io;
 

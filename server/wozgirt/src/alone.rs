@@ -1,14 +1,21 @@
 //! A lock of one server: it is held as long as the connection lasts.
 
-use crate::client::{token, unexpected, Client, Fault, SOON};
-use crate::lock::{Link, LEASE};
+use crate::answers::{Answer, Verb};
+use crate::client::{fault_of, question, soon, Client, Fault};
+use crate::connecting::while_starting;
+use crate::lock::{Ending, Got, Link, Unanswered, GRACE, LEASE};
 use crate::places::Place;
 use crate::words::{Hold, Patience};
 use std::io;
+use std::thread;
 use std::time::{Duration, Instant};
 use wozgirt_system::{inherit, Event, Interest, Poller};
 
 const SERVER: u64 = 1;
+/// A server that just came up is asked later by who does not wait for the lock: who waits for both, and came first, is then before it.
+const AFTER_OTHERS: Duration = Duration::from_millis(200);
+/// How long a line is read that the system has already.
+const AT_ONCE: Duration = Duration::from_millis(1);
 
 /// The lease as this side keeps it: it speaks after each quarter, and takes the lock for lost after a half, so that the
 /// command has another quarter to end before the server may give the lock to another.
@@ -53,23 +60,85 @@ pub struct Alone {
 
 impl Alone {
     /// Connects, and asks for a lease if there is to be one.
-    pub fn open(place: &Place, hold: &Hold) -> Result<Alone, Fault> {
-        let mut client = Client::open(place)?;
+    pub fn open(place: &Place, hold: &Hold, deadline: Option<Instant>) -> Result<Alone, Fault> {
+        let there = Instant::now() + hold.server_wait;
+        let there = deadline.map_or(there, |deadline| deadline.min(there));
+        let mut attempts = 0;
+        let mut client = while_starting(there, || {
+            attempts += 1;
+            Client::open(place, soon(deadline))
+        })?;
+        if attempts > 1 && hold.patience == Patience::None {
+            thread::sleep(AFTER_OTHERS);
+        }
         let lease = match hold.lease.or(client.is_tcp().then_some(LEASE)) {
             None => None,
             Some(asked) => {
                 let heard = Instant::now();
-                Some(Lease { time: client.lease(asked)?, heard, pinged: None })
+                Some(Lease { time: client.lease(asked, soon(deadline))?, heard, pinged: None })
             }
         };
         Ok(Alone { client, lease, name: hold.name.clone(), closes: hold.closes, poller: Poller::new()? })
     }
 
-    /// The token, or nothing if the lock is not to be had in time.
-    pub fn acquire(&mut self, hold: &Hold) -> Result<Option<u64>, Fault> {
-        let token = acquire(&mut self.client, hold, &mut self.lease)?;
+    /// Asks for the lock, and waits for it as long as the hold says.
+    pub fn acquire(&mut self, hold: &Hold, deadline: Option<Instant>) -> Result<Got, Fault> {
+        let verb = if hold.patience == Patience::None { Verb::Try } else { Verb::Acquire };
+        self.client.send(&question(verb, &self.name, Some(hold.label())))?;
+        let mut answer_due = Some(soon(None));
+        loop {
+            let ping_due = self.lease.as_ref().map(|lease| lease.next_ping().unwrap_or(lease.loss()));
+            let until = [answer_due, deadline, ping_due].into_iter().flatten().min();
+            match self.client.line(until) {
+                Ok(line) => match Answer::read(&line, &self.name).filter(|it| it.is_to(verb) || *it == Answer::Pong) {
+                    Some(Answer::Pong) => self.lease.iter_mut().for_each(Lease::ponged),
+                    Some(Answer::Waiting) if answer_due.is_some() => answer_due = None,
+                    Some(Answer::Busy) => return Ok(Got::Not(Ending::Conflict)),
+                    Some(Answer::Granted(token)) => return self.got(token),
+                    _ => return Err(fault_of(line, &self.name)),
+                },
+                Err(Fault::Late) => {
+                    let now = Instant::now();
+                    if let Some(deadline) = deadline.filter(|deadline| *deadline <= now) {
+                        return self.cancel(answer_due.is_none(), deadline + GRACE);
+                    }
+                    let is_lost = self.lease.as_ref().is_some_and(|lease| lease.loss() <= now);
+                    if is_lost || answer_due.is_some_and(|due| due <= now) {
+                        return Err(Fault::Late);
+                    }
+                }
+                Err(fault) => return Err(fault),
+            }
+            if let Some(lease) = &mut self.lease {
+                lease.ping_if_due(&mut self.client, Instant::now())?;
+            }
+        }
+    }
+
+    /// Waits no longer; the grant may have come first. Where the server does not say so until `end`, closing the connection does
+    /// the same.
+    fn cancel(&mut self, mut is_answered: bool, end: Instant) -> Result<Got, Fault> {
+        self.client.send(&question(Verb::Cancel, &self.name, None))?;
+        let mut granted = None;
+        loop {
+            let line = match self.client.line(Some(end)) {
+                Err(Fault::Late) => return Ok(Got::Not(Ending::Unanswered(Unanswered::Closed))),
+                other => other?,
+            };
+            match (Answer::read(&line, &self.name), granted) {
+                (Some(Answer::Pong), _) => self.lease.iter_mut().for_each(Lease::ponged),
+                (Some(Answer::Waiting), None) if !is_answered => is_answered = true,
+                (Some(Answer::Granted(token)), None) => (is_answered, granted) = (true, Some(token)),
+                (Some(Answer::Cancelled), None) if is_answered => return Ok(Got::Not(Ending::Conflict)),
+                (Some(Answer::Refused("waiter")), Some(token)) => return self.got(token),
+                _ => return Err(fault_of(line, &self.name)),
+            }
+        }
+    }
+
+    fn got(&mut self, token: u64) -> Result<Got, Fault> {
         self.poller.add(&self.client, SERVER, Interest::READS)?;
-        Ok(token)
+        Ok(Got::Token(token))
     }
 }
 
@@ -82,12 +151,13 @@ impl Link for Alone {
         self.lease.as_ref().map(|lease| lease.time)
     }
 
-    fn share(&self) -> io::Result<()> {
+    /// A lease is kept by this program alone, so it ends with COMMAND.
+    fn share(&self) -> io::Result<bool> {
         if self.closes {
-            Ok(())
-        } else {
-            inherit(&self.client)
+            return Ok(false);
         }
+        inherit(&self.client)?;
+        Ok(self.lease.is_none())
     }
 
     fn next_time(&self) -> Option<Instant> {
@@ -96,7 +166,7 @@ impl Link for Alone {
 
     fn look(&mut self, events: &[Event], now: Instant) -> Option<Fault> {
         if events.iter().any(|event| event.key == SERVER) {
-            if let Err(fault) = self.client.read(Some(Duration::from_millis(1))) {
+            if let Err(fault) = self.client.read(Some(AT_ONCE)) {
                 if !matches!(fault, Fault::Late) {
                     return Some(fault);
                 }
@@ -105,7 +175,7 @@ impl Link for Alone {
         while let Some(line) = self.client.line_that_is_there() {
             match &mut self.lease {
                 Some(lease) if line == "pong" => lease.ponged(),
-                _ => return Some(unexpected(line)),
+                _ => return Some(fault_of(line, &self.name)),
             }
         }
         let lease = self.lease.as_mut()?;
@@ -120,71 +190,15 @@ impl Link for Alone {
     }
 
     fn release(&mut self, token: u64) -> Result<(), Fault> {
-        release(&mut self.client, &self.name, token)
-    }
-}
-
-fn acquire(client: &mut Client, hold: &Hold, lease: &mut Option<Lease>) -> Result<Option<u64>, Fault> {
-    let (name, label) = (&hold.name, hold.label.unwrap_or(std::process::id().into()));
-    let verb = if hold.patience == Patience::None { "try" } else { "acquire" };
-    client.send(&format!("{verb} {name} {label}"))?;
-    let deadline = match hold.patience {
-        Patience::For(time) => Some(Instant::now() + time),
-        _ => None,
-    };
-    let mut is_answered = false;
-    loop {
-        let answer_due = (!is_answered).then(|| Instant::now() + SOON);
-        let ping_due = lease.as_ref().map(|lease| lease.next_ping().unwrap_or(lease.loss()));
-        let until = [answer_due, deadline.filter(|_| is_answered), ping_due].into_iter().flatten().min();
-        match client.line(until) {
-            Ok(line) if line == "pong" => lease.iter_mut().for_each(Lease::ponged),
-            Ok(line) if line.starts_with("waiting ") => is_answered = true,
-            Ok(line) if line.starts_with("busy ") => return Ok(None),
-            Ok(line) => return token(&line, name).map(Some).ok_or_else(|| unexpected(line)),
-            Err(Fault::Late) => {
-                let now = Instant::now();
-                if deadline.is_some_and(|deadline| deadline <= now) {
-                    return cancel(client, name);
-                }
-                let is_lost = lease.as_ref().is_some_and(|lease| lease.loss() <= now);
-                if is_lost || answer_due.is_some_and(|due| due <= now) {
-                    return Err(Fault::Late);
-                }
+        self.client.send(&question(Verb::Release, &self.name, Some(token)))?;
+        let until = Some(soon(None));
+        loop {
+            let line = self.client.line(until)?;
+            match Answer::read(&line, &self.name) {
+                Some(Answer::Released) => return Ok(()),
+                Some(Answer::Pong) => {}
+                _ => return Err(fault_of(line, &self.name)),
             }
-            Err(fault) => return Err(fault),
-        }
-        if let Some(lease) = lease {
-            lease.ping_if_due(client, Instant::now())?;
-        }
-    }
-}
-
-/// Waits no longer; the grant may have come first.
-fn cancel(client: &mut Client, name: &str) -> Result<Option<u64>, Fault> {
-    client.send(&format!("cancel {name}"))?;
-    let until = Some(Instant::now() + SOON);
-    let mut granted = None;
-    loop {
-        let line = client.line(until)?;
-        match line.split(' ').next() {
-            Some("cancelled") => return Ok(None),
-            Some("refused") if granted.is_some() => return Ok(granted),
-            Some("pong") => {}
-            _ => granted = Some(token(&line, name).ok_or_else(|| unexpected(line))?),
-        }
-    }
-}
-
-fn release(client: &mut Client, name: &str, token: u64) -> Result<(), Fault> {
-    client.send(&format!("release {name} {token}"))?;
-    let until = Some(Instant::now() + SOON);
-    loop {
-        let line = client.line(until)?;
-        match line.split(' ').next() {
-            Some("released") => return Ok(()),
-            Some("pong") => {}
-            _ => return Err(unexpected(line)),
         }
     }
 }

@@ -1,7 +1,8 @@
 //! `wozgirt bench`: clients that take and release locks without a pause. What is measured begins when each has been granted its
 //! lock once: until then some are alone, which a busy machine makes long.
 
-use crate::client::{token, unexpected, Client, Fault};
+use crate::answers::{Answer, Verb};
+use crate::client::{fault_of, question, soon, Client, Fault};
 use crate::places::Place;
 use crate::words::Load;
 use std::sync::atomic::{AtomicBool, AtomicU64, AtomicUsize, Ordering};
@@ -56,14 +57,14 @@ impl From<Fault> for Wrong {
     }
 }
 
-/// Measures, and prints one line.
-pub fn run(place: &Place, load: &Load) -> Result<(), Wrong> {
-    let lines = Client::open(place)?.status()?;
+/// Measures: one line.
+pub fn run(place: &Place, load: &Load) -> Result<String, Wrong> {
+    let lines = Client::open(place, soon(None))?.list("status", soon(None))?;
     let names: Vec<&str> = lines.iter().filter_map(|line| line.split(' ').nth(1)).collect();
     if names.len() < load.locks {
         return Err(Wrong::Locks(names.len()));
     }
-    let clients = (0..load.clients).map(|_| Client::open(place)).collect::<Result<Vec<_>, _>>()?;
+    let clients = (0..load.clients).map(|_| Client::open(place, soon(None))).collect::<Result<Vec<_>, _>>()?;
     let inside: Vec<Inside> = (0..load.locks).map(|_| Inside::default()).collect();
     let (run, barrier) =
         (Run { away: AtomicUsize::new(load.clients), is_over: AtomicBool::new(false) }, Barrier::new(load.clients + 1));
@@ -90,20 +91,19 @@ pub fn run(place: &Place, load: &Load) -> Result<(), Wrong> {
             threads.into_iter().map(|it| it.join().unwrap_or(Err(Wrong::Locks(0)))).collect();
         Ok::<_, Wrong>((each?, begun.elapsed()))
     })?;
-    println!("{}", summary(load, &each, took));
-    Ok(())
+    Ok(summary(load, &each, took) + "\n")
 }
 
 /// The times of one client's acquires while all take part, in tenths of microseconds.
 fn hand_over(mut client: Client, name: &str, number: usize, inside: &Inside, run: &Run) -> Result<Vec<u32>, Wrong> {
     let mut times = Vec::with_capacity(1 << 12);
-    let acquire = format!("acquire {name} {number}"); // so the journal tells the clients apart
+    let acquire = question(Verb::Acquire, name, Some(number as u64)); // so the journal tells the clients apart
     let mut is_new = true;
     while !run.is_over.load(Ordering::Relaxed) {
         let begun = Instant::now();
         client.send(&acquire)?;
         let mut line = client.line(None)?;
-        if line.starts_with("waiting ") {
+        if Answer::read(&line, name) == Some(Answer::Waiting) {
             line = client.line(None)?;
         }
         if std::mem::take(&mut is_new) {
@@ -111,16 +111,16 @@ fn hand_over(mut client: Client, name: &str, number: usize, inside: &Inside, run
         } else if run.away.load(Ordering::Relaxed) == 0 {
             times.push(u32::try_from(begun.elapsed().as_nanos() / 100).unwrap_or(u32::MAX));
         }
-        let token = token(&line, name).ok_or_else(|| unexpected(line))?;
+        let Some(Answer::Granted(token)) = Answer::read(&line, name) else { return Err(fault_of(line, name).into()) };
         let is_first = inside.count.fetch_add(1, Ordering::SeqCst) == 0;
         if !is_first || inside.token.swap(token, Ordering::SeqCst) >= token {
             return Err(Wrong::Broken(name.into()));
         }
         inside.count.fetch_sub(1, Ordering::SeqCst);
-        client.send(&format!("release {name} {token}"))?;
+        client.send(&question(Verb::Release, name, Some(token)))?;
         let line = client.line(None)?;
-        if !line.starts_with("released ") {
-            return Err(unexpected(line).into());
+        if Answer::read(&line, name) != Some(Answer::Released) {
+            return Err(fault_of(line, name).into());
         }
     }
     Ok(times)

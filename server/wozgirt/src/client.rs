@@ -1,15 +1,21 @@
 //! A connection to the server, whose calls wait.
 
+use crate::answers::{Answer, Verb};
+use crate::connecting::Stream;
 use crate::places::Place;
 use std::fmt;
 use std::io::{self, ErrorKind, Read, Write};
-use std::net::{TcpStream, ToSocketAddrs};
 use std::os::fd::{AsFd, BorrowedFd};
-use std::os::unix::net::UnixStream;
 use std::time::{Duration, Instant};
 
-/// How long the server may take to be there, and to answer what needs no waiting.
-pub const SOON: Duration = Duration::from_secs(10);
+/// How long the server may take to be reached, and to answer what needs no waiting.
+const SOON: Duration = Duration::from_secs(10);
+
+/// When a server has to have answered what needs no waiting, if nothing is waited for longer than until `deadline`.
+pub fn soon(deadline: Option<Instant>) -> Instant {
+    let end = Instant::now() + SOON;
+    deadline.map_or(end, |deadline| deadline.min(end))
+}
 
 /// Why there is no answer.
 #[derive(Debug)]
@@ -62,54 +68,22 @@ impl From<io::Error> for Fault {
     }
 }
 
-enum Stream {
-    Unix(UnixStream),
-    Tcp(TcpStream),
-}
-
-impl Stream {
-    fn open(place: &Place) -> io::Result<Stream> {
-        match place {
-            Place::Path(path) => UnixStream::connect(path).map(Stream::Unix),
-            Place::Tcp(address) => {
-                let stream = TcpStream::connect(address)?;
-                stream.set_nodelay(true)?;
-                Ok(Stream::Tcp(stream))
-            }
-        }
-    }
-
-    /// The same, but the other end may take only so long to be there.
-    fn open_within(place: &Place, time: Duration) -> io::Result<Stream> {
-        let Place::Tcp(address) = place else { return Stream::open(place) };
-        let mut fault = io::Error::new(ErrorKind::NotFound, "the name has no address");
-        for address in address.to_socket_addrs()? {
-            match TcpStream::connect_timeout(&address, time) {
-                Ok(stream) => return stream.set_nodelay(true).map(|()| Stream::Tcp(stream)),
-                Err(other) => fault = other,
-            }
-        }
-        Err(fault)
-    }
-
-    fn set_read_timeout(&self, time: Option<Duration>) -> io::Result<()> {
+impl Fault {
+    /// Whether a server did not answer in time.
+    pub fn is_late(&self) -> bool {
         match self {
-            Stream::Unix(stream) => stream.set_read_timeout(time),
-            Stream::Tcp(stream) => stream.set_read_timeout(time),
+            Fault::Late => true,
+            Fault::At(_, fault) => fault.is_late(),
+            _ => false,
         }
     }
 
-    fn read(&mut self, bytes: &mut [u8]) -> io::Result<usize> {
+    /// Whether it is that of a server that may just be starting: nobody listens at its place yet.
+    pub fn is_of_a_start(&self) -> bool {
         match self {
-            Stream::Unix(stream) => stream.read(bytes),
-            Stream::Tcp(stream) => stream.read(bytes),
-        }
-    }
-
-    fn write_all(&mut self, bytes: &[u8]) -> io::Result<()> {
-        match self {
-            Stream::Unix(stream) => stream.write_all(bytes),
-            Stream::Tcp(stream) => stream.write_all(bytes),
+            Fault::Connect(_, fault) => matches!(fault.kind(), ErrorKind::NotFound | ErrorKind::ConnectionRefused),
+            Fault::At(_, fault) => fault.is_of_a_start(),
+            _ => false,
         }
     }
 }
@@ -133,19 +107,9 @@ impl AsFd for Client {
 }
 
 impl Client {
-    /// Connects.
-    pub fn open(place: &Place) -> Result<Client, Fault> {
-        Client::over(place, Stream::open(place))
-    }
-
-    /// Connects to one of several servers, which may be gone.
-    pub fn open_within(place: &Place, time: Duration) -> Result<Client, Fault> {
-        Client::over(place, Stream::open_within(place, time))
-    }
-
-    fn over(place: &Place, stream: io::Result<Stream>) -> Result<Client, Fault> {
-        let stream = stream.map_err(|fault| Fault::Connect(place.clone(), fault))?;
-        Ok(Client { stream, bytes: Vec::new(), taken: 0, timeout: None })
+    /// Connects; `Late` if the server does not take the connection until then.
+    pub fn open(place: &Place, until: Instant) -> Result<Client, Fault> {
+        Ok(Client { stream: Stream::open(place, until)?, bytes: Vec::new(), taken: 0, timeout: None })
     }
 
     /// Whether the server is reached over TCP.
@@ -158,7 +122,11 @@ impl Client {
         let mut text = Vec::with_capacity(line.len() + 1);
         text.extend_from_slice(line.as_bytes());
         text.push(b'\n');
-        self.stream.write_all(&text).map_err(Fault::from)
+        let written = match &mut self.stream {
+            Stream::Unix(stream) => stream.write_all(&text),
+            Stream::Tcp(stream) => stream.write_all(&text),
+        };
+        written.map_err(Fault::from)
     }
 
     /// The next line of the server; `Late` if there is none until then.
@@ -196,12 +164,19 @@ impl Client {
     /// Reads what is there, or waits so long for it.
     pub fn read(&mut self, timeout: Option<Duration>) -> Result<(), Fault> {
         if timeout != self.timeout {
-            self.stream.set_read_timeout(timeout)?;
+            match &self.stream {
+                Stream::Unix(stream) => stream.set_read_timeout(timeout)?,
+                Stream::Tcp(stream) => stream.set_read_timeout(timeout)?,
+            }
             self.timeout = timeout;
         }
         let mut bytes = [0; 4096];
         loop {
-            match self.stream.read(&mut bytes) {
+            let read = match &mut self.stream {
+                Stream::Unix(stream) => stream.read(&mut bytes),
+                Stream::Tcp(stream) => stream.read(&mut bytes),
+            };
+            match read {
                 Ok(0) => return Err(Fault::Closed),
                 Ok(count) => {
                     self.bytes.extend_from_slice(&bytes[..count]);
@@ -214,21 +189,21 @@ impl Client {
     }
 
     /// Asks for a lease: the one that the server grants.
-    pub fn lease(&mut self, lease: Duration) -> Result<Duration, Fault> {
+    pub fn lease(&mut self, lease: Duration, until: Instant) -> Result<Duration, Fault> {
         self.send(&format!("lease {}", lease.as_millis()))?;
-        let line = self.line(Some(Instant::now() + SOON))?;
+        let line = self.line(Some(until))?;
         let milliseconds = line.strip_prefix("lease ").and_then(|word| word.parse().ok());
         milliseconds.map(Duration::from_millis).ok_or_else(|| unexpected(line))
     }
 
-    /// How all locks are: a line for each.
-    pub fn status(&mut self) -> Result<Vec<String>, Fault> {
-        self.send("status")?;
-        let until = Some(Instant::now() + SOON);
-        let first = self.line(until)?;
-        let count: Option<usize> = first.strip_prefix("status ").and_then(|word| word.parse().ok());
+    /// The lines behind the one that answers `question`, which begins with its word and tells their number.
+    pub fn list(&mut self, question: &str, until: Instant) -> Result<Vec<String>, Fault> {
+        self.send(question)?;
+        let first = self.line(Some(until))?;
+        let count: Option<usize> =
+            first.strip_prefix(question).and_then(|rest| rest.strip_prefix(' ')).and_then(|word| word.parse().ok());
         let count = count.ok_or_else(|| unexpected(first))?;
-        (0..count).map(|_| self.line(until)).collect()
+        (0..count).map(|_| self.line(Some(until))).collect()
     }
 }
 
@@ -240,7 +215,16 @@ pub fn unexpected(line: String) -> Fault {
     }
 }
 
-/// The token in `granted NAME TOKEN`.
-pub fn token(line: &str, name: &str) -> Option<u64> {
-    line.strip_prefix("granted ")?.strip_prefix(name)?.strip_prefix(' ')?.parse().ok()
+/// What is asked about a lock, as the line that asks it.
+pub fn question(verb: Verb, name: &str, number: Option<u64>) -> String {
+    let word = verb.word();
+    number.map_or_else(|| format!("{word} {name}"), |number| format!("{word} {name} {number}"))
+}
+
+/// The fault of a line that refuses what was asked about this lock, or does not answer it.
+pub fn fault_of(line: String, name: &str) -> Fault {
+    match Answer::read(&line, name) {
+        Some(Answer::Refused(_)) => unexpected(line),
+        _ => Fault::Unexpected(line),
+    }
 }

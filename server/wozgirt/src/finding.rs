@@ -29,8 +29,10 @@ pub struct Search {
     pub lease: Duration,
     /// When nobody wants it any more.
     pub until: Instant,
-    /// How often all are tried.
+    /// How often all are tried,
     pub rounds: usize,
+    /// and until when, while one of them may just be starting.
+    pub there: Instant,
 }
 
 /// A server that has the session.
@@ -54,29 +56,38 @@ impl Search {
     pub fn run(&self) -> Result<Found, Fault> {
         let count = self.places.len();
         let mut fault = Fault::Nobody;
-        for round in 0..self.rounds {
+        for round in 1.. {
+            let mut is_starting = false;
             for i in 0..count {
                 let at = (self.first + i) % count;
-                match self.try_one(at) {
+                let other = match self.try_one(at, count - i) {
                     Ok(found) => return Ok(found),
-                    Err(Fault::Connect(place, why)) => fault = Fault::Connect(place, why),
-                    Err(other) => fault = Fault::At(self.places[at].clone(), Box::new(other)),
+                    Err(known @ (Fault::Connect(..) | Fault::At(..))) => known,
+                    Err(other) => Fault::At(self.places[at].clone(), Box::new(other)),
+                };
+                is_starting |= other.is_of_a_start();
+                // what a server says, or that it says nothing, tells more than that another is not there
+                if matches!(fault, Fault::Nobody) || fault.is_of_a_start() || !other.is_of_a_start() {
+                    fault = other;
                 }
                 if Instant::now() >= self.until {
                     return Err(fault);
                 }
             }
-            if round + 1 < self.rounds {
-                thread::sleep(PAUSE);
+            if round >= self.rounds && !(is_starting && Instant::now() < self.there) {
+                break;
             }
+            thread::sleep(PAUSE.min(self.until.saturating_duration_since(Instant::now())));
         }
         Err(fault)
     }
 
-    fn try_one(&self, at: usize) -> Result<Found, Fault> {
+    /// Tries one server; so many share the time that is left.
+    fn try_one(&self, at: usize, sharers: usize) -> Result<Found, Fault> {
         let begun = Instant::now();
-        let left = self.until.saturating_duration_since(begun).max(LEAST);
-        let mut client = Client::open_within(&self.places[at], CONNECT.min(left))?;
+        let share = self.until.saturating_duration_since(begun) / u32::try_from(sharers).unwrap_or(1);
+        let left = share.max(LEAST);
+        let mut client = Client::open(&self.places[at], begun + CONNECT.min(left))?;
         let end = Some(begun + ANSWER.min(left));
         client.send(&format!("session {}", self.key))?;
         let first = client.line(end)?;

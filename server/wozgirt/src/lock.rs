@@ -2,18 +2,26 @@
 
 use crate::alone::Alone;
 use crate::client::Fault;
+use crate::output::{complain, Aside};
 use crate::places::Place;
 use crate::session::Session;
-use crate::words::Hold;
+use crate::words::{Hold, Patience};
+use std::ffi::OsString;
 use std::fmt;
-use std::io;
+use std::io::{self, ErrorKind, Read};
+use std::os::unix::net::UnixStream;
 use std::os::unix::process::{CommandExt, ExitStatusExt};
 use std::process::{Child, Command, ExitStatus};
 use std::time::{Duration, Instant};
-use wozgirt_system::{send_signal, Event, Interest, Poller, Signal, Signals};
+use wozgirt_system::{inherit, send_signal, Event, Heard, Interest, Poller, Signal, Signals};
 
 /// The lease over TCP, and of several servers, if none is asked for.
 pub const LEASE: Duration = Duration::from_secs(30);
+/// How long a server may take, when the time is over, to say that nothing is waited for any more; and then, that a session is over.
+pub const GRACE: Duration = Duration::from_millis(120);
+const LAST_GRACE: Duration = Duration::from_millis(160);
+/// How long it may take else, when this client leaves.
+const FAREWELL: Duration = Duration::from_secs(1);
 const SIGNALS: u64 = 0;
 /// How long at least something is waited for.
 const LEAST: Duration = Duration::from_millis(1);
@@ -25,10 +33,36 @@ pub enum Ending {
     Command(ExitStatus),
     /// The lock was not to be had in time.
     Conflict,
+    /// The same, and the server did not say so.
+    Unanswered(Unanswered),
     /// The lock was lost while the command ran, and the command was ended.
     Lost,
     /// A signal came before the lock was had.
     Signal(Signal),
+}
+
+/// What became of the question when the time was over, and the server did not answer.
+#[derive(Debug)]
+pub enum Unanswered {
+    /// The lock was not asked for.
+    NotAsked,
+    /// The connection is closed, and with it what was asked on it.
+    Closed,
+    /// It is the session's, which is over when it was silent for so long.
+    Lease(Duration),
+}
+
+impl fmt::Display for Unanswered {
+    fn fmt(&self, f: &mut fmt::Formatter<'_>) -> fmt::Result {
+        f.write_str("not in time: the server does not answer; ")?;
+        match self {
+            Unanswered::NotAsked => f.write_str("the lock was not asked for"),
+            Unanswered::Closed => f.write_str("the connection is closed, so nothing waits for the lock"),
+            Unanswered::Lease(lease) => {
+                write!(f, "what was asked is withdrawn at the end of the lease, of {} s", lease.as_secs_f64())
+            }
+        }
+    }
 }
 
 /// Why the command was not run.
@@ -37,7 +71,7 @@ pub enum NotRun {
     /// The server cannot be asked, or refuses.
     Server(Fault),
     /// The command cannot be run.
-    Command(String, io::Error),
+    Command(OsString, io::Error),
     /// The system refused something else.
     System(io::Error),
 }
@@ -46,7 +80,7 @@ impl fmt::Display for NotRun {
     fn fmt(&self, f: &mut fmt::Formatter<'_>) -> fmt::Result {
         match self {
             NotRun::Server(fault) => fault.fmt(f),
-            NotRun::Command(command, fault) => write!(f, "{command}: {fault}"),
+            NotRun::Command(command, fault) => write!(f, "{}: {fault}", command.to_string_lossy()),
             NotRun::System(fault) => fault.fmt(f),
         }
     }
@@ -70,10 +104,8 @@ impl From<io::Error> for NotRun {
 pub enum Got {
     /// It is held, with this token.
     Token(u64),
-    /// It was not to be had in time.
-    Conflict,
-    /// A signal ended the wait.
-    Signal(Signal),
+    /// It is not, and this is how it ended.
+    Not(Ending),
 }
 
 /// One server or several that keep the lock while COMMAND runs.
@@ -82,8 +114,8 @@ pub trait Link {
     fn poller(&mut self) -> &mut Poller;
     /// The lease, if there is one.
     fn lease(&self) -> Option<Duration>;
-    /// Has COMMAND inherit what keeps the lock, if that is wanted.
-    fn share(&self) -> io::Result<()>;
+    /// Has COMMAND inherit what keeps the lock, if that is wanted: whether nothing else keeps it.
+    fn share(&self) -> io::Result<bool>;
     /// When something is to be done without being told.
     fn next_time(&self) -> Option<Instant>;
     /// Does what is due. Why the lock is lost, if it is.
@@ -96,28 +128,53 @@ pub trait Link {
 
 /// Runs the command while the lock is held, by this server or by these.
 pub fn run(places: &[Place], hold: &Hold) -> Result<Ending, NotRun> {
-    if let [place] = places {
-        let mut alone = Alone::open(place, hold)?;
-        return match alone.acquire(hold)? {
-            Some(token) => {
-                let signals = heard(alone.poller())?;
-                command(hold, token, &mut alone, signals)
-            }
-            None => Ok(Ending::Conflict),
-        };
+    Signal::Child.reset()?; // where the parent ignores it, no status would be known
+    let deadline = match hold.patience {
+        Patience::For(time) => Some(Instant::now() + time),
+        Patience::Endless | Patience::None => None,
+    };
+    let opened = match places {
+        [place] => Alone::open(place, hold, deadline).map(Opened::Alone),
+        _ => Session::open(places, hold, deadline).map(Opened::Session),
+    };
+    match opened {
+        Ok(Opened::Alone(alone)) => run_alone(alone, hold, deadline),
+        Ok(Opened::Session(session)) => run_in_session(session, hold, deadline),
+        Err(fault) if fault.is_late() && deadline.is_some_and(|deadline| deadline <= Instant::now()) => {
+            Ok(Ending::Unanswered(Unanswered::NotAsked))
+        }
+        Err(fault) => Err(fault.into()),
     }
-    let mut session = Session::open(places, hold)?;
-    let ending = run_in(&mut session, hold);
-    session.leave();
-    ending
 }
 
-fn run_in(session: &mut Session, hold: &Hold) -> Result<Ending, NotRun> {
-    let mut signals = heard(session.poller())?;
-    match session.acquire(hold, &mut signals)? {
-        Got::Token(token) => command(hold, token, session, signals),
-        Got::Conflict => Ok(Ending::Conflict),
-        Got::Signal(signal) => Ok(Ending::Signal(signal)),
+enum Opened {
+    Alone(Alone),
+    Session(Session),
+}
+
+fn run_alone(mut alone: Alone, hold: &Hold, deadline: Option<Instant>) -> Result<Ending, NotRun> {
+    match alone.acquire(hold, deadline)? {
+        Got::Token(token) => {
+            let signals = heard(alone.poller())?;
+            command(hold, token, &mut alone, signals)
+        }
+        Got::Not(ending) => Ok(ending),
+    }
+}
+
+fn run_in_session(mut session: Session, hold: &Hold, deadline: Option<Instant>) -> Result<Ending, NotRun> {
+    let ending = (|| {
+        let mut signals = heard(session.poller())?;
+        match session.acquire(hold, deadline, &mut signals)? {
+            Got::Token(token) => command(hold, token, &mut session, signals),
+            Got::Not(ending) => Ok(ending),
+        }
+    })();
+    let is_late = matches!(ending, Ok(Ending::Conflict | Ending::Unanswered(_)));
+    let until = deadline.filter(|_| is_late).map(|deadline| deadline + LAST_GRACE);
+    match (session.leave(until.unwrap_or_else(|| Instant::now() + FAREWELL)), ending) {
+        (true, Ok(Ending::Unanswered(_))) => Ok(Ending::Conflict),
+        (_, ending) => ending,
     }
 }
 
@@ -129,18 +186,41 @@ fn heard(poller: &Poller) -> io::Result<Signals> {
 }
 
 fn command(hold: &Hold, token: u64, link: &mut impl Link, mut signals: Signals) -> Result<Ending, NotRun> {
-    link.share()?;
+    let pair = if link.share()? && !hold.is_of_command_only { Some(LeftBehind::new()?) } else { None };
     let child = start(hold, token)?;
+    let left_behind = pair.map(|(here, _)| here);
     let kill_after = link.lease().map_or(hold.kill_after, |lease| hold.kill_after.min(lease / 4));
-    let mut guard = Guard { child, is_group: hold.is_group, ends_at: None };
+    let mut guard = Guard { child, is_group: hold.is_group, ends_at: None, said: Vec::new() };
     let status = guard.watch(link, &mut signals, kill_after)?;
     if guard.ends_at.is_some() {
         return Ok(Ending::Lost);
     }
+    if left_behind.is_some_and(LeftBehind::has_both) {
+        return Ok(Ending::Command(status)); // who was left behind keeps the lock
+    }
     if let Err(fault) = link.release(token) {
-        eprintln!("wozgirt: after COMMAND had ended: {fault}");
+        complain(format_args!("after COMMAND had ended: {fault}"));
     }
     Ok(Ending::Command(status))
+}
+
+/// One end of a pair, of which COMMAND inherits the other beside the connection. So it tells whether a program that COMMAND left
+/// behind has both.
+struct LeftBehind(UnixStream);
+
+impl LeftBehind {
+    /// With the end that is to be closed here when COMMAND has it.
+    fn new() -> io::Result<(LeftBehind, UnixStream)> {
+        let (here, there) = UnixStream::pair()?;
+        here.set_nonblocking(true)?;
+        inherit(&there)?;
+        Ok((LeftBehind(here), there))
+    }
+
+    /// Whether there is one.
+    fn has_both(mut self) -> bool {
+        matches!(self.0.read(&mut [0]), Err(fault) if fault.kind() == ErrorKind::WouldBlock)
+    }
 }
 
 fn start(hold: &Hold, token: u64) -> Result<Child, NotRun> {
@@ -161,6 +241,8 @@ struct Guard {
     is_group: bool,
     /// After the loss of the lock: when the command is killed.
     ends_at: Option<Instant>,
+    /// What was said meanwhile: nobody may read it, and the command is to be watched.
+    said: Vec<Aside>,
 }
 
 impl Guard {
@@ -178,14 +260,14 @@ impl Guard {
             let until = self.ends_at.or(link.next_time());
             let time = until.map(|until| until.saturating_duration_since(Instant::now()).max(LEAST));
             link.poller().wait(time, &mut events)?;
-            while let Some(signal) = signals.next_signal() {
-                self.pass_on(signal);
+            while let Some(heard) = signals.next_heard() {
+                self.pass_on(heard);
             }
             let now = Instant::now();
             if self.ends_at.is_none() {
                 if let Some(why) = link.look(&events, now) {
-                    eprintln!("wozgirt: the lock is lost ({why}); COMMAND is ended");
                     self.send(Signal::Terminate);
+                    self.said.push(Aside::complain(format!("the lock is lost ({why}); COMMAND is ended")));
                     self.ends_at = Some(now + kill_after);
                     link.give_up()?;
                 }
@@ -195,18 +277,18 @@ impl Guard {
         }
     }
 
-    /// A terminal sends its signals to the command too, unless that has a group of its own.
-    fn pass_on(&self, signal: Signal) {
+    /// A key of the terminal sends its signal to the command too, unless that has a group of its own; a process, to this program alone.
+    fn pass_on(&mut self, Heard { signal, is_of_kernel }: Heard) {
         match signal {
             Signal::Terminate | Signal::HangUp => self.send(signal),
-            Signal::Interrupt | Signal::Quit if self.is_group => self.send(signal),
+            Signal::Interrupt | Signal::Quit if self.is_group || !is_of_kernel => self.send(signal),
             _ => {}
         }
     }
 
-    fn send(&self, signal: Signal) {
+    fn send(&mut self, signal: Signal) {
         if let Err(fault) = send_signal(&self.child, signal, self.is_group) {
-            eprintln!("wozgirt: {signal:?} cannot be sent to COMMAND: {fault}");
+            self.said.push(Aside::complain(format!("{signal:?} cannot be sent to COMMAND: {fault}")));
         }
     }
 }

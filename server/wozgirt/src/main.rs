@@ -1,61 +1,120 @@
 //! The command `wozgirt`: a lock around another command, and looks at the server. See `--help`.
 
+mod admin;
 mod alone;
+mod answers;
 mod bench;
 mod client;
+mod connecting;
 mod finding;
+mod help;
 mod lock;
+mod output;
+mod parsing;
 mod places;
 mod session;
 mod status;
+mod table;
 mod words;
 
 use client::Fault;
 use lock::{Ending, NotRun};
+use output::{complain, print};
+use parsing::{parse, Usual};
+use std::env::{args_os, var_os};
+use std::fmt;
+use std::io;
 use std::process::ExitCode;
-use words::{parse, Words, USAGE};
+use words::Words;
 
-const PLACE: &str = "/run/wozgirt/lock.sock";
+const SOCKET: &str = "/run/wozgirt/lock.sock";
+const OPERATORS: &str = "/run/wozgirt/operators.sock";
+/// Standard output cannot be written; `flock(1)` has this status too.
+const NOT_WRITTEN: u8 = 1;
 // statuses as `sysexits.h` has them
-const USAGE_STATUS: u8 = 64;
+const USAGE: u8 = 64;
 const UNAVAILABLE: u8 = 69;
 const LOST: u8 = 75;
 const PROTOCOL: u8 = 76;
 
+/// Why something else than a lock was not had.
+#[derive(Debug)]
+pub enum CannotDo {
+    /// The server cannot be asked, or refuses.
+    Server(Fault),
+    /// The server refuses, and what that means.
+    Refused(Fault, String),
+    /// Standard output cannot be written.
+    Output(io::Error),
+}
+
+impl fmt::Display for CannotDo {
+    fn fmt(&self, f: &mut fmt::Formatter<'_>) -> fmt::Result {
+        match self {
+            CannotDo::Server(fault) => fault.fmt(f),
+            CannotDo::Refused(fault, why) => write!(f, "{fault} ({why})"),
+            CannotDo::Output(fault) => write!(f, "standard output: {fault}"),
+        }
+    }
+}
+
+impl std::error::Error for CannotDo {}
+
+impl From<Fault> for CannotDo {
+    fn from(fault: Fault) -> CannotDo {
+        CannotDo::Server(fault)
+    }
+}
+
+impl From<io::Error> for CannotDo {
+    fn from(fault: io::Error) -> CannotDo {
+        CannotDo::Output(fault)
+    }
+}
+
 fn main() -> ExitCode {
-    let place = std::env::var("WOZGIRT_SOCKET").unwrap_or_else(|_| PLACE.into());
-    let status = match parse(std::env::args().skip(1), &place) {
+    let place = |name, usual: &str| var_os(name).unwrap_or_else(|| usual.into());
+    let usual = Usual { socket: place("WOZGIRT_SOCKET", SOCKET), operators: place("WOZGIRT_OPERATORS", OPERATORS) };
+    let status = match parse(args_os().skip(1), usual) {
         Ok(Words::Lock(places, hold)) => match lock::run(&places, &hold) {
             Ok(Ending::Command(ended)) => lock::status(ended),
             Ok(Ending::Conflict) => hold.conflict_status,
+            Ok(Ending::Unanswered(why)) => say(why, hold.conflict_status),
             Ok(Ending::Lost) => LOST,
             Ok(Ending::Signal(signal)) => 128 + signal.number() as u8,
             Err(fault) => say(&fault, status_of(&fault)),
         },
-        Ok(Words::Status(places, every)) => match status::run(&places, every) {
-            Ok(()) => 0,
-            Err(fault) => say(&fault, status_of_fault(&fault)),
-        },
+        Ok(Words::Status(look)) => done(status::run(&look)),
+        Ok(Words::Admin(operators, order)) => done(admin::run(&operators, &order)),
         Ok(Words::Bench(place, load)) => match bench::run(&place, &load) {
-            Ok(()) => 0,
-            Err(wrong) => say(&wrong, 1),
+            Ok(text) => done(print(&text).map_err(CannotDo::Output)),
+            Err(wrong) => say(wrong, 1),
         },
-        Ok(Words::Help) => {
-            println!("{USAGE}");
-            0
-        }
+        Ok(Words::Help) => done(print(help::USAGE).map_err(CannotDo::Output)),
         Ok(Words::Version) => {
-            println!("wozgirt {}", env!("CARGO_PKG_VERSION"));
-            0
+            done(print(concat!("wozgirt ", env!("CARGO_PKG_VERSION"), "\n")).map_err(CannotDo::Output))
         }
-        Err(fault) => say(&format_args!("{fault}\nTry --help."), USAGE_STATUS),
+        Err(fault) => say(format_args!("{fault}\nTry --help."), USAGE),
     };
     ExitCode::from(status)
 }
 
-fn say(fault: &dyn std::fmt::Display, status: u8) -> u8 {
-    eprintln!("wozgirt: {fault}");
+fn say(what: impl fmt::Display, status: u8) -> u8 {
+    complain(what);
     status
+}
+
+fn done(result: Result<(), CannotDo>) -> u8 {
+    match result {
+        Ok(()) => 0,
+        Err(fault) => {
+            let status = match &fault {
+                CannotDo::Server(fault) | CannotDo::Refused(fault, _) => status_of_fault(fault),
+                CannotDo::Output(_) => NOT_WRITTEN,
+            };
+            say(fault, status)
+        }
+    }
 }
 
 fn status_of(fault: &NotRun) -> u8 {

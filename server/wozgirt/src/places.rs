@@ -1,12 +1,15 @@
 //! Where servers are.
 
+use std::ffi::{OsStr, OsString};
 use std::fmt;
+use std::os::unix::ffi::{OsStrExt, OsStringExt};
+use std::path::PathBuf;
 
 /// Where a server is.
 #[derive(Debug, Clone, PartialEq, Eq)]
 pub enum Place {
     /// A socket with a name.
-    Path(String),
+    Path(PathBuf),
     /// A host and a port.
     Tcp(String),
 }
@@ -14,32 +17,34 @@ pub enum Place {
 impl fmt::Display for Place {
     fn fmt(&self, f: &mut fmt::Formatter<'_>) -> fmt::Result {
         match self {
-            Place::Path(path) => f.write_str(path),
+            Place::Path(path) => path.display().fmt(f),
             Place::Tcp(address) => write!(f, "tcp:{address}"),
         }
     }
 }
 
-impl From<&str> for Place {
-    fn from(text: &str) -> Place {
-        match text.strip_prefix("tcp:") {
-            Some(address) => Place::Tcp(address.into()),
-            None => Place::Path(text.into()),
+impl Place {
+    /// The place in a text; nothing if it names a host by other bytes than text.
+    fn read(bytes: &[u8]) -> Option<Place> {
+        match bytes.strip_prefix(b"tcp:") {
+            Some(address) => String::from_utf8(address.into()).ok().map(Place::Tcp),
+            None => Some(Place::Path(OsString::from_vec(bytes.into()).into())),
         }
     }
 }
 
-/// The places in a text, at least one. It is cut at each comma behind which another place begins, with `tcp:`, `/` or `./`: a path may
-/// have commas too.
-pub fn places(text: &str) -> Vec<Place> {
-    let begins = |at: usize| ["tcp:", "/", "./"].iter().any(|start| text[at + 1..].starts_with(start));
+/// The places in a text, at least one; nothing if one is no place. It is cut at each comma behind which another place begins, with
+/// `tcp:`, `/` or `./`: a path may have commas too.
+pub fn places(text: &OsStr) -> Option<Vec<Place>> {
+    let bytes = text.as_bytes();
+    let begins = |at: usize| ["tcp:", "/", "./"].iter().any(|start| bytes[at + 1..].starts_with(start.as_bytes()));
     let (mut found, mut start) = (Vec::new(), 0);
-    for (comma, _) in text.match_indices(',').filter(|(comma, _)| begins(*comma)) {
-        found.push(Place::from(&text[start..comma]));
+    for comma in (0..bytes.len()).filter(|&at| bytes[at] == b',' && begins(at)) {
+        found.push(Place::read(&bytes[start..comma])?);
         start = comma + 1;
     }
-    found.push(Place::from(&text[start..]));
-    found
+    found.push(Place::read(&bytes[start..])?);
+    Some(found)
 }
 
 #[cfg(test)]
@@ -57,9 +62,16 @@ mod tests {
             ("", vec![""]),
             ("/a,", vec!["/a,"]),
         ] {
-            let found = places(text);
+            let found = places(text.as_ref()).unwrap();
             assert_eq!(found.iter().map(Place::to_string).collect::<Vec<_>>(), parts, "{text}");
             assert_eq!(matches!(found.last(), Some(Place::Tcp(_))), parts.last().unwrap().starts_with("tcp:"));
         }
+    }
+
+    #[test]
+    fn names_that_are_no_text() {
+        let path = OsStr::from_bytes(b"/a\xff,/b");
+        assert_eq!(places(path).unwrap()[0], Place::Path(OsStr::from_bytes(b"/a\xff").into()));
+        assert_eq!(places(OsStr::from_bytes(b"/a,tcp:\xff:1")), None);
     }
 }

@@ -3,9 +3,10 @@
 //! The client has a key that it drew, and numbers what it asks. Another server tells what the session has, and does not do again what
 //! was done. The client has a lease in any case; if no server answers for half of it, the lock is lost.
 
-use crate::client::{token, unexpected, Client, Fault, SOON};
+use crate::answers::{Answer, Verb};
+use crate::client::{fault_of, question, soon, Client, Fault};
 use crate::finding::{Finding, Found, Search};
-use crate::lock::{Got, Link, LEASE};
+use crate::lock::{Ending, Got, Link, Unanswered, GRACE, LEASE};
 use crate::places::Place;
 use crate::words::{Hold, Patience};
 use std::fs::File;
@@ -20,12 +21,11 @@ const ROUNDS: usize = 3;
 /// After this part of the lease the client speaks, and after another one without an answer it looks for another server. So a quarter is
 /// left for that, until the lock is lost after half of the lease.
 const PARTS: u32 = 8;
-/// How long a server may take that has heard that this client leaves.
-const FAREWELL: Duration = Duration::from_secs(1);
 
 /// What was asked last and has no answer yet.
 struct Asked {
     number: u64,
+    verb: Verb,
     line: String,
 }
 
@@ -61,11 +61,13 @@ pub struct Session {
 
 impl Session {
     /// Begins a session at one server or another.
-    pub fn open(places: &[Place], hold: &Hold) -> Result<Session, Fault> {
+    pub fn open(places: &[Place], hold: &Hold, deadline: Option<Instant>) -> Result<Session, Fault> {
         let mut bytes = [0; 8];
         File::open("/dev/urandom")?.read_exact(&mut bytes)?;
         let (key, lease, now) = (u64::from_le_bytes(bytes), hold.lease.unwrap_or(LEASE), Instant::now());
-        let search = Search { places: places.to_vec(), first: 0, key, lease, until: now + SOON, rounds: ROUNDS };
+        let there = now + hold.server_wait;
+        let until = soon(deadline).max(deadline.map_or(there, |deadline| deadline.min(there)));
+        let search = Search { places: places.to_vec(), first: 0, key, lease, until, rounds: ROUNDS, there };
         let found = search.run()?;
         let mut session = Session {
             places: search.places,
@@ -89,34 +91,27 @@ impl Session {
     }
 
     /// Asks for the lock, and waits for it as long as the hold says, or until a signal ends that.
-    pub fn acquire(&mut self, hold: &Hold, signals: &mut Signals) -> Result<Got, Fault> {
-        let label = hold.label.unwrap_or(std::process::id().into());
-        let verb = if hold.patience == Patience::None { "try" } else { "acquire" };
-        let deadline = match hold.patience {
-            Patience::For(time) => Some(Instant::now() + time),
-            _ => None,
-        };
-        self.ask(format!("{verb} {} {label}", self.name))?;
-        let (mut events, mut is_late) = (Vec::new(), false);
+    pub fn acquire(&mut self, hold: &Hold, deadline: Option<Instant>, signals: &mut Signals) -> Result<Got, Fault> {
+        let verb = if hold.patience == Patience::None { Verb::Try } else { Verb::Acquire };
+        let end = deadline.map(|deadline| deadline + GRACE);
+        self.ask(verb, Some(hold.label()))?;
+        let mut events = Vec::new();
         loop {
             if let Some(got) = self.got()? {
                 return Ok(got);
             }
             let now = Instant::now();
             if self.is_waiting && self.asked.is_none() && deadline.is_some_and(|deadline| deadline <= now) {
-                self.ask(format!("cancel {}", self.name))?;
-                is_late = true;
+                self.ask(Verb::Cancel, None)?;
             }
-            let give_up = deadline.map(|deadline| deadline + SOON);
-            if give_up.is_some_and(|end| end <= now) {
-                return Err(Fault::Nobody);
+            if end.is_some_and(|end| end <= now) {
+                return Ok(Got::Not(Ending::Unanswered(Unanswered::Lease(self.lease))));
             }
-            let due = if is_late { give_up } else { deadline.filter(|it| *it > now).or(give_up) };
-            let until = [self.next_time(), due].into_iter().flatten().min();
+            let until = [self.next_time(), deadline.filter(|it| *it > now).or(end)].into_iter().flatten().min();
             self.poller.wait(until.map(|until| until.saturating_duration_since(now)), &mut events)?;
             while let Some(signal) = signals.next_signal() {
                 if signal != Signal::Child {
-                    return Ok(Got::Signal(signal));
+                    return Ok(Got::Not(Ending::Signal(signal)));
                 }
             }
             self.step(&events, Instant::now())?;
@@ -128,24 +123,24 @@ impl Session {
         let Some(line) = self.answer.take() else {
             return Ok(self.token.filter(|_| self.asked.is_none()).map(Got::Token));
         };
-        match (line.split(' ').next(), self.token) {
-            (Some("granted" | "waiting"), token) => Ok(token.map(Got::Token)),
-            (Some("busy" | "cancelled"), _) => Ok(Some(Got::Conflict)),
-            (Some("refused"), Some(token)) => Ok(Some(Got::Token(token))), // the grant came before the cancel
-            _ => Err(unexpected(line)),
+        match (Answer::read(&line, &self.name), self.token) {
+            (Some(Answer::Granted(_) | Answer::Waiting), token) => Ok(token.map(Got::Token)),
+            (Some(Answer::Busy | Answer::Cancelled), _) => Ok(Some(Got::Not(Ending::Conflict))),
+            (Some(Answer::Refused("waiter")), Some(token)) => Ok(Some(Got::Token(token))), // it came before the cancel
+            _ => Err(fault_of(line, &self.name)),
         }
     }
 
     /// Asks with the next number.
-    fn ask(&mut self, line: String) -> Result<(), Fault> {
+    fn ask(&mut self, verb: Verb, number: Option<u64>) -> Result<(), Fault> {
         self.number += 1;
-        self.asked = Some(Asked { number: self.number, line });
+        self.asked = Some(Asked { number: self.number, verb, line: question(verb, &self.name, number) });
         self.say_again()
     }
 
     /// Says what has no answer yet, where there is a server; else it is said to the next one.
     fn say_again(&mut self) -> Result<(), Fault> {
-        let (Server::Here(client), Some(Asked { number, line })) = (&mut self.server, &self.asked) else {
+        let (Server::Here(client), Some(Asked { number, line, .. })) = (&mut self.server, &self.asked) else {
             return Ok(());
         };
         match client.send(&format!("{number} {line}")) {
@@ -154,14 +149,18 @@ impl Session {
         }
     }
 
-    /// Gives up what the session has. Without a server, others get that when the lease is over.
-    pub fn leave(mut self) {
+    /// Gives up what the session has: whether a server says so until then. Without one, others get that when the lease is over.
+    pub fn leave(mut self, until: Instant) -> bool {
         let (number, line) = (self.number + 1, format!("{} left", self.number + 1));
-        if let Server::Here(client) = &mut self.server {
-            let until = Some(Instant::now() + FAREWELL);
-            let mut is_over = client.send(&format!("{number} leave")).is_err();
-            while !is_over {
-                is_over = client.line(until).map_or(true, |said| said == line);
+        let Server::Here(client) = &mut self.server else { return false };
+        if client.send(&format!("{number} leave")).is_err() {
+            return false;
+        }
+        loop {
+            match client.line(Some(until)) {
+                Ok(said) if said == line => return true,
+                Ok(_) => {}
+                Err(_) => return false,
             }
         }
     }
@@ -175,6 +174,7 @@ impl Session {
             lease: self.lease,
             until: self.spoken + self.lease,
             rounds: usize::MAX,
+            there: self.spoken,
         };
         let finding = Finding::begin(search)?;
         self.poller.add(finding.bell(), BELL, Interest::READS)?;
@@ -203,13 +203,13 @@ impl Session {
             (name == self.name).then(|| token.parse().ok())?
         });
         let waits = told.iter().any(|line| line.strip_prefix("waits ") == Some(&self.name));
-        let verb = self.asked.as_ref().and_then(|asked| asked.line.split(' ').next());
-        if self.token.is_some() && holds != self.token && verb != Some("release") {
+        let verb = self.asked.as_ref().map(|asked| asked.verb);
+        if self.token.is_some() && holds != self.token && verb != Some(Verb::Release) {
             return Err(Fault::Gone("it is held no longer, since its session was over"));
         }
         if self.is_waiting && holds.is_some() {
             (self.is_waiting, self.token) = (false, holds);
-        } else if self.is_waiting && !waits && verb != Some("cancel") {
+        } else if self.is_waiting && !waits && verb != Some(Verb::Cancel) {
             return Err(Fault::Gone("the place in the line is gone, since its session was over"));
         } else if self.token.is_none() {
             self.early = holds;
@@ -217,41 +217,39 @@ impl Session {
         Ok(())
     }
 
-    /// A line of the server.
+    /// A line of the server: an answer with its number, or the grant that was waited for.
     fn hear(&mut self, line: String) -> Result<(), Fault> {
-        if line == "pong" {
-            self.spoken = self.pinged.take().unwrap_or(self.spoken);
-        } else if let Some(token) = token(&line, &self.name) {
-            if self.is_waiting {
-                (self.is_waiting, self.token) = (false, Some(token));
-            } else if self.token.is_none() {
-                self.early = Some(token);
-            }
-        } else if let Some((number, answer)) = line.split_once(' ').filter(|_| line.starts_with(char::is_numeric)) {
-            if self.asked.as_ref().is_some_and(|asked| asked.number.to_string() == number) {
-                self.answered(answer);
-            }
-        } else {
-            return Err(unexpected(line));
+        if let Some((number, answer)) = line.split_once(' ').filter(|_| line.starts_with(|c: char| c.is_ascii_digit()))
+        {
+            let asked = self.asked.as_ref().map(|asked| (asked.number, asked.verb));
+            return match (number.parse::<u64>(), asked) {
+                (Ok(number), Some((last, verb))) if number == last => self.answered(verb, answer),
+                (Ok(number), _) if number <= self.number => Ok(()), // told again by another server
+                _ => Err(Fault::Unexpected(line)),
+            };
+        }
+        match Answer::read(&line, &self.name) {
+            Some(Answer::Pong) => self.spoken = self.pinged.take().unwrap_or(self.spoken),
+            Some(Answer::Granted(token)) if self.is_waiting => (self.is_waiting, self.token) = (false, Some(token)),
+            Some(Answer::Granted(token)) if self.token.is_none() => self.early = Some(token),
+            Some(Answer::Granted(token)) if self.token == Some(token) => {} // told again by another server
+            _ => return Err(fault_of(line, &self.name)),
         }
         Ok(())
     }
 
     /// The answer to what was asked last.
-    fn answered(&mut self, answer: &str) {
-        self.asked = None;
-        if let Some(token) = token(answer, &self.name) {
-            self.token = Some(token);
-        } else if answer.starts_with("waiting ") {
-            self.token = self.early;
-            self.is_waiting = self.early.is_none();
-        } else if answer.starts_with("cancelled ") {
-            self.is_waiting = false;
-        } else if answer.starts_with("released ") {
-            self.token = None;
+    fn answered(&mut self, verb: Verb, answer: &str) -> Result<(), Fault> {
+        match Answer::read(answer, &self.name).filter(|answer| answer.is_to(verb)) {
+            Some(Answer::Granted(token)) => self.token = Some(token),
+            Some(Answer::Waiting) => (self.token, self.is_waiting) = (self.early, self.early.is_none()),
+            Some(Answer::Cancelled) => self.is_waiting = false,
+            Some(Answer::Released) => self.token = None,
+            Some(_) => {}
+            None => return Err(fault_of(answer.into(), &self.name)),
         }
-        self.early = None;
-        self.answer = Some(answer.into());
+        (self.asked, self.early, self.answer) = (None, None, Some(answer.into()));
+        Ok(())
     }
 
     /// When the lock is lost, or nothing is waited for any more.
@@ -312,8 +310,8 @@ impl Link for Session {
     }
 
     /// Nothing: a server takes a client for dead that says nothing, whoever has the connection.
-    fn share(&self) -> io::Result<()> {
-        Ok(())
+    fn share(&self) -> io::Result<bool> {
+        Ok(false)
     }
 
     fn next_time(&self) -> Option<Instant> {
@@ -334,11 +332,12 @@ impl Link for Session {
     }
 
     fn release(&mut self, token: u64) -> Result<(), Fault> {
-        let (mut events, end) = (Vec::new(), Instant::now() + SOON);
-        self.ask(format!("release {} {token}", self.name))?;
+        let (mut events, end) = (Vec::new(), soon(None));
+        self.ask(Verb::Release, Some(token))?;
         loop {
             if let Some(line) = self.answer.take() {
-                return if line.starts_with("released ") { Ok(()) } else { Err(unexpected(line)) };
+                let is_released = Answer::read(&line, &self.name) == Some(Answer::Released);
+                return if is_released { Ok(()) } else { Err(fault_of(line, &self.name)) };
             }
             let now = Instant::now();
             if end <= now {

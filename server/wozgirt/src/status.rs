@@ -1,9 +1,13 @@
 //! `wozgirt status` and `wozgirt watch`: a table of the locks.
 
-use crate::client::{Client, Fault};
-use crate::places::Place;
-use std::io::{self, IsTerminal, Write};
-use std::time::Duration;
+use crate::client::{soon, Client, Fault};
+use crate::connecting::while_starting;
+use crate::output::print;
+use crate::table::table;
+use crate::words::Look;
+use crate::CannotDo;
+use std::io::{self, IsTerminal};
+use std::time::{Duration, Instant};
 
 const HEAD: [&str; 9] = ["LOCK", "STATE", "CLIENT", "LABEL", "TOKEN", "FOR", "WAITING", "HAND-OVERS", "LONGEST WAIT"];
 /// To the first line, and nothing below it.
@@ -12,35 +16,36 @@ const CLEAR: &str = "\x1b[H\x1b[J";
 /// Of several servers, how long one may take to be there.
 const SOON: Duration = Duration::from_secs(2);
 
-/// Prints the table, as the first of the servers knows it that answers; again after such a time, until standard output is closed.
-pub fn run(places: &[Place], every: Option<Duration>) -> Result<(), Fault> {
-    let (mut client, mut lines) = first(places)?;
-    let mut output = io::stdout();
+/// Prints the table, as the first of the servers knows it that answers; again after such a time.
+pub fn run(look: &Look) -> Result<(), CannotDo> {
+    let there = Instant::now() + look.server_wait;
+    let (mut client, mut lines) = while_starting(there, || first(look))?;
+    let clear = if look.every.is_some() && io::stdout().is_terminal() { CLEAR } else { "" };
     loop {
         let rows = lines.iter().map(|line| row(line)).collect::<Option<Vec<_>>>();
         let rows = rows.ok_or_else(|| Fault::Unexpected("a lock that cannot be read".into()))?;
-        let clear = if every.is_some() && output.is_terminal() { CLEAR } else { "" };
-        if output.write_all(format!("{clear}{}", table(&rows)).as_bytes()).and_then(|()| output.flush()).is_err() {
-            return Ok(()); // nobody reads it any more
-        }
-        let Some(time) = every else { return Ok(()) };
+        print(&format!("{clear}{}", table(&HEAD, &rows)))?;
+        let Some(time) = look.every else { return Ok(()) };
         std::thread::sleep(time);
-        match client.status() {
+        match client.list("status", soon(None)) {
             Ok(more) => lines = more,
-            Err(fault) if places.len() == 1 => return Err(fault),
-            Err(_) => (client, lines) = first(places)?,
+            Err(fault) if look.places.len() == 1 => return Err(fault.into()),
+            Err(_) => (client, lines) = first(look)?,
         }
     }
 }
 
 /// The first of the servers that answers, and what it says.
-fn first(places: &[Place]) -> Result<(Client, Vec<String>), Fault> {
+fn first(look: &Look) -> Result<(Client, Vec<String>), Fault> {
     let mut fault = Fault::Nobody;
-    for place in places {
-        let client = if places.len() == 1 { Client::open(place) } else { Client::open_within(place, SOON) };
-        match client.and_then(|mut client| client.status().map(|lines| (client, lines))) {
+    for place in &look.places {
+        let until = soon((look.places.len() > 1).then(|| Instant::now() + SOON));
+        let client = Client::open(place, until);
+        match client.and_then(|mut client| client.list("status", soon(None)).map(|lines| (client, lines))) {
             Ok(found) => return Ok(found),
-            Err(other) => fault = other,
+            // one that may just be starting is waited for, whatever the others say
+            Err(other) if !fault.is_of_a_start() => fault = other,
+            Err(_) => {}
         }
     }
     Err(fault)
@@ -67,21 +72,6 @@ fn time(milliseconds: &str) -> Option<String> {
     })
 }
 
-fn table(rows: &[Vec<String>]) -> String {
-    let width =
-        |i: usize| rows.iter().filter_map(|row| row.get(i)).map(String::len).max().unwrap_or(0).max(HEAD[i].len());
-    let widths: Vec<usize> = (0..HEAD.len()).map(width).collect();
-    let line = |cells: &[&str]| {
-        let padded: Vec<String> = cells.iter().zip(&widths).map(|(cell, width)| format!("{cell:width$}")).collect();
-        padded.join("  ").trim_end().to_string() + "\n"
-    };
-    let mut text = line(&HEAD);
-    for row in rows {
-        text.push_str(&line(&row.iter().map(String::as_str).collect::<Vec<_>>()));
-    }
-    text
-}
-
 #[cfg(test)]
 mod tests {
     use super::*;
@@ -95,7 +85,7 @@ LOCK    STATE  CLIENT  LABEL  TOKEN  FOR    WAITING  HAND-OVERS  LONGEST WAIT
 deploy  held   7       77     12     25 ms  1        1           0 ms
 gpu     free   -       -      -      -      0        0           25 h 1 min
 ";
-        assert_eq!(table(&rows), text);
+        assert_eq!(table(&HEAD, &rows), text);
         assert_eq!(row("lock deploy"), None);
         assert_eq!(row("lock deploy held 7 77 12 x 1 15 1 0"), None);
     }

@@ -1,0 +1,400 @@
+//! The reading of the command line.
+
+use crate::places::{places, Place};
+use crate::words::{BadWords, Hold, Load, Look, Order, Patience, Words};
+use std::ffi::{OsStr, OsString};
+use std::os::unix::ffi::{OsStrExt, OsStringExt};
+use std::time::Duration;
+
+/// Where servers are, if no word says it.
+#[derive(Debug, Clone)]
+pub struct Usual {
+    /// The socket of clients.
+    pub socket: OsString,
+    /// The socket of operators.
+    pub operators: OsString,
+}
+
+/// What was read of the options.
+struct Reading {
+    socket: OsString,
+    operators: OsString,
+    server_wait: Duration,
+    wait: Option<Duration>,
+    is_impatient: bool,
+    conflict_status: u8,
+    label: Option<u64>,
+    lease: Option<Duration>,
+    kill_after: Duration,
+    closes: bool,
+    is_of_command_only: bool,
+    is_group: bool,
+    every: Duration,
+    others: Vec<OsString>,
+    command: Vec<OsString>,
+}
+
+/// Reads the words after the program's name.
+pub fn parse(words: impl IntoIterator<Item = OsString>, usual: Usual) -> Result<Words, BadWords> {
+    let mut words = words.into_iter();
+    let verb = text(words.next().ok_or(BadWords::None)?);
+    let mut reading = Reading::new(usual);
+    match verb.as_str() {
+        "--help" | "-h" | "help" => return Ok(Words::Help),
+        "--version" | "-V" => return Ok(Words::Version),
+        "lock" => {}
+        "try" => reading.is_impatient = true,
+        "status" | "watch" | "bench" | "admin" => {}
+        _ => return Err(BadWords::Unknown(verb)),
+    }
+    let is_lock = matches!(verb.as_str(), "lock" | "try");
+    while let Some(word) = words.next() {
+        let (option, attached) = split(&word);
+        match option.as_str() {
+            "--help" | "-h" => return Ok(Words::Help),
+            "--" if is_lock => reading.command = words.by_ref().collect(),
+            _ if attached.is_none() && reading.flag(&option, is_lock) => {}
+            _ if is_valued(&option, &verb) => {
+                let value = attached.or_else(|| words.next()).ok_or_else(|| BadWords::NoValue(option.clone()))?;
+                reading.put(&option, &value).ok_or_else(|| BadWords::Value(option, text(value)))?;
+            }
+            _ if option.starts_with('-') => return Err(BadWords::Unknown(text(word))),
+            _ if is_lock && !reading.others.is_empty() => {
+                reading.command.push(word);
+                reading.command.extend(words.by_ref());
+            }
+            _ => reading.others.push(word),
+        }
+    }
+    reading.words(&verb)
+}
+
+/// A word for a message, or one that only text can be equal to.
+fn text(word: OsString) -> String {
+    word.to_string_lossy().into_owned()
+}
+
+/// An option and the value that is part of its word: `--wait=1` and `-w1`.
+fn split(word: &OsStr) -> (String, Option<OsString>) {
+    let bytes = word.as_bytes();
+    let (option, value) = match bytes {
+        [b'-', b'-', ..] => match bytes.iter().position(|&b| b == b'=') {
+            Some(at) => (&bytes[..at], Some(&bytes[at + 1..])),
+            None => (bytes, None),
+        },
+        [b'-', b'w' | b'E', value @ ..] if !value.is_empty() => (&bytes[..2], Some(value)),
+        _ => (bytes, None),
+    };
+    (String::from_utf8_lossy(option).into_owned(), value.map(|value| OsString::from_vec(value.into())))
+}
+
+fn is_valued(word: &str, verb: &str) -> bool {
+    match word {
+        "--socket" => verb != "admin",
+        "--server-wait" => matches!(verb, "lock" | "try" | "status" | "watch"),
+        "--operators" => verb == "admin",
+        "--every" => verb == "watch",
+        "-w"
+        | "--wait"
+        | "--timeout"
+        | "-E"
+        | "--conflict-status"
+        | "--conflict-exit-code"
+        | "--label"
+        | "--lease"
+        | "--kill-after" => {
+            matches!(verb, "lock" | "try")
+        }
+        _ => false,
+    }
+}
+
+impl Reading {
+    fn new(usual: Usual) -> Reading {
+        Reading {
+            socket: usual.socket,
+            operators: usual.operators,
+            server_wait: Duration::from_secs(5),
+            wait: None,
+            is_impatient: false,
+            conflict_status: 1,
+            label: None,
+            lease: None,
+            kill_after: Duration::from_secs(5),
+            closes: false,
+            is_of_command_only: false,
+            is_group: false,
+            every: Duration::from_secs(1),
+            others: Vec::new(),
+            command: Vec::new(),
+        }
+    }
+
+    fn flag(&mut self, word: &str, is_lock: bool) -> bool {
+        match word {
+            "-n" | "--no-wait" | "--nonblock" | "--nb" if is_lock => self.is_impatient = true,
+            "-o" | "--close" if is_lock => self.closes = true,
+            "--command-only" if is_lock => self.is_of_command_only = true,
+            "--group" if is_lock => self.is_group = true,
+            _ => return false,
+        }
+        true
+    }
+
+    /// Nothing if it is not a value of this word.
+    fn put(&mut self, word: &str, value: &OsStr) -> Option<()> {
+        match word {
+            "--socket" => self.socket = value.into(),
+            "--operators" => self.operators = value.into(),
+            "--server-wait" => self.server_wait = seconds(value)?,
+            "--every" => self.every = seconds(value).filter(|time| !time.is_zero())?,
+            "-E" | "--conflict-status" | "--conflict-exit-code" => self.conflict_status = number(value)?,
+            "--label" => self.label = Some(number(value)?),
+            "--lease" => self.lease = Some(seconds(value).filter(|time| time.as_millis() > 0)?),
+            "--kill-after" => self.kill_after = seconds(value)?,
+            _ => self.wait = Some(seconds(value)?),
+        }
+        Some(())
+    }
+
+    fn words(mut self, verb: &str) -> Result<Words, BadWords> {
+        let mut others = std::mem::take(&mut self.others).into_iter();
+        let words = match verb {
+            "bench" => self.bench(&mut others)?,
+            "admin" => Words::Admin(self.operators.into(), order(&mut others)?),
+            "status" => Words::Status(Look { places: self.places()?, server_wait: self.server_wait, every: None }),
+            "watch" => {
+                let every = Some(self.every);
+                Words::Status(Look { places: self.places()?, server_wait: self.server_wait, every })
+            }
+            _ => Words::Lock(self.places()?, self.hold(others.next())?),
+        };
+        others.next().map_or(Ok(words), |word| Err(BadWords::Unknown(text(word))))
+    }
+
+    fn places(&self) -> Result<Vec<Place>, BadWords> {
+        places(&self.socket).ok_or_else(|| BadWords::Value("--socket".into(), text(self.socket.clone())))
+    }
+
+    fn bench(&self, others: &mut impl Iterator<Item = OsString>) -> Result<Words, BadWords> {
+        let count = |word: Option<OsString>, usual| match word {
+            None => Ok(usual),
+            Some(word) => number(&word).filter(|&n| n > 0).ok_or(BadWords::Value("bench".into(), text(word))),
+        };
+        let (clients, locks) = (count(others.next(), 64)?, count(others.next(), 1)?);
+        let time = match others.next() {
+            None => Duration::from_secs(3),
+            Some(word) => {
+                let time = seconds(&word).filter(|time| !time.is_zero());
+                time.ok_or(BadWords::Value("bench".into(), text(word)))?
+            }
+        };
+        let mut places = self.places()?;
+        let place = places.pop().filter(|_| places.is_empty()).ok_or(BadWords::Several)?;
+        Ok(Words::Bench(place, Load { clients, locks, time }))
+    }
+
+    fn hold(self, lock: Option<OsString>) -> Result<Hold, BadWords> {
+        let patience = match (self.is_impatient, self.wait) {
+            (true, Some(_)) => return Err(BadWords::Both),
+            (true, None) | (false, Some(Duration::ZERO)) => Patience::None,
+            (false, Some(time)) => Patience::For(time),
+            (false, None) => Patience::Endless,
+        };
+        let name = name(lock.ok_or(BadWords::NoName)?)?;
+        if self.command.is_empty() {
+            return Err(BadWords::NoCommand);
+        }
+        Ok(Hold {
+            name,
+            patience,
+            server_wait: self.server_wait,
+            conflict_status: self.conflict_status,
+            label: self.label,
+            lease: self.lease,
+            kill_after: self.kill_after,
+            closes: self.closes,
+            is_of_command_only: self.is_of_command_only,
+            is_group: self.is_group,
+            command: self.command,
+        })
+    }
+}
+
+/// What an operator says.
+fn order(words: &mut impl Iterator<Item = OsString>) -> Result<Order, BadWords> {
+    let verb = words.next().map(text).ok_or(BadWords::Order)?;
+    let next_number = |words: &mut dyn Iterator<Item = OsString>| {
+        let word = words.next().ok_or(BadWords::Order)?;
+        number(&word).ok_or_else(|| BadWords::Value(verb.clone(), text(word)))
+    };
+    Ok(match verb.as_str() {
+        "clients" => Order::Clients,
+        "cluster" => Order::Cluster,
+        "stop" => Order::Stop,
+        "kick" => Order::Kick(next_number(words)?),
+        "end" => Order::End(name(words.next().ok_or(BadWords::Order)?)?, next_number(words)?),
+        "corrupt" => {
+            let lock = name(words.next().ok_or(BadWords::Order)?)?;
+            Order::Corrupt(lock, next_number(words)?, next_number(words)?)
+        }
+        _ => return Err(BadWords::Order),
+    })
+}
+
+/// The name of a lock: one word of a line, so that the line says what was meant.
+fn name(word: OsString) -> Result<String, BadWords> {
+    let is_name = !word.is_empty() && word.as_bytes().iter().all(u8::is_ascii_graphic);
+    let name = text(word);
+    if is_name {
+        Ok(name)
+    } else {
+        Err(BadWords::Name(name))
+    }
+}
+
+fn number<T: std::str::FromStr>(word: &OsStr) -> Option<T> {
+    // `parse` would take a sign too
+    word.to_str().filter(|word| word.bytes().all(|b| b.is_ascii_digit()))?.parse().ok()
+}
+
+/// A time of at most a year.
+fn seconds(value: &OsStr) -> Option<Duration> {
+    let seconds: f64 = value.to_str()?.parse().ok()?;
+    (0.0..=31_536_000.0).contains(&seconds).then(|| Duration::from_secs_f64(seconds))
+}
+
+#[cfg(test)]
+mod tests {
+    use super::*;
+
+    fn usual() -> Usual {
+        Usual { socket: "/s".into(), operators: "/o".into() }
+    }
+
+    fn read(words: &str) -> Result<Words, BadWords> {
+        parse(words.split_whitespace().map(OsString::from), usual())
+    }
+
+    fn look(places: &[&str], every: Option<Duration>) -> Words {
+        let places = places.iter().map(|place| crate::places::places(place.as_ref()).unwrap().remove(0)).collect();
+        Words::Status(Look { places, server_wait: Duration::from_secs(5), every })
+    }
+
+    fn hold(words: &str) -> Hold {
+        match read(words) {
+            Ok(Words::Lock(_, hold)) => hold,
+            other => panic!("{other:?}"),
+        }
+    }
+
+    #[test]
+    fn a_lock_and_its_command() {
+        let it = hold("lock deploy -- make -j 4 --wait 3");
+        assert_eq!((it.name.as_str(), it.patience, it.conflict_status), ("deploy", Patience::Endless, 1));
+        assert_eq!(it.command, ["make", "-j", "4", "--wait", "3"]);
+        assert_eq!(hold("lock deploy make -j 4").command, ["make", "-j", "4"]);
+        let it = hold("lock -w 0.5 -E 9 --label 7 --lease 2 --kill-after 0 -o --group deploy -- true");
+        assert_eq!(
+            (it.patience, it.conflict_status, it.label),
+            (Patience::For(Duration::from_millis(500)), 9, Some(7))
+        );
+        assert_eq!((it.lease, it.kill_after), (Some(Duration::from_secs(2)), Duration::ZERO));
+        assert!(it.closes && it.is_group);
+        assert_eq!(hold("lock deploy --no-wait -- true").patience, Patience::None);
+        assert_eq!(hold("try deploy -- true").patience, Patience::None);
+        assert_eq!((it.server_wait, it.is_of_command_only), (Duration::from_secs(5), false));
+        let it = hold("lock --server-wait 0 --command-only deploy -- true");
+        assert_eq!((it.server_wait, it.is_of_command_only), (Duration::ZERO, true));
+    }
+
+    #[test]
+    fn as_with_flock() {
+        for words in ["-w0.5 -E9", "--wait=0.5 --conflict-exit-code=9", "--timeout 0.5 -E 9"] {
+            let it = hold(&format!("lock {words} deploy -- true -w1"));
+            assert_eq!((it.patience, it.conflict_status), (Patience::For(Duration::from_millis(500)), 9), "{words}");
+            assert_eq!(it.command, ["true", "-w1"]);
+        }
+        for words in ["-n", "--nonblock", "--nb", "-w 0", "-w0", "--no-wait"] {
+            assert_eq!(hold(&format!("lock {words} deploy true")).patience, Patience::None, "{words}");
+        }
+    }
+
+    #[test]
+    fn words_that_are_no_text() {
+        let bytes = |bytes: &[u8]| OsString::from_vec(bytes.into());
+        let words = |more: &[&[u8]]| parse(more.iter().map(|word| bytes(word)), usual());
+        let found = words(&[b"lock", b"--socket", b"/\xff", b"a", b"--", b"printf", b"\xfe"]);
+        let Ok(Words::Lock(places, hold)) = found else { panic!("{found:?}") };
+        assert_eq!(places, [Place::Path(bytes(b"/\xff").into())]);
+        assert_eq!(hold.command, [bytes(b"printf"), bytes(b"\xfe")]);
+        for name in [&b"\xff"[..], b"a 1\nacquire b 5\nping", b"a b", b"", b"a\t", "é".as_bytes()] {
+            assert!(matches!(words(&[b"lock", name, b"--", b"true"]), Err(BadWords::Name(_))), "{name:?}");
+            assert!(matches!(words(&[b"admin", b"end", name, b"1"]), Err(BadWords::Name(_))), "{name:?}");
+        }
+        assert!(matches!(words(&[b"lock", b"--wait=\xff", b"a", b"--", b"true"]), Err(BadWords::Value(..))));
+        assert!(matches!(words(&[b"status", b"--socket", b"tcp:\xff:1"]), Err(BadWords::Value(..))));
+        assert!(matches!(words(&[b"\xff"]), Err(BadWords::Unknown(_))));
+    }
+
+    #[test]
+    fn orders() {
+        for (words, order) in [
+            ("clients", Order::Clients),
+            ("cluster", Order::Cluster),
+            ("stop", Order::Stop),
+            ("kick 7", Order::Kick(7)),
+            ("end gpu/0 18446744073709551615", Order::End("gpu/0".into(), u64::MAX)),
+            ("corrupt a 1 2", Order::Corrupt("a".into(), 1, 2)),
+        ] {
+            assert_eq!(read(&format!("admin {words}")), Ok(Words::Admin("/o".into(), order.clone())));
+            assert_eq!(read(&format!("admin --operators=/p {words}")), Ok(Words::Admin("/p".into(), order)));
+        }
+        for words in ["", "jump", "end", "end a", "kick", "corrupt a 1"] {
+            assert_eq!(read(&format!("admin {words}")), Err(BadWords::Order), "{words}");
+        }
+        assert_eq!(read("admin kick x").unwrap_err().to_string(), "kick: bad value `x`");
+        assert_eq!(read("admin end a +1").unwrap_err().to_string(), "end: bad value `+1`");
+        assert_eq!(read("admin stop now").unwrap_err().to_string(), "`now` has no place here");
+        assert_eq!(read("admin --socket /s stop").unwrap_err().to_string(), "`--socket` has no place here");
+    }
+
+    #[test]
+    fn the_others() {
+        assert_eq!(read("status"), Ok(look(&["/s"], None)));
+        assert_eq!(read("status --socket /a,tcp:h:1"), Ok(look(&["/a", "tcp:h:1"], None)));
+        assert_eq!(read("watch --every 2 --socket=tcp:h:1"), Ok(look(&["tcp:h:1"], Some(Duration::from_secs(2)))));
+        let load = Load { clients: 8, locks: 2, time: Duration::from_secs(1) };
+        assert_eq!(read("bench 8 2 1"), Ok(Words::Bench(Place::Path("/s".into()), load)));
+        assert_eq!(read("--help"), Ok(Words::Help));
+        assert_eq!(read("lock --help"), Ok(Words::Help));
+        assert_eq!(read("--version"), Ok(Words::Version));
+    }
+
+    #[test]
+    fn refusals() {
+        for (words, why) in [
+            ("", "lock, try, status, watch, bench or admin is wanted"),
+            ("jump", "`jump` has no place here"),
+            ("lock", "NAME is missing"),
+            ("lock deploy", "COMMAND is missing"),
+            ("lock deploy --", "COMMAND is missing"),
+            ("lock --wait", "--wait needs a value"),
+            ("lock --wait x deploy -- true", "--wait: bad value `x`"),
+            ("lock --wait -1 deploy -- true", "--wait: bad value `-1`"),
+            ("lock -n -w 1 deploy -- true", "--wait and --no-wait exclude each other"),
+            ("lock --no-wait=1 deploy -- true", "`--no-wait=1` has no place here"),
+            ("lock --label +1 deploy -- true", "--label: bad value `+1`"),
+            ("lock --operators /o deploy -- true", "`--operators` has no place here"),
+            ("bench --server-wait 1", "`--server-wait` has no place here"),
+            ("lock --every 1 deploy -- true", "`--every` has no place here"),
+            ("status -n", "`-n` has no place here"),
+            ("status all", "`all` has no place here"),
+            ("bench 0", "bench: bad value `0`"),
+            ("bench 1 1 1 1", "`1` has no place here"),
+            ("bench --socket /a,/b", "bench measures one server: name it with --socket PLACE"),
+        ] {
+            assert_eq!(read(words).unwrap_err().to_string(), why, "{words}");
+        }
+    }
+}
