@@ -105,6 +105,7 @@ def main(what="", *names):
         crate.out = sys.stdout
         for below in form.unbuilt(crate.below()):
             print(f"{below.name}, below {crate.name}", flush=True)
+            os.makedirs(f"{below.folder}/out", exist_ok=True)
             with open(f"{below.folder}/out/first.log", "w", errors="replace") as below.out:
                 if form.build(below, 2):
                     sys.exit(f"{below.name} is not proved: {os.path.relpath(below.folder)}/out/first.log says why")

@@ -1,7 +1,7 @@
 //! Lists as `step` reads them, and a history with as many events as one can have.
 
-use ring_commands::faults::ToolError;
-use ring_commands::lists::read_list;
+use tool_parts::faults::ToolError;
+use tool_parts::lists::read_list;
 use ring_commands::step::step_lines;
 use std::test::Fail;
 

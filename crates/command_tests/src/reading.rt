@@ -1,6 +1,6 @@
 //! Reading up to a limit, from readers that give little, too much, or fail.
 
-use ring_commands::reading::{ReadFault, read_limited};
+use tool_parts::reading::{ReadFault, read_limited};
 use std::io::{self, ErrorKind, Read};
 use std::process::Abort;
 use std::test::Fail;

@@ -2,8 +2,8 @@
 
 use crate::files::memory::{bytes_of, no_files, put};
 use disks::{Disk, FolderEntry, MemoryDisk};
-use ring_commands::faults::ToolError;
-use ring_commands::serve::run;
+use tool_parts::faults::ToolError;
+use serve_commands::serve::run;
 use ring_requests::ServeWords;
 use std::alloc::Global;
 use std::cell::Cell;

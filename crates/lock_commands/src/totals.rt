@@ -6,7 +6,7 @@ ghost use Rattle.text_lines.specs.Writing.{Writes};
 ghost use Rattle.lock_commands.specs.Totals.{sums_of, with_ring, AreTooLarge, sums_line, total_line, IsUntold};
 
 use itoa::Buffer;
-use ring_commands::faults::ToolError;
+use tool_parts::faults::ToolError;
 use ring_endless::EndlessRing;
 use ring_locks::Locks;
 use std::io::Write;

@@ -2,7 +2,7 @@
 
 use disks::{MemoryDisk, Stored, StoredEntry};
 use lock_commands::locks::run;
-use ring_commands::faults::ToolError;
+use tool_parts::faults::ToolError;
 use ring_requests::LocksWords;
 use std::alloc::Global;
 use std::process::Abort;

@@ -3,7 +3,7 @@ use Rattle.std.proofs.Common.{◌≡◌, ◌∙◌, ℕ, ◌<◌, List, ◌++◌
 use Rattle.std.specs.Io.KnownBytes.{append_known}
 use Rattle.text_lines.specs.Writing.{Writes}
 use Rattle.text_lines.specs.declared.write.WriteFault.{WriteFault}
-use Rattle.ring_commands.specs.declared.faults.ToolError.TheVariants as tool
+use Rattle.tool_parts.specs.declared.faults.ToolError.TheVariants as tool
 use Rattle.ring_tool.specs.Left.{IsCut, HasFront, HasLine, HasEndedAnswered}
 
 -- the rest of what was printed, and then what was not

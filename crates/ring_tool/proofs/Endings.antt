@@ -8,12 +8,12 @@ use Rattle.ring_requests.specs.declared.requests.Request.TheVariants as asked
 use Rattle.ring_tool.specs.Answered.{IsAnswer, IsRefusal, IsOfLines, IsOfFile, MakesNoFile, IsSilent}
 use Rattle.ring_tool.specs.Ended.{IsRefused, HasEnded}
 use Rattle.ring_tool.specs.Left.{HasFront, HasLine, HasEndedAnswered}
-use Rattle.ring_commands.proofs.ServeRefusals.{no_list}
+use Rattle.serve_commands.proofs.ServeRefusals.{no_list}
 use Rattle.lock_commands.proofs.UnreadLists.{unread_list_keeps}
-use Rattle.ring_commands.specs.Faults.{is_bad_list, status_of}
-use Rattle.ring_commands.specs.Worlds.{World, world}
-use Rattle.ring_commands.specs.declared.faults.ToolError.{ToolError}
-use Rattle.ring_commands.specs.declared.faults.ToolError.TheVariants as tool
+use Rattle.tool_parts.specs.Faults.{is_bad_list, status_of}
+use Rattle.tool_parts.specs.Worlds.{World, world}
+use Rattle.tool_parts.specs.declared.faults.ToolError.{ToolError}
+use Rattle.tool_parts.specs.declared.faults.ToolError.TheVariants as tool
 
 some : (b : Bool) → cond {A = ℕ} b 2 1 ≡ 0 → ⊥
 some true h = omega (arith, h)

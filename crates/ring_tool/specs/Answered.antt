@@ -3,19 +3,19 @@ use Rattle.std.specs.Prelude.{◌≡◌, ◌≢◌, true, false, None, Result, O
 use Rattle.ring_commands.specs.Stepped.{IsStepAnswer, IsStepWordsRefusal}
 use Rattle.ring_commands.specs.Saved.{IsRunAnswer}
 use Rattle.ring_commands.specs.Ran.{history_file, IsRunRefusal}
-use Rattle.ring_commands.specs.Checked.{IsCheckAnswer, IsCheckRunRefusal}
-use Rattle.ring_commands.specs.CheckedAll.{IsCheckAllAnswer, IsCheckAllRefusal}
-use Rattle.ring_commands.specs.JoinedFolder.{IsJoinAnswer, IsJoinRefusal}
+use Rattle.tool_parts.specs.Checked.{IsCheckAnswer, IsCheckRunRefusal}
+use Rattle.text_commands.specs.CheckedAll.{IsCheckAllAnswer, IsCheckAllRefusal}
+use Rattle.folder_commands.specs.JoinedFolder.{IsJoinAnswer, IsJoinRefusal}
 use Rattle.ring_commands.specs.New.{IsNewAnswer, IsNewRefusal}
-use Rattle.ring_commands.specs.Pictured.{IsPictureAnswer, IsPictureRefusal}
-use Rattle.ring_commands.specs.Reading.{names_stream}
-use Rattle.ring_commands.specs.Recovered.{IsRecoverAnswer, IsRecoverRefusal}
-use Rattle.ring_commands.specs.Reported.{IsReportAnswer, IsReportRefusal}
-use Rattle.ring_commands.specs.ServeAnswer.{IsServeAnswer, IsServeRefusal}
-use Rattle.ring_commands.specs.Upgraded.{IsUpgradeAnswer, IsUpgradeRefusal}
-use Rattle.ring_commands.specs.Worlds.{World, world}
-use Rattle.ring_commands.specs.declared.faults.ToolError.{ToolError}
-use Rattle.ring_commands.specs.declared.faults.ToolError.TheVariants as tool
+use Rattle.text_commands.specs.Pictured.{IsPictureAnswer, IsPictureRefusal}
+use Rattle.tool_parts.specs.Reading.{names_stream}
+use Rattle.folder_commands.specs.Recovered.{IsRecoverAnswer, IsRecoverRefusal}
+use Rattle.text_commands.specs.Reported.{IsReportAnswer, IsReportRefusal}
+use Rattle.serve_commands.specs.ServeAnswer.{IsServeAnswer, IsServeRefusal}
+use Rattle.text_commands.specs.Upgraded.{IsUpgradeAnswer, IsUpgradeRefusal}
+use Rattle.tool_parts.specs.Worlds.{World, world}
+use Rattle.tool_parts.specs.declared.faults.ToolError.{ToolError}
+use Rattle.tool_parts.specs.declared.faults.ToolError.TheVariants as tool
 use Rattle.lock_commands.specs.Locks.{IsLocksAnswer, IsLocksRefusal}
 use Rattle.lock_commands.specs.HoldsAnswer.{IsHoldsAnswer, IsHoldsRefusal}
 use Rattle.ring_requests.specs.declared.requests.Request.{Request}

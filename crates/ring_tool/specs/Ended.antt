@@ -1,10 +1,10 @@
 -- How a request ends: its status, exactly by what was done.
 use Rattle.std.specs.Prelude.{◌≡◌, ◌≢◌, ◌≤◌, ℕ, List, Bool, false, Option, ◌⊎◌}
 use Rattle.std.specs.Io.KnownBytes.{Keeps}
-use Rattle.ring_commands.specs.Faults.{is_bad_list}
-use Rattle.ring_commands.specs.Worlds.{World, world}
-use Rattle.ring_commands.specs.declared.faults.ToolError.{ToolError}
-use Rattle.ring_commands.specs.declared.faults.ToolError.TheVariants as tool
+use Rattle.tool_parts.specs.Faults.{is_bad_list}
+use Rattle.tool_parts.specs.Worlds.{World, world}
+use Rattle.tool_parts.specs.declared.faults.ToolError.{ToolError}
+use Rattle.tool_parts.specs.declared.faults.ToolError.TheVariants as tool
 use Rattle.ring_requests.specs.declared.requests.Request.{Request}
 use Rattle.ring_tool.specs.Answered.{IsAnswer, IsRefusal, IsOfLines, IsOfFile, MakesNoFile, IsSilent}
 use Rattle.ring_tool.specs.Left.{HasFront, IsCut, HasLine}

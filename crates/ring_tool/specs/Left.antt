@@ -2,9 +2,9 @@
 -- run.
 use Rattle.std.specs.Prelude.{◌≡◌, ◌<◌, ℕ, List, ◌++◌, length, Bool, true, false, ⊤, codes, Option, IfSome}
 use Rattle.std.specs.Io.KnownBytes.{Keeps, Appends, append_known}
-use Rattle.ring_commands.specs.FaultLines.{fixed_line}
-use Rattle.ring_commands.specs.declared.faults.ToolError.{ToolError}
-use Rattle.ring_commands.specs.declared.faults.ToolError.TheVariants as tool
+use Rattle.tool_parts.specs.FaultLines.{fixed_line}
+use Rattle.tool_parts.specs.declared.faults.ToolError.{ToolError}
+use Rattle.tool_parts.specs.declared.faults.ToolError.TheVariants as tool
 
 -- what was printed is in the output below the buffer, but for the rest
 abbrev pub LacksRest : Option (List ℕ) → Option (List ℕ) → List ℕ → Type 0

@@ -6,8 +6,8 @@ use Rattle.clap.specs.Values.{kind_of}
 use Rattle.clap.specs.declared.error.Error.{Error}
 use Rattle.clap.specs.declared.error.kind.ErrorKind.TheVariants as kind
 use Rattle.ring_requests.specs.declared.requests.Request.{Request}
-use Rattle.ring_commands.specs.Worlds.{World}
-use Rattle.ring_commands.specs.declared.faults.ToolError.TheVariants as tool
+use Rattle.tool_parts.specs.Worlds.{World}
+use Rattle.tool_parts.specs.declared.faults.ToolError.TheVariants as tool
 use Rattle.ring_tool.specs.Ended.{HasEnded}
 use Rattle.ring_tool.specs.Left.{HasFront, HasText, HasLine, HasEndedAnswered}
 use Rattle.ring_tool.specs.declared.asked.Asked.{Asked}

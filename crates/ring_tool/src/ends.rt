@@ -3,10 +3,10 @@
 ghost use Rattle.std.specs.Prelude.{◌≡◌, ◌≤◌, IfSome};
 ghost use Rattle.std.specs.Io.Buffered.{writer_contents};
 ghost use Rattle.std.specs.Io.KnownBytes.{append_known};
-ghost use Rattle.ring_commands.specs.Faults.{status_of};
+ghost use Rattle.tool_parts.specs.Faults.{status_of};
 ghost use Rattle.ring_tool.specs.Left.{HasLeft, HasFront, HasText, HasLine, IsLineOf, HasEndedAnswered};
 
-use ring_commands::faults::ToolError;
+use tool_parts::faults::ToolError;
 use std::alloc::Global;
 use std::io::{BufWriter, Write};
 use text_lines::put;

@@ -2,8 +2,8 @@
 
 use crate::program::run_tool;
 use disks::{SystemDisk, take_low};
-use ring_commands::endings::tell;
-use ring_commands::faults::ToolError;
+use tool_parts::endings::tell;
+use tool_parts::faults::ToolError;
 use std::fs::File;
 use std::io::{self, BufWriter, ErrorKind, Input, Write};
 use std::process::ExitCode;

@@ -4,11 +4,11 @@ ghost use Rattle.std.specs.Prelude.{◌≤◌, ℕ, List, Option};
 ghost use Rattle.std.specs.Io.Buffered.{writer_contents};
 ghost use Rattle.ring_tool.specs.Run.{HasRun};
 ghost use Rattle.ring_tool.specs.declared.asked.Asked.{Asked};
-ghost use Rattle.ring_commands.specs.Worlds.{world};
+ghost use Rattle.tool_parts.specs.Worlds.{world};
 
 use crate::asked::{Asked, read_asked};
 use disks::Disk;
-use ring_commands::faults::ToolError;
+use tool_parts::faults::ToolError;
 use crate::ends::{Ending, fail, refuse, show};
 use crate::requests::do_request;
 use std::io::{BufWriter, Input, Read, Write};

@@ -4,15 +4,16 @@ ghost use Rattle.std.specs.Prelude.{◌≤◌};
 ghost use Rattle.std.specs.Io.Buffered.{writer_contents};
 ghost use Rattle.ring_tool.specs.Answered.{HasAnswered};
 ghost use Rattle.ring_tool.specs.Ended.{HasEnded};
-ghost use Rattle.ring_commands.specs.Worlds.{world};
+ghost use Rattle.tool_parts.specs.Worlds.{world};
 
 use crate::ends::{Ending, done, fail};
 use disks::Disk;
 use lock_commands::{holds, locks};
-use ring_commands::faults::ToolError;
-use ring_commands::{
-    check, check_all, fresh, join, picture, recover, report, run, serve, step, upgrade,
-};
+use tool_parts::faults::ToolError;
+use text_commands::{check, check_all, picture, report, upgrade};
+use ring_commands::{fresh, run, step};
+use folder_commands::{join, recover};
+use serve_commands::serve;
 use ring_requests::Request;
 use std::io::{BufWriter, Read, Write};
 use std::sync::Wait;

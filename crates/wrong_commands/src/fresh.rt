@@ -8,7 +8,7 @@ ghost use Rattle.ring_saved.specs.Content.{Block, content};
 ghost use Rattle.ring_saved.specs.Versions.{latest_version};
 ghost use Rattle.ring_commands.specs.New.{IsNewAnswer};
 
-use ring_commands::faults::ToolError;
+use tool_parts::faults::ToolError;
 use ring_commands::fresh;
 use ring_requests::NewWords;
 use ring_saved::put_lines::put_first_line;

@@ -2,10 +2,10 @@
 
 ghost use Rattle.std.specs.Prelude.{◌≡◌, ◌≢◌, ℕ, List, IsSome, OnOk};
 ghost use Rattle.std.specs.Io.KnownBytes.{Appends};
-ghost use Rattle.ring_commands.specs.Reported.{IsReportOf};
+ghost use Rattle.text_commands.specs.Reported.{IsReportOf};
 
-use ring_commands::faults::ToolError;
-use ring_commands::report::print_report;
+use tool_parts::faults::ToolError;
+use text_commands::report::print_report;
 use std::alloc::Global;
 use std::io::Write;
 

@@ -3,13 +3,14 @@
 ghost use Rattle.std.specs.Prelude.{◌≡◌, ◌≢◌, ◌⊎◌, ℕ, List, [], IsSome, IfSome};
 ghost use Rattle.ring_check.specs.declared.answers.Summary.{Summary};
 ghost use Rattle.ring_saved.specs.Content.{Content};
-ghost use Rattle.ring_commands.specs.Named.{IsHeld, IsNamed};
-ghost use Rattle.ring_commands.specs.JoinedFolder.{IsJoinable};
-ghost use Rattle.ring_commands.specs.Upgraded.{IsUpgradeOf};
+ghost use Rattle.tool_parts.specs.Named.{IsHeld, IsNamed};
+ghost use Rattle.folder_commands.specs.JoinedFolder.{IsJoinable};
+ghost use Rattle.text_commands.specs.Upgraded.{IsUpgradeOf};
 
 use disks::Disk;
-use ring_commands::faults::ToolError;
-use ring_commands::{join, upgrade};
+use tool_parts::faults::ToolError;
+use folder_commands::join;
+use text_commands::upgrade;
 use ring_requests::{JoinWords, UpgradeWords};
 use std::alloc::Global;
 use std::io::{self, Read, Write};

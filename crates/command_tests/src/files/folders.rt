@@ -3,8 +3,9 @@
 use crate::files::memory::{bytes_of, make_folder, no_files, put};
 use crate::segments::{FIRST, SECOND, THIRD, THIRD_DIGEST};
 use disks::{Disk, MemoryDisk};
-use ring_commands::faults::ToolError;
-use ring_commands::{check, recover};
+use tool_parts::faults::ToolError;
+use text_commands::check;
+use folder_commands::recover;
 use ring_requests::{CheckWords, RecoverWords};
 use ring_segments::SegmentError;
 use segment_folder::{FolderError, SegmentNumbers, numbers_in, segment_file};

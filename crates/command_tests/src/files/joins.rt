@@ -6,8 +6,8 @@ use crate::files::system::{
 };
 use crate::segments::{FIRST, SECOND, THIRD};
 use disks::{MemoryDisk, SystemDisk};
-use ring_commands::faults::ToolError;
-use ring_commands::join;
+use tool_parts::faults::ToolError;
+use folder_commands::join;
 use ring_requests::JoinWords;
 use ring_segments::SegmentError;
 use std::alloc::Global;

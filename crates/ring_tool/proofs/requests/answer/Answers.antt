@@ -1,7 +1,7 @@
 use Rattle.std.proofs.Common.{ap, refl, List, ℕ, Option}
-use Rattle.ring_commands.specs.JoinedFolder.{IsJoinAnswer, IsJoinRefusal}
-use Rattle.ring_commands.specs.Worlds.{world}
-use Rattle.ring_commands.specs.declared.faults.ToolError.{ToolError}
+use Rattle.folder_commands.specs.JoinedFolder.{IsJoinAnswer, IsJoinRefusal}
+use Rattle.tool_parts.specs.Worlds.{world}
+use Rattle.tool_parts.specs.declared.faults.ToolError.{ToolError}
 use Rattle.ring_tool.proofs.Asked.{told, refused, told_with, refused_with, kept_anyhow}
 use Rattle.ring_tool.proofs.requests.answer.Goals as goal
 

@@ -1,8 +1,8 @@
 use Rattle.std.proofs.Common.{ap, ◌≡◌, ◌≢◌}
 use Rattle.std.specs.Io.Buffered.{writer_contents}
-use Rattle.ring_commands.specs.Worlds.{world}
-use Rattle.ring_commands.specs.declared.faults.ToolError.{ToolError}
-use Rattle.ring_commands.specs.declared.faults.ToolError.TheVariants as tool
+use Rattle.tool_parts.specs.Worlds.{world}
+use Rattle.tool_parts.specs.declared.faults.ToolError.{ToolError}
+use Rattle.tool_parts.specs.declared.faults.ToolError.TheVariants as tool
 use Rattle.ring_tool.specs.Answered.{IsAnswer, IsRefusal}
 use Rattle.ring_tool.proofs.Endings.{of_ok, of_err, ended_answered, ended_refused}
 use Rattle.ring_tool.proofs.requests.do_request.Goals as goal
