@@ -382,7 +382,7 @@ def recovered(folder, limit, faults):
     for ring, order in zip(rings, orders):
         token = None
         for word in signs(order):
-            if word[0] == "s":
+            if word[0] == "s" and int(word[1]) in (RELEASED, LEFT):
                 token = None
             elif word[1] == str(GRANT):
                 token = ring.base[1] + int(word[5])

@@ -1,6 +1,6 @@
-/* A client of wozgirt-server for C and C++: locks that programs share, over a Unix socket. This header is all of it; no library is
- * linked. docs/LOCKS.md says what a hold is, and what a token is for. Nothing of this is proved, and nothing here decides about
- * locks.
+/* A client of wozgirt-server for C and C++: locks that programs share, over a Unix socket. This header and wozgirt_connection.h are
+ * all of it; no library is linked. docs/LOCKS.md says what a hold is, and what a token is for. Nothing of this is proved, and nothing
+ * here decides about locks.
  *
  *     struct wozgirt_lock_client client;
  *     uint64_t token;
@@ -13,22 +13,16 @@
  *     }
  *
  * Threads that share a client hold a mutex around each call. This client asks for no lease. Where the server gives one to all
- * (--lease-for-all), call `wozgirt_lock_check` each quarter of it. With -std=c11 include this header before the system's. */
+ * (--lease-for-all), call `wozgirt_lock_check` each quarter of it. With -std=c11 include this header before the system's.
+ *
+ * Each call ends within 0.2 s of its deadline, whether the server answers or not. An answer to something else than what was asked
+ * ends the connection. A signal whose handler returns ends no call. If a handler leaves a call by siglongjmp(), or the thread is
+ * cancelled in it, the next call ends the connection. A child behind fork() opens a client of its own: of its parent's it can only
+ * close its copy, which the server does not notice. */
 #ifndef WOZGIRT_LOCK_H
 #define WOZGIRT_LOCK_H
-#if defined(__STRICT_ANSI__) && !defined(_POSIX_C_SOURCE) && !defined(_DEFAULT_SOURCE) && !defined(_GNU_SOURCE)
-#define _POSIX_C_SOURCE 200809L
-#endif
-#include <errno.h>
-#include <inttypes.h>
-#include <poll.h>
-#include <stdint.h>
-#include <stdio.h>
-#include <string.h>
-#include <sys/socket.h>
+#include "wozgirt_connection.h"
 #include <sys/un.h>
-#include <time.h>
-#include <unistd.h>
 #ifdef __cplusplus
 extern "C" {
 #endif
@@ -37,161 +31,161 @@ enum wozgirt_lock_result {
     WOZGIRT_LOCK_DONE = 0,    /* granted, released, heard, connected */
     WOZGIRT_LOCK_LATE = 1,    /* the lock was not to be had in time, and nothing waits for it */
     WOZGIRT_LOCK_REFUSED = 2, /* `line` of the client is `refused` and the reason; nothing has changed */
-    WOZGIRT_LOCK_LOST = 3,    /* the connection is gone, and with it all that was held: others may have it */
-    WOZGIRT_LOCK_NAME = 4     /* a lock's name has 1 to 200 visible ASCII characters, and a socket's fits its struct */
+    WOZGIRT_LOCK_LOST = 3,    /* the connection is closed, and with it all that was held is gone: others may have it. errno says why:
+                                 ETIMEDOUT if no answer came in time, EPROTO if it was one to something else, ECANCELED if a call was
+                                 left in its middle, ENOTCONN if it was closed before */
+    WOZGIRT_LOCK_NAME = 4,    /* a lock's name has 1 to 200 visible ASCII characters, and a socket's fits its struct */
+    WOZGIRT_LOCK_CHILD = 5,   /* another process opened this, or none: nothing was done */
+    WOZGIRT_LOCK_SILENT = 6   /* only of a session, see there */
 };
 
-/* How long the server may take for an answer that does not wait for a lock, in milliseconds. */
-enum { WOZGIRT_LOCK_PATIENCE = 10000 };
+/* In milliseconds: the deadline of a call that does not wait for a lock, and of the first answer to one that does; and how long
+ * behind the deadline of a wait the server may take to withdraw it. */
+enum { WOZGIRT_LOCK_PATIENCE = 10000, WOZGIRT_LOCK_WITHDRAWAL = 150 };
 
-struct wozgirt_lock_client {
-    int socket;
-    size_t have;
-    char line[256];   /* the last line of the server */
-    char bytes[1024]; /* what was read behind it */
-};
-
-static inline int64_t wozgirt_lock_now(void)
+static inline int wozgirt_lock_lose(struct wozgirt_lock_client *client, int why)
 {
-    struct timespec time = {0, 0};
-    clock_gettime(CLOCK_MONOTONIC, &time);
-    return (int64_t)time.tv_sec * 1000 + time.tv_nsec / 1000000;
-}
-
-/* Ends the connection: what was held is free for others. It may be called again. */
-static inline void wozgirt_lock_close(struct wozgirt_lock_client *client)
-{
-    if (client->socket >= 0)
-        close(client->socket);
-    client->socket = -1;
-}
-
-static inline int wozgirt_lock_lose(struct wozgirt_lock_client *client)
-{
-    wozgirt_lock_close(client);
-    return WOZGIRT_LOCK_LOST;
-}
-
-/* Connects to the server at this path. With WOZGIRT_LOCK_LOST errno says why not. */
-static inline int wozgirt_lock_open(struct wozgirt_lock_client *client, const char *path)
-{
-    struct sockaddr_un address;
-    memset(client, 0, sizeof *client);
-    memset(&address, 0, sizeof address);
-    client->socket = -1;
-    if (strlen(path) >= sizeof address.sun_path)
-        return WOZGIRT_LOCK_NAME;
-    address.sun_family = AF_UNIX;
-    memcpy(address.sun_path, path, strlen(path));
-    client->socket = socket(AF_UNIX, SOCK_STREAM | SOCK_CLOEXEC, 0);
-    if (client->socket >= 0 && connect(client->socket, (struct sockaddr *)&address, sizeof address) == 0)
-        return WOZGIRT_LOCK_DONE;
-    int why = errno;
     wozgirt_lock_close(client);
     errno = why;
     return WOZGIRT_LOCK_LOST;
 }
 
-/* Takes the next line out of what was read: whether there is one. */
-static inline int wozgirt_lock_take(struct wozgirt_lock_client *client)
+/* Connects to the server at this path within so many milliseconds (negative: for ever), which for this client replace
+ * WOZGIRT_LOCK_PATIENCE. With WOZGIRT_LOCK_LOST errno says why not. */
+static inline int wozgirt_lock_open_within(struct wozgirt_lock_client *client, const char *path, int64_t milliseconds)
 {
-    char *end = (char *)memchr(client->bytes, '\n', client->have);
-    size_t length = end ? (size_t)(end - client->bytes) : 0;
-    if (!end || length >= sizeof client->line)
-        return 0;
-    memcpy(client->line, client->bytes, length);
-    client->line[length] = '\0';
-    client->have -= length + 1;
-    memmove(client->bytes, end + 1, client->have);
-    return 1;
+    struct sockaddr_un address;
+    int64_t until = wozgirt_lock_after(milliseconds);
+    memset(&address, 0, sizeof address);
+    wozgirt_lock_begin(client, milliseconds);
+    if (strlen(path) >= sizeof address.sun_path)
+        return WOZGIRT_LOCK_NAME;
+    address.sun_family = AF_UNIX;
+    memcpy(address.sun_path, path, strlen(path));
+    client->socket = socket(AF_UNIX, SOCK_STREAM | SOCK_CLOEXEC | SOCK_NONBLOCK, 0);
+    if (client->socket < 0)
+        return wozgirt_lock_lose(client, errno);
+    int ready = wozgirt_lock_connect(client->socket, (struct sockaddr *)&address, sizeof address, until);
+    return ready == 1 ? WOZGIRT_LOCK_DONE : wozgirt_lock_lose(client, ready ? errno : ETIMEDOUT);
 }
 
-/* The next line of the server, into `line`; WOZGIRT_LOCK_LATE if it does not come until then (negative: for ever). */
-static inline int wozgirt_lock_hear(struct wozgirt_lock_client *client, int64_t until)
+static inline int wozgirt_lock_open(struct wozgirt_lock_client *client, const char *path)
 {
-    while (!wozgirt_lock_take(client)) {
-        int64_t left = until < 0 ? -1 : until - wozgirt_lock_now();
-        struct pollfd wait = {client->socket, POLLIN, 0};
-        if (client->socket < 0 || client->have == sizeof client->bytes)
-            return wozgirt_lock_lose(client);
-        if (until >= 0 && left <= 0)
-            return WOZGIRT_LOCK_LATE;
-        int count = poll(&wait, 1, left > 60000 ? 60000 : (int)left);
-        if (count < 0 && errno != EINTR)
-            return wozgirt_lock_lose(client);
-        if (count <= 0)
+    return wozgirt_lock_open_within(client, path, WOZGIRT_LOCK_PATIENCE);
+}
+
+/* Whether a question may be asked: not by a child, nor as long as the answer to another one may come. */
+static inline int wozgirt_lock_enter(struct wozgirt_lock_client *client)
+{
+    if (client->owner != getpid())
+        return WOZGIRT_LOCK_CHILD;
+    if (client->socket < 0)
+        return wozgirt_lock_lose(client, ENOTCONN);
+    if (client->asked || client->have)
+        return wozgirt_lock_lose(client, client->asked ? ECANCELED : EPROTO);
+    return WOZGIRT_LOCK_DONE;
+}
+
+static inline int wozgirt_lock_say(struct wozgirt_lock_client *client, enum wozgirt_lock_verb verb, const char *name, uint64_t number,
+                                   int64_t until)
+{
+    char line[WOZGIRT_LOCK_LONGEST_LINE];
+    client->asked = (int)verb;
+    int ready = wozgirt_lock_send(client->socket, line, wozgirt_lock_write(line, verb, name, number), until);
+    return ready == 1 ? WOZGIRT_LOCK_DONE : wozgirt_lock_lose(client, ready ? errno : ETIMEDOUT);
+}
+
+/* Hears what is answered to this; WOZGIRT_LOCK_LATE if nothing is until then. */
+static inline int wozgirt_lock_listen(struct wozgirt_lock_client *client, enum wozgirt_lock_verb verb, const char *name, int64_t until,
+                                      enum wozgirt_lock_answer *answer, uint64_t *token)
+{
+    int ready = wozgirt_lock_hear(client, until);
+    if (ready != 1)
+        return ready ? wozgirt_lock_lose(client, errno) : WOZGIRT_LOCK_LATE;
+    *answer = wozgirt_lock_read(client->line, verb, name, token);
+    return *answer ? WOZGIRT_LOCK_DONE : wozgirt_lock_lose(client, EPROTO);
+}
+
+/* Asks what waits for no lock, and hears the answer. */
+static inline int wozgirt_lock_ask(struct wozgirt_lock_client *client, enum wozgirt_lock_verb verb, const char *name, uint64_t number,
+                                   uint64_t *token)
+{
+    int64_t until = wozgirt_lock_after(client->patience);
+    enum wozgirt_lock_answer answer = WOZGIRT_LOCK_OTHER;
+    int result = wozgirt_lock_enter(client);
+    if (result == WOZGIRT_LOCK_DONE)
+        result = wozgirt_lock_say(client, verb, name, number, until);
+    if (result == WOZGIRT_LOCK_DONE)
+        result = wozgirt_lock_listen(client, verb, name, until, &answer, token);
+    if (result != WOZGIRT_LOCK_DONE)
+        return result == WOZGIRT_LOCK_LATE ? wozgirt_lock_lose(client, ETIMEDOUT) : result;
+    client->asked = WOZGIRT_LOCK_NOTHING;
+    return answer == WOZGIRT_LOCK_NOT_YET ? WOZGIRT_LOCK_LATE : answer == WOZGIRT_LOCK_YES ? WOZGIRT_LOCK_DONE : WOZGIRT_LOCK_REFUSED;
+}
+
+/* Withdraws an acquire, of which `answer` was heard so far: two more lines are missing, or one. */
+static inline int wozgirt_lock_withdraw(struct wozgirt_lock_client *client, const char *name, enum wozgirt_lock_answer answer,
+                                        int64_t until, uint64_t *token)
+{
+    int result = wozgirt_lock_say(client, WOZGIRT_LOCK_CANCEL, name, 0, until);
+    while (result == WOZGIRT_LOCK_DONE) {
+        int ready = wozgirt_lock_hear(client, until);
+        if (ready != 1)
+            return wozgirt_lock_lose(client, ready ? errno : ETIMEDOUT);
+        enum wozgirt_lock_answer first = wozgirt_lock_read(client->line, WOZGIRT_LOCK_ACQUIRE, name, token);
+        enum wozgirt_lock_answer second = wozgirt_lock_read(client->line, WOZGIRT_LOCK_CANCEL, name, NULL);
+        if ((answer == WOZGIRT_LOCK_OTHER && first) || (answer == WOZGIRT_LOCK_NOT_YET && first == WOZGIRT_LOCK_YES)) {
+            answer = first;
             continue;
-        ssize_t got = read(client->socket, client->bytes + client->have, sizeof client->bytes - client->have);
-        if (got == 0 || (got < 0 && errno != EINTR))
-            return wozgirt_lock_lose(client);
-        client->have += got > 0 ? (size_t)got : 0;
+        }
+        if (second != (answer == WOZGIRT_LOCK_NOT_YET ? WOZGIRT_LOCK_YES : WOZGIRT_LOCK_NO))
+            return wozgirt_lock_lose(client, EPROTO);
+        client->asked = WOZGIRT_LOCK_NOTHING;
+        return answer == WOZGIRT_LOCK_YES ? WOZGIRT_LOCK_DONE : WOZGIRT_LOCK_LATE;
     }
-    return strncmp(client->line, "refused ", 8) == 0 ? WOZGIRT_LOCK_REFUSED : WOZGIRT_LOCK_DONE;
-}
-
-/* Says a line of these words, and hears the answer. A server that does not answer is taken for lost. */
-static inline int wozgirt_lock_ask(struct wozgirt_lock_client *client, const char *verb, const char *name, const uint64_t *number)
-{
-    char line[256];
-    for (const char *at = name; *at; at++)
-        if (*at <= ' ' || *at > '~' || at - name >= 200)
-            return WOZGIRT_LOCK_NAME;
-    size_t length = (size_t)snprintf(line, sizeof line, "%s%s%s", verb, *name ? " " : "", name);
-    if (number)
-        length += (size_t)snprintf(line + length, sizeof line - length, " %" PRIu64, *number);
-    line[length++] = '\n';
-    for (size_t sent = 0; sent < length && client->socket >= 0;) {
-        ssize_t got = send(client->socket, line + sent, length - sent, MSG_NOSIGNAL);
-        if (got < 0 && errno != EINTR)
-            return wozgirt_lock_lose(client);
-        sent += got > 0 ? (size_t)got : 0;
-    }
-    int result = wozgirt_lock_hear(client, wozgirt_lock_now() + WOZGIRT_LOCK_PATIENCE);
-    return result == WOZGIRT_LOCK_LATE ? wozgirt_lock_lose(client) : result;
-}
-
-/* Whether the last line grants a lock; then its token. */
-static inline int wozgirt_lock_is_granted(const struct wozgirt_lock_client *client, uint64_t *token)
-{
-    const char *number = strrchr(client->line, ' ');
-    return strncmp(client->line, "granted ", 8) == 0 && number && sscanf(number, " %" SCNu64, token) == 1;
+    return result;
 }
 
 /* Asks for a lock, and waits for it so many milliseconds (0: not at all; negative: for ever). With WOZGIRT_LOCK_DONE it is held,
- * and the token is greater than that of every hold of it before. The journal keeps the label. */
+ * and the token is greater than that of every hold of it before. A server that does not even answer in time is taken for lost, with
+ * WOZGIRT_LOCK_LOST: then all that this client held is. The journal keeps the label. */
 static inline int wozgirt_lock_acquire(struct wozgirt_lock_client *client, const char *name, uint64_t label, int64_t wait,
                                        uint64_t *token)
 {
-    int64_t until = wait < 0 || wait > INT64_MAX / 2 ? -1 : wozgirt_lock_now() + wait;
-    int result = *name ? wozgirt_lock_ask(client, wait == 0 ? "try" : "acquire", name, &label) : WOZGIRT_LOCK_NAME;
-    if (result != WOZGIRT_LOCK_DONE || wozgirt_lock_is_granted(client, token))
-        return result;
+    int64_t until = wozgirt_lock_after(wait), first = wozgirt_lock_earlier(until, wozgirt_lock_after(client->patience));
+    enum wozgirt_lock_answer answer = WOZGIRT_LOCK_OTHER;
+    if (!wozgirt_lock_is_name(name))
+        return WOZGIRT_LOCK_NAME;
     if (wait == 0)
-        return strncmp(client->line, "busy ", 5) == 0 ? WOZGIRT_LOCK_LATE : wozgirt_lock_lose(client);
-    result = wozgirt_lock_hear(client, until);
+        return wozgirt_lock_ask(client, WOZGIRT_LOCK_TRY, name, label, token);
+    int result = wozgirt_lock_enter(client);
     if (result == WOZGIRT_LOCK_DONE)
-        return wozgirt_lock_is_granted(client, token) ? result : wozgirt_lock_lose(client);
-    if (result != WOZGIRT_LOCK_LATE)
-        return wozgirt_lock_lose(client);
-    if (wozgirt_lock_ask(client, "cancel", name, NULL) != WOZGIRT_LOCK_DONE)
-        return wozgirt_lock_lose(client);
-    if (!wozgirt_lock_is_granted(client, token))
-        return WOZGIRT_LOCK_LATE;
-    /* the grant came first: it is held, and the cancel is refused */
-    result = wozgirt_lock_hear(client, wozgirt_lock_now() + WOZGIRT_LOCK_PATIENCE);
-    return result == WOZGIRT_LOCK_REFUSED ? WOZGIRT_LOCK_DONE : wozgirt_lock_lose(client);
+        result = wozgirt_lock_say(client, WOZGIRT_LOCK_ACQUIRE, name, label, first);
+    if (result == WOZGIRT_LOCK_DONE)
+        result = wozgirt_lock_listen(client, WOZGIRT_LOCK_ACQUIRE, name, first, &answer, token);
+    if (result == WOZGIRT_LOCK_LATE && first < until)
+        return wozgirt_lock_lose(client, ETIMEDOUT);
+    if (result == WOZGIRT_LOCK_DONE && answer == WOZGIRT_LOCK_NOT_YET) {
+        result = wozgirt_lock_listen(client, WOZGIRT_LOCK_ACQUIRE, name, until, &answer, token);
+        if (result == WOZGIRT_LOCK_DONE && answer != WOZGIRT_LOCK_YES)
+            return wozgirt_lock_lose(client, EPROTO);
+    }
+    if (result != WOZGIRT_LOCK_DONE)
+        return result == WOZGIRT_LOCK_LATE ? wozgirt_lock_withdraw(client, name, answer, until + WOZGIRT_LOCK_WITHDRAWAL, token) : result;
+    client->asked = WOZGIRT_LOCK_NOTHING;
+    return answer == WOZGIRT_LOCK_YES ? WOZGIRT_LOCK_DONE : WOZGIRT_LOCK_REFUSED;
 }
 
 /* Ends the hold with this token. */
 static inline int wozgirt_lock_release(struct wozgirt_lock_client *client, const char *name, uint64_t token)
 {
-    return *name ? wozgirt_lock_ask(client, "release", name, &token) : WOZGIRT_LOCK_NAME;
+    return wozgirt_lock_is_name(name) ? wozgirt_lock_ask(client, WOZGIRT_LOCK_RELEASE, name, token, NULL) : WOZGIRT_LOCK_NAME;
 }
 
 /* Asks whether the server still hears this client: with WOZGIRT_LOCK_LOST others may hold what it held. */
 static inline int wozgirt_lock_check(struct wozgirt_lock_client *client)
 {
-    return wozgirt_lock_ask(client, "ping", "", NULL);
+    return wozgirt_lock_ask(client, WOZGIRT_LOCK_PING, "", 0, NULL);
 }
 
 #ifdef __cplusplus

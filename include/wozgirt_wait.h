@@ -14,7 +14,8 @@
  * Each thread calls itself by a number of its own, which no other uses meanwhile. Who waits is served in the order of the asks,
  * and only the thread that is granted a lock wakes. A thread that would wait for itself, over other threads, is refused with
  * WOZGIRT_CIRCLE. Where a history is full, new segments are begun, so there is no end; tokens go on. The rules of wozgirt.h hold: no
- * call in the handler of a signal, or in a child behind fork(). With -std=c11 include this header before the system's. */
+ * call in the handler of a signal, nor may one leave a call by siglongjmp(). To a child behind fork() the locks are closed: each call
+ * returns WOZGIRT_CLOSED, and a close does nothing. With -std=c11 include this header before the system's. */
 #ifndef WOZGIRT_WAIT_H
 #define WOZGIRT_WAIT_H
 #if defined(__STRICT_ANSI__) && !defined(_POSIX_C_SOURCE) && !defined(_DEFAULT_SOURCE) && !defined(_GNU_SOURCE)
@@ -26,6 +27,7 @@
 #include <stdint.h>
 #include <string.h>
 #include <time.h>
+#include <unistd.h>
 #ifdef __cplusplus
 extern "C" {
 #endif
@@ -44,6 +46,7 @@ struct wozgirt_wait {
     struct wozgirt_locks locks;
     struct wozgirt_waiter *first, *last; /* in the order of the asks */
     pthread_mutex_t mutex;               /* is held around each use of what is above it */
+    pid_t owner;                         /* the process that opened it, or 0 */
 };
 
 /* Opens `count` locks, from 0, each over a ring of `machines` machines: refused as by `wozgirt_locks_open`. What was in the
@@ -54,18 +57,27 @@ static inline uint32_t wozgirt_wait_open(struct wozgirt_wait *wait, uint32_t cou
     if (pthread_mutex_init(&wait->mutex, NULL) != 0)
         return WOZGIRT_NO_MEMORY;
     const uint32_t code = wozgirt_locks_open(&wait->locks, count, machines);
-    if (code != WOZGIRT_DONE)
+    if (code == WOZGIRT_DONE)
+        wait->owner = getpid();
+    else
         pthread_mutex_destroy(&wait->mutex);
     return code;
+}
+
+/* Whether it is open, for this process: in a child a thread that is not there may have the mutex. */
+static inline int wozgirt_wait_is_open(const struct wozgirt_wait *wait)
+{
+    return wait->owner == getpid();
 }
 
 /* Closes them, behind the last call of any thread. What was not opened stays as it is. */
 static inline void wozgirt_wait_close(struct wozgirt_wait *wait)
 {
-    if (!wait->locks.at)
+    if (!wozgirt_wait_is_open(wait))
         return;
     wozgirt_locks_close(&wait->locks);
     pthread_mutex_destroy(&wait->mutex);
+    wait->owner = 0;
 }
 
 /* The thread that waits so, or null. */
@@ -129,21 +141,19 @@ static inline struct timespec wozgirt_wait_until(int64_t milliseconds)
     return time;
 }
 
-/* Sleeps until the grant, or so long (negative: for ever): whether the time is over. The thread cannot be cancelled here. */
-static inline int wozgirt_wait_sleep(struct wozgirt_wait *wait, struct wozgirt_waiter *me, int64_t milliseconds)
+/* Sleeps until the grant, or until then (null: for ever): whether the time is over. The thread cannot be cancelled here. */
+static inline int wozgirt_wait_sleep(struct wozgirt_wait *wait, struct wozgirt_waiter *me, const struct timespec *until)
 {
-    const int is_endless = milliseconds < 0 || milliseconds > INT32_MAX;
-    const struct timespec until = wozgirt_wait_until(is_endless ? 0 : milliseconds);
     int fault = 0, state;
     pthread_setcancelstate(PTHREAD_CANCEL_DISABLE, &state);
     while (!me->is_granted && fault != ETIMEDOUT)
-        fault = is_endless ? pthread_cond_wait(&me->granted, &wait->mutex) : pthread_cond_timedwait(&me->granted, &wait->mutex, &until);
+        fault = until ? pthread_cond_timedwait(&me->granted, &wait->mutex, until) : pthread_cond_wait(&me->granted, &wait->mutex);
     pthread_setcancelstate(state, NULL);
     return fault == ETIMEDOUT;
 }
 
-/* Stands in line until the grant, or so long. A grant that comes at the same time as the end is given on. */
-static inline uint32_t wozgirt_wait_stand(struct wozgirt_wait *wait, struct wozgirt_waiter *me, int64_t milliseconds)
+/* Stands in line until the grant, or until then. A grant that comes at the same time as the end is given on. */
+static inline uint32_t wozgirt_wait_stand(struct wozgirt_wait *wait, struct wozgirt_waiter *me, const struct timespec *until)
 {
     int is_over;
     if (wozgirt_wait_condition(&me->granted) != 0) {
@@ -151,7 +161,7 @@ static inline uint32_t wozgirt_wait_stand(struct wozgirt_wait *wait, struct wozg
         return WOZGIRT_NO_MEMORY;
     }
     wozgirt_wait_enter(wait, me);
-    is_over = wozgirt_wait_sleep(wait, me, milliseconds);
+    is_over = wozgirt_wait_sleep(wait, me, until);
     wozgirt_wait_exit(wait, me);
     pthread_cond_destroy(&me->granted);
     if (!is_over)
@@ -174,7 +184,11 @@ static inline uint32_t wozgirt_wait_acquire(struct wozgirt_wait *wait, uint64_t 
     struct wozgirt_hold hold = {0, 0};
     uint32_t (*const ask)(struct wozgirt_locks *, uint64_t, uint32_t, uint64_t, struct wozgirt_hold *) =
         milliseconds == 0 ? wozgirt_locks_try : wozgirt_locks_acquire;
+    const int is_endless = milliseconds < 0 || milliseconds > INT32_MAX;
+    const struct timespec until = wozgirt_wait_until(is_endless ? 0 : milliseconds);
     uint32_t code;
+    if (!wozgirt_wait_is_open(wait))
+        return WOZGIRT_CLOSED;
     pthread_mutex_lock(&wait->mutex);
     code = ask(&wait->locks, client, lock, order, &hold);
     if (code == WOZGIRT_HISTORY_FULL && wozgirt_locks_cut(&wait->locks) == WOZGIRT_DONE)
@@ -183,7 +197,7 @@ static inline uint32_t wozgirt_wait_acquire(struct wozgirt_wait *wait, uint64_t 
         memset(&me, 0, sizeof me);
         me.client = client;
         me.lock = lock;
-        code = wozgirt_wait_stand(wait, &me, milliseconds);
+        code = wozgirt_wait_stand(wait, &me, is_endless ? NULL : &until);
         hold.token = me.token;
     }
     pthread_mutex_unlock(&wait->mutex);
@@ -201,6 +215,8 @@ static inline uint32_t wozgirt_wait_try(struct wozgirt_wait *wait, uint64_t clie
 /* Ends the hold with this token; the thread that is next in line wakes. */
 static inline uint32_t wozgirt_wait_release(struct wozgirt_wait *wait, uint64_t client, uint32_t lock, uint64_t token)
 {
+    if (!wozgirt_wait_is_open(wait))
+        return WOZGIRT_CLOSED;
     pthread_mutex_lock(&wait->mutex);
     const uint32_t code = wozgirt_locks_release(&wait->locks, client, lock, token);
     wozgirt_wait_hand_out(wait);
@@ -211,6 +227,8 @@ static inline uint32_t wozgirt_wait_release(struct wozgirt_wait *wait, uint64_t 
 /* Ends all that the thread holds. */
 static inline uint32_t wozgirt_wait_leave(struct wozgirt_wait *wait, uint64_t client)
 {
+    if (!wozgirt_wait_is_open(wait))
+        return WOZGIRT_CLOSED;
     pthread_mutex_lock(&wait->mutex);
     const uint32_t code = wozgirt_locks_leave(&wait->locks, client);
     wozgirt_wait_hand_out(wait);

@@ -16,8 +16,10 @@ static int counted_wait(pthread_cond_t *condition, pthread_mutex_t *mutex)
 
 #define pthread_cond_wait counted_wait
 #include "wozgirt_wait.h"
+#include <signal.h>
 #include <stdio.h>
 #include <stdlib.h>
+#include <sys/wait.h>
 
 enum { THREADS = 8, LOCKS = 3, MACHINES = 4, TURNS = 400 };
 
@@ -160,6 +162,51 @@ static void too_late(void)
     expect("it leaves", wozgirt_wait_leave(&locks, 3), WOZGIRT_DONE);
 }
 
+/* The deadline is that of the call, also where the thread gets the mutex late. */
+static void held_up(void)
+{
+    struct asker asker;
+    const uint64_t token = acquire(1, 0);
+    memset(&asker, 0, sizeof asker);
+    asker.client = 2;
+    asker.milliseconds = 1000;
+    pthread_mutex_lock(&locks.mutex);
+    stop_on(pthread_create(&asker.thread, NULL, ask, &asker));
+    pause_for(1500);
+    pthread_mutex_unlock(&locks.mutex);
+    const struct timespec until = wozgirt_wait_until(500);
+    pthread_join(asker.thread, NULL);
+    const struct timespec now = wozgirt_wait_until(0);
+    expect("too late", asker.code, WOZGIRT_BUSY);
+    expect("at once", now.tv_sec < until.tv_sec || (now.tv_sec == until.tv_sec && now.tv_nsec < until.tv_nsec), 1);
+    expect("release", wozgirt_wait_release(&locks, 1, 0, token), WOZGIRT_DONE);
+}
+
+/* To a child the locks are closed, also where another thread had the mutex, and its parent goes on. The child ends by a signal if it
+ * was told what it should be: then no tool takes its copy of the memory for a leak. */
+static void forked(void)
+{
+    uint64_t token = acquire(1, 0), none = 7;
+    int status = 0;
+    pthread_mutex_lock(&locks.mutex);
+    const pid_t child = fork();
+    if (child == 0) {
+        expect("an acquire", wozgirt_wait_acquire(&locks, 2, 1, 0, -1, &none), WOZGIRT_CLOSED);
+        expect("a try", wozgirt_wait_try(&locks, 2, 1, 0, &none), WOZGIRT_CLOSED);
+        expect("a release", wozgirt_wait_release(&locks, 1, 0, token), WOZGIRT_CLOSED);
+        expect("a leave", wozgirt_wait_leave(&locks, 1), WOZGIRT_CLOSED);
+        wozgirt_wait_close(&locks);
+        fflush(stdout);
+        if (!failed)
+            raise(SIGKILL);
+        _exit(1);
+    }
+    pthread_mutex_unlock(&locks.mutex);
+    expect("a child", child > 0 && waitpid(child, &status, 0) == child, 1);
+    expect("what it was told", WIFSIGNALED(status) && WTERMSIG(status) == SIGKILL, 1);
+    expect("release", wozgirt_wait_release(&locks, 1, 0, token), WOZGIRT_DONE);
+}
+
 /* The grant comes when the deadline has passed, and the thread is not awake yet: it is given on to whoever waits behind. */
 static void crossed(void)
 {
@@ -217,16 +264,20 @@ static void endless(void)
 int main(int count, char **words)
 {
     struct wozgirt_wait none;
+    uint64_t closed = 7;
     expect("no locks", wozgirt_wait_open(&none, 0, MACHINES), WOZGIRT_BAD_LOCKS);
     wozgirt_wait_close(&none);
     expect("open", wozgirt_wait_open(&locks, LOCKS, MACHINES), WOZGIRT_DONE);
     exclude();
     in_order();
     too_late();
+    held_up();
     crossed();
+    forked();
     refused();
     wozgirt_wait_close(&locks);
     wozgirt_wait_close(&locks);
+    expect("closed locks", wozgirt_wait_try(&locks, 1, 0, 0, &closed), WOZGIRT_CLOSED);
     if (count == 2 && strcmp(words[1], "endless") == 0)
         endless();
     printf("%s\n", failed ? "some answers differ" : "each thread was told what it should be");

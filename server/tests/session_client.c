@@ -1,6 +1,7 @@
 /* session_client SERVERS LEASE: does what the lines of its input say by include/wozgirt_session.h, and prints what it is answered:
  * `acquire NAME LABEL WAIT`, `release NAME TOKEN`, `check`, `close`. */
 #include "wozgirt_session.h"
+#include <stdlib.h>
 
 int main(int count, char **words)
 {

@@ -6,7 +6,7 @@ import subprocess
 import tempfile
 import unittest
 
-from harness import PATIENCE, TOP, Server, needs_programs, say
+from harness import PATIENCE, TOP, Server, by_the_clock, needs_programs, say
 
 STRICT = ["-Wall", "-Wextra", "-Wpedantic", "-Werror", "-I", os.path.join(TOP, "include")]
 SOURCE = os.path.join(TOP, "server", "tests", "lock_client.c")
@@ -41,7 +41,8 @@ def compiles(compiler, *words):
 @needs_programs
 @unittest.skipUnless(shutil.which("cc"), "no C compiler")
 class Header(unittest.TestCase):
-    def test_a_program(self):
+    @by_the_clock
+    def test_a_program(self, _):
         with tempfile.TemporaryDirectory() as folder, Server(locks="a,b") as server, server.raw() as holder:
             program = os.path.join(folder, "lock_client")
             self.assertEqual(compiles("cc", "-std=c11", "-O1", "-o", program, SOURCE), (True, ""))

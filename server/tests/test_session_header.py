@@ -11,6 +11,7 @@ import threading
 import unittest
 
 from harness import PATIENCE, TOP, by_the_clock, needs_loopback, needs_programs, say, wait_until
+from header_clients import by_the_clock_anew
 from test_cluster import Trial, needs_strict
 from test_header import compiles
 
@@ -60,7 +61,8 @@ class Clients(unittest.TestCase):
 @needs_programs
 @needs_strict
 class Several(Clients, Trial):
-    def test_a_hold_goes_on(self):
+    @by_the_clock_anew
+    def test_a_hold_goes_on(self, _):
         a, b = self.server("a"), self.server("b")
         it, other = self.client([a.path, b.path]), self.raw(b)
         self.assertEqual([self.ask(it, line) for line in ("acquire a 7 0", "check", "acquire b 1 0", "acquire no 1 0", "release a 9", "release b 9")],
@@ -171,7 +173,8 @@ class Cuts(Clients):
                 self.doors[1].socks.clear()
                 self.doors[1].told = lambda _: None
 
-    def test_in_turns_while_connections_are_cut(self):
+    @by_the_clock_anew
+    def test_in_turns_while_connections_are_cut(self, _):
         """Each of three clients gets the lock or is late, and no hold is lost."""
         clients = [self.client(self.places[i % 2:] + self.places[:i % 2]) for i in range(3)]
         answers, is_over = [[] for _ in clients], threading.Event()

@@ -1,5 +1,5 @@
-//! Tests of the commands that are no row of `tests/rows`: readers that fail or give too much, faults that
-//! no words lead to, and what files hold.
+//! Tests of what no row of `tests/rows` shows: readers that fail or give too much, outputs whose flush fails, services round the loops
+//! that lines and segments are served in, faults that no words lead to, and what files hold.
 #![tactic(auto)]
 
 #[cfg(test)]
@@ -7,7 +7,17 @@ mod faults;
 #[cfg(test)]
 mod files;
 #[cfg(test)]
+mod flushing;
+#[cfg(test)]
+mod holders;
+#[cfg(test)]
+mod holds;
+#[cfg(test)]
+mod lines;
+#[cfg(test)]
 mod lists;
+#[cfg(test)]
+mod loops;
 #[cfg(test)]
 mod names;
 #[cfg(test)]
@@ -15,8 +25,12 @@ mod reading;
 #[cfg(test)]
 mod remarks;
 #[cfg(test)]
-mod salvage;
+mod replicas;
+#[cfg(test)]
+mod segment_loops;
 #[cfg(test)]
 mod segments;
+#[cfg(test)]
+mod services;
 #[cfg(test)]
 mod serving;

@@ -1,30 +1,12 @@
-//! Lists as `step` reads them, and a history with as many events as one can have.
+//! A list as `step` reads it, with the greatest number, and a history with as many events as one can have.
 
-use tool_parts::faults::ToolError;
-use tool_parts::lists::read_list;
 use ring_commands::step::step_lines;
 use std::test::Fail;
+use tool_parts::faults::ToolError;
+use tool_parts::lists::read_list;
 
 #[test]
-fn only_canonical_lists_are_read(rt: HostRuntime) {
-    for list in [
-        "00",
-        "01",
-        "4294967296",
-        "1,",
-        ",1",
-        "1, 2",
-        "",
-        "+1",
-        "0,,0",
-        "1 2",
-        "x",
-        "99999999999999999999",
-        "-1",
-    ] {
-        let read = read_list(rt.alloc(), list);
-        assert!(rt; matches!(read, Err(ToolError::BadList)), "at {list}");
-    }
+fn a_list_has_its_numbers(rt: HostRuntime) {
     let Ok(numbers) = read_list(rt.alloc(), "0,10,4294967295") else {
         panic!(rt; "refused");
     };

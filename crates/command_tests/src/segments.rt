@@ -2,15 +2,12 @@
 //! end is cut. The digests are those of another program.
 
 use ring_chains::Base;
-use ring_check::Kind;
 use ring_segments::{
-    Chain, ChainSums, DIGEST_DIGITS, ReadError, SegmentError, SegmentHead, digest, digits,
-    put_head, read_head,
+    Chain, ChainSums, DIGEST_DIGITS, SegmentError, SegmentHead, digest, digits, put_head, read_head,
 };
-use std::alloc::{AllocError, Global};
 use std::test::Fail;
 
-pub const NONE: &str = "0000000000000000000000000000000000000000000000000000000000000000";
+const NONE: &str = "0000000000000000000000000000000000000000000000000000000000000000";
 
 pub const FIRST: &str = "ringsegment 1 1 2\n\
     behind 0000000000000000000000000000000000000000000000000000000000000000\n\
@@ -31,9 +28,9 @@ pub const FIRST: &str = "ringsegment 1 1 2\n\
     1 m 0 0 2 1 2 4\n\
     1 m 0 3 2 0 3 6\n";
 
-pub const FIRST_DIGEST: &str = "3e0fee3e8672fa1b3f3444a4d3bcbf61999e2b7c43ecb4a5a92a1cd9d9e46239";
+const FIRST_DIGEST: &str = "3e0fee3e8672fa1b3f3444a4d3bcbf61999e2b7c43ecb4a5a92a1cd9d9e46239";
 
-pub const SECOND: &str = "ringsegment 1 2 2\n\
+const SECOND: &str = "ringsegment 1 2 2\n\
     behind 3e0fee3e8672fa1b3f3444a4d3bcbf61999e2b7c43ecb4a5a92a1cd9d9e46239\n\
     base 1 1 5 1\n\
     base 3 3 6 3\n\
@@ -51,7 +48,7 @@ pub const SECOND: &str = "ringsegment 1 2 2\n\
 
 const SECOND_DIGEST: &str = "fc022e386e328ac620106ec1596737796121f60f178f835f0fe1b03d5a7506e3";
 
-pub const THIRD: &str = "ringsegment 1 3 3\n\
+const THIRD: &str = "ringsegment 1 3 3\n\
     behind fc022e386e328ac620106ec1596737796121f60f178f835f0fe1b03d5a7506e3\n\
     base 3 2 9 1\n\
     base 3 3 6 3\n\
@@ -71,10 +68,10 @@ pub const THIRD: &str = "ringsegment 1 3 3\n\
     2 p 0 0 1 g 1 1\n\
     0 p 0 2";
 
-pub const THIRD_DIGEST: &str = "2244ec08b1b29a5f67def1883062ad99864f287154d1166f1217cb72a467fdc1";
+const THIRD_DIGEST: &str = "2244ec08b1b29a5f67def1883062ad99864f287154d1166f1217cb72a467fdc1";
 
 /// The digits of a digest.
-pub fn digits_of(text: &str) -> [u8; DIGEST_DIGITS] {
+fn digits_of(text: &str) -> [u8; DIGEST_DIGITS] {
     let mut found = [b'0'; DIGEST_DIGITS];
     for (i, digit) in text.as_bytes().iter().enumerate() {
         if i < DIGEST_DIGITS {
@@ -82,20 +79,6 @@ pub fn digits_of(text: &str) -> [u8; DIGEST_DIGITS] {
         }
     }
     found
-}
-
-/// A text with another part.
-pub fn changed(alloc: Global, text: &str, old: &str, new: &str) -> Result<Vec<u8>, AllocError> {
-    let mut bytes = Vec::new(alloc);
-    match text.split_once(old) {
-        Some((front, back)) => {
-            bytes.extend_from_slice(front.as_bytes())?;
-            bytes.extend_from_slice(new.as_bytes())?;
-            bytes.extend_from_slice(back.as_bytes())?;
-        }
-        None => {}
-    }
-    Ok(bytes)
 }
 
 #[test]
@@ -140,38 +123,6 @@ fn a_head_is_read_and_written(rt: HostRuntime) -> Result<(), Fail> {
     let mut out = Vec::new(rt.alloc());
     assert!(rt; put_head(&mut out, &made).is_ok());
     assert!(rt; written <= SECOND.len() && out.as_slice() == &SECOND.as_bytes()[..written]);
-    Ok(())
-}
-
-#[test]
-fn heads_are_refused(rt: HostRuntime) -> Result<(), Fail> {
-    for (old, new, line) in [
-        ("ringsegment 1 2", "ringsegment 2 2", 1),
-        ("ringsegment 1 2 2", "ringsegment 1 0 2", 1),
-        ("ringsegment 1 2 2", "ringsegment 1 2 0", 1),
-        (
-            "ringsegment 1 2 2",
-            "ringsegment 1 18446744073709551616 2",
-            1,
-        ),
-        ("behind 3", "behind g", 2),
-        ("behind 3", "behind A", 2),
-        ("behind 3", "behind ", 2),
-        ("base 1 1 5 1", "base 1 1 5", 3),
-        ("base 1 1 5 1", "base 01 1 5 1", 3),
-        ("base 3 3 6 3\n", "", 4),
-    ] {
-        let bytes = changed(rt.alloc(), SECOND, old, new)?;
-        let read = read_head(rt.alloc(), &bytes);
-        assert!(rt;
-            matches!(read, Err(ReadError::Syntax(l)) if l == line),
-            "at {new}"
-        );
-    }
-    for cut in [0, 1, 18, 50, 89, 103, 114] {
-        let read = read_head(rt.alloc(), &FIRST.as_bytes()[..cut]);
-        assert!(rt; matches!(read, Err(ReadError::Truncated)), "at {cut}");
-    }
     let read = read_head(rt.alloc(), &FIRST.as_bytes()[..116]);
     assert!(rt; matches!(read, Ok((_, rest)) if rest.is_empty()));
     Ok(())
@@ -209,74 +160,4 @@ fn a_chain_is_checked(rt: HostRuntime) {
     assert!(rt; rest.add(alloc, SECOND.as_bytes(), false).is_ok());
     assert!(rt; rest.add(alloc, THIRD.as_bytes(), true).is_ok());
     assert!(rt; rest.sums() == sums(2, 2, 3, [7, 6, 1, 0], SECOND_DIGEST));
-}
-
-#[test]
-fn files_that_do_not_follow_are_refused(rt: HostRuntime) -> Result<(), Fail> {
-    let alloc = rt.alloc();
-    let mut chain = Chain::new();
-    assert!(rt; chain.add(alloc, FIRST.as_bytes(), false).is_ok());
-    let bad = |line, kind| SegmentError::Bad { line, kind };
-    for (old, new, error) in [
-        (
-            "ringsegment 1 2 2",
-            "ringsegment 1 3 2",
-            SegmentError::Number,
-        ),
-        (
-            "ringsegment 1 2 2",
-            "ringsegment 1 1 2",
-            SegmentError::Number,
-        ),
-        ("behind 3", "behind 4", SegmentError::Behind),
-        ("base 1 1 5 1", "base 2 1 5 1", SegmentError::Base),
-        ("base 1 1 5 1", "base 1 1 5 0", SegmentError::Base),
-        ("base 3 3 6 3", "base 3 3 7 3", SegmentError::Base),
-        ("2 2\nbehind", "2 3\nbehind", SegmentError::Syntax(5)),
-        ("start 1 2 0", "start 2 2 0", SegmentError::Start),
-        ("start 1 0 1 1", "start 1 0 1 0", SegmentError::Start),
-        ("ring 1 4 4", "ring 1 4 5", SegmentError::Start),
-        ("ringjournal 1", "ringjournal 2", SegmentError::Syntax(5)),
-        ("0 c 0 1 0 2", "0 x 0 1 0 2", SegmentError::Syntax(14)),
-        ("0 c 0 1 0 2", "0 c 0 1 0 1", bad(14, Kind::Reply)),
-        ("4 g 1 4", "4 g 2 4", bad(15, Kind::Reply)),
-        ("ring 0 3 3", "ring 0 3 2", bad(7, Kind::Parameter)),
-        ("done 2", "done 3", bad(13, Kind::Count)),
-        (
-            "done 2\n0 c 0 1 0 2\n0 p 0 1 4 g 1 4\n",
-            "done",
-            SegmentError::Truncated,
-        ),
-    ] {
-        let bytes = changed(alloc, SECOND, old, new)?;
-        let added = chain.add(alloc, &bytes, false);
-        assert!(rt; matches!(added, Err(e) if e == error), "at {new}");
-    }
-    let more = changed(alloc, SECOND, "2 2\nbehind", "2 1\nbehind")?;
-    assert!(rt; matches!(chain.add(alloc, &more, false), Err(SegmentError::Syntax(4))));
-    assert!(rt; matches!(chain.add(alloc, b"", false), Err(SegmentError::Truncated)));
-    assert!(rt; chain.add(alloc, SECOND.as_bytes(), true).is_ok());
-    Ok(())
-}
-
-#[test]
-fn nothing_of_a_file_in_the_middle_is_left_out(rt: HostRuntime) -> Result<(), Fail> {
-    let alloc = rt.alloc();
-    for cut in [
-        "0 3 6\n",
-        "\n1 m 0 3 2 0 3 6\n",
-        "m 0 0 2 1 2 4\n1 m 0 3 2 0 3 6\n",
-    ] {
-        let bytes = changed(alloc, FIRST, cut, "")?;
-        let mut chain = Chain::new();
-        let added = chain.add(alloc, &bytes, false);
-        assert!(rt; matches!(added, Err(SegmentError::Unfinished)), "at {cut}");
-        assert!(rt; chain.add(alloc, &bytes, true).is_ok());
-    }
-    let first = changed(alloc, FIRST, NONE, FIRST_DIGEST)?;
-    let mut chain = Chain::new();
-    assert!(rt; matches!(chain.add(alloc, &first, true), Err(SegmentError::Behind)));
-    let first = changed(alloc, FIRST, "base 0 0 0 0", "base 1 0 0 0")?;
-    assert!(rt; matches!(chain.add(alloc, &first, true), Err(SegmentError::Base)));
-    Ok(())
 }

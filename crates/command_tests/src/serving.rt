@@ -2,14 +2,14 @@
 
 use crate::files::memory::{bytes_of, no_files, put};
 use disks::{Disk, FolderEntry, MemoryDisk};
-use tool_parts::faults::ToolError;
-use serve_commands::serve::run;
 use ring_requests::ServeWords;
+use serve_commands::serve::run;
 use std::alloc::Global;
 use std::cell::Cell;
 use std::io::{self, Cursor, ErrorKind, Read, Write};
 use std::process::Abort;
 use std::test::Fail;
+use tool_parts::faults::ToolError;
 
 /// A journal that tells no call.
 const BEGUN: &str = "ringjournal 1\nringfarm 2\nring 0 3 3\nstart 0 0 0\nend 0\ndone 1\n";
@@ -259,30 +259,6 @@ fn a_journal_of_another_process_is_in_use(rt: HostRuntime) -> Result<(), Fail> {
 }
 
 #[test]
-fn a_refused_journal_stays(rt: HostRuntime) -> Result<(), Fail> {
-    let alloc = rt.alloc();
-    let opened = Cell::new(0);
-    let mut disk = files_with(alloc, &opened, "j", b"bad\n")?;
-    let mut input: &[u8] = b"pass 0 0 0 5\n";
-    let mut out = Vec::new(alloc);
-    let mut err = Vec::new(alloc);
-    match run(
-        alloc,
-        &mut disk,
-        &words("j", true),
-        &mut input,
-        &mut out,
-        &mut err,
-    ) {
-        Err(ToolError::Journal(name, _)) => assert!(rt; name == "j"),
-        _ => panic!(rt; "it is refused"),
-    }
-    assert!(rt; out.is_empty() && err.is_empty() && input.len() == 13);
-    expect_held(&rt, &disk, "j", b"bad\n")?;
-    Ok(())
-}
-
-#[test]
 fn a_fault_leaves_the_journal(rt: HostRuntime) -> Result<(), Fail> {
     let alloc = rt.alloc();
     let opened = Cell::new(0);
@@ -308,27 +284,6 @@ fn a_fault_leaves_the_journal(rt: HostRuntime) -> Result<(), Fail> {
     let begun =
         b"ringjournal 1\nringfarm 2\nring 0 3 3\nstart 0 0 0\np 0 0 5 g 1 5\nend 1\ndone 1\n";
     expect_held(&rt, &disk, "j", begun)?;
-    Ok(())
-}
-
-#[test]
-fn a_long_journal_is_resumed(rt: HostRuntime) -> Result<(), Fail> {
-    let alloc = rt.alloc();
-    let opened = Cell::new(0);
-    let mut text = Vec::from_slice(alloc, BEGUN.as_bytes())?;
-    for _ in 0..100_000 {
-        text.extend_from_slice(b"0 p 0 1 1 n\n")?;
-    }
-    let mut disk = files_with(alloc, &opened, "j", text.as_slice())?;
-    let totals = b"total rings 1 events 100001 granted 1 surveys 0\n";
-    expect_served(
-        &rt,
-        &mut disk,
-        &words("j", true),
-        b"pass 0 0 0 5\n",
-        b"granted 1 5\n",
-        totals,
-    );
     Ok(())
 }
 

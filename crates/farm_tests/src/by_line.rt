@@ -4,7 +4,6 @@
 mod chained;
 mod files;
 mod journals;
-mod segments;
 mod streams;
 
 use ring_book::Till;

@@ -13,8 +13,6 @@ mod events;
 #[cfg(test)]
 mod farm;
 #[cfg(test)]
-mod locks;
-#[cfg(test)]
 mod names;
 #[cfg(test)]
 mod scripted;

@@ -21,21 +21,6 @@ fn settings_of(rt: &impl Abort, alloc: Global, text: &str) -> Settings {
     }
 }
 
-/// How many rings and seats there are, the size of the first ring, and its start.
-fn has_first_ring(
-    rt: &impl Abort,
-    settings: &Settings,
-    (rings, seats): (usize, usize),
-    (n, k): (u32, u32),
-    start: &[u32],
-) {
-    assert!(rt; settings.ring_count() > 0);
-    let size = settings.params(0);
-    let counts = (settings.ring_count(), settings.seat_count());
-    assert_eq!(rt; (counts, size.n(), size.k()), ((rings, seats), n, k));
-    assert_eq!(rt; settings.start(0), start);
-}
-
 /// A plan has these actions.
 fn is_plan(rt: &impl Abort, plan: &Plan, actions: &[Action]) {
     assert_eq!(rt; plan.actions.as_slice(), actions);

@@ -4,7 +4,6 @@ use crate::files::memory::{bytes_of, no_files, put};
 use crate::files::system::{expect_bytes, expect_count, folder_of, within};
 use disks::{Contents, ContentsFault, Disk, ReplaceFault, SystemDisk, replace};
 use std::io::Write;
-use std::process::Abort;
 use std::test::Fail;
 
 /// Two lines, or the fault that comes after the first.

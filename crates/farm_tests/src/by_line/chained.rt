@@ -171,16 +171,6 @@ fn expect(rt: &impl Abort, disk: &Full, name: &str, want: &[u8]) {
 }
 
 #[test]
-fn a_segment_ends_after_the_line_that_makes_it_due(rt: HostRuntime) {
-    let alloc = rt.alloc();
-    let mut disk = disk_of(&rt, alloc, 0);
-    let told = answers(&rt, &mut disk, LINES);
-    assert!(rt; told.as_slice() == b"granted 1 5\nwaits\ngranted 2 9\n".as_slice());
-    expect(&rt, &disk, FIRST_NAME, FIRST_END);
-    expect(&rt, &disk, "d/0000000002.ring", SECOND_END);
-}
-
-#[test]
 fn it_ends_there_however_the_input_is_cut(rt: HostRuntime) {
     let alloc = rt.alloc();
     let mut disk = disk_of(&rt, alloc, 0);
@@ -240,33 +230,4 @@ fn the_segment_ends_when_a_file_can_be_made_again(rt: HostRuntime) {
     assert!(rt; told.as_slice() == b"granted 1 5\nwaits\ngranted 2 9\n".as_slice());
     expect(&rt, &disk, FIRST_NAME, FIRST_END);
     expect(&rt, &disk, "d/0000000002.ring", SECOND_END);
-}
-
-#[test]
-fn a_fault_of_the_input_leaves_what_was_told(rt: HostRuntime) {
-    let alloc = rt.alloc();
-    let mut disk = disk_of(&rt, alloc, 0);
-    let mut served = served(&rt, alloc);
-    let rules = rules(FOLDER);
-    let first = first_segment(&rt, alloc, &mut disk, rules.folder);
-    let mut out = Vec::new(alloc);
-    let mut input = Drops {
-        left: LINES,
-        fails: true,
-    };
-    let ended = serve_segments(
-        alloc,
-        &mut served,
-        &mut disk,
-        first,
-        rules,
-        &mut input,
-        &mut out,
-    );
-    match ended {
-        Ok(_) => panic!(rt; "the input fails"),
-        Err(fault) => assert!(rt; fault == LoopFault::Read),
-    }
-    assert!(rt; out.as_slice() == b"granted 1 5\nwaits\ngranted 2 9\n".as_slice());
-    expect(&rt, &disk, FIRST_NAME, FIRST_END);
 }

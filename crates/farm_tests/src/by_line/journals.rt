@@ -128,28 +128,6 @@ fn the_journal_is_flushed_before_an_answer_leaves(rt: HostRuntime) {
 }
 
 #[test]
-fn a_try_that_waits_has_no_part_in_the_journal(rt: HostRuntime) {
-    let alloc = rt.alloc();
-    let mut served = served(&rt, alloc);
-    let mut disk = Stuck { alloc };
-    let mut input: &[u8] = b"try 0 0 0 5\ntry 0 0 0 1\n";
-    let mut journal = kept(Vec::new(alloc));
-    let mut out = Vec::new(alloc);
-    let ended = serve(
-        alloc,
-        &mut served,
-        &mut disk,
-        &mut journal,
-        NOTHING,
-        &mut input,
-        &mut out,
-    );
-    assert!(rt; ended == Ok(()));
-    assert!(rt; writer_of(&rt, journal).as_slice() == b"0 p 0 0 5 g 1 5\n".as_slice());
-    assert!(rt; out.as_slice() == b"granted 1 5\nwaits\n".as_slice());
-}
-
-#[test]
 fn what_was_answered_leaves_before_more_is_read(rt: HostRuntime) {
     let alloc = rt.alloc();
     let mut served = served(&rt, alloc);

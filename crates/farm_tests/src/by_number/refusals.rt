@@ -16,6 +16,7 @@ fn each_number_is_looked_at(rt: HostRuntime) {
     assert!(rt; ring.corrupt(0, 4, 4).err() == Some(CallError::NoMachine));
     assert!(rt; ring.corrupt(0, 0, 4).err() == Some(CallError::NoValue));
     assert!(rt; ring.survey(1).err() == Some(CallError::NoSeat));
+    assert!(rt; ring.log(rt.alloc(), 1).err() == Some(CallError::NoSeat));
     assert!(rt; ring.pass_group(1, &[0], 0).err() == Some(CallError::NoSeat));
     assert!(rt; ring.pass_group(0, &[], 0).err() == Some(CallError::NotRising));
     assert!(rt; ring.pass_group(0, &[1, 0], 0).err() == Some(CallError::NotRising));

@@ -1,6 +1,6 @@
 //! Calls one after another, and the text that is saved of them.
 use ring_book::{Idle, Till};
-use ring_desk::{CallError, OneThreadRing, from_saved};
+use ring_desk::{OneThreadRing, from_saved};
 use ring_farm::RingOutcome;
 use ring_model::{Entry, Event, Op, Receipt, Reply, Survey};
 use ring_saved::read_saved;
@@ -57,86 +57,6 @@ fn gone_on(rt: &impl Abort, alloc: Global, text: &[u8], seats: u32) -> OneThread
         Ok(ring) => ring,
         Err(_) => panic!(rt; "the saved ring is gone on with"),
     }
-}
-
-#[test]
-fn passes_and_a_survey_are_saved(rt: HostRuntime) {
-    let mut ring = opened(&rt, rt.alloc(), 3, &[0, 2, 0]);
-    assert!(rt; ring.pass(0, 0, 5).map(|r| r.position) == Ok(0));
-    assert!(rt; ring.pass(0, 0, 1).map(|r| r.event.reply) == Ok(Reply::NotPrivileged));
-    assert!(rt;
-        ring.pass(0, 2, 4).map(|r| r.event.reply)
-            == Ok(Reply::Granted {
-                number: 2,
-                result: 9
-            })
-    );
-    let survey = ring.glance();
-    assert!(rt;
-        survey.privileged == 1 && survey.first == 1 && survey.calm == 2 && survey.rest == 0
-    );
-    assert!(rt; ring.survey(0) == Ok(survey));
-    assert!(rt; ring.history_length() == 3 && log_of(&rt, rt.alloc(), &ring, 0).len() == 4);
-    assert!(rt; ring.log(rt.alloc(), 1).err() == Some(CallError::NoSeat));
-    saves(
-        &rt,
-        rt.alloc(),
-        &ring,
-        b"ringfarm 2\nring 0 3 3\nstart 0 2 0\np 0 0 5 g 1 5\np 0 0 1 n\np 0 2 4 g 2 9\nend 3\ns 0 3 1 1 2 0\ndone 1\n",
-    );
-}
-
-#[test]
-fn a_try_that_waits_is_no_event(rt: HostRuntime) {
-    let mut ring = opened(&rt, rt.alloc(), 3, &[0, 2, 0]);
-    let Ok(Some(receipt)) = ring.try_pass(0, 0, 5) else {
-        panic!(rt; "a privileged machine passes");
-    };
-    assert!(rt;
-        receipt.event.reply
-            == Reply::Granted {
-                number: 1,
-                result: 5
-            }
-    );
-    assert!(rt; ring.try_pass(0, 0, 1).map(|r| r.is_none()) == Ok(true));
-    assert!(rt; ring.try_pass(1, 3, 1).err() == Some(CallError::NoSeat));
-    assert!(rt; ring.try_pass(0, 3, 1).err() == Some(CallError::NoMachine));
-    assert!(rt; ring.history_length() == 1 && log_of(&rt, rt.alloc(), &ring, 0).len() == 1);
-}
-
-#[test]
-fn a_group_is_one_block(rt: HostRuntime) {
-    let mut ring = opened(&rt, rt.alloc(), 4, &[0, 2, 1, 0]);
-    assert!(rt;
-        ring.pass_group(0, &[0, 1, 3], 2)
-            .map(|r| (r.first, r.count))
-            == Ok((0, 3))
-    );
-    assert!(rt; ring.survey(0).map(|s| s.rest) == Ok(9));
-    saves(
-        &rt,
-        rt.alloc(),
-        &ring,
-        b"ringfarm 2\nring 0 4 4\nstart 0 2 1 0\nm 0 1 2 2 1 2\nm 0 0 2 1 2 4\nm 0 3 2 0 3 6\nend 3\ns 0 3 3 0 3 9\ndone 1\n",
-    );
-}
-
-#[test]
-fn a_saved_ring_is_gone_on_with(rt: HostRuntime) {
-    let mut ring = gone_on(
-        &rt,
-        rt.alloc(),
-        b"ringfarm 2\nring 0 4 4\nstart 0 2 1 0\nm 0 1 2 2 1 2\nm 0 0 2 1 2 4\nm 0 3 2 0 3 6\nend 3\ns 0 3 3 0 3 9\ndone 1\n",
-        1,
-    );
-    assert!(rt; ring.corrupt(0, 1, 3).map(|r| r.event.reply) == Ok(Reply::Corrupted { old: 0 }));
-    saves(
-        &rt,
-        rt.alloc(),
-        &ring,
-        b"ringfarm 2\nring 0 4 4\nstart 0 2 1 0\nm 0 1 2 2 1 2\nm 0 0 2 1 2 4\nm 0 3 2 0 3 6\nc 0 1 3 0\nend 4\ns 0 3 3 0 3 9\ndone 1\n",
-    );
 }
 
 /// The receipt of a pass with order 1 that was refused.

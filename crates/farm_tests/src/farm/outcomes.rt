@@ -17,10 +17,6 @@ use std::thread::Threads;
 const DRAWN: &str =
     r#"{"rings":[{"n":3,"k":3,"start":[0,0,0]},{"n":8,"k":16,"start":[0,0,0,0,0,0,0,0]}],"workers":[{"seed":1,"actions":500},{"seed":2,"actions":500},{"seed":3,"actions":500},{"seed":4,"actions":500}],"injector":{"seed":5,"actions":50}}"#;
 
-/// A worker with nothing to do, and an injector that corrupts a million times.
-const CORRUPTED_ALONE: &str =
-    r#"{"rings":[{"n":2,"k":2,"start":[0,0]}],"workers":[{"script":[]}],"injector":{"seed":5,"actions":1000000}}"#;
-
 /// A worker with one pass, and an injector that corrupts a million times.
 const CORRUPTED: &str =
     r#"{"rings":[{"n":2,"k":2,"start":[0,0]}],"workers":[{"script":[["pass",0,0,1]]}],"injector":{"seed":5,"actions":1000000}}"#;
@@ -92,11 +88,6 @@ fn arrivals_wait_for_each_other(rt: HostRuntime) {
 fn makes<W: Threads + Wait + Abort + Sync>(rt: &W, alloc: Global, text: &str, events: usize) {
     let outcome = outcome(rt, ran(rt, alloc, text, &Open), 1);
     assert_eq!(rt; outcome.rings[0].book.history().len(), events);
-}
-
-#[test]
-fn a_history_has_a_million_events(rt: HostRuntime) {
-    makes(&rt, rt.alloc(), CORRUPTED_ALONE, 1_000_000);
 }
 
 #[test]

@@ -3,12 +3,11 @@
 use super::scenes::{Act, Scene, book_of, outcome_of};
 use super::worked::{
     CORRUPTED_REPORT, CORRUPTIONS, GROUP, GROUP_REPORT, LATER_PASSES, LATER_TWO_RINGS,
-    NO_RINGS_REPORT, PASSES, SCRIPT, SCRIPT_REPORT, TEXTS, TWO_CLIENTS, TWO_RINGS, WIDE_REPORT,
+    NO_RINGS_REPORT, PASSES, TEXTS, TWO_CLIENTS, TWO_RINGS, WIDE_REPORT,
 };
 use super::{What, is_put, is_whole, is_written};
 use crate::scripted::{memory_ends, memory_is_back};
-use ring_farm::{Open, Outcome, RingOutcome, run_farm};
-use ring_settings::read_settings;
+use ring_farm::{Outcome, RingOutcome};
 use std::test::Fail;
 
 /// Two rings of two clients: in the first client 1 comes first, and in the second client 0 looks twice.
@@ -154,16 +153,6 @@ fn outcomes_are_reported(rt: HostRuntime) -> Result<(), Fail> {
         is_written(&rt, alloc, What::Report(&outcome), report);
         is_written(&rt, alloc, What::Total(&outcome), total);
     }
-    Ok(())
-}
-
-#[test]
-fn a_run_of_a_farm_is_written_and_reported(rt: HostRuntime) -> Result<(), Fail> {
-    let alloc = rt.alloc();
-    let settings = read_settings(alloc, SCRIPT)?;
-    let outcome = run_farm(&rt, alloc, &settings, &Open)?;
-    is_written(&rt, alloc, What::Outcome(&outcome), LATER_PASSES);
-    is_written(&rt, alloc, What::Report(&outcome), SCRIPT_REPORT);
     Ok(())
 }
 

@@ -29,17 +29,9 @@ pub(super) const TEXTS: [&[u8]; 5] = [PASSES, TWO_RINGS, LATER_PASSES, LATER_TWO
 pub(super) const TWO_CLIENTS: &[u8] =
     b"ringfarm 2\nring 0 2 2\nstart 0 0\np 1 0 7 g 1 7\np 0 0 1 n\nend 2\ns 0 2 1 1 1 0\ns 1 1 1 1 1 0\nring 1 3 3\nstart 0 0 0\nc 0 1 2 0\nc 1 1 2 2\nend 2\ns 0 1 3 0 0 6\ns 0 2 3 0 0 6\ns 1 2 3 0 0 6\ndone 2\n";
 
-/// One ring of three machines, and a script of three passes and a survey.
-pub(super) const SCRIPT: &[u8] =
-    br#"{"rings":[{"n":3,"k":3,"start":[0,2,0]}],"workers":[{"script":[["pass",0,0,5],["pass",0,0,1],["pass",0,2,4],["survey",0]]}]}"#;
-
 /// A value that is written over itself, and what seat 0 saw then.
 pub(super) const CORRUPTIONS: &[u8] =
     b"ringfarm 2\nring 0 3 3\nstart 0 0 0\nc 0 1 2 0\nc 0 1 2 2\nend 2\ns 0 2 3 0 0 6\ndone 1\n";
-
-/// The report on a run of the script: from 0, 2, 0 to 1, 2, 2, and never settled before a call.
-pub(super) const SCRIPT_REPORT: &[u8] =
-    b"ring 0 n 3 k 3 events 3 granted 2 refused 1 corrupted 0 surveys 1\nstates 1,2,2\nprivileged 1 first 1 calm 2 rest 0 bound 9\ngrants 1,0,1 settled 0,0,0\ntotal rings 1 events 3 granted 2 surveys 1\n";
 
 /// The report on two rings that were corrupted: the first settled again, the second did not.
 pub(super) const CORRUPTED_REPORT: &[u8] =

@@ -1,12 +1,7 @@
-//! Groups that pass at once, up to the largest of the widest ring.
+//! Groups that pass at once. The largest of the widest ring is a row of `tests/rows` (`widest_group`).
 
-ghost use Rattle.std.specs.Prelude.{◌≤◌, length};
-
-use super::{Scene, Step, book_of, pass_group, play, play_all};
-use crate::groups::{widest_group, widest_values, widest_values_moved};
-use crate::rings::has_values;
-use ring_book::{Event, GroupError, GroupReceipt, Op, Reply, Till};
-use std::process::Abort;
+use super::{Scene, Step, play_all};
+use ring_book::{Event, GroupError, GroupReceipt, Op, Reply};
 
 /// A member of seat 0's group with order 2, with this many more after it.
 macro_rules! member {
@@ -109,50 +104,4 @@ const GROUPS: [Scene<'static>; 4] = [
 #[test]
 fn groups_pass_at_once(rt: HostRuntime) {
     play_all(&rt, rt.alloc(), &GROUPS);
-}
-
-/// The events are members of seat 0, of order 3, by these machines, with the numbers from 1 on and the answers that a till
-/// gives that begins with nothing.
-fn check_block(rt: &impl Abort, events: &[Event], machines: &[u32])
-    requires { length machines.now ≤ 1024 }
-{
-    assert!(rt; events.len() == machines.len());
-    for place in 0..machines.len() {
-        let number = place as u64 + 1;
-        let op = Op::Member {
-            machine: machines[place],
-            order: 3,
-            left: (machines.len() - 1 - place) as u32,
-        };
-        let reply = Reply::Granted {
-            number,
-            result: 3 * number,
-        };
-        assert!(rt;
-            events[place] == Event { seat: 0, op, reply },
-            "member {place}"
-        );
-    }
-}
-
-#[test]
-fn the_largest_group_of_the_widest_ring_passes_at_once(rt: HostRuntime) {
-    let mut book = book_of(&rt, rt.alloc(), 65_536, &widest_values(), Till::new());
-    play(&rt, &mut book, &[Step::Survey(0, 1_024, 0, 0, 524_800)]);
-    let wanted = GroupReceipt {
-        first: 0,
-        count: 1_023,
-    };
-    assert!(rt; pass_group(&rt, &mut book, &widest_group(), 3) == Ok(wanted));
-    let mut order = [0u32; 1023];
-    for turn in 0..1023usize {
-        order[turn] = (1_523 - turn as u32) % 1_024;
-    }
-    check_block(&rt, book.history(), &order);
-    assert!(rt; has_values(book.state(), &widest_values_moved()));
-    play(
-        &rt,
-        &mut book,
-        &[Step::Survey(1_023, 1_022, 1, 1_023, 523_253)],
-    );
 }

@@ -1,0 +1,16 @@
+//! Lines of holders with the greatest numbers, which no hold has.
+
+use lock_holders::read_holders;
+
+#[test]
+fn reads_lines(rt: HostRuntime) {
+    let alloc = rt.alloc();
+    let text = b"hold 0 7 3\nhold 4294967295 18446744073709551615 0\n";
+    let Ok(holders) = read_holders(alloc, text) else {
+        panic!(rt; "holders");
+    };
+    assert!(rt; holders.len() == 2);
+    assert!(rt; holders[0].lock == 0 && holders[0].token == 7 && holders[0].client == 3);
+    assert!(rt; holders[1].lock == u32::MAX && holders[1].token == u64::MAX);
+    assert!(rt; matches!(read_holders(alloc, b""), Ok(none) if none.is_empty()));
+}

@@ -1,6 +1,0 @@
-use Rattle.ring_model.specs.declared.events.Op.TheVariants as op
-use Rattle.ring_locks.proofs.Calls.{called_kept}
-use Rattle.farm_tests.proofs.locks.granted.Goals as goal
-
-pub returns : goal.returns
-returns g c = called_kept c.args.ring c.pass.new.self 0 (op.Pass c.args.machine c.args.order) c.in-Ok._receipt c.requires c.in-Ok.ensures.endless c.in-Ok.ensures.ok
