@@ -1,7 +1,8 @@
 //! The words of `new`.
 
+use crate::arguments::{Argument, Presence, Takes, command_of};
 use clap::error::ErrorKind;
-use clap::{Arg, ArgAction, ArgMatches, Command, Error};
+use clap::{ArgMatches, Command, Error};
 use ring_requests::{NewWords, Request, RingSize};
 use std::alloc::Global;
 
@@ -20,22 +21,19 @@ Example:
 Exit status: 0 where it was printed, 1 where a number is out of its limits, memory runs out or printing fails, 2 where
 the words cannot be read: each is two decimals below 2^32 with a colon between, without signs or leading zeros.";
 
-/// The rings, at least one.
-fn rings_word<'a>(alloc: Global) -> Arg<'a> {
-    Arg::new(alloc, "RINGS")
-        .required(true)
-        .action(ArgAction::Append)
-        .num_args(1..)
-        .value_name("N:K")
-        .help(
-            "A ring: how many machines it has, 2 to 1024, and how many values each can hold, N to 65536",
-        )
-}
+/// The arguments of `new`.
+static NEW_ARGUMENTS: [Argument; 1] = [Argument {
+    id: "RINGS",
+    long: None,
+    value_names: &["N:K"],
+    takes: Takes::Texts,
+    presence: Presence::Required,
+    help: "A ring: how many machines it has, 2 to 1024, and how many values each can hold, N to 65536",
+}];
 
-/// The words of `new`.
+/// The command `new`.
 pub(crate) fn new_command<'a>(alloc: Global) -> Result<Command<'a>, Error> {
-    let command = Command::new(alloc, "new").about(ABOUT).after_help(HELP);
-    Ok(command.arg(rings_word(alloc))?)
+    command_of(alloc, "new", ABOUT, HELP, &NEW_ARGUMENTS)
 }
 
 /// The number that a text spells without sign and leading zeros, below 2 to the power 32.

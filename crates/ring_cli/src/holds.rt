@@ -1,13 +1,9 @@
 //! The words of `holds`.
 
-use crate::words::needed_text;
-use clap::builder::ValueParser;
-use clap::{Arg, ArgMatches, Command, Error, value_parser};
+use crate::arguments::{Argument, Presence, Takes, command_of};
+use clap::{ArgMatches, Command, Error};
 use ring_requests::{HoldsWords, Request};
 use std::alloc::Global;
-
-/// The words that `--by` takes.
-static BY: [&str; 1] = ["label"];
 
 const ABOUT: &str = "Lists who held which lock, from the history of the locks";
 
@@ -31,50 +27,45 @@ Example, after that of `locks`:
 Exit status: 0 where it was printed, 1 where FILE is not legal, is not the history of locks, or cannot be read, 2 where the
 words cannot be read. No file changes.";
 
-/// A number after a word with two dashes, which may be left out.
-fn number_word<'a>(alloc: Global, name: &'a str, value: &'a str, help: &'a str) -> Arg<'a> {
-    Arg::new(alloc, name)
-        .long(name)
-        .value_name(value)
-        .value_parser(value_parser!(u64))
-        .help(help)
-}
+/// The arguments of `holds`.
+static HOLDS_ARGUMENTS: [Argument; 4] = [
+    Argument {
+        id: "FILE",
+        long: None,
+        value_names: &[],
+        takes: Takes::Text,
+        presence: Presence::Required,
+        help: "The saved history, or the folder of its segments; `-` is standard input",
+    },
+    Argument {
+        id: "lock",
+        long: Some("lock"),
+        value_names: &["NUMBER"],
+        takes: Takes::LongNumber,
+        presence: Presence::Optional,
+        help: "Only the holds of the lock of this number [default: all locks]",
+    },
+    Argument {
+        id: "label",
+        long: Some("label"),
+        value_names: &["LABEL"],
+        takes: Takes::LongNumber,
+        presence: Presence::Optional,
+        help: "Only the holds with this label [default: all labels]",
+    },
+    Argument {
+        id: "BY",
+        long: Some("by"),
+        value_names: &["WHAT"],
+        takes: Takes::OneOf(&["label"]),
+        presence: Presence::Optional,
+        help: "Counts the holds of each label, instead of listing them",
+    },
+];
 
-/// That holds are counted, and by what.
-fn by_word<'a>(alloc: Global) -> Arg<'a> {
-    Arg::new(alloc, "BY")
-        .long("by")
-        .value_name("WHAT")
-        .value_parser(ValueParser::Names(&BY))
-        .help("Counts the holds of each label, instead of listing them")
-}
-
-/// `holds` with the words that say which holds are wanted.
-fn with_choice<'a>(alloc: Global, command: Command<'a>) -> Result<Command<'a>, Error> {
-    let lock = number_word(
-        alloc,
-        "lock",
-        "NUMBER",
-        "Only the holds of the lock of this number [default: all locks]",
-    );
-    let label = number_word(
-        alloc,
-        "label",
-        "LABEL",
-        "Only the holds with this label [default: all labels]",
-    );
-    Ok(command.arg(lock)?.arg(label)?)
-}
-
-/// The words of `holds`.
+/// The command `holds`.
 pub(crate) fn holds_command<'a>(alloc: Global) -> Result<Command<'a>, Error> {
-    let command = Command::new(alloc, "holds").about(ABOUT).after_help(HELP);
-    let file = needed_text(
-        alloc,
-        "FILE",
-        "The saved history, or the folder of its segments; `-` is standard input",
-    );
-    Ok(with_choice(alloc, command.arg(file)?)?.arg(by_word(alloc))?)
+    command_of(alloc, "holds", ABOUT, HELP, &HOLDS_ARGUMENTS)
 }
 
 /// `holds`, where its file is there.

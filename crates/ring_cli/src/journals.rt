@@ -1,14 +1,11 @@
 //! The words of the commands on journals.
 
-use crate::words::needed_text;
-use clap::builder::ValueParser;
-use clap::{Arg, ArgAction, ArgMatches, Command, Error, value_parser};
+use crate::arguments::{Argument, Presence, Takes, command_of};
+use clap::{ArgMatches, Command, Error};
 use ring_requests::{JoinWords, RecoverWords, Request, ServeWords};
 use std::alloc::Global;
 
-/// How many lines a segment has at most, and how many if none are given.
-const MOST_LINES: i64 = 4_000_000;
-
+/// How many lines a segment has if none are given.
 pub(crate) const LINES: u32 = 1_000_000;
 
 const RECOVER_ABOUT: &str = "Saves the history that a journal tells, which may be cut off anywhere";
@@ -97,35 +94,152 @@ Example:
 Exit status: 0 at the end of standard input, 1 where HISTORY or the journal is refused or reading or writing fails, 2
 where the words cannot be read.";
 
-/// `recover` with its two files.
-fn with_files<'a>(alloc: Global, command: Command<'a>) -> Result<Command<'a>, Error> {
-    let file = needed_text(
-        alloc,
-        "FILE",
-        "The journal, of at most 1,073,741,824 bytes; `-` is standard input",
-    );
-    let new = needed_text(
-        alloc,
-        "NEW",
-        "The file that is made for the history; `-` is standard output",
-    );
-    Ok(command.arg(file)?.arg(new)?)
+/// How many lines a segment has.
+pub(crate) const SEGMENT: Argument = Argument {
+    id: "SEGMENT",
+    long: Some("segment"),
+    value_names: &["LINES"],
+    takes: Takes::Lines,
+    presence: Presence::Optional,
+    help: "How many lines a segment of the folder has, up to 4000000 [default: 1000000]",
+};
+
+/// That each call is on the disk before it is answered, as it is without this word.
+pub(crate) const SYNC: Argument = Argument {
+    id: "SYNC",
+    long: Some("sync"),
+    value_names: &[],
+    takes: Takes::Nothing,
+    presence: Presence::Optional,
+    help: "Has the journal on the disk before an answer leaves, as without this word",
+};
+
+/// That a call may be answered before it is on the disk.
+pub(crate) const NO_SYNC: Argument = Argument {
+    id: "NO_SYNC",
+    long: Some("no-sync"),
+    value_names: &[],
+    takes: Takes::Nothing,
+    presence: Presence::ConflictsWith(&["SYNC"]),
+    help: "Lets an answer leave before the journal is on the disk, which is faster",
+};
+
+/// Whether a line may be a fault.
+pub(crate) const FAULTS: Argument = Argument {
+    id: "FAULTS",
+    long: Some("faults"),
+    value_names: &[],
+    takes: Takes::Nothing,
+    presence: Presence::Optional,
+    help: "Lets lines write values into machines, as `corrupt` does",
+};
+
+/// Whether want of memory ends the program.
+pub(crate) const STRICT: Argument = Argument {
+    id: "STRICT",
+    long: Some("strict"),
+    value_names: &[],
+    takes: Takes::Nothing,
+    presence: Presence::Optional,
+    help: "Ends with status 1 where memory is short, and tells nothing of those lines",
+};
+
+/// The arguments of `serve`.
+static SERVE_ARGUMENTS: [Argument; 8] = [
+    Argument {
+        id: "HISTORY",
+        long: None,
+        value_names: &[],
+        takes: Takes::Text,
+        presence: Presence::RequiredUnless(&["JOURNAL"]),
+        help: "The saved history, as `run --history` or `new` writes it, of at most 1,073,741,824 bytes",
+    },
+    Argument {
+        id: "JOURNAL",
+        long: Some("journal"),
+        value_names: &["FILE"],
+        takes: Takes::Text,
+        presence: Presence::Optional,
+        help: "Keeps a journal of the calls in FILE, or in the folder FILE, and goes on from it",
+    },
+    SEGMENT,
+    SYNC,
+    NO_SYNC,
+    FAULTS,
+    Argument {
+        id: "SAVES",
+        long: Some("saves"),
+        value_names: &["FOLDER"],
+        takes: Takes::FilledText,
+        presence: Presence::Optional,
+        help: "Lets lines save all rings in FOLDER, as `save` does",
+    },
+    STRICT,
+];
+
+/// The command `serve`.
+pub(crate) fn serve_command<'a>(alloc: Global) -> Result<Command<'a>, Error> {
+    command_of(alloc, "serve", SERVE_ABOUT, SERVE_HELP, &SERVE_ARGUMENTS)
 }
 
-/// That a bad line is left out, and all lines after it.
-fn salvage_word<'a>(alloc: Global) -> Arg<'a> {
-    Arg::new(alloc, "SALVAGE")
-        .long("salvage")
-        .action(ArgAction::SetTrue)
-        .help("Leaves out a line that is refused, and all after it")
-}
+/// The file for a history that is made.
+const NEW_HISTORY: Argument = Argument {
+    id: "NEW",
+    long: None,
+    value_names: &[],
+    takes: Takes::Text,
+    presence: Presence::Required,
+    help: "The file that is made for the history; `-` is standard output",
+};
 
-/// The words of `recover`.
+/// The arguments of `recover`.
+static RECOVER_ARGUMENTS: [Argument; 3] = [
+    Argument {
+        id: "FILE",
+        long: None,
+        value_names: &[],
+        takes: Takes::Text,
+        presence: Presence::Required,
+        help: "The journal, of at most 1,073,741,824 bytes; `-` is standard input",
+    },
+    NEW_HISTORY,
+    Argument {
+        id: "SALVAGE",
+        long: Some("salvage"),
+        value_names: &[],
+        takes: Takes::Nothing,
+        presence: Presence::Optional,
+        help: "Leaves out a line that is refused, and all after it",
+    },
+];
+
+/// The command `recover`.
 pub(crate) fn recover_command<'a>(alloc: Global) -> Result<Command<'a>, Error> {
-    let command = Command::new(alloc, "recover")
-        .about(RECOVER_ABOUT)
-        .after_help(RECOVER_HELP);
-    Ok(with_files(alloc, command)?.arg(salvage_word(alloc))?)
+    command_of(
+        alloc,
+        "recover",
+        RECOVER_ABOUT,
+        RECOVER_HELP,
+        &RECOVER_ARGUMENTS,
+    )
+}
+
+/// The arguments of `join`.
+static JOIN_ARGUMENTS: [Argument; 2] = [
+    Argument {
+        id: "FOLDER",
+        long: None,
+        value_names: &[],
+        takes: Takes::Text,
+        presence: Presence::Required,
+        help: "The folder of the segments",
+    },
+    NEW_HISTORY,
+];
+
+/// The command `join`.
+pub(crate) fn join_command<'a>(alloc: Global) -> Result<Command<'a>, Error> {
+    command_of(alloc, "join", JOIN_ABOUT, JOIN_HELP, &JOIN_ARGUMENTS)
 }
 
 /// `recover`, where both its words are there.
@@ -137,122 +251,12 @@ pub(crate) fn recover_words<'a>(words: &ArgMatches<'a>) -> Option<Request<'a>> {
     }))
 }
 
-/// The words of `join`.
-pub(crate) fn join_command<'a>(alloc: Global) -> Result<Command<'a>, Error> {
-    let command = Command::new(alloc, "join")
-        .about(JOIN_ABOUT)
-        .after_help(JOIN_HELP);
-    let folder = needed_text(alloc, "FOLDER", "The folder of the segments");
-    let new = needed_text(
-        alloc,
-        "NEW",
-        "The file that is made for the history; `-` is standard output",
-    );
-    Ok(command.arg(folder)?.arg(new)?)
-}
-
 /// `join`, where both its words are there.
 pub(crate) fn join_words<'a>(words: &ArgMatches<'a>) -> Option<Request<'a>> {
     Some(Request::Join(JoinWords {
         folder: words.get_str("FOLDER")?,
         new: words.get_str("NEW")?,
     }))
-}
-
-/// The saved rings from which `serve` resumes, which may be left out if a journal tells of them.
-fn served_word<'a>(alloc: Global) -> Result<Arg<'a>, Error> {
-    let word = Arg::new(alloc, "HISTORY").help(
-        "The saved history, as `run --history` or `new` writes it, of at most 1,073,741,824 bytes",
-    );
-    Ok(word.required_unless_present("JOURNAL")?)
-}
-
-/// The journal's file, which may be left out.
-fn journal_word<'a>(alloc: Global) -> Arg<'a> {
-    Arg::new(alloc, "JOURNAL")
-        .long("journal")
-        .value_name("FILE")
-        .help("Keeps a journal of the calls in FILE, or in the folder FILE, and goes on from it")
-}
-
-/// How many lines a segment has, which may be left out.
-pub(crate) fn segment_word<'a>(alloc: Global) -> Arg<'a> {
-    Arg::new(alloc, "SEGMENT")
-        .long("segment")
-        .value_name("LINES")
-        .value_parser(value_parser!(u32).range(1..=MOST_LINES))
-        .help("How many lines a segment of the folder has, up to 4000000 [default: 1000000]")
-}
-
-/// That each call is on the disk before it is answered, as it is without this word.
-fn sync_word<'a>(alloc: Global) -> Arg<'a> {
-    Arg::new(alloc, "SYNC")
-        .long("sync")
-        .action(ArgAction::SetTrue)
-        .help("Has the journal on the disk before an answer leaves, as without this word")
-}
-
-/// That a call may be answered before it is on the disk.
-fn no_sync_word<'a>(alloc: Global) -> Result<Arg<'a>, Error> {
-    let word = Arg::new(alloc, "NO_SYNC")
-        .long("no-sync")
-        .action(ArgAction::SetTrue)
-        .help("Lets an answer leave before the journal is on the disk, which is faster");
-    Ok(word.conflicts_with("SYNC")?)
-}
-
-/// Whether a line may be a fault.
-pub(crate) fn faults_word<'a>(alloc: Global) -> Arg<'a> {
-    Arg::new(alloc, "FAULTS")
-        .long("faults")
-        .action(ArgAction::SetTrue)
-        .help("Lets lines write values into machines, as `corrupt` does")
-}
-
-/// Whether want of memory ends the program.
-pub(crate) fn strict_word<'a>(alloc: Global) -> Arg<'a> {
-    Arg::new(alloc, "STRICT")
-        .long("strict")
-        .action(ArgAction::SetTrue)
-        .help("Ends with status 1 where memory is short, and tells nothing of those lines")
-}
-
-/// The folder that a line may save the rings in, which may be left out.
-fn saves_word<'a>(alloc: Global) -> Arg<'a> {
-    Arg::new(alloc, "SAVES")
-        .long("saves")
-        .value_name("FOLDER")
-        .value_parser(ValueParser::NonEmptyString)
-        .help("Lets lines save all rings in FOLDER, as `save` does")
-}
-
-/// `serve` with what it permits.
-fn with_permits<'a>(alloc: Global, command: Command<'a>) -> Result<Command<'a>, Error> {
-    let command = command.arg(faults_word(alloc))?.arg(saves_word(alloc))?;
-    Ok(command.arg(strict_word(alloc))?)
-}
-
-/// A command with what its journal survives.
-pub(crate) fn with_sync<'a>(alloc: Global, command: Command<'a>) -> Result<Command<'a>, Error> {
-    let command = command.arg(sync_word(alloc))?;
-    Ok(command.arg(no_sync_word(alloc)?)?)
-}
-
-/// `serve` with its journal.
-fn with_journal<'a>(alloc: Global, command: Command<'a>) -> Result<Command<'a>, Error> {
-    let command = command.arg(journal_word(alloc))?.arg(segment_word(alloc))?;
-    with_sync(alloc, command)
-}
-
-/// The words of `serve`.
-pub(crate) fn serve_command<'a>(alloc: Global) -> Result<Command<'a>, Error> {
-    let command = Command::new(alloc, "serve")
-        .about(SERVE_ABOUT)
-        .after_help(SERVE_HELP);
-    with_permits(
-        alloc,
-        with_journal(alloc, command.arg(served_word(alloc)?)?)?,
-    )
 }
 
 /// `serve`, where the saved history or a journal is there.

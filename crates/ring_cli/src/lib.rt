@@ -1,6 +1,7 @@
 //! The command line of the program, as `clap` reads it: from words to a request.
 #![tactic(auto)]
 
+mod arguments;
 mod fresh;
 mod holds;
 mod journals;

@@ -1,7 +1,8 @@
 //! The words of the command on locks.
 
-use crate::journals::{LINES, faults_word, segment_word, strict_word, with_sync};
-use clap::{Arg, ArgMatches, Command, Error};
+use crate::arguments::{Argument, Presence, Takes, command_of};
+use crate::journals::{FAULTS, LINES, NO_SYNC, SEGMENT, STRICT, SYNC};
+use clap::{ArgMatches, Command, Error};
 use ring_requests::{LocksWords, Request};
 use std::alloc::Global;
 
@@ -53,40 +54,42 @@ Example:
 Exit status: 0 at the end of standard input, 1 where FOLDER is refused or reading or writing fails, 2 where the words or
 the list of locks cannot be read.";
 
-/// The folder of the journal.
-fn folder_word<'a>(alloc: Global) -> Arg<'a> {
-    Arg::new(alloc, "JOURNAL")
-        .long("journal")
-        .value_name("FOLDER")
-        .required(true)
-        .help("Keeps the journal in FOLDER, and goes on from it")
-}
+/// The arguments of `locks`.
+static LOCKS_ARGUMENTS: [Argument; 8] = [
+    Argument {
+        id: "JOURNAL",
+        long: Some("journal"),
+        value_names: &["FOLDER"],
+        takes: Takes::Text,
+        presence: Presence::Required,
+        help: "Keeps the journal in FOLDER, and goes on from it",
+    },
+    Argument {
+        id: "LOCKS",
+        long: Some("locks"),
+        value_names: &["NAME[:N[:K]],.."],
+        takes: Takes::Text,
+        presence: Presence::Optional,
+        help: "The locks: their names, with the size of each one's ring [default: 8, and K as N]",
+    },
+    Argument {
+        id: "HOLDERS",
+        long: Some("holders"),
+        value_names: &["FILE"],
+        takes: Takes::Text,
+        presence: Presence::Optional,
+        help: "Hands the open holds of the last run to the clients that FILE names",
+    },
+    SEGMENT,
+    SYNC,
+    NO_SYNC,
+    FAULTS,
+    STRICT,
+];
 
-/// The list of locks, which may be left out.
-fn list_word<'a>(alloc: Global) -> Arg<'a> {
-    Arg::new(alloc, "LOCKS")
-        .long("locks")
-        .value_name("NAME[:N[:K]],..")
-        .help("The locks: their names, with the size of each one's ring [default: 8, and K as N]")
-}
-
-/// The file of the holders, which may be left out.
-fn holders_word<'a>(alloc: Global) -> Arg<'a> {
-    Arg::new(alloc, "HOLDERS")
-        .long("holders")
-        .value_name("FILE")
-        .help("Hands the open holds of the last run to the clients that FILE names")
-}
-
-/// The words of `locks`.
+/// The command `locks`.
 pub(crate) fn locks_command<'a>(alloc: Global) -> Result<Command<'a>, Error> {
-    let command = Command::new(alloc, "locks")
-        .about(LOCKS_ABOUT)
-        .after_help(LOCKS_HELP);
-    let command = command.arg(folder_word(alloc))?.arg(list_word(alloc))?;
-    let command = command.arg(holders_word(alloc))?;
-    let command = with_sync(alloc, command.arg(segment_word(alloc))?)?;
-    Ok(command.arg(faults_word(alloc))?.arg(strict_word(alloc))?)
+    command_of(alloc, "locks", LOCKS_ABOUT, LOCKS_HELP, &LOCKS_ARGUMENTS)
 }
 
 /// `locks`, where the folder is there.

@@ -1,7 +1,8 @@
 //! The words of `picture`.
 
-use crate::words::needed_text;
-use clap::{Arg, ArgMatches, Command, Error, value_parser};
+use crate::arguments::{Argument, Presence, Takes, command_of};
+use crate::words::SAVED_HISTORY;
+use clap::{ArgMatches, Command, Error};
 use ring_requests::{PictureWords, Request};
 use std::alloc::Global;
 
@@ -23,52 +24,46 @@ Example:
 
 Exit status: 0 where PICTURE was written, 1 where FILE is not legal or a file fails, 2 where the words cannot be read.";
 
-/// A number after a word with two dashes, which may be left out.
-fn number_word<'a>(alloc: Global, name: &'a str, value: &'a str, help: &'a str) -> Arg<'a> {
-    Arg::new(alloc, name)
-        .long(name)
-        .value_name(value)
-        .value_parser(value_parser!(u32))
-        .help(help)
-}
+/// The arguments of `picture`.
+static PICTURE_ARGUMENTS: [Argument; 5] = [
+    SAVED_HISTORY,
+    Argument {
+        id: "PICTURE",
+        long: None,
+        value_names: &[],
+        takes: Takes::Text,
+        presence: Presence::Required,
+        help: "The file that the SVG is written to; `-` is standard output",
+    },
+    Argument {
+        id: "ring",
+        long: Some("ring"),
+        value_names: &["R"],
+        takes: Takes::Number,
+        presence: Presence::Optional,
+        help: "The ring that is drawn [default: 0]",
+    },
+    Argument {
+        id: "from",
+        long: Some("from"),
+        value_names: &["P"],
+        takes: Takes::Number,
+        presence: Presence::Optional,
+        help: "How many events stand before the first that is drawn [default: 0]",
+    },
+    Argument {
+        id: "events",
+        long: Some("events"),
+        value_names: &["M"],
+        takes: Takes::Number,
+        presence: Presence::Optional,
+        help: "How many events are drawn, at most 20000 [default: 2000]",
+    },
+];
 
-/// `picture` with its two files.
-fn with_files<'a>(alloc: Global, command: Command<'a>) -> Result<Command<'a>, Error> {
-    let file = needed_text(
-        alloc,
-        "FILE",
-        "The saved history, as `run --history` writes it, of at most 1,073,741,824 bytes; `-` is standard input",
-    );
-    let picture = needed_text(
-        alloc,
-        "PICTURE",
-        "The file that the SVG is written to; `-` is standard output",
-    );
-    Ok(command.arg(file)?.arg(picture)?)
-}
-
-/// `picture` with the part of the history that is drawn.
-fn with_places<'a>(alloc: Global, command: Command<'a>) -> Result<Command<'a>, Error> {
-    let ring = number_word(alloc, "ring", "R", "The ring that is drawn [default: 0]");
-    let from = number_word(
-        alloc,
-        "from",
-        "P",
-        "How many events stand before the first that is drawn [default: 0]",
-    );
-    Ok(command.arg(ring)?.arg(from)?)
-}
-
-/// The words of `picture`.
+/// The command `picture`.
 pub(crate) fn picture_command<'a>(alloc: Global) -> Result<Command<'a>, Error> {
-    let command = Command::new(alloc, "picture").about(ABOUT).after_help(HELP);
-    let events = number_word(
-        alloc,
-        "events",
-        "M",
-        "How many events are drawn, at most 20000 [default: 2000]",
-    );
-    Ok(with_places(alloc, with_files(alloc, command)?)?.arg(events)?)
+    command_of(alloc, "picture", ABOUT, HELP, &PICTURE_ARGUMENTS)
 }
 
 /// `picture`, where its files are there.

@@ -1,6 +1,7 @@
 //! The words of `report`.
 
-use crate::words::needed_text;
+use crate::arguments::{Argument, command_of};
+use crate::words::SAVED_HISTORY;
 use clap::{ArgMatches, Command, Error};
 use ring_requests::{ReportWords, Request};
 use std::alloc::Global;
@@ -25,15 +26,12 @@ Example:
 Exit status: 0 where it was printed, 1 where FILE is not legal, has too many events or cannot be read, or printing fails, 2
 where the words cannot be read. A file whose name is `-` is `./-`; one whose name begins with a dash stands behind `--`.";
 
-/// The words of `report`.
+/// The arguments of `report`.
+static REPORT_ARGUMENTS: [Argument; 1] = [SAVED_HISTORY];
+
+/// The command `report`.
 pub(crate) fn report_command<'a>(alloc: Global) -> Result<Command<'a>, Error> {
-    let command = Command::new(alloc, "report").about(ABOUT).after_help(HELP);
-    let file = needed_text(
-        alloc,
-        "FILE",
-        "The saved history, as `run --history` writes it, of at most 1,073,741,824 bytes; `-` is standard input",
-    );
-    Ok(command.arg(file)?)
+    command_of(alloc, "report", ABOUT, HELP, &REPORT_ARGUMENTS)
 }
 
 /// `report`, where its word is there.

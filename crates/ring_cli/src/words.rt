@@ -1,5 +1,6 @@
 //! The program's command line, as `clap` reads it.
 
+use crate::arguments::{Argument, Presence, Takes, command_of};
 use crate::fresh::{new_command, new_words};
 use crate::holds::{holds_command, holds_words};
 use crate::journals::{
@@ -10,7 +11,7 @@ use crate::picture::{picture_command, picture_words};
 use crate::report::{report_command, report_words};
 use crate::version::VERSION;
 use clap::error::ErrorKind;
-use clap::{Arg, ArgAction, ArgMatches, Command, Error, value_parser};
+use clap::{ArgMatches, Command, Error};
 use ring_requests::{CheckWords, Request, RunWords, StepWords, UpgradeWords};
 use std::alloc::Global;
 
@@ -103,188 +104,208 @@ Example, where old.txt begins with `ringfarm 1`:
 
 Exit status: 0 where NEW was written, 1 where FILE is not legal or a file fails, 2 where the words cannot be read.";
 
-/// A number that has to be there.
-fn needed_number<'a>(alloc: Global, name: &'a str, help: &'a str) -> Arg<'a> {
-    Arg::new(alloc, name)
-        .required(true)
-        .value_parser(value_parser!(u32))
-        .help(help)
+/// The name of a command.
+#[derive(Clone, Copy)]
+enum CommandName {
+    Step,
+    Run,
+    Check,
+    Report,
+    Picture,
+    Upgrade,
+    New,
+    Serve,
+    Locks,
+    Holds,
+    Recover,
+    Join,
 }
 
-/// A word that has to be there.
-pub(crate) fn needed_text<'a>(alloc: Global, name: &'a str, help: &'a str) -> Arg<'a> {
-    Arg::new(alloc, name).required(true).help(help)
-}
+/// The commands, in the order in which help lists them.
+static COMMANDS: [CommandName; 12] = [
+    CommandName::Step,
+    CommandName::Run,
+    CommandName::Check,
+    CommandName::Report,
+    CommandName::Picture,
+    CommandName::Upgrade,
+    CommandName::New,
+    CommandName::Serve,
+    CommandName::Locks,
+    CommandName::Holds,
+    CommandName::Recover,
+    CommandName::Join,
+];
 
-/// The choices of `step`, which may be left out.
-fn choices_word<'a>(alloc: Global) -> Arg<'a> {
-    Arg::new(alloc, "CHOICES").help(
-        "The machines that ask to pass, in order, each below N, as 0,0,2 [default: none]",
-    )
-}
+/// A saved history that is read.
+pub(crate) const SAVED_HISTORY: Argument = Argument {
+    id: "FILE",
+    long: None,
+    value_names: &[],
+    takes: Takes::Text,
+    presence: Presence::Required,
+    help: "The saved history, as `run --history` writes it, of at most 1,073,741,824 bytes; `-` is standard input",
+};
 
-/// `step` with the ring's size.
-fn with_sizes<'a>(alloc: Global, command: Command<'a>) -> Result<Command<'a>, Error> {
-    let n = needed_number(alloc, "N", "How many machines the ring has, 2 to 1024");
-    let k = needed_number(alloc, "K", "How many values a machine can hold, N to 65536");
-    Ok(command.arg(n)?.arg(k)?)
-}
+/// The arguments of `step`.
+static STEP_ARGUMENTS: [Argument; 4] = [
+    Argument {
+        id: "N",
+        long: None,
+        value_names: &[],
+        takes: Takes::Number,
+        presence: Presence::Required,
+        help: "How many machines the ring has, 2 to 1024",
+    },
+    Argument {
+        id: "K",
+        long: None,
+        value_names: &[],
+        takes: Takes::Number,
+        presence: Presence::Required,
+        help: "How many values a machine can hold, N to 65536",
+    },
+    Argument {
+        id: "STATES",
+        long: None,
+        value_names: &[],
+        takes: Takes::Text,
+        presence: Presence::Required,
+        help: "The N values to begin with, each below K, as 0,2,0",
+    },
+    Argument {
+        id: "CHOICES",
+        long: None,
+        value_names: &[],
+        takes: Takes::Text,
+        presence: Presence::Optional,
+        help: "The machines that ask to pass, in order, each below N, as 0,0,2 [default: none]",
+    },
+];
 
-/// `step` with its two lists.
-fn with_lists<'a>(alloc: Global, command: Command<'a>) -> Result<Command<'a>, Error> {
-    let states = needed_text(
-        alloc,
-        "STATES",
-        "The N values to begin with, each below K, as 0,2,0",
-    );
-    Ok(command.arg(states)?.arg(choices_word(alloc))?)
-}
-
-/// The words of `step`.
+/// The command `step`.
 fn step_command<'a>(alloc: Global) -> Result<Command<'a>, Error> {
-    let command = Command::new(alloc, "step")
-        .about(STEP_ABOUT)
-        .after_help(STEP_HELP);
-    with_lists(alloc, with_sizes(alloc, command)?)
+    command_of(alloc, "step", STEP_ABOUT, STEP_HELP, &STEP_ARGUMENTS)
 }
 
-/// The file for the history, which may be left out.
-fn history_word<'a>(alloc: Global) -> Arg<'a> {
-    Arg::new(alloc, "HISTORY")
-        .long("history")
-        .value_name("FILE")
-        .help(
-            "Writes each ring's history to FILE, which `check` reads; a file that is there is replaced, and `-` is standard output, in the place of the report",
-        )
-}
+/// The arguments of `run`.
+static RUN_ARGUMENTS: [Argument; 3] = [
+    Argument {
+        id: "SETTINGS",
+        long: None,
+        value_names: &[],
+        takes: Takes::Text,
+        presence: Presence::Required,
+        help: "The settings, a JSON file of at most 1,073,741,824 bytes; `-` is standard input",
+    },
+    Argument {
+        id: "HISTORY",
+        long: Some("history"),
+        value_names: &["FILE"],
+        takes: Takes::Text,
+        presence: Presence::Optional,
+        help: "Writes each ring's history to FILE, which `check` reads; a file that is there is replaced, and `-` is standard output, in the place of the report",
+    },
+    Argument {
+        id: "QUIET",
+        long: Some("quiet"),
+        value_names: &[],
+        takes: Takes::Nothing,
+        presence: Presence::Optional,
+        help: "Prints the report's last line alone, which adds up over the rings",
+    },
+];
 
-/// Whether the last line of the report is enough.
-fn quiet_word<'a>(alloc: Global) -> Arg<'a> {
-    Arg::new(alloc, "QUIET")
-        .long("quiet")
-        .action(ArgAction::SetTrue)
-        .help("Prints the report's last line alone, which adds up over the rings")
-}
-
-/// The settings' file.
-fn settings_word<'a>(alloc: Global) -> Arg<'a> {
-    needed_text(
-        alloc,
-        "SETTINGS",
-        "The settings, a JSON file of at most 1,073,741,824 bytes; `-` is standard input",
-    )
-}
-
-/// `run` with its outputs.
-fn with_outputs<'a>(alloc: Global, command: Command<'a>) -> Result<Command<'a>, Error> {
-    Ok(command.arg(history_word(alloc))?.arg(quiet_word(alloc))?)
-}
-
-/// The words of `run`.
+/// The command `run`.
 fn run_command<'a>(alloc: Global) -> Result<Command<'a>, Error> {
-    let command = Command::new(alloc, "run")
-        .about(RUN_ABOUT)
-        .after_help(RUN_HELP);
-    with_outputs(alloc, command.arg(settings_word(alloc))?)
+    command_of(alloc, "run", RUN_ABOUT, RUN_HELP, &RUN_ARGUMENTS)
 }
 
-/// The file that `check` reads.
-fn checked_word<'a>(alloc: Global) -> Arg<'a> {
-    needed_text(
+/// The arguments of `check`.
+static CHECK_ARGUMENTS: [Argument; 2] = [
+    SAVED_HISTORY,
+    Argument {
+        id: "ALL",
+        long: Some("all"),
+        value_names: &[],
+        takes: Takes::Nothing,
+        presence: Presence::Optional,
+        help: "Prints each bad line of a saved history, with what is there and what should be",
+    },
+];
+
+/// The command `check`.
+fn check_command<'a>(alloc: Global) -> Result<Command<'a>, Error> {
+    command_of(alloc, "check", CHECK_ABOUT, CHECK_HELP, &CHECK_ARGUMENTS)
+}
+
+/// The arguments of `upgrade`.
+static UPGRADE_ARGUMENTS: [Argument; 2] = [
+    Argument {
+        id: "FILE",
+        long: None,
+        value_names: &[],
+        takes: Takes::Text,
+        presence: Presence::Required,
+        help: "The saved history, as for `check`; `-` is standard input",
+    },
+    Argument {
+        id: "NEW",
+        long: None,
+        value_names: &[],
+        takes: Takes::Text,
+        presence: Presence::Required,
+        help: "The file that is made for the new text; `-` is standard output",
+    },
+];
+
+/// The command `upgrade`.
+fn upgrade_command<'a>(alloc: Global) -> Result<Command<'a>, Error> {
+    command_of(
         alloc,
-        "FILE",
-        "The saved history, as `run --history` writes it, of at most 1,073,741,824 bytes; `-` is standard input",
+        "upgrade",
+        UPGRADE_ABOUT,
+        UPGRADE_HELP,
+        &UPGRADE_ARGUMENTS,
     )
 }
 
-/// Whether all bad lines are wanted.
-fn all_word<'a>(alloc: Global) -> Arg<'a> {
-    Arg::new(alloc, "ALL")
-        .long("all")
-        .action(ArgAction::SetTrue)
-        .help("Prints each bad line of a saved history, with what is there and what should be")
-}
-
-/// The words of `check`.
-fn check_command<'a>(alloc: Global) -> Result<Command<'a>, Error> {
-    let command = Command::new(alloc, "check")
-        .about(CHECK_ABOUT)
-        .after_help(CHECK_HELP);
-    Ok(command.arg(checked_word(alloc))?.arg(all_word(alloc))?)
-}
-
-/// `upgrade` with its two files.
-fn with_texts<'a>(alloc: Global, command: Command<'a>) -> Result<Command<'a>, Error> {
-    let file = needed_text(
-        alloc,
-        "FILE",
-        "The saved history, as for `check`; `-` is standard input",
-    );
-    let new = needed_text(
-        alloc,
-        "NEW",
-        "The file that is made for the new text; `-` is standard output",
-    );
-    Ok(command.arg(file)?.arg(new)?)
-}
-
-/// The words of `upgrade`.
-fn upgrade_command<'a>(alloc: Global) -> Result<Command<'a>, Error> {
-    let command = Command::new(alloc, "upgrade")
-        .about(UPGRADE_ABOUT)
-        .after_help(UPGRADE_HELP);
-    with_texts(alloc, command)
-}
-
-/// The program with its description, its version and its help.
-fn with_descriptions<'a>(program: Command<'a>) -> Command<'a> {
-    program.about(ABOUT).version(VERSION).after_help(STATUSES)
+/// The command of this name.
+fn command_named<'a>(alloc: Global, name: CommandName) -> Result<Command<'a>, Error> {
+    match name {
+        CommandName::Step => step_command(alloc),
+        CommandName::Run => run_command(alloc),
+        CommandName::Check => check_command(alloc),
+        CommandName::Report => report_command(alloc),
+        CommandName::Picture => picture_command(alloc),
+        CommandName::Upgrade => upgrade_command(alloc),
+        CommandName::New => new_command(alloc),
+        CommandName::Serve => serve_command(alloc),
+        CommandName::Locks => locks_command(alloc),
+        CommandName::Holds => holds_command(alloc),
+        CommandName::Recover => recover_command(alloc),
+        CommandName::Join => join_command(alloc),
+    }
 }
 
 /// The program, with no command yet.
 fn program_line<'a>(alloc: Global) -> Result<Command<'a>, Error> {
-    let program = Command::new(alloc, "ring_tool").bin_name("ring_tool")?;
-    Ok(with_descriptions(program.no_binary_name(true).subcommand_required(true)))
-}
-
-/// The program with a command more, where that could be made.
-fn with_command<'a>(
-    program: Command<'a>,
-    command: Result<Command<'a>, Error>,
-) -> Result<Command<'a>, Error> {
-    Ok(program.subcommand(command?)?)
-}
-
-/// The program with the commands that run rings.
-fn with_runs<'a>(alloc: Global, program: Command<'a>) -> Result<Command<'a>, Error> {
-    with_command(
-        with_command(program, step_command(alloc))?,
-        run_command(alloc),
-    )
-}
-
-/// The program with the commands that read a saved history.
-fn with_readers<'a>(alloc: Global, program: Command<'a>) -> Result<Command<'a>, Error> {
-    let program = with_command(program, check_command(alloc))?;
-    let program = with_command(program, report_command(alloc))?;
-    let program = with_command(program, picture_command(alloc))?;
-    with_command(program, upgrade_command(alloc))
-}
-
-/// The program with the commands that serve rings: what they begin with, and their journal.
-fn with_services<'a>(alloc: Global, program: Command<'a>) -> Result<Command<'a>, Error> {
-    let program = with_command(program, new_command(alloc))?;
-    let program = with_command(program, serve_command(alloc))?;
-    let program = with_command(program, locks_command(alloc))?;
-    let program = with_command(program, holds_command(alloc))?;
-    let program = with_command(program, recover_command(alloc))?;
-    with_command(program, join_command(alloc))
+    let program = Command::new(alloc, "ring_tool")
+        .about(ABOUT)
+        .version(VERSION)
+        .after_help(STATUSES)
+        .no_binary_name(true)
+        .subcommand_required(true);
+    Ok(program.bin_name("ring_tool")?)
 }
 
 /// All that the program understands.
 fn command_line<'a>(alloc: Global) -> Result<Command<'a>, Error> {
-    let program = with_runs(alloc, program_line(alloc)?)?;
-    with_services(alloc, with_readers(alloc, program)?)
+    let mut program = program_line(alloc)?;
+    for name in &COMMANDS {
+        program = program.subcommand(command_named(alloc, *name)?)?;
+    }
+    Ok(program)
 }
 
 /// `step`, where all its words are there.

@@ -1,0 +1,138 @@
+//! The arguments of a command as data, and what makes `clap`'s command of them.
+
+use clap::builder::{ValueParser, ValueRange};
+use clap::{Arg, ArgAction, Command, Error, value_parser};
+use std::alloc::Global;
+
+/// How many lines a segment has at most.
+const MOST_LINES: i64 = 4_000_000;
+
+/// What an argument takes as its value.
+#[derive(Clone, Copy)]
+pub(crate) enum Takes {
+    /// No value: it is a flag.
+    Nothing,
+    /// Any text.
+    Text,
+    /// A text that is not empty.
+    FilledText,
+    /// One of these words.
+    OneOf(&'static [&'static str]),
+    /// A number below 2 to the power 32.
+    Number,
+    /// A number below 2 to the power 64.
+    LongNumber,
+    /// How many lines a segment has, from 1 to [`MOST_LINES`].
+    Lines,
+    /// At least one text.
+    Texts,
+}
+
+/// When an argument has to be given.
+#[derive(Clone, Copy)]
+pub(crate) enum Presence {
+    /// Always.
+    Required,
+    /// Never.
+    Optional,
+    /// If none of the arguments of these ids is given.
+    RequiredUnless(&'static [&'static str]),
+    /// Never, and it cannot be given beside the arguments of these ids.
+    ConflictsWith(&'static [&'static str]),
+}
+
+/// An argument of a command.
+#[derive(Clone, Copy)]
+pub(crate) struct Argument {
+    /// Its name where it is read back, and in help where it has no other.
+    pub(crate) id: &'static str,
+    /// Its name behind two dashes. With none it is positional.
+    pub(crate) long: Option<&'static str>,
+    /// What help calls its value: one name, or none where that is `id`.
+    pub(crate) value_names: &'static [&'static str],
+    pub(crate) takes: Takes,
+    pub(crate) presence: Presence,
+    /// Its line in help.
+    pub(crate) help: &'static str,
+}
+
+/// What `clap` does with a use of the argument.
+fn action_of(takes: Takes) -> ArgAction {
+    match takes {
+        Takes::Nothing => ArgAction::SetTrue,
+        Takes::Texts => ArgAction::Append,
+        _ => ArgAction::Set,
+    }
+}
+
+/// How many values a use takes.
+fn range_of(takes: Takes) -> ValueRange {
+    match takes {
+        Takes::Nothing => ValueRange::EMPTY,
+        Takes::Texts => ValueRange::new(1..),
+        _ => ValueRange::SINGLE,
+    }
+}
+
+/// What each value has to be.
+fn parser_of(takes: Takes) -> ValueParser<'static> {
+    match takes {
+        Takes::Nothing => ValueParser::Bool,
+        Takes::Text | Takes::Texts => ValueParser::String,
+        Takes::FilledText => ValueParser::NonEmptyString,
+        Takes::OneOf(words) => ValueParser::Names(words),
+        Takes::Number => value_parser!(u32),
+        Takes::LongNumber => value_parser!(u64),
+        Takes::Lines => value_parser!(u32).range(1..=MOST_LINES),
+    }
+}
+
+/// The ids of the arguments any of which stands in for this one.
+fn stand_ins_of(presence: Presence) -> &'static [&'static str] {
+    match presence {
+        Presence::RequiredUnless(others) => others,
+        _ => &[],
+    }
+}
+
+/// The ids of the arguments beside which this one cannot be given.
+fn conflicts_of(presence: Presence) -> &'static [&'static str] {
+    match presence {
+        Presence::ConflictsWith(others) => others,
+        _ => &[],
+    }
+}
+
+/// The argument as `clap` has it.
+fn arg_of<'a>(alloc: Global, argument: &Argument) -> Result<Arg<'a>, Error> {
+    let arg = Arg::new(alloc, argument.id)
+        .value_names(argument.value_names)
+        .action(action_of(argument.takes))
+        .num_args(range_of(argument.takes))
+        .value_parser(parser_of(argument.takes))
+        .required(matches!(argument.presence, Presence::Required))
+        .required_unless_present_any(stand_ins_of(argument.presence))?
+        .conflicts_with_all(conflicts_of(argument.presence))?
+        .help(argument.help);
+    match argument.long {
+        Some(long) => Ok(arg.long(long)),
+        None => Ok(arg),
+    }
+}
+
+/// The command of this name. Its help has `about`, then the arguments in their order, then `after_help`.
+pub(crate) fn command_of<'a>(
+    alloc: Global,
+    name: &'static str,
+    about: &'static str,
+    after_help: &'static str,
+    arguments: &[Argument],
+) -> Result<Command<'a>, Error> {
+    let mut command = Command::new(alloc, name)
+        .about(about)
+        .after_help(after_help);
+    for argument in arguments {
+        command = command.arg(arg_of(alloc, argument)?)?;
+    }
+    Ok(command)
+}
