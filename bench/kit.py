@@ -105,7 +105,8 @@ def untried(rtlib, crates):
 
 
 class Statements:
-    """Builds without what later checks would go on from: of a library its statements, for the crates above it."""
+    """Builds without what later checks would go on from: of a library its statements, for the crates above it. They lie in out/rlib,
+    the one place in out/ where the kit expects files of a library."""
 
     def __init__(self, rt, root):
         rt.rtlib.stop, rt.rtlib.Crate, rt.Crate.cuts_libraries = rt.stop, rt.Crate, True
@@ -113,14 +114,14 @@ class Statements:
         self.rtlib = rt.rtlib
 
     def placed(self, crate):
-        crate.rlib = f"{crate.folder}/out/statements/{crate.name}.rlib"
+        crate.rlib = f"{crate.folder}/out/rlib/statements/{crate.name}.rlib"
 
     def stamp(self, crate):
         made = [f"{crate.folder}/out/{crate.name}{end}" for end in ("", ".by-rattle")] if crate.is_program else []
         return crate.stamp() + "".join(map(self.rtlib.sum_of, made))
 
     def is_built(self, crate):
-        return self.rtlib.text_of(f"{crate.folder}/out/statements/stamp") == self.stamp(crate)
+        return self.rtlib.text_of(f"{crate.folder}/out/rlib/statements/stamp") == self.stamp(crate)
 
     def unbuilt(self, crates):
         """The crates to build, of these, lowest first: statements fit only those below on which they were built."""
@@ -132,7 +133,7 @@ class Statements:
 
     def build(self, crate, jobs):
         """Proves and builds a crate from nothing. Returns the kit's status."""
-        folder, flags = f"{crate.folder}/out/statements", ["--jobs", str(jobs)]
+        folder, flags = f"{crate.folder}/out/rlib/statements", ["--jobs", str(jobs)]
         shutil.rmtree(folder, ignore_errors=True)
         os.makedirs(folder)
         before = crate.stamp()

@@ -37,7 +37,8 @@ class Threads(unittest.TestCase):
             self.assertEqual(most, [1])
             self.assertEqual(tokens, list(range(1, 1201)))
 
-    def test_not_in_time_and_try(self):
+    @by_the_clock  # a server that is late to answer is left
+    def test_not_in_time_and_try(self, _):
         with Server() as server, Client(server.path) as one, Client(server.path) as two:
             token = one.acquire("a")
             self.assertIsNone(two.try_acquire("a"))
@@ -152,6 +153,29 @@ class Threads(unittest.TestCase):
                 with Lock(server.path, "a"):
                     server.kill_engine()
                     raise ZeroDivisionError
+
+    def test_a_client_that_is_closed_in_the_midst_of_its_calls(self):
+        with Server() as server, Client(server.path) as holder:
+            holder.acquire("b")
+            for i in range(30):
+                client, told = Client(server.path, lease=None if i % 2 else 20), []
+
+                def work(name):
+                    try:
+                        while True:
+                            try:
+                                client.release(name, client.acquire(name))
+                            except (Holds, Waits):
+                                pass  # another thread of this client does
+                    except LockLost as lost:
+                        told.append(str(lost))
+                threads = [threading.Thread(target=work, args=("b" if i % 3 == 0 else "a",)) for _ in range(3)]
+                [it.start() for it in threads]
+                time.sleep(0.003 * (i % 4))
+                client.close()
+                [it.join(PATIENCE) for it in threads]
+                self.assertEqual(told, ["the client is closed"] * 3)
+                self.assertEqual(client.fileno(), -1)
 
     @needs_loopback
     def test_tcp(self):

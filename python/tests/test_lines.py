@@ -41,6 +41,31 @@ class Lines(unittest.TestCase):
             with self.assertRaises(ValueError):
                 lines.lease(time)
 
+    def test_what_may_answer_what(self):
+        for asked, words, is_taken in (
+                (b"acquire a 1\n", "granted a 7", True), (b"acquire a 1\n", "waiting a 2", True), (b"acquire a 1\n", "granted b 7", False),
+                (b"acquire a 1\n", "granted a", False), (b"acquire a 1\n", "granted a 7 7", False), (b"acquire a 1\n", "granted a -7", False),
+                (b"acquire a 1\n", f"granted a {2 ** 64}", False), (b"acquire a 1\n", "busy a", False), (b"try a 1\n", "busy a", True),
+                (b"try a 1\n", "waiting a 1", False), (b"release a 7\n", "released a", True), (b"release a 7\n", "released b", False),
+                (b"cancel a\n", "cancelled a", True), (b"cancel a\n", "refused waiter a", True), (b"cancel a\n", "refused waiter b", False),
+                (b"acquire a 1\n", "refused connections", True), (b"leave\n", "left", True), (b"leave\n", "left a", False),
+                (b"lease 5\n", "lease 5", True), (b"lease 5\n", "lease x", False), (b"ping\n", "pong", True), (b"ping\n", "left", False)):
+            with self.subTest(asked=asked, words=words):
+                question = lines.Question(asked, 0.0)
+                if is_taken:
+                    question.hear(words.split())
+                    self.assertTrue(question.is_answered)
+                else:
+                    with self.assertRaises(wozgirt.LockLost):
+                        question.hear(words.split())
+
+    def test_the_lines_of_a_status(self):
+        question = lines.Question(b"status\n", 0.0)
+        for line in ("status 2", "lock a free - - - - 0 0 0 0", "lock b held 7 77 12 1500 2 250 9 3000"):
+            self.assertFalse(question.is_answered)
+            question.hear(line.split())
+        self.assertEqual((question.is_answered, [it.name for it in question.locks]), (True, ["a", "b"]))
+
     def test_refusals_have_their_class(self):
         for word, kind in (("holds", wozgirt.Holds), ("waits", wozgirt.Waits), ("circle", wozgirt.Circle),
                            ("holder", wozgirt.NotHolder), ("waiter", wozgirt.NotWaiter), ("lock", wozgirt.NoSuchLock),
@@ -64,7 +89,8 @@ class Annotations(unittest.TestCase):
     """What a checker of types needs, since the package says by py.typed that it has it."""
 
     def functions(self):
-        for name in ("aio", "client", "library", "lines", "local", "refusals", "ring"):
+        for name in ("aio", "aio_session", "client", "library", "lines", "local", "lock", "nesting", "process", "refusals", "ring",
+                     "session", "turns", "wire"):
             module = importlib.import_module(f"wozgirt.{name}")
             for it in vars(module).values():
                 if getattr(it, "__module__", None) == module.__name__:

@@ -11,7 +11,7 @@ sys.path.insert(0, os.path.join(os.path.dirname(os.path.abspath(__file__)), ".."
 
 import test_cluster  # noqa: E402
 from harness import PATIENCE, by_the_clock, needs_loopback, needs_programs, wait_until  # noqa: E402
-from wozgirt import Client, Holds, Lock, LockLost, NotHolder, NotInTime, Session, lines  # noqa: E402
+from wozgirt import Client, Holds, Lock, LockLost, NotHolder, NotInTime, NotWaiter, Session, lines  # noqa: E402
 
 
 def end(sock):
@@ -222,7 +222,8 @@ class Sessions(unittest.TestCase):
                     elif verb == "leave":
                         client.leave()
                     else:
-                        self.assertIsNone(client._cancelled("a"))
+                        with self.assertRaises(NotWaiter):
+                            client._call(lines.cancel("a"))
                     self.assertEqual([it[2] for it in self.arbiter.done[before:]], [verb])
 
     def test_a_wait_goes_on(self):
@@ -256,13 +257,15 @@ class Sessions(unittest.TestCase):
     def test_a_grant_before_the_answer_that_says_to_wait(self):
         client = self.session()
         answers = [b"granted a 5", b"1 waiting a 1"]
-        client._send(b"cancel nothing\n")  # number 1, whose answer is replaced
-        client._asked = client._asked._replace(line=b"acquire a 0\n")
-        self.assertIsNone(client._heard(answers[0]))
-        self.assertEqual(client._heard(answers[1]), ["waiting", "a", "1"])
-        self.assertEqual(client._answer(time.monotonic() + PATIENCE), ["granted", "a", "5"])
+        client._number, client._asked = 1, lines.Question(b"acquire a 0\n", time.monotonic(), 1)
+        client._heard(answers[0])
+        self.assertEqual((client._waits, client._grant), (None, None))
+        client._heard(answers[1])
+        self.assertEqual((client._waits, client._grant), (None, ("a", 5)))
+        client._grant = None
         for again in (*answers, b"granted a 4"):
-            self.assertIsNone(client._heard(again))
+            client._heard(again)
+            self.assertEqual((client._waits, client._grant, client._held), (None, None, {"a": 5}))
 
     def test_a_hold_that_is_over_is_lost(self):
         client = self.session()
@@ -306,7 +309,7 @@ class Sessions(unittest.TestCase):
             other.release("a", token)
         with self.assertRaises(NotInTime):
             other.acquire("a", wait=0.05)
-        self.assertEqual(self.arbiter.lines["a"], [])
+        wait_until(lambda: self.arbiter.lines["a"] == [])
         self.assertEqual([it.name for it in client.status()], ["a"])
 
     @by_the_clock

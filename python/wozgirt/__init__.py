@@ -16,12 +16,11 @@ done once and holds stay, also if the one that was asked dies (`Session`).
 """
 
 from .client import Client
-from .lines import (Circle, Holds, LockError, LockLost, LockStatus, NoSuchLock, NotHolder, NotInTime, NotPermitted, NotWaiter,
-                    Place, Places, Refused, TooMany, Waits)
+from .lines import (Circle, Holds, Inherited, LockError, LockLost, LockStatus, NoSuchLock, NotHolder, NotInTime, NotPermitted,
+                    NotWaiter, Place, Places, Refused, TooMany, Waits)
 from .lock import Lock
 from .session import Session
 
-__all__ = ["Circle", "Client", "Holds", "Lock", "LockError", "LockLost", "LockStatus", "NoSuchLock", "NotHolder", "NotInTime",
-           "NotPermitted", "NotWaiter", "Place", "Places", "Refused", "Session",
-           "TooMany", "Waits"]
+__all__ = ["Circle", "Client", "Holds", "Inherited", "Lock", "LockError", "LockLost", "LockStatus", "NoSuchLock", "NotHolder",
+           "NotInTime", "NotPermitted", "NotWaiter", "Place", "Places", "Refused", "Session", "TooMany", "Waits"]
 __version__ = "0.1.0"

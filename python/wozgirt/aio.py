@@ -1,115 +1,142 @@
-"""The client for asyncio: `async with Lock(path, "deploy", wait=5) as token:`."""
+"""The clients for asyncio: `async with Lock(path, "deploy", wait=5) as token:`."""
 
 from __future__ import annotations
 
 import asyncio
 import collections
+import errno
+import functools
+import inspect
+import socket
 import time
 from types import TracebackType
-from typing import Deque, NamedTuple, Optional, Type, Union
+from typing import Any, Deque, NamedTuple, NoReturn, Optional, Tuple, Type, Union
 
-from . import lines
-from .lines import LockError, LockLost, LockStatus, NotInTime, NotWaiter, Place, Refused
+from . import lines, nesting
+from .aio_session import Session
+from .client import INTERRUPTED, PART, PING, STATUS, WITHDRAW
+from .lines import Inherited, LockError, LockLost, LockStatus, NotInTime, NotWaiter, Place, Places, Question, Refused
+from .lock import Default, Function, Settings, is_too_late, left, to_connect, until
+from .process import OfOneProcess
+from .wire import AGAIN, CONNECT
 
-__all__ = ["Client", "Lock"]
+__all__ = ["Client", "Lock", "Session"]
 
 
 class _Call(NamedTuple):
-    """A line that is not answered yet; of an acquire also the future of the grant."""
+    """A question that is not answered yet, and the future of its outcome: of an acquire that is the grant."""
 
-    answer: "asyncio.Future[list[str]]"
-    grant: "Optional[asyncio.Future[list[str]]]"
+    question: Question
+    outcome: "asyncio.Future[Question]"
 
 
-class Client:
+class Client(OfOneProcess):
     """A connection, made by `await Client.connect(place)`. Tasks may share it; it waits for one lock at a time. What a
-    lease is, the client for threads says."""
+    lease is, and what a child may do with it, the client for threads says.
 
-    def __init__(self, reader: asyncio.StreamReader, writer: asyncio.StreamWriter):
-        self._reader, self._writer = reader, writer
+    A task that is cancelled leaves nothing that waits or that is held. Its cancellation takes WITHDRAW seconds at most: a server that
+    takes longer is told in the background, and if it does not answer within a second, the connection is closed."""
+
+    def __init__(self, reader: asyncio.StreamReader, writer: asyncio.StreamWriter, sock: Optional[socket.socket] = None,
+                 servers: Tuple[Any, ...] = ()):
+        super().__init__()
+        self._reader, self._writer, self._sock, self.servers = reader, writer, sock, list(servers)
         self._calls: Deque[_Call] = collections.deque()  # answers come in the order of the calls
-        self._wait: Optional[tuple[str, asyncio.Future[list[str]]]] = None
-        self._status: list[LockStatus] = []
-        self._status_left = 0
+        self._wait: Optional[_Call] = None
         self._lost: Optional[str] = None
         self._lease = 0.0
-        self._spoken = time.monotonic()  # the server has heard this client by then, or later
+        self._spoken = self._said = time.monotonic()  # the server has heard this client by then, or later; it was told last
         self._tasks = [asyncio.create_task(self._read())]
         self._undoing: set[asyncio.Task[None]] = set()
 
     @classmethod
-    async def connect(cls, place: Place, *, lease: Optional[float] = None) -> Client:
-        """Connects."""
-        if isinstance(place, tuple):
-            client = cls(*await asyncio.open_connection(*place))
-            lease = 30.0 if lease is None else lease
-        else:
-            client = cls(*await asyncio.open_unix_connection(str(place)))
-        if lease is not None:
+    async def connect(cls, place: Place, *, lease: Optional[float] = None, timeout: float = CONNECT) -> Client:
+        """Connects within `timeout` seconds."""
+        deadline = time.monotonic() + timeout
+        server = lines.place(place)
+        wanted = lines.lease(30.0 if lease is None else lease) if lease is not None or isinstance(server, tuple) else None
+        sock = await _connected(server, deadline)
+        try:
+            opened = asyncio.open_connection if isinstance(server, tuple) else asyncio.open_unix_connection
+            client = cls(*await opened(sock=sock), sock, (server,))
+        except BaseException:
+            sock.close()
+            raise
+        if wanted is not None:
             try:
-                client._lease = lines.number(await client._ask(lines.lease(lease)), 1) / 1000
-            except BaseException:
+                client._lease = lines.milliseconds(await client._ask_until(wanted, max(deadline, time.monotonic() + WITHDRAW / 2)))
+            except BaseException as fault:
                 await client.close()
+                if isinstance(fault, LockLost) and time.monotonic() >= deadline:
+                    raise TimeoutError(errno.ETIMEDOUT, "the server does not answer") from None
                 raise
             client._tasks.append(asyncio.create_task(client._speak()))
         return client
 
     async def acquire(self, name: str, *, label: int = 0, wait: Optional[float] = None) -> int:
-        """The token, as soon as the lock is granted; `NotInTime` if it is not within `wait` seconds. Where the task is
-        cancelled, nothing waits any more and nothing is held."""
-        grant: asyncio.Future[list[str]] = asyncio.get_running_loop().create_future()
-        answer = self._send(lines.acquire(name, label), grant)
+        """The token, as soon as the lock is granted. `NotInTime` if it is not within `wait` seconds, at most WITHDRAW seconds
+        later: what was asked is then withdrawn, or the connection is closed if the server does not answer."""
+        deadline = until(wait)
+        line = lines.acquire(name, label)
+        await self._others_undone(name, deadline)
+        grant = self._send(line)
         try:
-            words = await asyncio.shield(answer)
-            if words[0] == "waiting":
-                done, _ = await asyncio.wait([grant], timeout=wait)
-                if not done and not await self._came_first(name):
-                    raise NotInTime(name)
-                words = await grant
-            return lines.number(words, 2)
+            await asyncio.wait([grant], timeout=left(deadline))
+            if not grant.done():
+                await self._withdraw(name, grant, time.monotonic() + WITHDRAW)
+            return lines.number(grant.result().words, 2)
         except asyncio.CancelledError:
-            await self._undo(name, answer, grant)
+            await self._undo(name, grant)
             raise
 
     async def try_acquire(self, name: str, *, label: int = 0) -> Optional[int]:
         """The token, or None if another holds the lock."""
-        answer = self._send(lines.acquire(name, label, "try"))
+        line = lines.acquire(name, label, "try")
+        await self._others_undone(name, None)
+        outcome = self._send(line)
         try:
-            words = await asyncio.shield(answer)
+            words = (await asyncio.shield(outcome)).words
         except asyncio.CancelledError:
-            await self._undo(name, answer, None)
+            await self._undo(name, outcome)
             raise
         return lines.number(words, 2) if words[0] == "granted" else None
 
     async def release(self, name: str, token: int) -> None:
-        """Ends the hold with this token."""
-        await self._ask(lines.release(name, token))
+        """Ends the hold with this token, also where the task is cancelled."""
+        await asyncio.shield(self._send(lines.release(name, token)))
 
     async def leave(self) -> None:
         """Gives up all that this client holds. The connection stays."""
-        await self._ask(b"leave\n")
+        await asyncio.shield(self._send(b"leave\n"))
 
     async def status(self) -> list[LockStatus]:
         """How the locks are that this client may use."""
-        await self._ask(b"status\n")
-        return self._status
+        return (await asyncio.shield(self._send(STATUS))).locks
 
     def check(self) -> None:
         """Raises `LockLost` if others may hold what this client held."""
+        self._refuse_a_child()
         if self._lost is None and self._lease and time.monotonic() > self._spoken + self._lease / 2:
-            self._lost = "the server has not answered for half of the lease"
+            self._drop("the server has not answered for half of the lease")
         if self._lost is not None:
             raise LockLost(self._lost)
 
     async def close(self) -> None:
-        """Closes the connection; the server lets others have what this client held."""
+        """Closes the connection; the server lets others have what this client held. In a child that inherited the client, only
+        the child's copy is closed."""
+        await self._close_within(WITHDRAW)
+
+    async def _close_within(self, seconds: float) -> None:
+        """As `close`, where a connection that does not end has only so long."""
+        if self._is_inherited:
+            self._close_copy()
+            return
         for task in self._tasks:
             task.cancel()
-        self._lose("the client is closed")
-        self._writer.close()
+        self._drop("the client is closed")
         try:
-            await self._writer.wait_closed()
-        except OSError:
+            await asyncio.wait_for(self._writer.wait_closed(), seconds)
+        except (OSError, asyncio.TimeoutError):
             pass  # it is gone
 
     async def __aenter__(self) -> Client:
@@ -118,164 +145,253 @@ class Client:
     async def __aexit__(self, *_: object) -> None:
         await self.close()
 
-    def _send(self, line: bytes, grant: Optional[asyncio.Future[list[str]]] = None) -> asyncio.Future[list[str]]:
+    def _close_copy(self) -> None:
+        self._lost = "this client is that of the parent"
+        if self._sock is not None:
+            self._sock.close()
+
+    def _send(self, line: bytes) -> asyncio.Future[Question]:
+        self._refuse_a_child()
         if self._lost is not None:
             raise LockLost(self._lost)
-        answer: asyncio.Future[list[str]] = asyncio.get_running_loop().create_future()
-        answer.add_done_callback(lambda it: it.cancelled() or it.exception())  # seen, whether or not somebody waits
-        self._calls.append(_Call(answer, grant))
+        outcome: asyncio.Future[Question] = asyncio.get_running_loop().create_future()
+        outcome.add_done_callback(lambda it: it.cancelled() or it.exception())  # seen, whether or not somebody waits
+        self._said = time.monotonic()
+        self._calls.append(_Call(Question(line, self._said), outcome))
         self._writer.write(line)
-        return answer
+        return outcome
 
-    async def _ask(self, line: bytes) -> list[str]:
-        return await asyncio.shield(self._send(line))
+    async def _ask_until(self, line: bytes, deadline: float) -> Question:
+        """The answer. If it is not there by then, the client is lost."""
+        outcome = self._send(line)
+        await asyncio.wait([outcome], timeout=left(deadline))
+        if not outcome.done():
+            self._lose("the server does not answer")
+        return outcome.result()
 
-    async def _came_first(self, name: str) -> bool:
-        """Waits no longer: whether the grant was on its way."""
+    async def _withdraw(self, name: str, grant: asyncio.Future[Question], deadline: float) -> None:
+        """Waits no longer: NotInTime, unless the grant was on its way, or the refusal."""
+        if grant.done():
+            return
         try:
-            await self._ask(lines.cancel(name))
-            return False
-        except NotWaiter:
-            return True
+            await self._ask_until(lines.cancel(name), deadline)
+        except NotWaiter:  # the grant came first
+            if not grant.done():
+                self._lose("the server neither grants nor keeps a place in the line")
+        except LockLost as lost:
+            if time.monotonic() < deadline:
+                raise
+            raise NotInTime(f"{name}: the server did not answer in time, so the connection is closed") from lost
+        else:
+            raise NotInTime(f"{name}: it was not granted in time, and is no longer waited for")
 
-    async def _undo(self, name: str, answer: asyncio.Future[list[str]], grant: Optional[asyncio.Future[list[str]]]) -> None:
-        """After a cancellation: nothing waits, and nothing is held that nobody knows of. It is done to its end even if
-        the task is cancelled once more."""
+    async def _undo(self, name: str, outcome: asyncio.Future[Question]) -> None:
+        """After a cancellation: nothing waits, and nothing is held that nobody knows of. A task of its own does this to its end. It is
+        waited for as long as a server takes that is well; then the next call that asks for a lock waits for it."""
 
         async def undo() -> None:
+            deadline = time.monotonic() + INTERRUPTED
             try:
-                words = await answer
-                if words[0] == "waiting" and grant is not None:
-                    if not grant.done() and not await self._came_first(name):
-                        return
-                    words = await grant
+                if self._lost is None and not outcome.done():
+                    await self._withdraw(name, outcome, deadline)
+                words = outcome.result().words
                 if words[0] == "granted":
-                    await self._ask(lines.release(name, lines.number(words, 2)))
+                    await self._ask_until(lines.release(name, lines.number(words, 2)), deadline)
             except LockError:
                 pass  # then nothing is held
 
         task = asyncio.create_task(undo())
         self._undoing.add(task)
         task.add_done_callback(self._undoing.discard)
-        await asyncio.shield(task)
+        await asyncio.wait([task], timeout=WITHDRAW)
+
+    async def _others_undone(self, name: str, deadline: Optional[float]) -> None:
+        if self._undoing and (await asyncio.wait(list(self._undoing), timeout=left(deadline)))[1]:
+            raise NotInTime(f"{name}: a cancelled call was not withdrawn in time, so nothing was asked")
 
     async def _read(self) -> None:
         try:
             while line := await self._reader.readline():
                 self._hear(lines.words_of(line))
-            self._lose("the server closed the connection")
+            self._drop("the server closed the connection")
         except (OSError, ValueError, LockError) as fault:
-            self._lose(str(fault))
+            self._drop(str(fault))
 
     def _hear(self, words: list[str]) -> None:
-        if self._status_left:
-            self._status.append(lines.status(words))
-            self._status_left -= 1
-            if self._status_left:
-                return
-            words = ["status"]
-        elif words[0] == "status":
-            self._status, self._status_left = [], lines.number(words, 1)
-            if self._status_left:
-                return
-        if words[0] == "granted" and self._wait is not None and self._wait[0] == words[1]:
-            self._settle(words)
+        wait = self._wait
+        if words[0] == "granted" and wait is not None and words[1:2] == [wait.question.name]:
+            lines.number(words, 2)
+            wait.question.words, self._wait = words, None
+            _tell(wait)
             return
         if not self._calls:
-            raise LockLost(f"the server sent {' '.join(words)!r}")
-        call = self._calls.popleft()
-        if words[0] == "waiting" and call.grant is not None:
-            self._wait = (words[1], call.grant)
-        elif words[0] in ("cancelled", "left"):
-            self._settle(None)
-        if not call.answer.done():
-            refused = lines.refusal(words)
-            if refused is None:
-                call.answer.set_result(words)
-            else:
-                call.answer.set_exception(refused)
+            raise LockLost(f"the server sent {' '.join(words)!r}, which nobody asked for")
+        call = self._calls[0]
+        call.question.hear(words)
+        if call.question.is_answered:
+            self._calls.popleft()
+            self._spoken = max(self._spoken, call.question.at)
+            self._happened(call)
 
-    def _settle(self, words: Optional[list[str]]) -> None:
-        """The wait is over: with a grant, or without one."""
-        if self._wait is None:
+    def _happened(self, call: _Call) -> None:
+        word, refused = call.question.words[0], lines.refusal(call.question.words)
+        if word == "waiting":
+            self._wait = call
             return
-        (name, grant), self._wait = self._wait, None
-        if grant.done():
-            return
-        if words is not None:
-            grant.set_result(words)
-        else:
-            grant.set_exception(NotWaiter("waiter", name))
-            grant.exception()  # seen, whether or not somebody waits for it
+        if word in ("cancelled", "left") and self._wait is not None:
+            _tell(self._wait, NotWaiter("waiter", self._wait.question.name))
+            self._wait = None
+        _tell(call, refused)
 
-    def _lose(self, why: str) -> None:
+    def _lose(self, why: str) -> NoReturn:
+        self._drop(why)
+        raise LockLost(self._lost)
+
+    def _drop(self, why: str) -> None:
+        """Ends the connection. What is not sent yet is not sent: its end gives back everything."""
         self._lost = self._lost or why
-        open_ = [call.answer for call in self._calls] + ([self._wait[1]] if self._wait else [])
+        self._writer.transport.abort()
+        open_ = [*self._calls, *([self._wait] if self._wait else [])]
         self._calls.clear()
         self._wait = None
-        for future in open_:
-            if not future.done():
-                future.set_exception(LockLost(self._lost))
-                future.exception()  # seen, whether or not somebody waits for it
+        for call in open_:
+            _tell(call, LockLost(self._lost))
 
     async def _speak(self) -> None:
         while self._lost is None:
-            await asyncio.sleep(self._lease / 4)
-            sent = time.monotonic()
+            await asyncio.sleep(max(0.0, self._said + self._lease / PART - time.monotonic()))
+            if self._lost is None and time.monotonic() >= self._said + self._lease / PART:
+                try:
+                    await self._ask_until(PING, time.monotonic() + self._lease)
+                except LockError:
+                    return
+
+
+def _tell(call: _Call, fault: Optional[LockError] = None) -> None:
+    if not call.outcome.done():
+        if fault is None:
+            call.outcome.set_result(call.question)
+        else:
+            call.outcome.set_exception(fault)
+
+
+async def _connected(server: Union[str, Tuple[str, int]], deadline: float) -> socket.socket:
+    """As that of the client for threads."""
+    if isinstance(server, tuple):
+        return await _over_tcp(server[0], server[1], deadline)
+    sock = socket.socket(socket.AF_UNIX)
+    try:
+        sock.setblocking(False)
+        while True:
             try:
-                await asyncio.wait_for(self._ask(b"ping\n"), self._lease)
-            except asyncio.TimeoutError:
-                self._lose("the server has not answered for its lease")
-                return
-            except LockError:
-                return
-            self._spoken = sent
+                sock.connect(server)
+                return sock
+            except BlockingIOError:  # its queue is full
+                if time.monotonic() >= deadline:
+                    raise TimeoutError(errno.ETIMEDOUT, "the server accepts no connection", server) from None
+                await asyncio.sleep(AGAIN)
+    except BaseException:
+        sock.close()
+        raise
 
 
-class Lock:
-    """`async with Lock(place, name, wait=5) as token:` holds the lock inside. `place` is that of a server, or a `Client`
-    that is shared."""
+async def _over_tcp(host: str, port: int, deadline: float) -> socket.socket:
+    loop = asyncio.get_running_loop()
+    late = TimeoutError(errno.ETIMEDOUT, f"{host}:{port} does not answer")
+    fault: OSError = late
+    try:
+        addresses = await asyncio.wait_for(loop.getaddrinfo(host, port, type=socket.SOCK_STREAM), left(deadline))
+    except asyncio.TimeoutError:
+        raise late from None
+    for i, (family, kind, protocol, _, address) in enumerate(addresses):
+        sock = socket.socket(family, kind, protocol)
+        try:
+            sock.setblocking(False)
+            share = (deadline - time.monotonic()) / (len(addresses) - i)
+            await asyncio.wait_for(loop.sock_connect(sock, address), max(0.001, share))
+            sock.setsockopt(socket.IPPROTO_TCP, socket.TCP_NODELAY, 1)
+            return sock
+        except asyncio.TimeoutError:
+            sock.close()
+        except OSError as why:
+            sock.close()
+            fault = why
+        except BaseException:
+            sock.close()
+            raise
+    raise fault
 
-    def __init__(self, place: Union[Place, Client], name: str, *, wait: Optional[float] = None, label: int = 0,
+
+class Lock(Settings):
+    """`async with Lock(place, name, wait=5) as token:` holds the lock inside. `place` is that of a server, or those of several that
+    share their locks, or a `Client` or `Session` of this module that is shared. One object holds once at a time, and can be used again.
+
+    It is a decorator too: `@Lock(place, name)` has each call of a coroutine function hold the lock.
+
+    A task that holds the lock by such an object, and asks for it by another one, would wait for itself: `Holds`."""
+
+    def __init__(self, place: Union[Places, Client, Session], name: str, *, wait: Optional[float] = None, label: int = 0,
                  lease: Optional[float] = None):
-        self._place, self.name, self._wait, self._label, self._lease = place, name, wait, label, lease
-        self.client: Optional[Client] = None
-        #: The token of the hold, inside.
-        self.token: Optional[int] = None
+        super().__init__(place, name, wait=wait, label=label, lease=lease)
+
+    async def acquire(self, *, timeout: Union[float, None, Type[Default]] = Default) -> int:
+        """Takes the lock; its token. `NotInTime` if it is not granted within `timeout` seconds (None: no limit; if it is not
+        given, `wait`), the time to connect included."""
+        deadline = self._deadline(timeout)
+        is_shared = isinstance(self._place, (Client, Session))
+        nesting.refuse(self._place.servers if is_shared else lines.places(self._place), self.name, is_task=True)
+        client = self._place if is_shared else await self._connected(deadline)
+        try:
+            return self._take(client, await client.acquire(self.name, label=self._label, wait=left(deadline)))
+        except BaseException:
+            if not is_shared:
+                await client._close_within(WITHDRAW)
+            raise
+
+    async def release(self) -> None:
+        """Gives the lock back. `LockLost` if it was lost before, and RuntimeError if this object does not hold it."""
+        client, token = self.client, self._let_go()
+        if client is self._place:
+            await client.release(self.name, token)
+            return
+        try:
+            await asyncio.wait_for(client.release(self.name, token), CONNECT)
+        except asyncio.TimeoutError:
+            raise LockLost("the server does not answer") from None
+        finally:
+            await client.close()
+
+    async def _connected(self, deadline: Optional[float]) -> Union[Client, Session]:
+        servers = lines.places(self._place)
+        try:
+            if len(servers) > 1:
+                return await Session.connect(servers, lease=self._lease, timeout=to_connect(deadline))
+            return await Client.connect(servers[0], lease=self._lease, timeout=to_connect(deadline))
+        except OSError as fault:
+            if is_too_late(fault, deadline):
+                raise NotInTime(f"{self.name}: no server answered in time, so nothing was asked ({fault})") from fault
+            raise
+
+    def __call__(self, function: Function) -> Function:
+        """Has each call of the coroutine function hold the lock, by an object of its own."""
+        if not inspect.iscoroutinefunction(function):
+            raise TypeError(f"{function!r} is no coroutine function")
+
+        @functools.wraps(function)
+        async def run(*words: Any, **more: Any) -> Any:
+            async with self._again():
+                return await function(*words, **more)
+        return run  # type: ignore[return-value]
 
     async def __aenter__(self) -> int:
-        if self.token is not None:
-            raise RuntimeError("this object holds the lock already")
-        if isinstance(self._place, Client):
-            client = self._place
-        else:
-            client = await Client.connect(self._place, lease=self._lease)
-        self.client = client
-        try:
-            self.token = await client.acquire(self.name, label=self._label, wait=self._wait)
-        except BaseException:
-            if client is not self._place:
-                await client.close()
-            raise
-        return self.token
-
-    def check(self) -> None:
-        """Raises `LockLost` if others may hold the lock by now."""
-        if self.client is None or self.token is None:
-            raise RuntimeError("this object does not hold the lock")
-        self.client.check()
+        return await self.acquire()
 
     async def __aexit__(self, kind: Optional[Type[BaseException]], value: Optional[BaseException],
                         trace: Optional[TracebackType]) -> None:
-        token, self.token = self.token, None
-        client = self.client
-        if client is None or token is None:
+        if self.token is None:
             return
         try:
-            await client.release(self.name, token)
-        except (LockLost, Refused):
+            await self.release()
+        except (LockLost, Refused, Inherited):
             if kind is None:
                 raise
-        finally:
-            if client is not self._place:
-                await client.close()

@@ -3,93 +3,108 @@
 from __future__ import annotations
 
 import collections
-import socket
+import errno
 import threading
 import time
-from typing import Deque, NoReturn, Optional
+import weakref
+from typing import Callable, Deque, Dict, List, NoReturn, Optional, Tuple, TypeVar
 
 from . import lines
-from .lines import LockLost, LockStatus, NotInTime, NotWaiter, Place
+from .lines import LockError, LockLost, LockStatus, NotHolder, NotInTime, NotWaiter, Place, Question
+from .turns import Turns
+from .wire import CONNECT, Late, Wire, connected
 
-PING = b"ping\n"
-#: How long the server may take to be there.
-CONNECT = 10.0
+__all__ = ["CONNECT", "Client", "connected"]
 
+PING, STATUS = b"ping\n", b"status\n"
+#: How long the server may take to say that a lock is no longer waited for: after a deadline, and after an interrupt.
+WITHDRAW, INTERRUPTED = 0.15, 1.0
+#: How long a server may take to say that a client that closes has left.
+CLOSE = 2.0
+#: A client speaks after a silence of this part of its lease.
+PART = 4
 
-def connected(place: Place, timeout: float = CONNECT) -> socket.socket:
-    """A socket that is connected to the server."""
-    if isinstance(place, tuple):
-        sock = socket.create_connection(place, timeout)
-        sock.setsockopt(socket.IPPROTO_TCP, socket.TCP_NODELAY, 1)
-    else:
-        sock = socket.socket(socket.AF_UNIX, socket.SOCK_STREAM)
-        sock.settimeout(timeout)
-        try:
-            sock.connect(str(place))
-        except OSError:
-            sock.close()
-            raise
-    sock.settimeout(None)
-    return sock
+Answer = TypeVar("Answer", int, Optional[int])
 
 
-class Client:
-    """A connection. Threads may share it, but a call waits until the one before it is answered; while one waits for a
-    lock, the others wait for that.
+class Client(Turns):
+    """A connection, made within `timeout` seconds. Threads may share it, but a call waits until the one before it is answered; while
+    one waits for a lock, the others wait for that. A child that inherits it over a fork cannot use it (`Inherited`).
+
+    An exception out of a signal handler may break off a call. What was asked is then withdrawn, and what was granted is given back,
+    within a second; or the connection is closed, and the next call raises `LockLost`. A handler itself calls only `check` and `close`.
 
     With a lease (seconds) the server takes a silence so long for the client's end. A thread of this client then speaks
     each quarter of it, and `check` raises `LockLost` when half of it is over without an answer. Over TCP the server gives
     each connection a lease, so one is asked for there in any case."""
 
-    def __init__(self, place: Place, *, lease: Optional[float] = None):
-        place = lines.place(place)
-        self._sock = connected(place)
-        self._mutex = threading.RLock()
-        self._bytes = bytearray()
-        self._lost: Optional[str] = None
+    _part = PART
+
+    def __init__(self, place: Place, *, lease: Optional[float] = None, timeout: float = CONNECT):
+        server = lines.place(place)
+        until = time.monotonic() + timeout
+        wanted = lines.lease(30.0 if lease is None else lease) if lease is not None or isinstance(server, tuple) else None
+        self._prepare([server], Wire(connected(server, timeout)))
+        if wanted is None:
+            return
+        try:
+            self._lease = lines.milliseconds(self._in_turn(lambda: self._ask_or_lose(wanted, until)))
+        except BaseException as fault:
+            self.close()
+            if isinstance(fault, LockLost) and time.monotonic() >= until:
+                raise TimeoutError(errno.ETIMEDOUT, "the server does not answer") from None
+            raise
+        self._start_keeper()
+
+    def _prepare(self, servers: List[Place], wire: Wire) -> None:
+        super().__init__(wire)
+        self.servers = servers
+        self._questions: Deque[Question] = collections.deque()  # without an answer yet
+        self._latest = Question(PING, 0.0)  # what was asked last
+        self._waits: Optional[str] = None
+        self._grant: Optional[Tuple[str, int]] = None  # that no caller has yet
+        self._held: Dict[str, int] = {}
+        self._unclaimed: Dict[str, int] = {}  # holds whose holder was never told, or gave up
+        self._is_closed, self._wake = False, threading.Event()
         self._lease = 0.0
-        self._spoken = time.monotonic()  # the server has heard this client by then, or later
-        self._pings: Deque[float] = collections.deque()  # when they were sent, if they are not answered
-        self._closed = threading.Event()
-        if lease is None and isinstance(place, tuple):
-            lease = 30.0
-        if lease is not None:
-            try:
-                self._lease = lines.number(self._ask(lines.lease(lease)), 1) / 1000
-            except BaseException:
-                self._sock.close()
-                raise
-            threading.Thread(target=self._speak, name="wozgirt-lease", daemon=True).start()
+        self._spoken = self._said = time.monotonic()  # the server has heard this client by then, or later; it was told last
 
     def acquire(self, name: str, *, label: int = 0, wait: Optional[float] = None) -> int:
-        """The token, as soon as the lock is granted; `NotInTime` if it is not within `wait` seconds.
-
-        Where an interrupt ends the wait, nothing waits any more and nothing is held."""
-        deadline = None if wait is None else time.monotonic() + wait
-        with self._mutex:
-            words: Optional[list[str]] = self._ask(lines.acquire(name, label))
-            if words is not None and words[0] == "waiting":
-                try:
-                    words = self._granted(deadline) or self._cancelled(name)
-                except LockLost:
-                    raise
-                except BaseException:
-                    words = self._cancelled(name)
-                    if words is not None:
-                        self._ask(lines.release(name, lines.number(words, 2)))
-                    raise
-            if words is None:
-                raise NotInTime(name)
-            return lines.number(words, 2)
+        """The token, as soon as the lock is granted. `NotInTime` if it is not within `wait` seconds, at most WITHDRAW seconds
+        later: what was asked is then withdrawn, or the connection is closed if the server does not answer."""
+        until = None if wait is None else time.monotonic() + wait
+        line, taken = lines.acquire(name, label), []  # type: bytes, List[int]
+        try:
+            return self._hand_over(taken, lambda: self._acquired(line, name, until), until)
+        except Late:
+            raise NotInTime(f"{name}: this client was busy all the time, so nothing was asked") from None
+        except BaseException:
+            self._disown(name, taken)
+            raise
 
     def try_acquire(self, name: str, *, label: int = 0) -> Optional[int]:
         """The token, or None if another holds the lock."""
-        words = self._call(lines.acquire(name, label, "try"))
-        return lines.number(words, 2) if words[0] == "granted" else None
+        line, taken = lines.acquire(name, label, "try"), []  # type: bytes, List[int]
+        try:
+            return self._hand_over(taken, lambda: self._tried(line))
+        except BaseException:
+            self._disown(name, taken)
+            raise
 
     def release(self, name: str, token: int) -> None:
-        """Ends the hold with this token."""
-        self._call(lines.release(name, token))
+        """Ends the hold with this token, also where an interrupt ends the call."""
+        self._release(name, token)
+
+    def _release(self, name: str, token: int, until: Optional[float] = None) -> None:
+        try:
+            line = lines.release(name, token)
+            self._refuse_misuse()
+            self._in_turn(lambda: self._ask_or_lose(line, until))
+        except LockError:
+            raise
+        except BaseException:
+            self._give_back(name, token)
+            raise
 
     def leave(self) -> None:
         """Gives up all that this client holds. The connection stays."""
@@ -97,36 +112,35 @@ class Client:
 
     def status(self) -> list[LockStatus]:
         """How the locks are that this client may use."""
-        with self._mutex:
-            count = lines.number(self._ask(b"status\n"), 1)
-            return [lines.status(self._answer_or_lose()) for _ in range(count)]
+        return self._call(STATUS).locks
 
     def check(self) -> None:
         """Raises `LockLost` if others may hold what this client held. Never waits."""
-        if self._mutex.acquire(blocking=False):
-            try:
-                if self._lost is None:
-                    self._look()
-            finally:
-                self._mutex.release()
+        self._refuse_a_child()
+        if self._caller != threading.get_ident():
+            self._look_if_free()
         if self._lost is None and self._lease and time.monotonic() > self._spoken + self._lease / 2:
             self._lost = "the server has not answered for half of the lease"
         if self._lost is not None:
             raise LockLost(self._lost)
 
     def close(self) -> None:
-        """Closes the connection; the server lets others have what this client held. It may be called again."""
-        self._closed.set()
-        self._lost = self._lost or "the client is closed"
-        try:
-            self._sock.shutdown(socket.SHUT_RDWR)
-        except OSError:
-            pass  # it is gone
-        self._sock.close()
+        """Closes the connection; the server lets others have what this client held. It may be called again. In a child that
+        inherited the client, only the child's copy is closed."""
+        if self._is_inherited:
+            self._close_copy()
+        else:
+            self._close_within(CLOSE)
+
+    def _close_within(self, seconds: float) -> None:
+        """As `close`, where a server that has to be asked has only so long to answer."""
+        self._is_closed = True
+        self._wake.set()
+        self._drop("the client is closed")
 
     def fileno(self) -> int:
         """The socket's file, which can be read when the connection is gone."""
-        return self._sock.fileno()
+        return self._wire.fileno()
 
     def __enter__(self) -> Client:
         return self
@@ -134,119 +148,297 @@ class Client:
     def __exit__(self, *_: object) -> None:
         self.close()
 
-    def _call(self, line: bytes) -> list[str]:
-        with self._mutex:
-            return self._ask(line)
+    def _call(self, line: bytes) -> Question:
+        self._refuse_misuse()
+        return self._in_turn(lambda: self._ask(line))
 
-    def _ask(self, line: bytes) -> list[str]:
+    def _hand_over(self, taken: List[int], do: Callable[[], Answer], until: Optional[float] = None) -> Answer:
+        """What `do` returns, a token or None. A token is noted, for a caller that an exception keeps from having it."""
+        self._refuse_misuse()
+
+        def take() -> Answer:
+            token = do()
+            if token is not None:
+                taken.append(token)
+                self._grant = None
+            return token
+        return self._in_turn(take, until)
+
+    def _disown(self, name: str, taken: List[int]) -> None:
+        """Ends the hold that nobody was told of, if there is one."""
+        if taken:
+            self._unclaimed[name] = taken[0]
+            self._give_back(name, taken[0])
+
+    def _acquired(self, line: bytes, name: str, until: Optional[float]) -> int:
+        try:
+            self._ask(line, until)
+            while self._waits is not None:
+                self._pump(until)
+        except Late:
+            self._withdraw_in_time(name)
+        if self._grant is None:
+            raise NotInTime(f"{name}: it was not granted in time, and is no longer waited for")
+        return self._grant[1]
+
+    def _tried(self, line: bytes) -> Optional[int]:
+        self._ask(line)
+        return None if self._grant is None else self._grant[1]
+
+    def _withdraw_in_time(self, name: str) -> None:
+        """After the deadline: nothing waits any more, or NotInTime. The grant may have come first."""
+        try:
+            self._withdraw(time.monotonic() + WITHDRAW)
+        except Late:
+            raise NotInTime(f"{name}: the server did not answer in time, {self._give_up('the server did not answer')}") from None
+
+    def _withdraw(self, until: Optional[float]) -> None:
+        """Reads what is not answered yet, and waits for no lock any more."""
+        while self._is_asking():
+            self._pump(until)
+        while self._waits is not None:
+            try:
+                self._ask(lines.cancel(self._waits), until)
+            except NotWaiter:  # the grant came first
+                if self._waits is not None:
+                    self._cut("the server neither grants nor keeps a place in the line")
+
+    def _settle(self, until: Optional[float]) -> None:
+        """Puts in order what a call that was broken off has left: nothing is asked or waited for, or held by nobody."""
+        if self._wire.is_torn:
+            self._cut("a call was broken off within a line")
+        self._flush()
+        self._withdraw(until)
+        if self._grant is not None:
+            self._unclaimed[self._grant[0]] = self._grant[1]
+        for name, token in list(self._unclaimed.items()):
+            try:
+                self._ask(lines.release(name, token), until)
+            except NotHolder:
+                self._let_go(name)
+
+    def _clean_up(self) -> None:
+        """After an exception: in order, or given up."""
+        if self._lost is not None or self._is_quiet() or self._is_given_up():
+            return
+        try:
+            self._settle(time.monotonic() + INTERRUPTED)
+        except LockLost:
+            pass
+        except (Late, LockError):
+            self._give_up("a call was broken off, and the server did not answer")
+
+    def _give_back(self, name: str, token: int) -> None:
+        """Ends a hold whose holder does not know of it, or the connection."""
+        if self._held.get(name) != token or self._caller == threading.get_ident():
+            return
+        self._unclaimed[name] = token
+        try:
+            self._in_turn(lambda: None, time.monotonic() + INTERRUPTED)
+        except LockError:
+            pass  # it is over
+        except BaseException as fault:
+            self._give_up("a call was broken off twice")
+            if not isinstance(fault, Late):
+                raise
+
+    def _is_quiet(self) -> bool:
+        """Whether nothing is asked or waited for, and nothing granted that nobody knows of."""
+        return not (self._wire.is_torn or self._waits or self._grant or self._unclaimed or self._is_asking())
+
+    def _is_asking(self) -> bool:
+        return bool(self._questions) and any(question.verb != "ping" for question in self._questions)
+
+    def _is_given_up(self) -> bool:
+        return False
+
+    def _ask(self, line: bytes, until: Optional[float] = None) -> Question:
+        """The question with its answer; Late if that is not there by then."""
         self._send(line)
-        return self._answer_or_lose()
+        question = self._latest
+        while not question.is_answered:
+            self._pump(until)
+        refused = lines.refusal(question.words)
+        if refused is not None:
+            raise refused
+        return question
+
+    def _ask_or_lose(self, line: bytes, until: Optional[float]) -> Question:
+        try:
+            return self._ask(line, until)
+        except Late:
+            self._lose("the server does not answer")
 
     def _send(self, line: bytes) -> None:
         if self._lost is not None:
             raise LockLost(self._lost)
-        if line == PING:
-            self._pings.append(time.monotonic())
+        question = Question(line, time.monotonic())
+        self._questions.append(question)  # from here on it counts as asked, whether or not it is sent
+        self._latest = question
+        self._put(question)
+
+    def _flush(self) -> None:
+        """Sends what is not sent yet of what counts as asked."""
+        for question in list(self._questions):
+            self._put(question)
+
+    def _put(self, question: Question) -> None:
+        self._said = question.at
         try:
-            self._sock.sendall(line)
+            self._wire.send(question.data, question.sent, WITHDRAW)
+        except Late:
+            self._cut("the server takes nothing")
         except OSError as fault:
-            self._lose(str(fault))
+            self._fail(fault)
 
-    def _answer_or_lose(self) -> list[str]:
-        words = self._answer()
-        if words is None:
-            self._lose("the server does not answer")
-        return words
+    def _fail(self, fault: OSError) -> None:
+        """The connection is over, unless a signal handler raised this."""
+        if not lines.is_own(fault):
+            raise fault
+        self._cut(str(fault))
 
-    def _answer(self, deadline: Optional[float] = None, until_pong: bool = False) -> Optional[list[str]]:
-        """The next answer, without what keeps the lease. None after the deadline, or with the last pong."""
-        while self._pings or not until_pong:
-            end = self._bytes.find(b"\n")
-            if end >= 0:
-                line = bytes(self._bytes[:end])
-                del self._bytes[:end + 1]
-                words = self._heard(line)
-                if words is None:
-                    continue
-                refused = lines.refusal(words)
-                if refused is not None:
-                    raise refused
-                return words
-            if not self._receive(deadline):
-                return None
-        return None
+    def _pump(self, until: Optional[float]) -> None:
+        """Hears what comes next; Late after the deadline. Speaks where the lease wants it."""
+        if until is None and not self._lease:
+            self._receive(waits=True)
+            return
+        now = time.monotonic()
+        if until is not None and now >= until:
+            raise Late
+        wake = self._speak_in_time(now) if self._lease else until
+        if wake is not None:
+            wake = (wake if until is None else min(wake, until)) - now
+        if self._wire.has_more or self._wire.wait(wake):
+            self._receive()
 
-    def _heard(self, line: bytes) -> Optional[list[str]]:
-        """The words of a line, if it is an answer."""
-        if line == b"pong" and self._pings:
-            self._spoken = self._pings.popleft()
-            return None
-        return lines.words_of(line)
-
-    def _receive(self, deadline: Optional[float], flags: int = 0) -> bool:
-        try:
-            if deadline is not None:
-                left = deadline - time.monotonic()
-                if left <= 0:
-                    return False
-                self._sock.settimeout(left)
-            more = self._sock.recv(1 << 16, flags)
-        except (TimeoutError, socket.timeout, BlockingIOError):
-            return False
-        except OSError as fault:
-            self._lose(str(fault))
-        finally:
-            if deadline is not None and self._sock.fileno() >= 0:
-                self._sock.settimeout(None)
-        if not more:
-            self._lose("the server closed the connection")
-        self._bytes += more
-        return True
-
-    def _granted(self, deadline: Optional[float]) -> Optional[list[str]]:
-        """What follows `waiting`: the grant, or None after the deadline. Meanwhile this call keeps the lease."""
-        while True:
-            speak = time.monotonic() + self._lease / 4 if self._lease else None
-            until = min((moment for moment in (deadline, speak) if moment is not None), default=None)
-            words = self._answer(until)
-            if words is not None:
-                return words
-            if deadline is not None and time.monotonic() >= deadline:
-                return None
-            if self._lease and time.monotonic() > self._spoken + self._lease:
-                self._lose("the server has not answered for its lease")
+    def _speak_in_time(self, now: float) -> float:
+        """Says a ping if it is time to; when the next one is due."""
+        if now > self._spoken + self._lease:
+            self._lose("the server has not answered for its lease")
+        if now >= self._said + self._lease / self._part:
             self._send(PING)
+        return min(self._said + self._lease / self._part, self._spoken + self._lease + 0.001)
 
-    def _cancelled(self, name: str) -> Optional[list[str]]:
-        """Waits no longer: None, or the grant if it was on its way."""
-        self._send(lines.cancel(name))
-        grant = None
-        while True:
-            try:
-                words = self._answer_or_lose()
-            except NotWaiter:  # the grant came first
-                return grant
-            if words[0] == "cancelled":
-                return None
-            grant = words
+    def _receive(self, waits: bool = False) -> None:
+        try:
+            is_open = self._wire.has_more or self._wire.receive(waits)
+        except OSError as fault:
+            self._fail(fault)
+            return
+        try:
+            while True:
+                line = self._wire.line()
+                if line is None:
+                    break
+                self._heard(line)
+        except LockLost as fault:
+            self._lose(str(fault))
+        self._wire.is_torn = False
+        if not is_open:
+            self._cut("the server closed the connection")
+
+    def _heard(self, line: bytes) -> None:
+        """One line: the grant that is waited for, or the answer to the oldest question."""
+        words = lines.words_of(line)
+        if words[0] == "granted" and self._waits is not None and words[1:2] == [self._waits] and len(words) == 3:
+            self._hold(words[1], lines.number(words, 2))
+            return
+        if not self._questions:
+            raise LockLost(f"the server sent {' '.join(words)!r}, which nobody asked for")
+        question = self._questions[0]
+        question.hear(words)
+        if question.is_answered:
+            self._questions.popleft()
+            self._happened(question)
+
+    def _happened(self, question: Question) -> None:
+        """Notes what an answer means. It shows that the server has heard this client since the question was sent."""
+        if question.at > self._spoken:
+            self._spoken = question.at
+        word = question.words[0]
+        if word == "granted":
+            self._hold(question.name, int(question.words[2]))
+        elif word == "waiting":
+            self._waits = question.name
+        elif word == "cancelled":
+            self._waits = None
+        elif word == "released":
+            self._let_go(question.name)
+        elif word == "left":
+            self._waits = self._grant = None
+            self._held.clear()
+            self._unclaimed.clear()
+
+    def _hold(self, name: str, token: int) -> None:
+        self._held[name], self._grant, self._waits = token, (name, token), None
+
+    def _let_go(self, name: str) -> None:
+        self._held.pop(name, None)
+        self._unclaimed.pop(name, None)
+        if self._grant is not None and self._grant[0] == name:
+            self._grant = None
 
     def _look(self) -> None:
         """Sees whether the connection was closed, without waiting."""
-        while self._receive(None, socket.MSG_DONTWAIT):
-            pass
+        if self._wire.is_torn:
+            self._cut("a call was broken off within a line")
+        self._receive()
+
+    def _cut(self, why: str) -> None:
+        """The connection cannot be used any more."""
+        self._lose(why)
+
+    def _give_up(self, why: str) -> str:
+        """Ends a connection whose server does not answer; what that means."""
+        self._drop(why)
+        return "so the connection is closed"
 
     def _lose(self, why: str) -> NoReturn:
-        self._lost = self._lost or why
+        self._drop(why)
         raise LockLost(self._lost)
 
-    def _speak(self) -> None:
-        while not self._closed.wait(self._lease / 4):
-            if not self._mutex.acquire(timeout=self._lease / 8):
-                continue  # a call is at work, and speaks itself
+    def _drop(self, why: str) -> None:
+        """Ends the connection. Its file is closed by who has the turn, since another thread may be waiting for it."""
+        self._lost = self._lost or why
+        self._wire.shut()
+        if self._mutex.acquire(blocking=False):
             try:
-                self._send(PING)
-                self._answer(time.monotonic() + self._lease, until_pong=True)
-            except (lines.LockError, OSError, ValueError):
-                return
+                if self._caller is None:
+                    self._wire.close()
             finally:
                 self._mutex.release()
+
+    def _start_keeper(self) -> None:
+        threading.Thread(target=_keep, args=(weakref.ref(self), self._wake, self._lease / self._part), name="wozgirt-lease",
+                         daemon=True).start()
+
+    def _keep_on(self) -> bool:
+        """Speaks if nobody else does. False if there is nothing more to keep."""
+        until = time.monotonic() + self._lease / self._part / 2
+        try:
+            self._in_turn(self._speak, until)
+        except Late:
+            pass  # a call is at work, and speaks itself
+        except LockError:
+            return False
+        return not self._is_closed
+
+    def _speak(self) -> None:
+        now = time.monotonic()
+        if now < self._said + self._lease / self._part / 2:
+            return
+        try:
+            self._ask(PING, now + self._lease)
+        except Late:
+            self._lose("the server has not answered for its lease")
+
+
+def _keep(client: "weakref.ref[Client]", wake: threading.Event, pause: float) -> None:
+    """Keeps a client's lease until it is closed, or nobody has it any more."""
+    while True:
+        wake.wait(pause)
+        wake.clear()
+        it = client()
+        if it is None or it._is_closed or not it._keep_on():
+            return
+        del it

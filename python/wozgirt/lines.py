@@ -3,12 +3,18 @@
 from __future__ import annotations
 
 import operator
+import os
 import re
 from dataclasses import dataclass
-from typing import List, Optional, Tuple, Union
+from typing import TYPE_CHECKING, Dict, List, Optional, Tuple, Union
+
+if TYPE_CHECKING:
+    _Path = os.PathLike[str]
+else:
+    _Path = os.PathLike  # Python 3.8 has no parameter for it
 
 #: Where a server is: the path of its socket, or host and port, also as tcp:HOST:PORT.
-Place = Union[str, Tuple[str, int]]
+Place = Union[str, _Path, Tuple[str, int]]
 #: One server, or several that share their locks: a list, or in one text with commas.
 Places = Union[Place, List[Place]]
 
@@ -25,7 +31,11 @@ class LockLost(LockError, ConnectionError):
 
 
 class NotInTime(LockError, TimeoutError):
-    """The lock was not granted within the time, and nothing waits for it any longer."""
+    """The lock was not granted within the time. What was asked is withdrawn, or the connection is closed: the text says which."""
+
+
+class Inherited(LockError, RuntimeError):
+    """This client came over a fork: it is its parent's, and a child makes one of its own."""
 
 
 class Refused(LockError):
@@ -89,9 +99,14 @@ class LockStatus:
     longest_wait: float
 
 
-def place(given: Place) -> Place:
-    """The same place, where a text tcp:HOST:PORT is host and port."""
-    if not isinstance(given, str) or not given.startswith("tcp:"):
+def place(given: Place) -> Union[str, Tuple[str, int]]:
+    """The same place, where a text tcp:HOST:PORT is host and port, and a path is its text."""
+    if isinstance(given, tuple):
+        return given
+    given = os.fspath(given)
+    if not isinstance(given, str):
+        raise TypeError(f"no server: {given!r}")
+    if not given.startswith("tcp:"):
         return given
     host, _, port = given[4:].rpartition(":")
     if not host or not port.isdigit() or not 0 < int(port) < 65536:
@@ -99,10 +114,10 @@ def place(given: Place) -> Place:
     return host.strip("[]"), int(port)
 
 
-def places(given: Places) -> List[Place]:
+def places(given: Places) -> List[Union[str, Tuple[str, int]]]:
     """One server or several: a text is cut at each comma behind which another place begins, with tcp:, / or ./."""
-    if isinstance(given, tuple):
-        return [given]
+    if isinstance(given, (tuple, os.PathLike)):
+        return [place(given)]
     pieces = re.split(",(?=tcp:|/|[.]/)", given) if isinstance(given, str) else given
     if not pieces:
         raise ValueError("no server")
@@ -162,12 +177,71 @@ def refusal(words: list[str]) -> Optional[Refused]:
     return _BY_WORD.get(why, Refused)(why, words[2] if len(words) > 2 else None)
 
 
+def is_number(word: str) -> bool:
+    """Whether this is a decimal below 2 ** 64."""
+    return word.isascii() and word.isdigit() and int(word) < MOST
+
+
 def number(words: list[str], place: int) -> int:
     """The number at this place of an answer."""
-    try:
-        return int(words[place])
-    except (IndexError, ValueError):
-        raise LockLost(f"the server sent {' '.join(words)!r}") from None
+    if place >= len(words) or not is_number(words[place]):
+        raise LockLost(f"the server sent {' '.join(words)!r}")
+    return int(words[place])
+
+
+#: The first words of the answers to each verb, with how many words there are.
+_ANSWERS: Dict[str, Dict[str, int]] = {
+    "acquire": {"granted": 3, "waiting": 3}, "try": {"granted": 3, "busy": 2}, "release": {"released": 2},
+    "cancel": {"cancelled": 2}, "leave": {"left": 1}, "status": {"status": 2}, "lease": {"lease": 2}, "ping": {"pong": 1}}
+
+
+class Question:
+    """A line that is asked, and its answer, as soon as it is there. An answer that belongs to another question is none."""
+
+    __slots__ = ("line", "verb", "name", "number", "at", "sent", "words", "locks")
+
+    def __init__(self, line: bytes, at: float, number: int = 0):
+        verb, _, rest = line.decode("ascii").partition(" ")
+        self.line, self.verb, self.name = line, verb.rstrip(), rest.partition(" ")[0].rstrip()
+        #: its number in a session, or 0; when it was asked; how many bytes of it were sent, in parts
+        self.number, self.at, self.sent = number, at, []  # type: int, float, List[int]
+        self.words: List[str] = []
+        #: what follows the answer to `status`
+        self.locks: List[LockStatus] = []
+
+    @property
+    def data(self) -> bytes:
+        """What is sent."""
+        return b"%d %s" % (self.number, self.line) if self.number else self.line
+
+    @property
+    def is_answered(self) -> bool:
+        """Whether all of the answer is there."""
+        return bool(self.words) and (self.words[0] != "status" or len(self.locks) >= number(self.words, 1))
+
+    def hear(self, words: List[str]) -> None:
+        """The next line of its answer; `LockLost` if it cannot be one."""
+        if self.words:
+            self.locks.append(status(words))
+        elif self._takes(words):
+            self.words = words
+        else:
+            raise LockLost(f"the server sent {' '.join(words)!r} as an answer to {self.line.decode().strip()!r}")
+
+    def _takes(self, words: List[str]) -> bool:
+        count = len(words)
+        if words[0] == "refused":
+            return count == 2 or count == 3 and words[2] == self.name
+        if _ANSWERS[self.verb].get(words[0]) != count:
+            return False
+        if count == 3:
+            return words[1] == self.name and is_number(words[2])
+        return count < 2 or (is_number(words[1]) if self.verb in ("status", "lease") else words[1] == self.name)
+
+
+def milliseconds(question: Question) -> float:
+    """The lease in an answer, in seconds."""
+    return number(question.words, 1) / 1000
 
 
 def status(words: list[str]) -> LockStatus:
@@ -181,3 +255,8 @@ def status(words: list[str]) -> LockStatus:
     age = known(6)
     return LockStatus(words[1], words[2], known(3), known(4), known(5), None if age is None else age / 1000,
                       number(words, 7), number(words, 8) / 1000, number(words, 9), number(words, 10) / 1000)
+
+
+def is_own(fault: Exception) -> bool:
+    """Whether this is what the system or a server says, and not what a signal handler raised meanwhile."""
+    return isinstance(fault, (LockLost, ValueError)) or getattr(fault, "errno", None) is not None

@@ -3,178 +3,133 @@
 from __future__ import annotations
 
 import collections
+import errno
 import secrets
 import socket
 import threading
 import time
-from typing import Dict, NamedTuple, NoReturn, Optional
+from typing import Dict, List, NoReturn, Optional, Tuple
 
 from . import lines
-from .client import CONNECT, PING, Client, connected
-from .lines import LockLost, LockStatus, Place, Places
+from .client import CONNECT, PING, STATUS, Client, connected
+from .lines import LockLost, Places, Question
+from .wire import Late, Wire
 
 #: How long one server may take to be there, and to say how the session is, where there are others.
 CONNECT_ONE, ANSWER = 2.0, 5.0
 #: Seconds until all servers are tried again, if none of them answers.
 PAUSE = 0.05
+#: How often all servers are tried at first.
+ROUNDS = 3
 #: After this part of its lease a client speaks, and after another one without an answer it looks for another server. So a quarter
 #: is left for that, until what it holds is lost after half of the lease.
-PARTS = 8
-
-
-class _Input(NamedTuple):
-    """What was asked last, by its number."""
-
-    number: int
-    line: bytes
-
-    @property
-    def verb(self) -> str:
-        """Its first word."""
-        return self.line.split()[0].decode()
-
-    @property
-    def name(self) -> Optional[str]:
-        """The lock that it is about."""
-        words = self.line.split()
-        return words[1].decode() if len(words) > 1 else None
-
-
-class _Moved(Exception):
-    """Another server goes on, and it was not asked what the last one was."""
+PART = 8
 
 
 class Session(Client):
     """A `Client` of several servers. It has a key that it drew, and numbers what it asks: another server goes on with the same
-    holds, and does not do again what was done. It has a lease in any case; if no server answers for so long, it is lost."""
+    holds, and does not do again what was done. It has a lease in any case; if no server answers for so long, it is lost.
 
-    def __init__(self, servers: Places, *, lease: Optional[float] = None):
-        self._places, self._at, self._key = lines.places(servers), -1, secrets.randbelow(lines.MOST - 1) + 1
-        self._number, self._plain = 0, False
-        self._asked: Optional[_Input] = None  # what has no answer yet
-        self._held: Dict[str, int] = {}
+    What cannot be withdrawn in time, since no server answers, is withdrawn as soon as one does; if none does, when the lease is over."""
+
+    _part = PART
+
+    def __init__(self, servers: Places, *, lease: Optional[float] = None, timeout: float = CONNECT):
+        until = time.monotonic() + timeout
+        self._prepare(lines.places(servers), Wire(socket.socket()))
+        self._at, self._key = -1, secrets.randbelow(lines.MOST - 1) + 1
+        self._number, self._failures, self._why = 0, 0, "no server answers"
+        self._asked: Optional[Question] = None  # the input that has no answer yet
         self._tokens: Dict[str, int] = {}  # the last of each lock that this client held
-        self._waits: Optional[str] = None
         self._grants: Dict[str, int] = {}  # those that came before the answer that says to wait
-        self._mutex = threading.RLock()
-        self._sock, self._bytes, self._pings = socket.socket(), bytearray(), collections.deque()
-        self._lost: Optional[str] = None
-        self._lease, self._is_broken = 30.0 if lease is None else lease, True
+        self._lease, self._is_broken, self._is_left = 30.0 if lease is None else lease, True, False
         self._wanted = lines.lease(self._lease)
-        self._closed, self._wake = threading.Event(), threading.Event()
-        self._spoken = time.monotonic()
-        self._find(self._spoken + CONNECT)
-        threading.Thread(target=self._speak, name="wozgirt-lease", daemon=True).start()
-
-    def status(self) -> list[LockStatus]:
-        """How the locks are that this client may use, as its server knows."""
-        with self._mutex:
-            while True:
-                try:
-                    return super().status()
-                except _Moved:
-                    pass
-                finally:
-                    self._plain = False
-
-    def check(self) -> None:
-        """Raises `LockLost` if others may hold what this client held. Never waits."""
-        if self._mutex.acquire(blocking=False):
-            try:
-                if self._lost is None and not self._is_broken:
-                    self._look()
-            finally:
-                self._mutex.release()
-        if self._is_broken:
-            self._wake.set()
-        self._check_the_clock()
-
-    def _check_the_clock(self) -> None:
-        if self._lost is None and time.monotonic() > self._spoken + self._lease / 2:
-            self._lost = "no server has answered for half of the lease"
-        if self._lost is not None:
-            raise LockLost(self._lost)
+        try:
+            self._find_first(until)
+        except BaseException:
+            self._drop("no server answers")
+            self._wire.close()
+            raise
+        self._start_keeper()
 
     def close(self) -> None:
         """Leaves, and closes the connection. Without a server, others get what this client held when its lease is over."""
-        self._closed.set()
-        self._wake.set()
-        if self._lost is None and not self._is_broken and self._mutex.acquire(timeout=CONNECT_ONE):
+        super().close()
+
+    def _close_within(self, seconds: float) -> None:
+        is_there = self._lost is None and not self._is_broken and self._caller != threading.get_ident()
+        self._is_closed = True
+        if is_there and not self._is_inherited and self._mutex.acquire(timeout=seconds):
             try:
-                self._sock.settimeout(CONNECT_ONE)
-                self._sock.sendall(b"%d leave\n" % (self._number + 1))
-                while not self._line().endswith(b" left"):
-                    pass
-            except OSError:
+                self._leave(time.monotonic() + seconds)
+            except (OSError, Late):
                 pass  # then its lease ends
             finally:
                 self._mutex.release()
-        super().close()
+        super()._close_within(seconds)
+
+    def _leave(self, until: float) -> None:
+        self._wire.send(b"%d leave\n" % (self._number + 1), [], until - time.monotonic())
+        while not self._wire.line_until(until).endswith(b" left"):
+            pass
 
     def _send(self, line: bytes) -> None:
         if self._lost is not None:
             raise LockLost(self._lost)
-        if self._is_broken:
-            self._resume("the server closed the connection")
-        now = time.monotonic()
-        if line == PING:
-            if self._pings and now > self._pings[0] + self._lease / PARTS:
-                self._resume("the server does not answer")
-                return
-            self._pings.append(now)
-        elif line == b"status\n":
-            self._plain = True
+        question = self._latest = Question(line, time.monotonic())
+        if line in (PING, STATUS):
+            self._questions.append(question)
         else:
-            self._number += 1
-            self._asked = _Input(self._number, line)
-            line = b"%d %s" % self._asked
-        try:
-            self._sock.sendall(line)
-        except OSError as fault:
-            self._resume(str(fault))
+            self._number = question.number = self._number + 1
+            self._asked = question
+        if not self._is_broken:
+            self._put(question)
 
-    def _heard(self, line: bytes) -> Optional[list[str]]:
+    def _flush(self) -> None:
+        if not self._is_broken:
+            super()._flush()
+            if self._asked is not None:
+                self._put(self._asked)
+
+    def _is_asking(self) -> bool:
+        return self._asked is not None or super()._is_asking()
+
+    def _is_given_up(self) -> bool:
+        return self._is_left
+
+    def _settle(self, until: Optional[float]) -> None:
+        super()._settle(until)
+        self._is_left = False
+
+    def _heard(self, line: bytes) -> None:
         words = lines.words_of(line)
         if words[0].isdigit():
-            return self._answered(int(words[0]), words[1:])
-        if words[0] == "granted" and len(words) == 3:
-            return self._is_granted(words[1], lines.number(words, 2))
-        if words == ["pong"]:
-            if self._pings:
-                self._spoken = self._pings.popleft()
-            return None
-        if words[0] in ("status", "lock") and self._plain:
-            return words
-        self._lose(f"the server sent {' '.join(words)!r}")
+            self._answered(int(words[0]), words[1:])
+        elif words[0] == "granted" and len(words) == 3:
+            self._is_granted(words[1], lines.number(words, 2))
+        elif self._questions or words != ["pong"]:
+            super()._heard(line)
 
-    def _answered(self, number: int, words: list[str]) -> Optional[list[str]]:
-        """The answer to what was asked last, or nothing if it had one."""
+    def _answered(self, number: int, words: List[str]) -> Optional[List[str]]:
+        """The answer to what was asked last, or nothing if it had one. If this is broken off, the next connection has the same
+        answer, since the question is open to the end."""
         asked = self._asked
         if asked is None or asked.number != number or not words:
             return None
-        self._asked = None
-        if words[0] == "granted":
-            self._hold(words[1], lines.number(words, 2))
-        elif words[0] == "waiting":
-            self._waits = words[1]
-            if words[1] in self._grants:
-                self._bytes[:0] = b"granted %s %d\n" % (words[1].encode(), self._grants[words[1]])
-        elif words[0] == "left":
-            self._held.clear()
-            self._waits = None
-        elif asked.verb == "release" and asked.name is not None:
-            self._held.pop(asked.name, None)
-        elif words[0] == "cancelled":
-            self._waits = None
+        asked.hear(words)
+        if words[0] != "waiting" or asked.name not in self._held:
+            self._happened(asked)
+        if self._waits in self._grants:
+            self._hold(self._waits, self._grants[self._waits])
         self._grants.clear()
+        self._asked = None
         return words
 
-    def _is_granted(self, name: str, token: int) -> Optional[list[str]]:
+    def _is_granted(self, name: str, token: int) -> Optional[List[str]]:
         """The grant, if this client waits for it and has not had it."""
         if token <= self._tokens.get(name, 0):
             return None
         if self._waits == name:
-            self._waits = None
             self._hold(name, token)
             return ["granted", name, str(token)]
         if self._asked is not None and self._asked.name == name:
@@ -182,117 +137,118 @@ class Session(Client):
         return None
 
     def _hold(self, name: str, token: int) -> None:
-        self._held[name] = self._tokens[name] = token
+        super()._hold(name, token)
+        self._tokens[name] = token
 
-    def _receive(self, deadline: Optional[float], flags: int = 0) -> bool:
-        """As of one server; but where nothing comes this client speaks, and goes on with another one."""
-        left = self._lease / PARTS if deadline is None else min(self._lease / PARTS, deadline - time.monotonic())
-        if left <= 0:
-            return False
-        try:
-            more = self._read(None if flags else left, flags)
-        except (socket.timeout, BlockingIOError):
-            if flags or deadline is not None and time.monotonic() >= deadline:
-                return False
-            self._send(PING)
-            return True
-        except OSError:
-            more = b""
-        if more:
-            self._bytes += more
-            return True
-        self._is_broken = True
-        if flags:
-            return False  # nobody waits: the thread that keeps the lease goes on with another
-        self._resume("the server closed the connection")
-        return True
+    def _pump(self, until: Optional[float]) -> None:
+        now = time.monotonic()
+        if until is not None and now >= until:
+            raise Late
+        if self._lost is not None:
+            raise LockLost(self._lost)
+        if not self._is_broken and self._questions and now > self._questions[0].at + self._lease / PART:
+            self._break("the server does not answer")
+        if self._is_broken:
+            self._try_next(now, until)
+        else:
+            super()._pump(until)
 
-    def _read(self, timeout: Optional[float], flags: int) -> bytes:
-        self._sock.settimeout(timeout)
-        try:
-            return self._sock.recv(1 << 16, flags)
-        finally:
-            if self._sock.fileno() >= 0:
-                self._sock.settimeout(None)
+    def _look(self) -> None:
+        if not self._is_broken:
+            super()._look()
 
-    def _resume(self, why: str) -> None:
-        """Goes on with another server, which says how this session is."""
-        self._is_broken = True
-        if not self._find(self._spoken + self._lease, is_first=False):
-            self._lose(why)
-        if self._plain:
-            raise _Moved
+    def _cut(self, why: str) -> None:
+        self._break(why)
 
-    def _find(self, deadline: float, is_first: bool = True) -> bool:
-        """Connects to one server or another; whether that came about. At first an error says why not."""
-        tried = 0
-        while not self._closed.is_set():
-            self._at = (self._at + 1) % len(self._places)
+    def _break(self, why: str) -> None:
+        """This connection is over; the session is not."""
+        self._is_broken, self._why = True, why
+        self._wire.is_torn = False
+        self._wire.shut()
+        self._wake.set()
+
+    def _give_up(self, why: str) -> str:
+        self._is_left = True
+        self._break(why)
+        return f"so the connection is closed, and the next server is told, or else the lease ends ({self._lease:g} s)"
+
+    def _find_first(self, until: float) -> None:
+        """Connects to a server, or raises what kept the last one from it."""
+        most = ROUNDS * len(self.servers)
+        for tried in range(1, most + 1):
             try:
-                self._attach(self._places[self._at], deadline)
-                return True
+                self._attach_next(until)
+                return
             except (OSError, ValueError) as fault:
-                if self._lost is not None:
+                if not lines.is_own(fault) or tried == most or time.monotonic() > until:
                     raise
-                tried += 1
-                if time.monotonic() > deadline or is_first and tried >= 3 * len(self._places):
-                    if is_first:
-                        raise
-                    return False
-            if tried % len(self._places) == 0:
-                self._closed.wait(PAUSE)
-        return False
+            if tried % len(self.servers) == 0:
+                time.sleep(PAUSE)
 
-    def _attach(self, place: Place, deadline: float) -> None:
-        """Goes on with this server, or an OSError."""
-        self._sock.close()
-        begun = time.monotonic()
-        left = max(0.05, deadline - begun)
-        self._sock = connected(place, min(CONNECT_ONE, left))
+    def _try_next(self, now: float, until: Optional[float]) -> None:
+        """Tries the next server, and pauses if all were tried. The session is lost if none answers for its lease."""
+        end = self._spoken + self._lease
+        if now > end:
+            self._lose(self._why)
+        until = end if until is None else min(end, until)
         try:
-            self._sock.settimeout(min(ANSWER, left))
-            self._bytes.clear()
-            self._pings.clear()
-            self._sock.sendall(b"session %d\n" % self._key)
-            words = lines.words_of(self._line())
+            self._attach_next(until)
+            self._failures = 0
+        except (OSError, ValueError) as fault:
+            if self._lost is not None:
+                raise LockLost(self._lost) from None
+            if not lines.is_own(fault):
+                raise
+            self._failures += 1
+            if self._failures % len(self.servers) == 0:
+                time.sleep(max(0.0, min(PAUSE, until - time.monotonic())))
+
+    def _attach_next(self, until: float) -> None:
+        """Goes on with the next server, or an OSError. What is done before the connection is this session's leaves no trace."""
+        self._at = (self._at + 1) % len(self.servers)
+        begun = time.monotonic()
+        wire = Wire(connected(self.servers[self._at], max(0.05, min(CONNECT_ONE, until - begun))))
+        try:
+            end = min(until, time.monotonic() + ANSWER)
+            wire.send(b"session %d\n" % self._key, [], ANSWER)
+            words = lines.words_of(wire.line_until(end))
             if words[:2] != ["session", str(self._key)]:
-                raise OSError(f"the server sent {' '.join(words)!r}")
-            told = [lines.words_of(self._line()) for _ in range(lines.number(words, 2))]
-            self._sock.sendall(self._wanted)
-            others = self._settled_lease()
-            self._sock.settimeout(None)
-        except BaseException:
-            self._sock.close()
+                raise OSError(errno.EPROTO, f"the server sent {' '.join(words)!r}")
+            told = [lines.words_of(wire.line_until(end)) for _ in range(lines.number(words, 2))]
+            wire.send(self._wanted, [], ANSWER)
+            others, lease = self._settled_lease(wire, end)
+        except BaseException as fault:
+            wire.close()
+            if isinstance(fault, Late):
+                raise TimeoutError(errno.ETIMEDOUT, "the server takes nothing") from None
             raise
-        self._spoken, self._is_broken = begun, False
+        self._use(wire, begun, lease)
         self._compare(told)
-        self._bytes[:0] = b"".join(others)
-        if self._asked is not None:
-            self._sock.sendall(b"%d %s" % self._asked)
+        wire.put_back(b"".join(others))
+        self._ask_again()
 
-    def _line(self) -> bytes:
-        """The next line of a server that has just been connected."""
-        while (end := self._bytes.find(b"\n")) < 0:
-            more = self._sock.recv(1 << 16)
-            if not more:
-                raise OSError("the server closed the connection")
-            self._bytes += more
-        line = bytes(self._bytes[:end])
-        del self._bytes[:end + 1]
-        return line
+    def _use(self, wire: Wire, begun: float, lease: float) -> None:
+        """This is the session's connection from here on. Broken off from here to its end, it is torn, and another one is made."""
+        wire.is_torn = True
+        before, self._wire = self._wire, wire
+        before.close()
+        self._lease, self._spoken, self._said = lease, begun, time.monotonic()
+        self._is_broken = False
 
-    def _settled_lease(self) -> list[bytes]:
-        """Reads up to the answer about the lease; the lines before it."""
-        others = []
-        while not (line := self._line()).startswith(b"lease "):
+    @staticmethod
+    def _settled_lease(wire: Wire, end: float) -> Tuple[List[bytes], float]:
+        """Reads up to the answer about the lease; the lines before it, and the lease."""
+        others: List[bytes] = []
+        while True:
+            line = wire.line_until(end)
+            if line.startswith(b"lease "):
+                return others, lines.number(lines.words_of(line), 1) / 1000
             others.append(line + b"\n")
-        self._lease = lines.number(lines.words_of(line), 1) / 1000
-        return others
 
-    def _compare(self, told: list[list[str]]) -> None:
+    def _compare(self, told: List[List[str]]) -> None:
         """What the new server says of this session is what this client knows, or what it asked last came to."""
-        holds = {words[1]: lines.number(words, 2) for words in told if words[0] == "holds"}
-        waits = [words[1] for words in told if words[0] == "waits"]
+        holds = {words[1]: lines.number(words, 2) for words in told if words[0] == "holds" and len(words) == 3}
+        waits = [words[1] for words in told if words[0] == "waits" and len(words) == 2]
         asked = self._asked
         for name, token in self._held.items():
             is_given = asked is not None and (asked.verb == "leave" or asked.verb == "release" and asked.name == name)
@@ -300,27 +256,39 @@ class Session(Client):
                 self._lose(f"{name} is no longer held")
         name = self._waits
         if name is not None and name in holds:
-            self._bytes[:0] = b"granted %s %d\n" % (name.encode(), holds[name])
+            self._hold(name, holds[name])
         elif name is not None and name not in waits and (asked is None or asked.verb not in ("cancel", "leave")):
             self._lose(f"{name} is no longer waited for")
         if asked is not None and asked.name in holds and asked.name not in self._held:
             self._grants[asked.name] = holds[asked.name]
 
+    def _ask_again(self) -> None:
+        """Asks what has no answer. That of a ping is the new connection."""
+        now = time.monotonic()
+        self._questions = collections.deque(it for it in self._questions if it.verb == "status")
+        for it in self._questions:
+            it.words, it.locks, it.at, it.sent = [], [], now, []
+        if self._asked is not None:
+            self._asked.words, self._asked.sent = [], []
+        self._flush()
+        self._wire.is_torn = False
+
+    def _keep_on(self) -> bool:
+        goes_on = super()._keep_on()
+        if self._is_broken:
+            self._wake.set()
+        return goes_on
+
+    def _speak(self) -> None:
+        until = time.monotonic() + self._lease / PART
+        while self._is_broken:
+            self._pump(until)
+        if time.monotonic() > self._said + self._lease / PART / 2:
+            self._send(PING)
+            ping = self._latest
+            while ping in self._questions:
+                self._pump(until)
+
     def _lose(self, why: str) -> NoReturn:
         self._is_broken = True
         super()._lose(why)
-
-    def _speak(self) -> None:
-        while not self._closed.is_set():
-            self._wake.wait(self._lease / PARTS)
-            self._wake.clear()
-            if self._closed.is_set() or not self._mutex.acquire(timeout=self._lease / PARTS / 2):
-                continue  # a call is at work, and speaks itself
-            try:
-                self._send(PING)
-                if self._answer(time.monotonic() + self._lease / PARTS, until_pong=True) is None and self._pings:
-                    self._resume("the server does not answer")
-            except (lines.LockError, OSError, ValueError):
-                return
-            finally:
-                self._mutex.release()

@@ -1,0 +1,206 @@
+"""A call ends when its time is over, whatever the engine, the server or the network does."""
+
+import functools
+import os
+import signal
+import socket
+import sys
+import tempfile
+import threading
+import time
+import unittest
+
+sys.path.insert(0, os.path.join(os.path.dirname(os.path.abspath(__file__)), "..", "..", "server", "tests"))
+
+from harness import PATIENCE, Server, needs_loopback, needs_programs, wait_until  # noqa: E402
+from wozgirt import Client, Lock, LockLost, NotInTime, Session  # noqa: E402
+from wozgirt.wire import connected  # noqa: E402
+
+WAIT, LATE = 0.3, 0.2
+
+
+def tried_again(test):
+    """The test may fail three times: a machine that is busy is late now and then, but not always."""
+    @functools.wraps(test)
+    def run(self):
+        for _ in range(3):
+            try:
+                return test(self)
+            except AssertionError:
+                self.doCleanups()
+        return test(self)
+    return run
+
+
+class Stopped:
+    """A process that stands still inside."""
+
+    def __init__(self, number):
+        self.number = number
+
+    def __enter__(self):
+        os.kill(self.number, signal.SIGSTOP)
+
+    def __exit__(self, *_):
+        os.kill(self.number, signal.SIGCONT)
+
+
+class Timed(unittest.TestCase):
+    def in_time(self, call, *words, wait=WAIT, error=NotInTime):
+        """Calls it, which has to fail when its time is over; the error."""
+        begun = time.monotonic()
+        with self.assertRaises(error) as caught:
+            call(*words)
+        took = time.monotonic() - begun
+        self.assertGreaterEqual(took, wait - 0.01)
+        self.assertLess(took, wait + LATE)
+        return caught.exception
+
+
+def silent_door(folder=None):
+    """A server that accepts nothing: who connects is in its queue, which takes one. Its place, and what keeps it up."""
+    if folder is None:
+        door = socket.create_server(("127.0.0.1", 0), backlog=0)
+        return door.getsockname(), door
+    door = socket.socket(socket.AF_UNIX)
+    path = os.path.join(folder, "door")
+    door.bind(path)
+    door.listen(0)
+    return path, door
+
+
+@needs_programs
+class StandingStill(Timed):
+    @tried_again
+    def test_the_engine(self):
+        with Server() as server, Client(server.path) as client, Client(server.path, lease=20) as leased:
+            with Stopped(server.engine_number()):
+                for it in (client, leased):
+                    self.assertIn("connection is closed", str(self.in_time(lambda: it.acquire("a", wait=WAIT))))
+                    with self.assertRaises(LockLost):
+                        it.check()
+                self.in_time(Lock(server.path, "b", wait=WAIT).acquire)
+                self.in_time(lambda: Lock(server.path, "b").acquire(timeout=WAIT))
+            with Client(server.path) as other:
+                for name in "ab":
+                    other.acquire(name, wait=PATIENCE)
+
+    @tried_again
+    def test_the_engine_while_a_lock_is_waited_for(self):
+        with Server() as server, Client(server.path) as one, Client(server.path) as two:
+            one.acquire("a")
+            timer = threading.Timer(WAIT / 2, os.kill, (server.engine_number(), signal.SIGSTOP))
+            timer.start()
+            try:
+                self.in_time(lambda: two.acquire("a", wait=WAIT))
+            finally:
+                timer.join()
+                os.kill(server.engine_number(), signal.SIGCONT)
+            wait_until(lambda: server.waiters("a") == 0)
+
+    @tried_again
+    def test_the_server(self):
+        with Server() as server, Client(server.path) as client:
+            with Stopped(server.process.pid):
+                self.in_time(lambda: client.acquire("a", wait=WAIT))
+                self.in_time(Lock(server.path, "b", wait=WAIT).acquire)
+                self.in_time(Lock(server.path, "b", wait=WAIT, lease=20).acquire)
+                self.in_time(lambda: Client(server.path, lease=20, timeout=WAIT), error=TimeoutError)
+
+    @tried_again
+    def test_what_is_withdrawn_leaves_the_client_as_it_was(self):
+        with Server() as server, Client(server.path) as one, Client(server.path) as two:
+            token, kept = one.acquire("a"), two.acquire("b")
+            for wait in (WAIT, 0):
+                self.assertIn("no longer waited for", str(self.in_time(lambda: two.acquire("a", wait=wait), wait=wait)))
+                self.assertEqual(server.waiters("a"), 0)
+            two.release("b", kept)
+            one.release("a", token)
+            self.assertEqual(two.acquire("a", wait=0), token + 1)
+
+    @tried_again
+    def test_a_client_that_another_thread_uses(self):
+        with Server() as server, Client(server.path) as one, Client(server.path) as shared:
+            token, got = one.acquire("a"), []
+            thread = threading.Thread(target=lambda: got.append(shared.acquire("a")))
+            thread.start()
+            server.wait_for_waiters("a", 1)
+            self.assertIn("nothing was asked", str(self.in_time(lambda: shared.acquire("b", wait=WAIT))))
+            one.release("a", token)
+            thread.join(PATIENCE)
+            self.assertEqual(got, [token + 1])
+            shared.release("a", token + 1)
+
+    @tried_again
+    def test_several_servers_that_stand_still(self):
+        with Server() as one, Server() as two:
+            with Stopped(one.process.pid), Stopped(two.process.pid):
+                self.in_time(Lock([one.path, two.path], "a", wait=WAIT).acquire)
+                self.in_time(lambda: Session([one.path, two.path], timeout=WAIT), error=OSError)
+
+
+class FullQueue(Timed):
+    def fill(self, folder):
+        path, door = silent_door(folder)
+        self.addCleanup(door.close)
+        for _ in range(2):  # one more than the number of listen
+            try:
+                sock = socket.socket(socket.AF_UNIX)
+                self.addCleanup(sock.close)
+                sock.setblocking(False)
+                sock.connect(path)
+            except BlockingIOError:
+                pass
+        return path, door
+
+    @tried_again
+    def test_of_a_unix_socket(self):
+
+        with tempfile.TemporaryDirectory(dir="/tmp") as folder:
+            path, _ = self.fill(folder)
+            self.in_time(connected, path, WAIT, error=TimeoutError)
+            self.in_time(Lock(path, "a", wait=WAIT).acquire)
+
+    def test_that_gets_room(self):
+
+        with tempfile.TemporaryDirectory(dir="/tmp") as folder:
+            path, door = self.fill(folder)
+            timer = threading.Timer(0.2, lambda: [door.accept()[0].close() for _ in range(2)])
+            timer.start()
+            connected(path, PATIENCE).close()
+            timer.join()
+
+
+@needs_loopback
+class HalfOpen(Timed):
+    """A connection whose other end says nothing any more, as after a cut of the network."""
+
+    @tried_again
+    def test_a_server_that_says_nothing(self):
+        place, door = silent_door()
+        with door:
+            self.in_time(Lock(place, "a", wait=WAIT).acquire)
+            self.in_time(Lock("tcp:%s:%d" % place, "a", wait=WAIT).acquire)
+            self.in_time(lambda: Client(place, timeout=WAIT), error=TimeoutError)
+
+    @tried_again
+    def test_a_server_that_falls_silent(self):
+        place, door = silent_door()
+        with door:
+            def serve():
+                sock, _ = door.accept()
+                sock.recv(100)
+                sock.sendall(b"lease 30000\n")
+                return sock
+            socks = []
+            thread = threading.Thread(target=lambda: socks.append(serve()))
+            thread.start()
+            client = Client(place)
+            thread.join()
+            self.in_time(lambda: client.acquire("a", wait=WAIT))
+            socks[0].close()
+            client.close()
+
+
+if __name__ == "__main__":
+    unittest.main()

@@ -1,0 +1,209 @@
+"""Calls that a signal handler breaks off. interrupts.py runs the same for longer."""
+
+import os
+import signal
+import sys
+import threading
+import time
+import unittest
+
+sys.path.insert(0, os.path.join(os.path.dirname(os.path.abspath(__file__)), "..", "..", "server", "tests"))
+
+import interrupts  # noqa: E402
+from harness import PATIENCE, Server, needs_loopback, needs_programs, wait_until  # noqa: E402
+from interrupts import Interrupt  # noqa: E402
+from test_sessions import Arbiter, Door  # noqa: E402
+from wozgirt import Client, Lock, LockLost, Session  # noqa: E402
+
+needs_main_thread = unittest.skipUnless(threading.current_thread() is threading.main_thread(), "signals go to the main thread")
+
+
+def interrupted_after(case, seconds, call, *words, signals=1, **more):
+    """Calls it, and interrupts it after so many seconds, by as many signals; how long it took then."""
+    def stop(*_):
+        raise Interrupt
+    case.addCleanup(signal.signal, signal.SIGUSR1, signal.signal(signal.SIGUSR1, stop))
+    begun = []
+
+    def send():
+        begun.append(time.monotonic())
+        for _ in range(signals):
+            os.kill(os.getpid(), signal.SIGUSR1)
+            time.sleep(0.02)
+    timer = threading.Timer(seconds, send)
+    timer.start()
+    try:
+        with case.assertRaises(Interrupt):
+            call(*words, **more)
+            time.sleep(seconds + 1)
+        return time.monotonic() - begun[0]
+    finally:
+        try:
+            timer.join()
+        except Interrupt:
+            timer.join()
+
+
+@needs_programs
+@needs_main_thread
+class OfOneServer(unittest.TestCase):
+    def test_nothing_is_believed_that_is_not_so(self):
+        before, timer = signal.getsignal(signal.SIGALRM), signal.setitimer(signal.ITIMER_REAL, 0)
+        try:
+            trial = interrupts.run(20_000, seed=3, seconds=8)
+        finally:
+            signal.signal(signal.SIGALRM, before)
+            signal.setitimer(signal.ITIMER_REAL, *timer)  # that of run.py
+        self.assertEqual((trial.wrong, trial.another, trial.kept, trial.odd), (0, 0, 0, 0), trial.line())
+        self.assertGreater(trial.interrupted, trial.calls / 50, trial.line())
+
+    def test_a_wait_that_is_interrupted_is_withdrawn(self):
+        with Server() as server, Client(server.path) as one, Client(server.path) as two:
+            token, kept = one.acquire("a"), two.acquire("b")
+            interrupted_after(self, 0.1, two.acquire, "a")
+            self.assertEqual(server.waiters("a"), 0)
+            two.check()
+            two.release("b", kept)
+            one.release("a", token)
+            self.assertEqual(two.acquire("a", wait=PATIENCE), token + 1)
+
+    def test_a_call_to_an_engine_that_stands_still_ends_soon(self):
+        with Server() as server, Client(server.path) as client:
+            engine = server.engine_number()
+            os.kill(engine, signal.SIGSTOP)
+            try:
+                took = interrupted_after(self, 0.1, client.acquire, "a")
+                self.assertLess(took, 5)
+                with self.assertRaises(LockLost):
+                    client.check()
+            finally:
+                os.kill(engine, signal.SIGCONT)
+            with Client(server.path) as other:
+                other.acquire("a", wait=PATIENCE)
+
+    def test_the_clean_up_is_interrupted_too(self):
+        with Server() as server, Client(server.path) as client:
+            engine = server.engine_number()
+            os.kill(engine, signal.SIGSTOP)
+            try:
+                took = interrupted_after(self, 0.1, client.acquire, "a", signals=2)
+                self.assertLess(took, 0.9)
+                with self.assertRaises(LockLost):
+                    client.status()
+            finally:
+                os.kill(engine, signal.SIGCONT)
+            with Client(server.path) as other:
+                other.acquire("a", wait=PATIENCE)
+
+    def test_an_interrupted_lock_is_free(self):
+        with Server() as server, Client(server.path) as other:
+            token = other.acquire("a")
+            lock = Lock(server.path, "a")
+            interrupted_after(self, 0.1, lock.acquire)
+            self.assertFalse(lock.locked)
+            wait_until(lambda: server.waiters("a") == 0)
+            other.release("a", token)
+            with lock as later:
+                self.assertEqual(later, token + 1)
+
+    def test_a_handler_calls_the_client(self):
+        with Server() as server, Client(server.path) as one, Client(server.path) as two:
+            one.acquire("a")
+            told = []
+
+            def handler(*_):
+                two.check()
+                try:
+                    two.status()
+                except RuntimeError as refused:
+                    told.append(refused)
+                two.close()
+            before = signal.signal(signal.SIGUSR1, handler)
+            try:
+                timer = threading.Timer(0.1, os.kill, (os.getpid(), signal.SIGUSR1))
+                timer.start()
+                with self.assertRaises(LockLost):
+                    two.acquire("a", wait=PATIENCE)
+                timer.join()
+            finally:
+                signal.signal(signal.SIGUSR1, before)
+            self.assertEqual(len(told), 1)
+
+
+@needs_loopback
+@needs_main_thread
+class OfSeveralServers(unittest.TestCase):
+    def setUp(self):
+        self.arbiter = Arbiter()
+        self.doors = [Door(self.arbiter), Door(self.arbiter)]
+        for door in self.doors:
+            self.addCleanup(door.close)
+
+    def session(self, **more):
+        client = Session([it.place for it in self.doors], **more)
+        self.addCleanup(client.close)
+        return client
+
+    def silence(self, is_silent):
+        for door in self.doors:
+            door.is_silent = is_silent
+
+    def test_a_hold_is_not_left_over(self):
+        client, other = self.session(), self.session()
+        self.silence(True)
+        self.addCleanup(self.silence, False)
+        interrupted_after(self, 0.1, client.acquire, "a")
+        self.silence(False)
+        wait_until(lambda: client._is_quiet())  # the thread that keeps the lease withdraws it
+        self.assertEqual(self.arbiter.holders, {})
+        token = other.acquire("a", wait=PATIENCE)
+        other.release("a", token)
+        self.assertEqual(client.acquire("a", wait=PATIENCE), token + 1)
+
+    def test_a_wait_is_withdrawn_and_what_is_held_stays(self):
+        client, other = self.session(), self.session()
+        other.acquire("a")
+        kept = client.acquire("b")
+        interrupted_after(self, 0.1, client.acquire, "a")
+        self.assertEqual(self.arbiter.lines["a"], [])
+        client.check()
+        client.release("b", kept)
+
+    def test_calls_with_interrupts(self):
+        client, other, chance = self.session(), self.session(), interrupts.random.Random(11)
+        is_over, wrong = threading.Event(), []
+
+        def compete():
+            while not is_over.is_set():
+                token = other.acquire("a", wait=PATIENCE)
+                other.release("a", token)
+        thread = threading.Thread(target=compete)
+        thread.start()
+        trial = interrupts.Trial(None, 11, client=client)
+        try:
+            self.addCleanup(signal.signal, signal.SIGALRM, signal.getsignal(signal.SIGALRM))
+            timer = signal.setitimer(signal.ITIMER_REAL, 0)
+            self.addCleanup(signal.setitimer, signal.ITIMER_REAL, *timer)
+            signal.signal(signal.SIGALRM, trial.interrupt)
+            begun = time.monotonic()
+            while time.monotonic() < begun + 4 or trial.interrupted < 20 and time.monotonic() < begun + PATIENCE:
+                if chance.random() < 0.01:
+                    self.doors[client._at].cut()
+                _, token = trial.call(client.acquire, "a")
+                if token is not None:
+                    if self.arbiter.holders.get("a") != (client._key, token):
+                        wrong.append(token)
+                    trial.call(client.release, "a", token)
+                    client.status()  # what was broken off twice is put in order
+                    if self.arbiter.holders.get("a", (0,))[0] == client._key:
+                        client.release("a", token)
+        finally:
+            is_over.set()
+            client.leave()
+            thread.join(PATIENCE)
+        self.assertEqual((wrong, trial.odd, trial.kept, trial.closed), ([], 0, 0, 0), trial.line())
+        self.assertGreater(trial.interrupted, 10)
+
+
+if __name__ == "__main__":
+    unittest.main()
