@@ -9,12 +9,12 @@ ghost use Rattle.lock_commands.specs.HoldsAnswer.{AreFilesHolds, AreFolderHolds,
 ghost use Rattle.lock_commands.specs.HoldSteps.{HoldLeads, HoldEnds};
 
 use disks::{Disk, FolderEntry};
-use tool_parts::chain::{folder_numbers, segment_bytes};
-use tool_parts::faults::ToolError;
 use ring_holds::{ChainHoldError, Hold, HoldChain};
 use ring_segments::SegmentError;
 use segment_folder::SegmentNumbers;
 use std::alloc::Global;
+use tool_parts::chain::{folder_numbers, segment_bytes};
+use tool_parts::faults::ToolError;
 
 /// Reads the holds of the file of a segment, which may be the last one, after those before it.
 ///

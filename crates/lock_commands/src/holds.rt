@@ -7,16 +7,16 @@ ghost use Rattle.lock_commands.specs.HoldsAnswer.{choice_of, AreHoldsTold, AreHo
 
 use crate::held_folder::folder_holds;
 use disks::Disk;
-use tool_parts::chain::entries_of;
-use tool_parts::legal::legal_saved;
-use tool_parts::faults::ToolError;
-use tool_parts::reading::read_named;
 use ring_holds::{
     ChainHoldError, Choice, Hold, count_labels, holds_of_saved, put_holds, put_labels,
 };
 use ring_requests::HoldsWords;
 use std::alloc::Global;
 use std::io::{Read, Write};
+use tool_parts::chain::entries_of;
+use tool_parts::faults::ToolError;
+use tool_parts::legal::legal_saved;
+use tool_parts::reading::read_named;
 
 /// Which holds are wanted.
 fn choice_of(words: &HoldsWords<'_>) -> Choice

@@ -16,13 +16,13 @@ use line_replica::{Replica, Restorable};
 use lock_folder::{Start, start_locks};
 use lock_lists::read_list_word;
 use lock_serve::{LockService, Terms};
-use tool_parts::faults::ToolError;
-use tool_parts::locking::lock_folder;
 use ring_locks::{Handover, Locks};
 use ring_requests::LocksWords;
 use segment_loop::{SegmentRules, begin_segment, close_segment, serve_segments};
 use std::alloc::Global;
 use std::io::{Read, Write};
+use tool_parts::faults::ToolError;
+use tool_parts::locking::lock_folder;
 
 /// The terms on which lines are answered.
 fn terms_of(words: &LocksWords<'_>) -> Terms

@@ -7,11 +7,11 @@ ghost use Rattle.lock_commands.specs.Refusals.{cause_of, fault_of_list, IsStartN
 use line_loop::LoopFault;
 use lock_folder::StartFault;
 use lock_lists::ListError;
-use tool_parts::faults::ToolError;
 use ring_settings::RingCause;
 use ring_state::ParamsError;
 use segment_folder::FolderError;
 use segment_loop::EndFault;
+use tool_parts::faults::ToolError;
 
 /// The fault of a size.
 fn cause_of(error: ParamsError) -> RingCause

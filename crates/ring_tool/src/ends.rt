@@ -6,10 +6,10 @@ ghost use Rattle.std.specs.Io.KnownBytes.{append_known};
 ghost use Rattle.tool_parts.specs.Faults.{status_of};
 ghost use Rattle.ring_tool.specs.Left.{HasLeft, HasFront, HasText, HasLine, IsLineOf, HasEndedAnswered};
 
-use tool_parts::faults::ToolError;
 use std::alloc::Global;
 use std::io::{BufWriter, Write};
 use text_lines::put;
+use tool_parts::faults::ToolError;
 
 /// How a run has ended.
 #[derive(Drop)]

@@ -2,14 +2,14 @@
 
 use crate::program::run_tool;
 use disks::{SystemDisk, take_low};
-use tool_parts::endings::tell;
-use tool_parts::faults::ToolError;
 use std::fs::File;
 use std::io::{self, BufWriter, ErrorKind, Input, Write};
 use std::process::ExitCode;
 use std::rt::{Env, Files};
 use std::sync::Wait;
 use std::thread::Threads;
+use tool_parts::endings::tell;
+use tool_parts::faults::ToolError;
 
 /// The words after the program's name; none where one of them is not UTF-8.
 fn words_of<R: AllocGlobal + Env>(rt: &R) -> Result<Option<Vec<String>>, ToolError<'static>> {

@@ -7,13 +7,13 @@ ghost use Rattle.ring_tool.specs.declared.asked.Asked.{Asked};
 ghost use Rattle.tool_parts.specs.Worlds.{world};
 
 use crate::asked::{Asked, read_asked};
-use disks::Disk;
-use tool_parts::faults::ToolError;
 use crate::ends::{Ending, fail, refuse, show};
 use crate::requests::do_request;
+use disks::Disk;
 use std::io::{BufWriter, Input, Read, Write};
 use std::sync::Wait;
 use std::thread::Threads;
+use tool_parts::faults::ToolError;
 
 /// The whole program: reads the words, which leave out the program's name, does the command, and
 /// returns how the run has ended. The files that it reads and makes by name are those of `disk`. What the command prints goes to

@@ -20,18 +20,18 @@ ghost use Rattle.tool_parts.specs.Reading.{most_bytes, names_stream, IsAllOf, Is
 
 use disks::Disk;
 use ring_check::{Kind, Summary};
-use text_commands::check::check_bytes;
-use tool_parts::legal::{legal_saved, tell_sums};
-use tool_parts::endings::{finish, tell};
-use tool_parts::faults::ToolError;
-use tool_parts::reading::{ReadFault, names_stream, read_limited, read_whole};
 use ring_commands::run::save_and_report;
 use ring_farm::Outcome;
 use ring_saved::Saved;
 use ring_text::write_report;
 use std::alloc::Global;
 use std::io::{self, Read, Write};
+use text_commands::check::check_bytes;
 use text_lines::WriteFault;
+use tool_parts::endings::{finish, tell};
+use tool_parts::faults::ToolError;
+use tool_parts::legal::{legal_saved, tell_sums};
+use tool_parts::reading::{ReadFault, names_stream, read_limited, read_whole};
 
 /// A text passes the check only where it is legal: one with a bad line passes.
 pub fn bad_text_that_passes<W: Write>(

@@ -19,17 +19,17 @@ ghost use Rattle.ring_commands.specs.Saved.{IsRunAnswer};
 ghost use Rattle.tool_parts.specs.Worlds.{world};
 
 use disks::Disk;
-use text_commands::check::check_bytes;
-use tool_parts::legal::tell_sums;
-use tool_parts::faults::ToolError;
-use text_commands::picture::{Drawing, hand_over};
 use ring_commands::run::save_and_report;
 use ring_farm::Outcome;
 use ring_requests::{CheckWords, PictureWords, RunWords};
 use ring_text::write_report;
 use std::alloc::Global;
 use std::io::Write;
+use text_commands::check::check_bytes;
+use text_commands::picture::{Drawing, hand_over};
 use text_lines::WriteFault;
+use tool_parts::faults::ToolError;
+use tool_parts::legal::tell_sums;
 
 /// The history of a farm holds the saved text of its outcome: only the report is written, and the file stays as it was.
 pub fn history_that_is_not_saved<D: Disk, W: Write>(

@@ -10,12 +10,12 @@ ghost use Rattle.tool_parts.specs.Outside.{LiesElsewhere};
 ghost use Rattle.tool_parts.specs.Worlds.{world};
 
 use disks::{Disk, FolderEntry};
-use tool_parts::chain::chain_in;
-use tool_parts::faults::ToolError;
 use ring_requests::JoinWords;
 use ring_segments::{ChainSums, DIGEST_DIGITS};
 use segment_folder::{FolderError, SegmentNumbers, numbers_among};
 use std::alloc::Global;
+use tool_parts::chain::chain_in;
+use tool_parts::faults::ToolError;
 
 /// Between two segments none is missing: here a gap is accepted, whichever the first and the last are said to be.
 pub fn accepts_a_gap(

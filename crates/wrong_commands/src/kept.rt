@@ -13,13 +13,13 @@ ghost use Rattle.tool_parts.specs.Worlds.{world};
 
 use chain_serve::{SegmentRules, begin_segment, close_segment};
 use disks::{Contents, ContentsFault, Disk, MemoryDisk, ReplaceFault, replace};
-use tool_parts::faults::ToolError;
-use serve_commands::serve::run;
 use ring_requests::ServeWords;
 use ring_segments::DIGEST_DIGITS;
 use ring_serve::{Refusal, Served};
+use serve_commands::serve::run;
 use std::alloc::Global;
 use std::io::{Read, Write};
+use tool_parts::faults::ToolError;
 
 /// A journal is kept in segments only if its name is a folder's: here it is, where there was nothing.
 pub fn serves_a_new_name_as_a_folder<D: Disk>(

@@ -4,10 +4,10 @@ ghost use Rattle.std.specs.Prelude.{◌≡◌, ◌≢◌, ℕ, List, IsSome, OnO
 ghost use Rattle.std.specs.Io.KnownBytes.{Appends};
 ghost use Rattle.text_commands.specs.Reported.{IsReportOf};
 
-use tool_parts::faults::ToolError;
-use text_commands::report::print_report;
 use std::alloc::Global;
 use std::io::Write;
+use text_commands::report::print_report;
+use tool_parts::faults::ToolError;
 
 /// The report of a text is that of its own history: that of another text is printed.
 pub fn report_of_another_text<W: Write>(

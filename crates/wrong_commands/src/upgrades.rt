@@ -8,12 +8,12 @@ ghost use Rattle.folder_commands.specs.JoinedFolder.{IsJoinable};
 ghost use Rattle.text_commands.specs.Upgraded.{IsUpgradeOf};
 
 use disks::Disk;
-use tool_parts::faults::ToolError;
 use folder_commands::join;
-use text_commands::upgrade;
 use ring_requests::{JoinWords, UpgradeWords};
 use std::alloc::Global;
 use std::io::{self, Read, Write};
+use text_commands::upgrade;
+use tool_parts::faults::ToolError;
 
 /// A disk that counts how often a file was made there.
 pub trait CountedDisk: Disk {
