@@ -1,6 +1,7 @@
 """`wozgirt-log` with members of etcd on 127.0.0.1."""
 
 import base64
+import json
 import os
 import shutil
 import signal
@@ -17,20 +18,25 @@ sys.path.insert(0, os.path.join(os.path.dirname(os.path.abspath(__file__)), ".."
 from etcd_members import ETCD, ETCDCTL, Members  # noqa: E402
 from harness import FOLDER, PATIENCE, by_the_clock, needs_loopback, wait_until  # noqa: E402
 
+#: Seconds after which a stream that says nothing ends.
+SILENCE = 2
 PROGRAM = os.path.join(os.path.dirname(os.path.dirname(os.path.abspath(__file__))), "wozgirt-log")
 needs_etcd = unittest.skipUnless(ETCD and ETCDCTL, "etcd is not installed (Debian: etcd-server and etcd-client)")
 
 
 class Log:
-    """A wozgirt-log that runs. `lines` are those that it told; a context manager that ends it."""
+    """A wozgirt-log that runs, and was told what is known of the log: nothing, but that all starts of this name were its own. `lines`
+    are those that it told; a context manager that ends it."""
 
-    def __init__(self, urls, name="a", *words, lease=30):
+    def __init__(self, urls, name="a", *words, lease=30, known="- 0 0 1000"):
         self.process = subprocess.Popen([PROGRAM, "--endpoints", urls, "--prefix", "locks", "--name", name, "--lease", str(lease), *words],
                                         stdin=subprocess.PIPE, stdout=subprocess.PIPE, stderr=subprocess.PIPE, text=True)
         self.lines, self.errors = [], []
         self._threads = [threading.Thread(target=self._read, args=it, daemon=True)
                          for it in ((self.process.stdout, self.lines), (self.process.stderr, self.errors))]
         [it.start() for it in self._threads]
+        if known is not None:
+            self.say(f"known {known}")
 
     @staticmethod
     def _read(file, lines):
@@ -322,6 +328,121 @@ class Etcd(unittest.TestCase):
                 self.assertEqual(late.status(), 4)
                 self.assertEqual(late.entries(), [])
 
+    def state(self, members):
+        """What etcd has below the log's keys."""
+        return members.etcdctl("get", "locks/", "--prefix", "--write-out=json")
+
+    def test_nothing_is_put_into_another_log(self):
+        """Neither by a start that knows the log, nor by a process that runs."""
+        members = self.members()
+        with Log(members.urls()) as log:
+            log.say("follow 0 0")
+            log.append("one", "two")
+            wait_until(lambda: log.texts() == ["one", "two"])
+            identity, (position, revision, _) = log.lines[0].split()[1], log.entries()[-1]
+            log.process.send_signal(signal.SIGSTOP)
+            members.wipe()
+            members.start()
+            members.wait_for_leader()
+            self.assertNotIn("kvs", json.loads(self.state(members)))
+            log.append("three")
+            log.process.send_signal(signal.SIGCONT)
+            self.assertEqual(log.status(), 4)
+        with Log(members.urls(), known=f"{identity} {position} {revision} 1") as log:
+            self.assertEqual(log.status(), 4)
+            self.assertEqual(log.lines, ["lost other etcd has no log, or another one's"])
+        self.assertNotIn("kvs", json.loads(self.state(members)))
+        with Log(members.urls(), "b") as log:
+            log.say("follow 0 0")
+            log.append("first")
+            wait_until(lambda: log.texts() == ["first"])
+            kept = self.state(members)
+            with Log(members.urls(), known=f"{identity} {position} {revision} 1") as late:
+                self.assertEqual(late.status(), 4)
+                self.assertEqual(late.lines, ["lost other it has another identity"])
+            self.assertEqual(self.state(members), kept)
+
+    def test_an_earlier_state_is_known_at_a_start(self):
+        """By fewer entries; by another entry, where it was written on past the place; and by the entry's text, where place and revision agree."""
+        members = self.members()
+        with Log(members.urls()) as log:
+            log.say("follow 0 0")
+            log.append("one", "two")
+            wait_until(lambda: log.texts() == ["one", "two"])
+            identity, (position, revision, _) = log.lines[0].split()[1], log.entries()[-1]
+            kept = self.state(members)
+            for place, why in (((position + 1, revision + 1), "it has 2 entries, and 3 were read"),
+                               ((position, revision - 1), "another entry than 2"), ((position - 1, revision), "another entry than 1"),
+                               ((position - 1, revision + 9), "entry 1 is not there yet")):
+                with Log(members.urls(), known="%s %d %d 1" % (identity, *place)) as late:
+                    self.assertEqual(late.status(), 4)
+                    self.assertEqual(late.lines[0].split()[:2], ["lost", "other"])
+                    self.assertIn(why, late.lines[0])
+            self.assertEqual(self.state(members), kept)
+            with Log(members.urls(), known=f"{identity} {position} {revision} 1") as late:
+                late.say("follow 0 0")
+                wait_until(lambda: late.texts() == ["one", "two"])
+
+    def test_a_log_that_stands_outlives_a_compaction_of_all(self):
+        """Which nobody should do by hand: the last entry has its value only."""
+        members = self.members()
+        with Log(members.urls()) as log:
+            log.say("follow 0 0")
+            log.append("one", "two")
+            wait_until(lambda: log.texts() == ["one", "two"])
+            identity, (position, revision, _) = log.lines[0].split()[1], log.entries()[-1]
+            members.etcdctl("put", "other", "1")
+            members.etcdctl("compaction", members.ask("a", "kv/range", {"key": "eA=="})["header"]["revision"])
+            time.sleep(2 * SILENCE)  # a stream ends meanwhile, and another begins
+            with Log(members.urls(), known=f"{identity} {position} {revision} 1") as late:
+                late.say(f"follow {position} {revision}")
+                wait_until(late.last_alive)  # it reads
+                log.append("three")
+                wait_until(lambda: log.texts() == ["one", "two", "three"] and late.texts() == ["three"])
+
+    def test_one_server_of_a_name(self):
+        """A second one is refused while the first one is alive, waits where that may have ended, and a server's own starts are its own."""
+        members = self.members()
+        with Log(members.urls(), lease=1, known="- 0 0 0") as first:
+            is_over = threading.Event()
+
+            def live():
+                for number in range(1, 1000):
+                    first.say(f"here {number}")
+                    if is_over.wait(0.1):
+                        return
+            threading.Thread(target=live, daemon=True).start()
+            with Log(members.urls(), lease=1, known="- 0 0 0") as second:
+                self.assertEqual((second.status(), second.lines), (1, ["taken 1"]))
+            is_over.set()
+            with Log(members.urls(), lease=1, known="- 0 0 1") as again:
+                self.assertEqual(again.lines[0].split()[2], "2")
+                with Log(members.urls(), lease=30, known="- 0 0 0") as late:  # nobody says that the others are here
+                    self.assertEqual(late.lines[0].split()[::2], ["log", "3"])
+
+    def test_etcd_without_room(self):
+        members = self.members(more=["--quota-backend-bytes", "200000"])
+        with Log(members.urls()) as log:
+            log.say("follow 0 0")
+            log.append("one")
+            wait_until(lambda: log.texts() == ["one"])
+            for i in range(100):
+                try:
+                    members.etcdctl("put", f"other/{i}", "x" * 20000)
+                except subprocess.CalledProcessError:
+                    break
+            log.append("two")
+            log.wait_for("full")
+            self.assertEqual(log.texts(), ["one"])
+            with Log(members.urls(), "b") as late:
+                self.assertEqual(late.lines[0], "full")
+                members.etcdctl("del", "other/", "--prefix")
+                members.etcdctl("compaction", str(members.ask("a", "kv/range", {"key": "eA=="})["header"]["revision"]))
+                members.etcdctl("defrag")
+                members.etcdctl("alarm", "disarm")
+                wait_until(lambda: log.texts() == ["one", "two"])
+                wait_until(lambda: any(line.startswith("log ") for line in late.lines))
+
     def test_a_log_that_is_removed_is_another_log(self):
         members = self.members()
         with Log(members.urls()) as log:
@@ -427,13 +548,16 @@ class Etcd(unittest.TestCase):
 
     def test_wrong_lines(self):
         members = self.members()
-        for line in ("", "append", "append \u00e9", "follow 1", "here x", "here 1 ", "checkpoint 1 -1", "nothing"):
+        for line in ("", "append", "append \u00e9", "known - 0 0 0", "follow 1", "here x", "here 1 ", "checkpoint 1 -1", "nothing"):
             with self.subTest(line=line), Log(members.urls()) as log:
                 log.say(line)
                 self.assertEqual(log.status(), 2)
         with Log(members.urls()) as log:
             log.say("follow 0 0", "follow 0 0")
             self.assertEqual(log.status(), 2)
+        for known in ("", "- 0 0", "x y 0 0 0", "- 0 0 0 0", "- 0 0 -1"):
+            with self.subTest(known=known), Log(members.urls(), known=known) as log:
+                self.assertEqual(log.status(), 2)
 
 
 class Words(unittest.TestCase):

@@ -31,6 +31,10 @@ class Denied(NoAnswer):
     """A member answered that it will not."""
 
 
+class NoRoom(Denied):
+    """It will not, since etcd's database has reached its quota."""
+
+
 def coded(text: Union[str, bytes]) -> str:
     """As keys and values are written in JSON."""
     return base64.b64encode(text.encode() if isinstance(text, str) else text).decode()
@@ -83,11 +87,17 @@ class Member:
     def __init__(self, places: List[Place], tls: Optional[ssl.SSLContext] = None, patience: float = PATIENCE):
         self._places, self._tls, self._patience, self._at = places, tls, patience, 0
         self._line: Optional[Line] = None
+        self._count = 0
 
     @property
     def name(self) -> str:
         """The member's HOST:PORT."""
         return "%s:%d" % self._places[self._at][1:]
+
+    @property
+    def connection(self) -> int:
+        """The number of the connection over which the next question goes, to the same process as the last; 0 if that is a new one."""
+        return self._count if self._line is not None else 0
 
     def turn(self) -> bool:
         """Leaves the member for the next one; whether all have been tried."""
@@ -128,8 +138,10 @@ class Member:
         if self._line is None:
             safe, host, port = self._places[self._at]
             self._line = Line(host, port, self._tls if safe else None, self._patience)
+            self._count += 1
         if self._line.post(f"/v3/{path}", "".join(map(json.dumps, bodies)).encode()) != 200:
-            raise Denied(f"{self.name}: {reason(self._body(self._line).decode('utf-8', 'replace'))}")
+            why = reason(self._body(self._line).decode("utf-8", "replace"))
+            raise (NoRoom if "database space exceeded" in why else Denied)(f"{self.name}: {why}")
         return self._line
 
     def _body(self, line: Line) -> bytes:

@@ -5,10 +5,12 @@ all versions, in order, to whoever watches the key. Beside it there are PREFIX/i
 whose version is the last incarnation; PREFIX/servers/NAME/INCARNATION, each with a lease; and PREFIX/hosts/NAME, with the position
 and the revision up to which this host needs the log no more.
 
-In:   follow POSITION REVISION, append TEXT, checkpoint POSITION REVISION, here NUMBER
-Out:  log IDENTITY INCARNATION, alive NAME:INCARNATION .., entry POSITION REVISION TEXT, kept NUMBER, away NAME SECONDS
+In:   known IDENTITY POSITION REVISION INCARNATION, follow POSITION REVISION, append TEXT, checkpoint POSITION REVISION, here NUMBER
+Out:  log IDENTITY INCARNATION, alive NAME:INCARNATION .., entry POSITION REVISION TEXT, kept NUMBER, away NAME SECONDS, full,
+      lost other TEXT, lost gone TEXT, taken INCARNATION
 
-TEXT is the rest of the line, of printable ASCII, spaces and tabs, and may be empty.
+`known` comes first: what the server knows of the log from before, `known - 0 0 0` if nothing. TEXT is the rest of the line, of printable
+ASCII, spaces and tabs, and may be empty.
 
 Status 0: the end of the input. 1: it cannot go on. 2: wrong words. 4: the log is another one, or shorter than it was, or what
 is wanted of it is gone."""
@@ -26,21 +28,22 @@ import time
 import traceback
 from typing import Any, Callable, Dict, List, NoReturn, Optional, Sequence, Set, Tuple, TypeVar
 
-from .etcd import Answer, Denied, Member, NoAnswer, Silent, below, coded, context, decoded, place, revision_of
+from .crowd import Crowd
+from .etcd import Answer, Denied, Member, NoAnswer, NoRoom, Silent, below, coded, context, decoded, place, revision_of
+from .places import Lost, Place, Taken, alone, claim, compare, identified, is_identity, reaches
 
 T = TypeVar("T")
 #: Seconds until all members are tried again, if none of them answers.
 PAUSE = 0.1
 #: Seconds in which the same is not written to standard error again.
 QUIET = 60.0
-#: The lines of the input.
+#: Seconds behind its lease until another server of the name is taken for one that lives.
+LATE = 2.0
+#: The first line of the input, and the others.
+FIRST = re.compile(rb"known (?:-|([!-~]+)) ([0-9]+) ([0-9]+) ([0-9]+)\n")
 LINE = re.compile(rb"(?:(append) ([\t -~]*)|(follow|checkpoint) ([0-9]+) ([0-9]+)|(here) ([0-9]+))\n")
 #: What cannot be in an entry's line: another than a server put that into the log.
 STRANGE = re.compile(rb"[^\t -~]")
-
-
-class Lost(Exception):
-    """The log is another one, or does not have what is wanted."""
 
 
 class Program:
@@ -57,6 +60,7 @@ class Program:
         self.heres: "queue.SimpleQueue[int]" = queue.SimpleQueue()
         self.needs: "queue.SimpleQueue[Tuple[int, int]]" = queue.SimpleQueue()
         self.crowd: Optional[Crowd] = None
+        self.place = Place(None, 0, 0)
 
     def key(self, *words: object) -> str:
         """A key of the log."""
@@ -91,7 +95,7 @@ class Program:
             try:
                 work()
             except Lost as lost:
-                self.end(4, str(lost))
+                self.lose(lost)
             except BrokenPipeError:
                 self.end(1, "the server is gone")
             except BaseException:
@@ -106,35 +110,66 @@ class Program:
                 return work(member)
             except NoAnswer as fault:
                 self.note(fault)
+                if isinstance(fault, NoRoom):
+                    self.tell("full")
                 if member.turn():
                     time.sleep(PAUSE)
 
-
-def drawn(program: Program, member: Member) -> str:
-    """The identity of the log, which is drawn if there is none."""
-    key, mine = coded(program.key("identity")), os.urandom(16).hex()
-    said = member.ask("kv/txn", {"compare": [{"key": key, "target": "CREATE", "create_revision": "0"}],
-                                 "success": [{"request_put": {"key": key, "value": coded(mine)}}],
-                                 "failure": [{"request_range": {"key": key}}]})
-    return mine if said.get("succeeded") else decoded(said["responses"][0]["response_range"]["kvs"][0]["value"])
+    def lose(self, lost: Lost) -> NoReturn:
+        """Ends the process, since the log is not the one that is wanted."""
+        try:
+            self.tell(f"lost {lost.kind} {STRANGE.sub(b'?', str(lost).encode()).decode()}")
+        except BrokenPipeError:
+            pass  # the server has ended
+        self.end(4, str(lost))
 
 
 class Keeper:
     """This start's number, and its lease, which is renewed for as long as the server says that it is here."""
 
-    def __init__(self, program: Program):
+    def __init__(self, program: Program, before: int):
         self._program, self._member = program, program.member()
-        self.identity, self.incarnation, self._id, self._kept = program.done(self._member, self._begun)
+        # the starts of this server, of which some may not have ended for etcd: up to the last before this, and those of this process
+        self._before = before
+        self._drawn: Set[int] = set()
+        self._latest = time.monotonic() + program.lease + LATE
+        self.incarnation, self._id, self._kept = self._begin()
 
-    def _begun(self, member: Member) -> Tuple[str, int, str, float]:
+    def _begin(self) -> Tuple[int, str, float]:
+        while True:
+            try:
+                self._program.done(self._member, self._compared)
+                return self._program.done(self._member, self._begun)
+            except Taken as other:
+                if time.monotonic() > self._latest:
+                    self._program.tell(f"taken {other}")
+                    self._program.end(1, f"another server {self._program.name} is alive, start {other}")
+                self._program.note(f"another server {self._program.name} may be alive, start {other}")
+                time.sleep(PAUSE)
+
+    def _is_own(self, incarnation: int) -> bool:
+        return incarnation <= self._before or incarnation in self._drawn
+
+    def _compared(self, member: Member) -> None:
+        """The log is the right one, and nobody else has this server's name. Only the identity of a new log is put."""
+        program, known = self._program, self._program.place
+        known.identity = identified(member, program.key("identity"), known.identity, os.urandom(16).hex())
+        compare(member, program.key("log"), *known.get())
+        alone(member, program.key("servers", program.name, ""), self._is_own)
+
+    def _begun(self, member: Member) -> Tuple[int, str, float]:
         program = self._program
-        identity = drawn(program, member)
-        last = member.ask("kv/put", {"key": coded(program.key("servers")), "value": coded(program.name), "prev_kv": True})
-        incarnation = int(last.get("prev_kv", {}).get("version", 0)) + 1
+        conditions = [is_identity(program.key("identity"), program.place.identity or "")]
+        said = member.ask("kv/txn", {"compare": conditions, "success": [
+            {"request_put": {"key": coded(program.key("servers")), "value": coded(program.name), "prev_kv": True}}]})
+        if not said.get("succeeded"):
+            raise Lost("other", "it was replaced meanwhile")
+        incarnation = int(said["responses"][0]["response_put"].get("prev_kv", {}).get("version", 0)) + 1
         asked = time.monotonic()
         lease = member.ask("lease/grant", {"TTL": str(program.lease)})["ID"]
-        member.ask("kv/put", {"key": coded(program.key("servers", program.name, incarnation)), "lease": lease})
-        return identity, incarnation, lease, asked
+        self._drawn.add(incarnation)
+        claim(member, program.key("servers", program.name, ""), self._is_own, incarnation, conditions, lease)
+        return incarnation, lease, asked
 
     def run(self) -> None:
         """Renews the lease, and says so, until it is over, by etcd or by the own clock."""
@@ -169,62 +204,11 @@ class Keeper:
         return False
 
 
-class Crowd:
-    """Which servers are alive, and since when others are not."""
-
-    def __init__(self, program: Program, own: str):
-        self._program, self._own, self._mutex = program, own, threading.Lock()
-        self._alive: Set[str] = set()
-        self._told: Optional[Set[str]] = None
-        self._has_left, self._begun = False, time.monotonic()
-        self._seen: Dict[str, float] = {}
-
-    def leave(self) -> None:
-        """This server is not alive any more."""
-        with self._mutex:
-            self._has_left = True
-        self.tell()
-
-    def set(self, alive: Set[str]) -> None:
-        """These are alive."""
-        now = time.monotonic()
-        with self._mutex:
-            self._seen.update((who.split(":")[0], now) for who in self._alive | alive)
-            self._alive = set(alive)
-        self.tell()
-
-    def change(self, who: str, is_there: bool) -> None:
-        """This one is alive, or no longer."""
-        self.set(self._alive | {who} if is_there else self._alive - {who})
-
-    def tell(self) -> None:
-        """Tells who is alive, if it is not who was told last."""
-        with self._mutex:
-            alive = self._alive - ({self._own} if self._has_left else set())
-            if alive == self._told:
-                return
-            self._told = alive
-            self._program.tell(" ".join(["alive", *sorted(alive, key=by_number)]))
-
-    def away(self, name: str) -> float:
-        """For how many seconds this host has no server that is alive."""
-        with self._mutex:
-            if any(who.split(":")[0] == name for who in self._alive):
-                return 0.0
-            return time.monotonic() - self._seen.get(name, self._begun)
-
-
-def by_number(who: str) -> Tuple[str, int]:
-    """How NAME:INCARNATION are sorted."""
-    name, _, incarnation = who.partition(":")
-    return name, int(incarnation)
-
-
 class Reader:
     """Reads the log behind a place, and who is alive, from one member or another."""
 
-    def __init__(self, program: Program, crowd: Crowd, identity: str, last: Tuple[int, int]):
-        self._program, self._crowd, self._identity, self._member = program, crowd, identity, program.member()
+    def __init__(self, program: Program, crowd: Crowd, last: Tuple[int, int]):
+        self._program, self._crowd, self._member = program, crowd, program.member()
         self._position, self._revision = last
         # the revision of the first entry, and one before which nothing is wanted
         self._first, self._least = 0, 0
@@ -232,7 +216,7 @@ class Reader:
 
     def run(self) -> None:
         """Reads without an end."""
-        self._program.done(self._member, self._compare)
+        self._program.done(self._member, lambda member: compare(member, self._log, self._position, self._revision))
         while True:
             try:
                 self._read()
@@ -243,31 +227,19 @@ class Reader:
                 if self._member.turn():
                     time.sleep(PAUSE)
 
-    def _compare(self, member: Member) -> None:
-        """The entry that was read last has to stand where it stood."""
-        if self._position == 0:
-            return
-        try:
-            said = member.ask("kv/range", {"key": coded(self._log), "revision": str(self._revision), "keys_only": True})
-        except Denied as denied:
-            if "compacted" in str(denied) or "future" in str(denied):
-                raise Lost(f"entry {self._position} is gone: {denied}") from denied
-            raise
-        found = [(int(it["version"]), int(it["mod_revision"])) for it in said.get("kvs", [])]
-        if found != [(self._position, self._revision)]:
-            raise Lost(f"the log has another entry than {self._position} at revision {self._revision}")
-
     def _look(self) -> Tuple[int, int]:
         """Looks at the log and the servers as they are now; the revisions to watch them from."""
         ranges: List[Answer] = [{"key": coded(self._program.key("identity"))}, {"key": coded(self._log), "keys_only": True},
                                 {**below(self._servers), "keys_only": True}]
         said = self._member.ask("kv/txn", {"success": [{"request_range": it} for it in ranges]})
         identity, last, servers = (it["response_range"].get("kvs", []) for it in said["responses"])
-        if not identity or decoded(identity[0]["value"]) != self._identity:
-            raise Lost("the log is another one")
+        known, (position, known_revision, value) = self._program.place, self._program.place.get()
+        if not identity or decoded(identity[0]["value"]) != known.identity:
+            raise Lost("other", "it has another identity" if identity else "etcd has no log, or another one's")
         revision, version = revision_of(said), int(last[0]["version"]) if last else 0
-        if revision < self._revision or version < self._position:
-            raise Lost(f"the log is shorter than it was: {version} entries, {self._position} were read")
+        if revision < max(self._revision, known_revision) or version < max(self._position, position):
+            raise Lost("other", f"it has {version} entries, and {max(self._position, position)} were read")
+        compare(self._member, self._log, position, known_revision, value)
         self._crowd.set({self._who(it) for it in servers})
         if version == self._position:
             self._revision = max(self._revision, revision)
@@ -286,7 +258,7 @@ class Reader:
             if "compact_revision" in told:
                 gone = int(told["compact_revision"])
                 if self._position > 0 or gone > self._first:
-                    raise Lost(f"the log is gone up to revision {gone}, and {start} is wanted")
+                    raise Lost("gone", f"the log is gone up to revision {gone}, and {start} is wanted")
                 self._least = gone  # what is gone came before the first entry
                 return
             if told.get("canceled"):
@@ -299,6 +271,7 @@ class Reader:
             it, is_there = event["kv"], event.get("type") != "DELETE"
             if decoded(it["key"]) == self._log:
                 self._follows(int(it["version"]) if is_there else 0, int(it["mod_revision"]))
+                self._program.place.note(self._position, self._revision, it.get("value", ""))
                 text = STRANGE.sub(b"?", base64.b64decode(it.get("value", ""))).decode("ascii")
                 lines.append(f"entry {self._position} {self._revision} {text}")
             else:
@@ -309,7 +282,7 @@ class Reader:
     def _follows(self, position: int, revision: int) -> None:
         """The next entry has to be the next one."""
         if position != self._position + 1 or revision <= self._revision:
-            raise Lost(f"entry {position}, revision {revision}, follows entry {self._position}, revision {self._revision}")
+            raise Lost("other", f"entry {position}, revision {revision}, follows entry {self._position}, revision {self._revision}")
         self._position, self._revision = position, revision
 
 
@@ -373,23 +346,49 @@ class Shortener:
 
 
 def append_all(program: Program) -> None:
-    """Puts one entry after the other: the next one is begun only when this one is there, else it might come first."""
-    member = program.member()
-    key = coded(program.key("log"))
+    """Puts one entry after the other: the next one is begun only when this one is there, else it might come first. Nothing is put into
+    another log, or into one that has fewer entries than were read: etcd cannot get that while a member runs and the connection lasts, so
+    the first put over each has the conditions."""
+    member, key, verified = program.member(), program.key("log"), 0
 
     def put(member: Member, value: bytes) -> None:
+        nonlocal verified
+        entry = {"key": coded(key), "value": coded(value)}
         try:
-            member.ask("kv/put", {"key": key, "value": coded(value)})
+            if 0 < member.connection == verified:
+                member.ask("kv/put", entry)
+                return
+            position, revision, _ = program.place.get()
+            conditions = [is_identity(program.key("identity"), program.place.identity or ""), *reaches(key, position, revision)]
+            said = member.ask("kv/txn", {"compare": conditions, "success": [{"request_put": entry}]})
         except Denied as denied:
             if "too large" in str(denied):
                 program.end(1, str(denied))
             raise
+        if not said.get("succeeded"):
+            raise Lost("other", f"it is another one, or has fewer than the {position} entries that were read")
+        verified = member.connection
     while True:
         value = program.appends.get()
         program.done(member, lambda it: put(it, value))
 
 
-def obey(program: Program, keeper: Keeper, crowd: Crowd) -> None:
+def begun(program: Program) -> Keeper:
+    """What the first line of the input says is compared with etcd, and this start gets its number."""
+    line = sys.stdin.buffer.readline()
+    match = FIRST.fullmatch(line)
+    if not match:
+        program.end(2 if line else 0, f"wrong first line: {line[:80]!r}" if line else "")
+    identity, *numbers = match.groups()
+    position, revision, before = map(int, numbers)
+    program.place = Place(identity.decode() if identity else None, position, revision)
+    try:
+        return Keeper(program, before)
+    except Lost as lost:
+        program.lose(lost)
+
+
+def obey(program: Program, crowd: Crowd) -> None:
     """Does what the lines of the input say."""
     follows = False
     for line in sys.stdin.buffer:
@@ -405,7 +404,7 @@ def obey(program: Program, keeper: Keeper, crowd: Crowd) -> None:
             program.needs.put((int(words[0]), int(words[1])))
         else:
             follows, last = True, (int(words[0]), int(words[1]))
-            program.start(Reader(program, crowd, keeper.identity, last).run)
+            program.start(Reader(program, crowd, last).run)
             program.start(Shortener(program, crowd, last).run)
 
 
@@ -454,12 +453,12 @@ def main(words: Optional[Sequence[str]] = None) -> int:
     except (OSError, ValueError) as fault:
         print(f"wozgirt-log: {fault}", file=sys.stderr)
         return 2
-    keeper = Keeper(program)
-    program.crowd = crowd = Crowd(program, f"{program.name}:{keeper.incarnation}")
-    program.tell(f"log {keeper.identity} {keeper.incarnation}")
+    keeper = begun(program)
+    program.crowd = crowd = Crowd(program.tell, f"{program.name}:{keeper.incarnation}")
+    program.tell(f"log {program.place.identity} {keeper.incarnation}")
     program.start(keeper.run)
     program.start(lambda: append_all(program))
-    obey(program, keeper, crowd)
+    obey(program, crowd)
     program.end(0)
 
 

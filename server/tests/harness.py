@@ -31,7 +31,7 @@ sys.path.insert(0, os.path.join(TOP, "python"))
 
 # seconds until what does not come about is taken for a fault
 PATIENCE = 50
-# as many open files as may be: the server wants 1064
+# as many open files as may be: the server wants 1160
 _MOST = resource.getrlimit(resource.RLIMIT_NOFILE)[1]
 FILES = 1 << 16 if _MOST == resource.RLIM_INFINITY else min(_MOST, 1 << 16)
 resource.setrlimit(resource.RLIMIT_NOFILE, (FILES, _MOST))
@@ -45,7 +45,7 @@ def why_not():
     """What keeps a server from being tried here, or nothing."""
     if not IS_BUILT:
         return f"no programs in {BIN}"
-    if FILES < 1100:
+    if FILES < 1200:
         return f"only {FILES} files may be open"
     if not os.path.exists("/proc/self/stat"):
         return "there is no /proc"

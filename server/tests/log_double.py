@@ -2,7 +2,7 @@
 """A log for tests of several servers, without etcd: it speaks the lines of `wozgirt-log`, but keeps the log in a thread of the test.
 
 As a program it takes the words of wozgirt-log, of which --endpoints names the socket of that thread, and passes lines on. `Log` is the
-thread's side: a test may look into the log, put entries there, and end leases."""
+thread's side: a test may look into the log, put entries there, end leases, and put another log in its place."""
 
 import argparse
 import os
@@ -22,18 +22,21 @@ class Log:
         self.path, self.identity, self.entries, self.started = path, "double", [], 0
         self.lock, self.lines, self.leases, self.names, self.lease = threading.RLock(), {}, {}, {}, {}
         self.following, self.needs, self.lost, self.twice, self.silent, self.begun = set(), {}, False, False, set(), 1
+        self.shift, self.is_full, self.ended = 0, False, set()
         self.door = socket.socket(socket.AF_UNIX)
         self.door.bind(path)
         self.door.listen(100)
         self.is_over = False
 
     def __enter__(self):
-        for work in (self._accept, self._expire):
-            threading.Thread(target=work, daemon=True).start()
+        self.threads = [threading.Thread(target=work, daemon=True) for work in (self._accept, self._expire)]
+        [it.start() for it in self.threads]
         return self
 
     def __exit__(self, *_):
         self.is_over = True
+        self.door.shutdown(socket.SHUT_RDWR)
+        [it.join() for it in self.threads]  # else one might accept what comes to the next log, at the same number of a file
         with self.lock:
             for sock in list(self.lines):
                 sock.close()
@@ -45,6 +48,22 @@ class Log:
             self.entries.append(text)
             for sock in list(self.following):
                 self._tell_entry(sock, len(self.entries))
+
+    def replace(self, identity, entries, shift=0):
+        """etcd has another log now, or an earlier state of this one, with other revisions; servers that are in the log see it."""
+        with self.lock:
+            self.identity, self.entries, self.shift = identity, list(entries), shift
+            self.leases.clear()
+            for sock in list(self.lines):
+                self._lose(sock, "other", "it was replaced")
+
+    def fill(self, is_full):
+        """etcd has no room for entries, or has it again."""
+        with self.lock:
+            self.is_full = is_full
+            for sock in list(self.lines):
+                if is_full:
+                    self._tell(sock, "full")
 
     def texts(self):
         with self.lock:
@@ -89,16 +108,18 @@ class Log:
 
     def _hear(self, sock, line):
         kind, *rest = line[:-1].split(" ", 1) if line.startswith("append ") else line.split()
+        if sock in self.ended:
+            return
         if kind == "hello":
-            self.started += 1
-            server = (rest[0], self.started)
-            self.lines[sock], self.lease[sock] = server, float(rest[1])
-            self.leases[server] = time.monotonic() + self.lease[sock]
-            self._tell(sock, f"log {self.identity} {self.started}")
+            self.lines[sock], self.lease[sock] = (rest[0], 0), float(rest[1])
+        elif kind == "known":
+            self._begin(sock, rest[0], *map(int, rest[1:]))
         elif kind == "follow":
             position = int(rest[0])
-            if self.lost or position > len(self.entries) or position + 1 < self.begun:
+            if self.lost:
                 return self._tell(sock, "exit 4")
+            if position + 1 < self.begun:
+                return self._lose(sock, "gone", f"it begins with entry {self.begun}")
             self.following.add(sock)
             self._tell_alive()
             for at in range(position + 1, len(self.entries) + 1):
@@ -112,8 +133,39 @@ class Log:
         elif kind == "checkpoint":
             self.needs[self.lines[sock][0]] = (int(rest[0]), int(rest[1]))
 
+    def _begin(self, sock, identity, position, revision, before):
+        """What the server knows of the log is compared, and this start gets its number."""
+        name = self.lines[sock][0]
+        if identity not in ("-", self.identity):
+            return self._lose(sock, "other", "it has another identity")
+        if position > len(self.entries):
+            return self._lose(sock, "other", f"it has {len(self.entries)} entries, and {position} were read")
+        if position and revision != self._revision(position):
+            return self._lose(sock, "other", f"it has another entry than {position} at revision {revision}")
+        if self.is_full:
+            self._tell(sock, "full")
+            while self.is_full:
+                self.lock.release()
+                time.sleep(0.02)
+                self.lock.acquire()
+        others = [number for its, number in self.leases if its == name and number > before]
+        if others:
+            return self._tell(sock, f"taken {others[0]}")
+        self.started += 1
+        server = self.lines[sock] = (name, self.started)
+        self.leases[server] = time.monotonic() + self.lease[sock]
+        self._tell(sock, f"log {self.identity} {self.started}")
+
+    def _lose(self, sock, kind, why):
+        self.following.discard(sock)
+        self.ended.add(sock)
+        self._tell(sock, f"lost {kind} {why}\nexit 4")
+
+    def _revision(self, position):
+        return position * REVISIONS + self.shift
+
     def _tell_entry(self, sock, position):
-        self._tell(sock, f"entry {position} {position * REVISIONS} {self.entries[position - 1]}")
+        self._tell(sock, f"entry {position} {self._revision(position)} {self.entries[position - 1]}")
 
     def _tell_alive(self):
         alive = "".join(f" {name}:{number}" for name, number in sorted(self.leases))
@@ -144,13 +196,14 @@ def relay():
             data = os.read(key.fd, 1 << 16)
             if not data:
                 return 0 if key.fd == 0 else 1
-            if b"exit 4\n" in data:
-                return 4
             if key.fd == 0:
                 sock.sendall(data)
-            else:
-                while data:
-                    data = data[os.write(1, data):]
+                continue
+            data, is_over, _ = data.partition(b"exit 4\n")
+            while data:
+                data = data[os.write(1, data):]
+            if is_over:
+                return 4
 
 
 if __name__ == "__main__":

@@ -4,7 +4,9 @@ import filecmp
 import os
 import shutil
 import signal
+import socket
 import subprocess
+import sys
 import tempfile
 import threading
 import time
@@ -24,6 +26,17 @@ def granted(sock):
     while not lines[-1].startswith("granted "):
         lines += read_lines(sock, 1) or [f"granted by nobody: {lines}"]
     return lines[-1]
+
+
+def granted_late(sock, *others):
+    """The line of the grant, to a client that speaks meanwhile, as others do."""
+    while True:
+        for other in others:
+            say(other, "ping\n")
+        for line in say(sock, "ping\n") or ["granted by nobody"]:
+            if line.startswith("granted "):
+                return line
+        time.sleep(0.05)
 
 
 class Trial(unittest.TestCase):
@@ -164,85 +177,6 @@ class Several(Trial):
 
 @needs_programs
 @needs_strict
-class Sessions(Trial):
-    def test_what_was_done_is_not_done_again(self):
-        a, b = self.server("a"), self.server("b")
-        one, _ = self.session(a, 77)
-        self.assertEqual(say(one, "1 acquire a 5\n"), ["1 granted a 1"])
-        two, lines = self.session(b, 77, 1)
-        self.assertEqual(lines, ["holds a 1"])
-        self.assertEqual(one.recv(10), b"")  # it is there now
-        self.assertEqual(say(two, "1 acquire a 5\n"), ["1 granted a 1"])
-        self.assertEqual(say(two, "2 release a 1\n2 release a 1\n3 acquire a 5\n", 3), ["2 released a", "2 released a", "3 granted a 2"])
-        self.assertEqual(say(two, "2 release a 1\nstats a\n", 2)[0], "2 refused past 3")
-        self.assertEqual(say(two, "4 release a 1\n4 release a 1\n", 2), ["4 refused holder a"] * 2)
-        self.assertEqual(a.calls(0), b.calls(0))
-
-    def test_who_waits_goes_on_waiting(self):
-        a, b = self.server("a"), self.server("b")
-        holder, (waiter, _) = self.raw(a), self.session(a, 5)
-        self.assertEqual(say(holder, "acquire a 1\n"), ["granted a 1"])
-        self.assertEqual(say(waiter, "1 acquire a 2\n"), ["1 waiting a 0"])
-        again, lines = self.session(b, 5, 1)
-        self.assertEqual(lines, ["waits a"])
-        self.assertEqual(say(again, "1 acquire a 2\n"), ["1 waiting a 0"])
-        self.assertEqual(say(holder, "release a 1\n"), ["released a"])
-        self.assertEqual(read_lines(again, 1), ["granted a 2"])
-        self.assertEqual(say(again, "1 acquire a 2\n2 leave\n3 try a 4\n", 3), ["1 waiting a 0", "2 left", "3 granted a 3"])
-
-    def test_who_comes_twice_is_told_once(self):
-        a = self.server("a")
-        socks = [self.raw(a) for _ in range(5)]
-        for i, sock in enumerate(socks):
-            sock.sendall(f"session 6\n{i} acquire a 5\n".encode())
-        for sock in socks[:4]:
-            read_lines(sock, 9)  # to the end
-        lines = []
-        while not lines or not lines[-1].startswith("4 "):
-            lines += read_lines(socks[4], 1)
-        self.assertIn(lines, (["session 6 0", "4 granted a 1"], ["session 6 1", "holds a 1", "4 refused holds a"]))
-
-    def test_a_leave_before_anything_else(self):
-        a = self.server("a")
-        sock, (other, _) = self.raw(a), self.session(a, 6)
-        self.assertEqual(say(sock, "leave\nleave\n", 2), ["left", "left"])
-        self.assertEqual(say(other, "1 leave\n2 leave\n3 acquire a 1\n3 acquire a 1\n", 4), ["1 left", "2 left", "3 granted a 1", "3 granted a 1"])
-
-    def test_lines_of_a_session(self):
-        with self.raw(self.server("a")) as sock:
-            self.assertEqual(say(sock, "session 9\nsession 9\nacquire a 1\n3 ping\nping\n01 leave\n", 6), [
-                "session 9 0", "refused syntax", "refused syntax", "refused syntax", "pong", "refused syntax"])
-            self.assertEqual(say(sock, "1 acquire q 1\n2 stop\n", 2), ["1 refused lock q", "refused syntax"])
-        with self.raw(self.server("b")) as sock:
-            self.assertEqual(say(sock, "acquire a 1\nsession 9\n", 2), ["granted a 1", "refused syntax"])
-
-    def test_one_who_does_not_come_back(self):
-        a, b = self.server("a", lease="0.5"), self.server("b", lease="0.5")
-        (one, _), other = self.session(a, 3), self.raw(b)
-        self.assertEqual(say(one, "1 acquire a 5\n"), ["1 granted a 1"])
-        one.close()
-        other.sendall(b"acquire a 5\n")
-        self.assertEqual(granted(other), "granted a 2")
-        wait_until(lambda: "did not come back; it held a" in a.text_of_log())
-        self.session(b, 3)
-
-    def test_the_number_is_not_the_key(self):
-        a = self.server("a")
-        (one, _), (two, _) = self.session(a, 12345), self.session(a, 678)
-        self.assertEqual(say(two, "1 acquire a 5\n"), ["1 granted a 1"])
-        self.assertIn("lock a held 2 5 1 ", a.operate("status", 4))
-        self.assertIn("client 2 0 a - ", a.operate("clients", 4))
-        self.assertEqual(say(two, "2 leave\n3 acquire b 5\n", 2), ["2 left", "3 granted b 1"])
-        self.assertIn("lock b held 3 5 1 ", a.operate("status", 4))
-
-    def test_a_server_alone_has_none(self):
-        with Server() as server, server.raw() as sock:
-            self.assertEqual(say(sock, "session 1\nacquire a 1\n", 2), ["refused session", "granted a 1"])
-            self.assertEqual(server.operate("cluster"), "refused cluster")
-
-
-@needs_programs
-@needs_strict
 class Ends(Trial):
     def test_clients_of_a_killed_server_leave_or_go_on(self):
         a, b = (self.server(name, lease="1", host_lease="1") for name in "ab")
@@ -255,7 +189,7 @@ class Ends(Trial):
         self.kill(a)
         again, lines = self.session(b, 4, 1)
         self.assertEqual(lines, ["holds b 1"])
-        self.assertEqual(read_lines(other, 1), ["granted a 2"])
+        self.assertEqual(granted_late(other, again), "granted a 2")
         self.assertGreater(time.monotonic() - begun, 1)
         wait_until(lambda: "server a 1 is over at position " in b.text_of_log())
         self.assertEqual(say(again, "2 release b 1\n"), ["2 released b"])
@@ -281,7 +215,7 @@ class Ends(Trial):
         self.assertEqual(say(sock, "acquire a 1\n"), ["waiting a 0"])
         a.process.send_signal(signal.SIGSTOP)
         self.assertEqual(say(other, "release a 1\n"), ["released a"])
-        wait_until(lambda: "server a 1 is over" in b.text_of_log())
+        wait_until(lambda: say(other, "ping\n") == ["pong"] and "server a 1 is over" in b.text_of_log())
         self.assertEqual(say(other, "acquire a 1\n"), ["granted a 3"])
         a.process.send_signal(signal.SIGCONT)
         self.assertEqual(sock.recv(100), b"")
@@ -297,7 +231,7 @@ class Ends(Trial):
         a.process.terminate()
         self.assertEqual(a.process.wait(PATIENCE), 0)
         self.assertEqual(read_lines(sock, 3), ["released a", "granted b 1"])
-        self.assertEqual(a.text_of_log().splitlines()[-1].split(" ", 1)[1], "stopped")
+        self.assertEqual(a.text_of_log().splitlines()[-1].split(" ", 1)[1], "stopped stopped")
 
     def test_the_engine_is_killed(self):
         a, b = self.server("a"), self.server("b")
@@ -327,6 +261,33 @@ class Ends(Trial):
         folder = os.path.join(self.folder, name)
         return [SERVER, "--engine", ENGINE, "--journal", folder, "--socket", folder + ".sock", "--etcd", self.log.path, "--name", name,
                 "--log-program", RELAY, "--locks", "a,b,c", "--faults", *more]
+
+    def files(self, folder):
+        """What lies in a folder, but for the locks of the system."""
+        found = {}
+        for path, _, names in os.walk(folder):
+            for name in names:
+                if name != "lock":
+                    with open(os.path.join(path, name), "rb") as file:
+                        found[os.path.join(path, name)] = file.read()
+        return found
+
+    def test_a_start_that_fails_changes_no_file(self):
+        for name, checkpoint in (("a", "30"), ("b", "100000")):
+            log = os.path.join(self.folder, "log")
+            server = self.server(name, checkpoint=checkpoint)
+            self.hand_over(server, count=40)
+            self.catch_up(server)
+            server.stop()
+            kept = self.files(server.journal)
+            for locks in ("b,a,c", "a,b:3,c", "a,b,d"):
+                it = subprocess.run([*server.words, "--locks", locks], capture_output=True, text=True, timeout=PATIENCE, check=False)
+                self.assertEqual(it.returncode, 1, it.stderr)
+                self.assertIn("are the same for all servers; in the log they are `", it.stderr)
+                self.assertEqual(self.files(server.journal), kept)
+            self.hand_over(self.server(name, checkpoint=checkpoint))
+            self.log.replace("double", [])
+            self.assertTrue(os.path.exists(log))
 
     def test_other_settings(self):
         self.server("a")
@@ -391,6 +352,46 @@ class Checkpoints(Trial):
         self.assertGreater(self.compare("a", "b"), 8)
         self.assertGreater(self.log.needs["a"][0], 50)
 
+    def test_more_locks(self):
+        """One server that begins with more locks adds them for all: holds stay, and all hosts have the same files."""
+        a, b = (self.server(name, checkpoint=60) for name in "ab")
+        (held, _), waiting = self.session(b, 8), self.raw(b)
+        self.assertEqual(say(held, "1 acquire a 7\n"), ["1 granted a 1"])
+        self.assertEqual(say(waiting, "acquire a 8\nacquire d 1\n", 2), ["waiting a 0", "refused lock d"])
+        self.hand_over(a, count=10)
+        a.stop()
+        a = self.server("a", checkpoint=60, locks="a,b,c,d:3")
+        wait_until(lambda: say(waiting, "acquire d 1\ncancel d\n", 2) != ["refused lock d", "refused lock d"])
+        wait_until(lambda: "the log has 4 locks, and --locks 3 of them: put them all there: a:8:8,b:8:8,c:8:8,d:3:3"
+                   in b.text_of_log())
+        with b.raw() as sock:
+            self.assertTrue(say(sock, "acquire d 5\n")[0].startswith("granted d "))
+            self.assertEqual(say(self.raw(a), "stats d\ntry d 1\n", 2)[1], "busy d")
+        self.assertEqual(say(held, "2 release a 1\n"), ["2 released a"])
+        self.assertEqual(read_lines(waiting, 1), ["granted a 2"])
+        self.kill(b)
+        b = self.server("b", checkpoint=60)  # with the list as it was
+        c, d = self.server("c", checkpoint=60, locks="a,b,c,d:3,e"), self.server("d", checkpoint=60, locks="a,b")
+        servers = [a, b, c, d]
+        for server in servers:
+            wait_until(lambda: server.operate("stats e").startswith("stats e "))
+        self.hand_over(b, "e", count=1)
+        late, _ = self.session(c, 9)
+        self.assertEqual(say(late, "1 acquire e 7\n"), ["1 granted e 2"])
+        self.hand_over(d, "d", count=40)
+        d.stop()
+        d = servers[3] = self.server("d", checkpoint=60, locks="a,b")
+        self.catch_up(*servers)
+        self.assertEqual(d.operate("stats e"), c.operate("stats e"))
+        self.assertNotEqual(d.operate("stats e").split()[5], "0")
+        self.assertNotIn("--locks 5", c.text_of_log())
+        late.close()
+        self.catch_up(*servers)
+        [server.stop() for server in servers]
+        self.assertGreater(self.compare("a", "b", "c", "d"), 0)
+        with open(a.journal + "/journal/locks", encoding="ascii") as file:
+            self.assertEqual(file.read().split()[::1 if IS_DOUBLE else 3], ["a", "b", "c", "d", "e"])
+
     def test_a_new_host(self):
         a, b = (self.server(name, checkpoint=30) for name in "ab")
         held = self.raw(a)
@@ -424,12 +425,12 @@ class Checkpoints(Trial):
         self.log.identity = "other"
         status, text = self.restarted(a)
         self.assertEqual(status, 4)
-        self.assertIn("the checkpoint is of another log than other: was etcd replaced?", text)
+        self.assertIn("etcd has another log than this server has read, or an earlier state of it (it has another identity)", text)
         self.log.identity = "double"
         self.log.begun = 1000
         status, text = self.restarted(b)
         self.assertEqual(status, 4)
-        self.assertIn("the log is another one, or does not reach back to the checkpoint", text)
+        self.assertIn("the log does not reach back to this server's checkpoint (it begins with entry 1000): begin again with another server's", text)
 
     def test_damaged_checkpoints(self):
         a, b, c = (self.server(name, checkpoint=30) for name in "abc")

@@ -27,7 +27,7 @@ def line(draw):
 
 def make_noise(server, seed):
     draw = random.Random(seed)
-    for _ in range(200):
+    for _ in range(500):
         with server.raw(draw.random() < 0.1) as sock:
             sock.settimeout(0.05)
             try:

@@ -4,11 +4,14 @@ import html.parser
 import http.client
 import re
 import socket
+import time
 import unittest
 
-from harness import PATIENCE, Server, needs_loopback, needs_programs, say, wait_until
+from harness import PATIENCE, Server, needs_loopback, needs_programs, read_lines, say, wait_until
 
 METRIC = re.compile(r'^([a-z_]+)(?:\{([a-z]+)="([^"\\\n]*)"\})? (-?[0-9.]+(?:e[+-]?[0-9]+)?)$')
+# what the values of a histogram are called, behind its name
+RANGES = re.compile(r"_(bucket|sum|count)$")
 
 
 def with_page(test):
@@ -69,6 +72,9 @@ class Pages(unittest.TestCase):
                 match = METRIC.match(line)
                 self.assertIsNotNone(match, line)
                 name, _, of, value = match.groups()
+                if kinds.get(RANGES.sub("", name)) == "histogram":
+                    values[name, of] = float(value)
+                    continue
                 self.assertIn(name, kinds)
                 self.assertEqual(kinds[name] == "counter", name.endswith("_total"), name)
                 self.assertNotIn((name, of), values)
@@ -109,8 +115,17 @@ class Pages(unittest.TestCase):
             self.assertEqual(values["wozgirt_refusals_total", "lock"], 1)
             self.assertEqual(values["wozgirt_connections", None], 2)
             self.assertGreater(values["wozgirt_journal_bytes", None], 100)
+            self.assertEqual((values["wozgirt_wait_seconds_bucket", "0.001"], values["wozgirt_wait_seconds_count", None]), (2, 2))
+            time.sleep(0.02)
+            say(one, "release deploy 2\n")
+            read_lines(two, 1)
+            values = self.metrics()
+            counts = [value for (name, _), value in values.items() if name == "wozgirt_wait_seconds_bucket"]
+            self.assertEqual((counts, values["wozgirt_wait_seconds_bucket", "+Inf"]), (sorted(counts), 3))
+            self.assertEqual(values["wozgirt_wait_seconds_bucket", "0.01"], 2)
+            self.assertGreater(values["wozgirt_wait_seconds_sum", None], 0.02)
             two.close()
-            wait_until(lambda: self.metrics()["wozgirt_waiting", "deploy"] == 0)
+            wait_until(lambda: self.metrics()["wozgirt_held", "deploy"] == 0)
             self.assertEqual(self.metrics()["wozgirt_engine_starts_total", None], 1)
 
     @with_page

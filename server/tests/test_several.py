@@ -4,6 +4,7 @@ import os
 import signal
 import subprocess
 import sys
+import time
 import unittest
 
 from harness import COMMAND, PATIENCE, TOP, Server, by_the_clock, needs_loopback, needs_programs, read_lines, say, wait_until
@@ -113,6 +114,23 @@ class Several(Commands, Trial):
         self.kill(a)
         self.kill(b)
         self.assertEqual(self.finish(it, 75, ""), "wozgirt: the lock is lost (no server answers); COMMAND is ended\n")
+
+    def test_one_server_of_several_by_its_socket(self):
+        """Where the command asks for no lease, it keeps the one that the server gives: while it waits, and while COMMAND runs."""
+        a, b = self.pair(lease="1")
+        self.places = [a.path]
+        holder = self.raw(b)
+        self.assertEqual(say(holder, "acquire a 1\n"), ["granted a 1"])
+        it = self.start("lock", "a", *UP)
+        begun = time.monotonic()
+        a.wait_for_waiters("a", 1)
+        while time.monotonic() < begun + 2.5:
+            self.assertEqual(say(holder, "ping\n"), ["pong"])
+            time.sleep(0.1)
+        self.assertEqual(say(holder, "release a 1\n"), ["released a"])
+        self.assertEqual(it.stdout.readline(), "up 2\n")
+        time.sleep(2.5)
+        self.finish(it, 0, "down\n")
 
     def test_no_server_and_one_that_is_alone(self):
         self.places = ["/nonexistent/a", "/nonexistent/b"]

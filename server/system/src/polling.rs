@@ -16,8 +16,8 @@ const EPOLLOUT: u32 = 0x004;
 const EPOLLERR: u32 = 0x008;
 const EPOLLHUP: u32 = 0x010;
 const POLLIN: i16 = 1;
-/// How many events one wait takes at most.
-const ROUND: usize = 256;
+/// How many events the first wait takes at most. Each wait that takes as many as it may doubles the room for the next one.
+const FIRST_ROOM: usize = 256;
 /// A wait that is shorter ends to the microsecond: `epoll_wait` counts milliseconds.
 const FINE: Duration = Duration::from_millis(10);
 
@@ -28,6 +28,10 @@ const FINE: Duration = Duration::from_millis(10);
 struct Raw {
     events: u32,
     key: u64,
+}
+
+impl Raw {
+    const NONE: Raw = Raw { events: 0, key: 0 };
 }
 
 /// `struct pollfd` and `struct timespec` of the system.
@@ -93,7 +97,7 @@ impl Poller {
     pub fn new() -> io::Result<Poller> {
         // SAFETY: no memory is passed; the new file is nobody else's.
         let epoll = unsafe { OwnedFd::from_raw_fd(checked(epoll_create1(EPOLL_CLOEXEC))?) };
-        Ok(Poller { epoll, raw: vec![Raw { events: 0, key: 0 }; ROUND] })
+        Ok(Poller { epoll, raw: vec![Raw::NONE; FIRST_ROOM] })
     }
 
     /// Waits for this file too. A file that is closed leaves the set by itself.
@@ -119,7 +123,8 @@ impl Poller {
     }
 
     /// Waits until something happens, or for so long, and puts what happened into `events`. It may be nothing. True if that
-    /// is all that had happened; else the next wait tells of more.
+    /// is all that had happened; else the next wait tells of more, and has twice the room: so whoever keeps many files busy
+    /// delays this answer for a few waits only.
     pub fn wait(&mut self, time: Option<Duration>, events: &mut Vec<Event>) -> io::Result<bool> {
         events.clear();
         let epoll = self.epoll.as_raw_fd();
@@ -135,8 +140,10 @@ impl Poller {
             Some(time) => i32::try_from(time.as_nanos().div_ceil(1_000_000)).unwrap_or(i32::MAX),
             None => -1,
         };
-        // SAFETY: `raw` has `ROUND` writable events, and any bytes are an event.
-        let count = match checked(unsafe { epoll_wait(epoll, self.raw.as_mut_ptr(), ROUND as i32, milliseconds) }) {
+        let room = self.raw.len();
+        let most = i32::try_from(room).unwrap_or(i32::MAX);
+        // SAFETY: `raw` has as many writable events as `most` or more, and any bytes are an event.
+        let count = match checked(unsafe { epoll_wait(epoll, self.raw.as_mut_ptr(), most, milliseconds) }) {
             Ok(count) => count as usize,
             Err(fault) if fault.kind() == io::ErrorKind::Interrupted => return Ok(false),
             Err(fault) => return Err(fault),
@@ -147,7 +154,10 @@ impl Poller {
             let is_readable = is_gone || bits & EPOLLIN != 0;
             Event { key, is_readable, is_writable: is_gone || bits & EPOLLOUT != 0, is_gone }
         }));
-        Ok(count < ROUND)
+        if count == room {
+            self.raw.resize(2 * room, Raw::NONE);
+        }
+        Ok(count < room)
     }
 }
 
@@ -189,6 +199,20 @@ mod tests {
         }
         other.write_all(b"x").unwrap();
         assert_eq!(waited(&mut poller, 5).len(), 1);
+    }
+
+    #[test]
+    fn a_wait_soon_takes_all_however_many_files_are_busy() {
+        let pairs: Vec<_> = (0..FIRST_ROOM + 44).map(|_| UnixStream::pair().unwrap()).collect();
+        let mut poller = Poller::new().unwrap();
+        for (key, (one, other)) in pairs.iter().enumerate() {
+            poller.add(one, key as u64, Interest::READS).unwrap();
+            (&mut &*other).write_all(b"x").unwrap();
+        }
+        let mut events = Vec::new();
+        assert!(!poller.wait(Some(Duration::ZERO), &mut events).unwrap());
+        assert!(poller.wait(Some(Duration::ZERO), &mut events).unwrap());
+        assert_eq!(events.len(), pairs.len());
     }
 
     #[test]

@@ -1,7 +1,8 @@
 """A second reading of the log: what its entries mean, and a machine of locks, with no code of the programs.
 
-An entry is `by NAME INCARNATION SERIAL POSITION DIGEST`, and lines `with SETTINGS`, `here KEY`, `KEY NUMBER INPUT`, `gone KEY`,
-`server NAME INCARNATION`, with tabs between them. KEY is a session's; sessions count from 1, in the order in which they come."""
+An entry is `by NAME INCARNATION SERIAL POSITION DIGEST`, and lines `with SETTINGS`, `here KEY WHO`, `KEY NUMBER INPUT`, `gone KEY`,
+`server NAME INCARNATION`, with tabs between them. KEY is a session's; sessions count from 1, in the order in which they come. WHO is a user,
+`uNUMBER`, or an address, `aADDRESS`; a session is the first user's and the first address's that came with its key."""
 
 import collections
 import sys
@@ -88,7 +89,8 @@ class Reading:
         self.locks, self.settings, self.servers, self.over, self.sessions = Locks(count), None, {}, {}, {}
         self.answers = collections.defaultdict(dict)  # by key, by number: place, verb and lock, answer
         self.twice = []  # those that were done more than once
-        self.done = self.again = self.entries = self.ignored = self.last_session = 0
+        self.done = self.again = self.entries = self.ignored = self.last_session = self.foreign = 0
+        self.owners = {}  # of each session the first user and the first address
 
     def read(self, text):
         """The next entry."""
@@ -116,7 +118,7 @@ class Reading:
 
     def _line(self, writer, words):
         if words[0] == "here":
-            self._home(int(words[1]), writer)
+            self._home(int(words[1]), words[2], writer)
         elif words[0] == "gone":
             if self.sessions.get(int(words[1]), (None,))[0] == writer:
                 self._go(int(words[1]))
@@ -130,11 +132,15 @@ class Reading:
         elif words[0] != "with":
             self._do(writer, int(words[0]), int(words[1]), words[2:])
 
-    def _home(self, key, writer):
+    def _home(self, key, who, writer):
         if key not in self.sessions:
             self.last_session += 1
             self.sessions[key] = writer, 0, self.last_session
-        self.sessions[key] = writer, *self.sessions[key][1:]
+            self.owners[key] = {}
+        if self.owners[key].setdefault(who[0], who) == who:
+            self.sessions[key] = writer, *self.sessions[key][1:]
+        else:
+            self.foreign += 1
 
     def _go(self, key):
         del self.sessions[key]

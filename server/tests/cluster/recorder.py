@@ -7,24 +7,30 @@ import time
 from bed import LOG_PROGRAM
 
 EVERY = 400
+# all starts of this name are its own
+OWN = 10**9
 
 
 class Recorder:
     """Writes `POSITION REVISION TEXT` lines to a file; `position` is the last."""
 
     def __init__(self, urls, path):
-        self.urls, self.position, self.revision, self.is_over = urls, 0, 0, threading.Event()
+        self.urls, self.identity, self.position, self.revision, self.is_over = urls, "-", 0, 0, threading.Event()
         self.process, self.file = None, open(path, "w", encoding="ascii")
         self.threads = [threading.Thread(target=work, daemon=True) for work in (self._read, self._live)]
         [it.start() for it in self.threads]
 
     def _read(self):
         while not self.is_over.is_set():
-            self.process = subprocess.Popen([LOG_PROGRAM, "--endpoints", self.urls, "--prefix", "locks", "--name", "recorder", "--lease", "10"],
-                                            stdin=subprocess.PIPE, stdout=subprocess.PIPE, text=True)
+            process = subprocess.Popen([LOG_PROGRAM, "--endpoints", self.urls, "--prefix", "locks", "--name", "recorder", "--lease", "10"],
+                                       stdin=subprocess.PIPE, stdout=subprocess.PIPE, text=True)
+            process.stdin.write(f"known {self.identity} {self.position} {self.revision} {OWN}\n")
+            process.stdin.flush()
+            self.process = process
             for line in self.process.stdout:
                 words = line.rstrip("\n").split(" ", 3)
                 if words[0] == "log":
+                    self.identity = words[1]
                     self.say(f"follow {self.position} {self.revision}")
                 elif words[0] == "entry":
                     self.file.write(" ".join(words[1:]) + "\n")

@@ -82,16 +82,47 @@ impl Sight {
     }
 }
 
+/// The upper ends of the ranges in which waits for grants are counted, in seconds; above the last there is one more.
+pub const WAITS: [f64; 12] = [0.001, 0.003, 0.01, 0.03, 0.1, 0.3, 1.0, 3.0, 10.0, 30.0, 100.0, 300.0];
+
+/// How long those who were granted a lock had waited, of all locks since the server started.
+#[derive(Debug, Default)]
+pub struct Waits {
+    /// How many in each range, and above.
+    pub counts: [u64; WAITS.len() + 1],
+    /// All of them together.
+    pub sum: Duration,
+}
+
+impl Waits {
+    fn count(&mut self, waited: Duration) {
+        let range = WAITS.iter().position(|end| waited.as_secs_f64() <= *end).unwrap_or(WAITS.len());
+        self.counts[range] += 1;
+        self.sum += waited;
+    }
+}
+
 /// All locks.
 #[derive(Debug)]
 pub struct Board {
     locks: Vec<Sight>,
+    waits: Waits,
 }
 
 impl Board {
     /// Of so many locks, of which nothing is known.
     pub fn new(locks: usize) -> Board {
-        Board { locks: (0..locks).map(|_| Sight::default()).collect() }
+        Board { locks: (0..locks).map(|_| Sight::default()).collect(), waits: Waits::default() }
+    }
+
+    /// How long grants were waited for.
+    pub fn all_waits(&self) -> &Waits {
+        &self.waits
+    }
+
+    /// There are so many locks now; nothing is known of those that are new.
+    pub fn resize(&mut self, locks: usize) {
+        self.locks.resize_with(locks, Sight::default);
     }
 
     /// Each lock, in order.
@@ -134,7 +165,8 @@ impl Board {
 
     /// The client holds the lock. The label of one who waited is known.
     pub fn granted(&mut self, lock: Lock, client: Client, token: Token, label: Option<Label>, now: Instant) {
-        self.with(lock, |sight| {
+        let Board { locks, waits } = self;
+        if let Some(sight) = locks.get_mut(lock) {
             let waiter = sight.take_waiter(client);
             let waited = waiter.map_or(Duration::ZERO, |waiter| now.saturating_duration_since(waiter.since));
             sight.holder = Some(Holder { client, token, label: label.or(waiter.map(|it| it.label)), since: now });
@@ -142,7 +174,8 @@ impl Board {
             sight.grants += 1;
             sight.waited += waited;
             sight.longest_wait = sight.longest_wait.max(waited);
-        });
+            waits.count(waited);
+        }
     }
 
     /// The client holds the lock since before this server started.
@@ -241,6 +274,10 @@ mod tests {
         assert_eq!(sight.holder, Some(holder));
         assert_eq!((sight.grants, sight.longest_wait, sight.line.len()), (2, Duration::from_millis(5), 1));
         assert!(board.left(0, 2) && !board.left(0, 2) && !board.left(7, 2));
+        assert_eq!(
+            (board.all_waits().counts[0], board.all_waits().counts[2], board.all_waits().sum.as_millis()),
+            (1, 1, 5)
+        );
         board.waits_no_longer(0, 3);
         assert_eq!((board.locks()[0].holder, board.locks()[0].line.len()), (None, 0));
     }

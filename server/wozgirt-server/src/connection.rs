@@ -1,22 +1,22 @@
 //! One connection: what it said and was not answered yet, and what it was told and did not read yet.
 
+use crate::cluster::Who;
 use crate::log::End;
 use crate::outbox::Outbox;
+use crate::places::Guest;
 use crate::requests::LONGEST_LINE;
+use crate::status::Listing;
 use crate::stream::Stream;
 use std::collections::VecDeque;
 use std::io::{self, ErrorKind, Read};
 use std::time::{Duration, Instant};
-use wozgirt_engine::{Client, Input, Lock};
+use wozgirt_engine::{Client, Input, Lock, Token};
 use wozgirt_system::{Interest, Peer};
 
 /// How much is read of a connection before the others have their turn.
 pub const SHARE: usize = 4 << 10;
 /// How many lines of a connection may wait for the engine's answer: then no more is read of it.
-const MOST_PENDING: usize = 128;
-/// With more bytes unread than this, no more is read of a connection.
-const MOST_UNREAD: usize = 64 << 10;
-
+pub const MOST_PENDING: usize = 128;
 /// How many shares are read of a connection that is to be closed.
 const MOST_DRAINED: usize = 16;
 
@@ -38,6 +38,10 @@ pub enum Pending {
     Asked(Input),
     /// A leave, which the engine does not answer; another input behind it shows when it is done.
     Left,
+    /// An operator, this client, ends its hold of a lock with a token: a release that it has not asked for itself.
+    Ended(Client, Lock, Token),
+    /// An operator waits for the end of a hold that it has asked for.
+    Ending,
     /// The same, with their numbers, where the log says what the engine is asked.
     Numbered(u64, Input),
     Leaving(u64),
@@ -45,6 +49,8 @@ pub enum Pending {
     Opening,
     /// The server has answered it, and that is told when all before it is answered.
     Told(Vec<u8>),
+    /// The server tells all locks, as much at a time as there is room for; until that is done, no other line is taken.
+    Listing(Listing),
 }
 
 /// The session of a connection, where several servers have one log.
@@ -58,6 +64,18 @@ pub struct Seat {
     pub last: u64,
     /// Whether the client has left, and said nothing since.
     pub has_left: bool,
+}
+
+/// Who has come in at a door.
+pub struct Visit {
+    /// The socket.
+    pub stream: Stream,
+    /// Who is at the other end, if the system knows.
+    pub peer: Option<Peer>,
+    /// The same for a reader.
+    pub who: String,
+    /// On whose account it is.
+    pub guest: Guest,
 }
 
 /// What came of reading.
@@ -80,6 +98,8 @@ pub struct Connection {
     pub peer: Option<Peer>,
     /// The same for a reader.
     pub who: String,
+    /// On whose account it is.
+    pub guest: Guest,
     /// Lines without an answer, the oldest first.
     pub pending: VecDeque<Pending>,
     /// Its session, if it has one.
@@ -96,6 +116,11 @@ pub struct Connection {
     pub has_said_all: bool,
     /// Something is to be written to it at the end of this round.
     pub is_dirty: bool,
+    /// It stands in the line of those who have said more than was taken.
+    pub is_queued: bool,
+    /// How many of its lines wait for the engine, and whether one ever did.
+    pub asked: usize,
+    pub has_asked: bool,
     /// When it was last heard.
     heard: Instant,
     /// Since when it takes nothing of what it is told.
@@ -104,23 +129,25 @@ pub struct Connection {
     interest: Interest,
     input: Vec<u8>,
     outbox: Outbox,
+    /// With more bytes untold and unread than this, no more is read of it.
+    most_unread: usize,
+    /// How many bytes wait among the answers to be told.
+    untold: usize,
+    /// Whether all locks are to be told, and what came while they were.
+    has_listing: bool,
+    late: Vec<u8>,
 }
 
 impl Connection {
-    /// A new connection.
-    pub fn new(
-        client: Client,
-        door: Door,
-        peer: Option<Peer>,
-        who: String,
-        stream: Stream,
-        now: Instant,
-    ) -> Connection {
+    /// A new connection, which may leave so many bytes unread.
+    pub fn new(client: Client, door: Door, visit: Visit, most_unread: usize, now: Instant) -> Connection {
+        let Visit { stream, peer, who, guest } = visit;
         Connection {
             client,
             door,
             peer,
             who,
+            guest,
             pending: VecDeque::new(),
             seat: None,
             waits_for: None,
@@ -129,13 +156,26 @@ impl Connection {
             ending: None,
             has_said_all: false,
             is_dirty: false,
+            is_queued: false,
+            asked: 0,
+            has_asked: false,
             heard: now,
             stuck: None,
             stream,
             interest: Interest::READS,
             input: Vec::new(),
             outbox: Outbox::default(),
+            most_unread,
+            untold: 0,
+            has_listing: false,
+            late: Vec::new(),
         }
+    }
+
+    /// Who is at the other end, as far as sessions are concerned.
+    pub fn identity(&self) -> Who {
+        let user = || self.peer.as_ref().map(|peer| Who::User(peer.user));
+        self.stream.address().map(Who::at).or_else(user).unwrap_or(Who::Unknown)
     }
 
     /// Its socket.
@@ -186,9 +226,14 @@ impl Connection {
         })
     }
 
-    /// Whether a line is there that may be taken now.
+    /// Whether a line is there that may be taken now, or one that can have no end.
     pub fn has_line(&self) -> bool {
-        self.takes_more() && self.input.contains(&b'\n')
+        self.takes_more() && (self.input.contains(&b'\n') || self.has_endless_line())
+    }
+
+    /// Whether so much was read already that the rest waits at the system.
+    pub fn is_read_enough(&self) -> bool {
+        self.input.len() >= SHARE
     }
 
     /// Whether a line has begun that can have no end.
@@ -196,22 +241,90 @@ impl Connection {
         self.input.len() >= LONGEST_LINE && !self.input[..LONGEST_LINE].contains(&b'\n')
     }
 
-    /// Whether more of its lines may be taken: not as long as many are unanswered, or the answers unread.
+    /// Whether more of its lines may be taken: not as long as many are unanswered, or the answers unread or untold.
     pub fn takes_more(&self) -> bool {
-        self.ending.is_none() && self.pending.len() < MOST_PENDING && self.outbox.len() < MOST_UNREAD
+        // whose the session is, that it said, is not known before the log says so
+        let is_opening = matches!(self.pending.back(), Some(Pending::Opening));
+        let is_waiting = is_opening || self.has_listing;
+        self.ending.is_none() && !is_waiting && self.pending.len() < MOST_PENDING && self.has_room()
+    }
+
+    /// Whether its session begins next, when the log says so.
+    pub fn is_opening(&self) -> bool {
+        matches!(self.pending.front(), Some(Pending::Opening))
+    }
+
+    fn has_room(&self) -> bool {
+        self.outbox.len() + self.untold < self.most_unread
+    }
+
+    /// Tells all locks behind the answers to what it said before.
+    pub fn put_listing(&mut self, listing: Listing) {
+        self.has_listing = true;
+        self.pending.push_back(Pending::Listing(listing));
+    }
+
+    /// Takes out the line that the engine answers next. In front of one that an operator asked for there may be a list that is told.
+    pub fn take_asked(&mut self) -> Option<Pending> {
+        let is_asked = |it: &Pending| matches!(it, Pending::Asked(_) | Pending::Left | Pending::Ended(..));
+        match self.pending.iter().position(is_asked)? {
+            0 => self.pending.pop_front(),
+            place => self.pending.remove(place),
+        }
+    }
+
+    /// All holds that operators wait to end.
+    pub fn ended(&self) -> Vec<(Client, Lock, Token)> {
+        let ended = |it: &Pending| match it {
+            Pending::Ended(operator, lock, token) => Some((*operator, *lock, *token)),
+            _ => None,
+        };
+        self.pending.iter().filter_map(ended).collect()
+    }
+
+    /// Tells an operator what came of the end of a hold that it asked for, in its place among the answers.
+    pub fn tell_ending(&mut self, line: impl std::fmt::Display) {
+        let ending = self.pending.iter_mut().find(|it| matches!(it, Pending::Ending));
+        if let Some(ending) = ending {
+            let mut lines = Vec::new();
+            self.untold += put_line(&mut lines, line);
+            *ending = Pending::Told(lines);
+        }
+        self.tell_what_waited();
+    }
+
+    /// Tells more of the list of all locks, if that is to be told now: by `go_on`, which is passed the text and its longest length,
+    /// and says whether it is done.
+    pub fn tell_listing(&mut self, go_on: impl FnOnce(&mut Listing, &mut Vec<u8>, usize) -> bool) {
+        let room = self.most_unread.saturating_sub(self.outbox.len() + self.untold);
+        let Some(Pending::Listing(listing)) = self.pending.front_mut().filter(|_| room > 0) else { return };
+        let text = self.outbox.bytes();
+        let most = text.len() + room;
+        if go_on(listing, text, most) {
+            self.pending.pop_front();
+            self.has_listing = false;
+            text.append(&mut self.late);
+        }
+    }
+
+    /// Whether there is a list of all locks that is to be told now, and room for more of it.
+    pub fn is_listing(&self) -> bool {
+        matches!(self.pending.front(), Some(Pending::Listing(_))) && self.has_room()
     }
 
     /// Tells it something that the server says itself, after the answers to what it said before.
     pub fn tell_in_order(&mut self, line: impl std::fmt::Display) {
-        match self.pending.back_mut() {
-            None => self.tell(line),
+        let added = match self.pending.back_mut() {
+            None => return self.tell(line),
             Some(Pending::Told(lines)) => put_line(lines, line),
             Some(_) => {
                 let mut lines = Vec::new();
-                put_line(&mut lines, line);
+                let added = put_line(&mut lines, line);
                 self.pending.push_back(Pending::Told(lines));
+                added
             }
-        }
+        };
+        self.untold += added;
     }
 
     /// Tells it the answer to an input, with the number if the client gave that.
@@ -223,14 +336,16 @@ impl Connection {
         }
     }
 
-    /// Tells it something at once.
+    /// Tells it something at once, or behind the list of all locks that it is being told.
     pub fn tell(&mut self, line: impl std::fmt::Display) {
-        put_line(self.outbox.bytes(), line);
+        let is_listing = matches!(self.pending.front(), Some(Pending::Listing(listing)) if listing.has_begun());
+        put_line(if is_listing { &mut self.late } else { self.outbox.bytes() }, line);
     }
 
     /// Tells what waited only for the answers that are told now.
     pub fn tell_what_waited(&mut self) {
         while let Some(Pending::Told(lines)) = self.pending.front() {
+            self.untold -= lines.len();
             self.outbox.bytes().extend_from_slice(lines);
             self.pending.pop_front();
         }
@@ -258,18 +373,25 @@ impl Connection {
 
     /// What is to be waited for at its socket, if that has changed.
     pub fn new_interest(&mut self, is_engine_there: bool) -> Option<Interest> {
-        let reads = is_engine_there && !self.has_said_all && self.takes_more() && self.input.len() < SHARE;
+        let reads = is_engine_there && !self.has_said_all && self.takes_more() && !self.is_read_enough();
         let interest = Interest { reads, writes: !self.outbox.is_empty() };
         let is_new = interest != self.interest;
         self.interest = interest;
         is_new.then_some(interest)
     }
 
-    /// As long as nothing is read of it because the server has not answered, it cannot be heard.
-    pub fn excuse(&mut self, now: Instant) {
+    /// Its lease seems to be over, and the server may not have read what it said: whether it is over.
+    pub fn is_silent_for_sure(&mut self, buffer: &mut [u8; SHARE], now: Instant) -> bool {
         if !self.interest.reads && self.outbox.is_empty() {
-            self.heard = now;
+            // what it said and was not taken yet shows that it waits for the server
+            let is_owed =
+                !self.input.is_empty() || matches!(self.read(buffer, now), Ok(Reading::Open)) && self.heard == now;
+            if is_owed {
+                self.heard = now;
+            }
+            return !is_owed;
         }
+        true
     }
 
     /// Whether it was silent for longer than its lease.
@@ -281,9 +403,24 @@ impl Connection {
     pub fn is_deaf(&self, now: Instant, longest: Duration) -> bool {
         self.stuck.is_some_and(|since| now.saturating_duration_since(since) > longest)
     }
+
+    /// Whether it takes nothing of what it is told, as far as is known.
+    pub fn is_stuck(&self) -> bool {
+        self.stuck.is_some()
+    }
+
+    /// When it is silent or deaf, if nothing happens until then.
+    pub fn deadline(&self, longest: Duration) -> Option<Instant> {
+        let silent = self.lease.map(|lease| self.heard + lease);
+        let deaf = self.stuck.map(|since| since + longest);
+        silent.into_iter().chain(deaf).min()
+    }
 }
 
-fn put_line(lines: &mut Vec<u8>, line: impl std::fmt::Display) {
+/// How many bytes were added.
+fn put_line(lines: &mut Vec<u8>, line: impl std::fmt::Display) -> usize {
     use std::io::Write;
+    let before = lines.len();
     let _ = writeln!(lines, "{line}"); // a list takes whatever is written
+    lines.len() - before
 }

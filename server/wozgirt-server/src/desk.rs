@@ -2,18 +2,25 @@
 
 use crate::board::Board;
 use crate::cluster::Cluster;
-use crate::connection::{Connection, Door, Pending};
+use crate::connection::{Connection, Door, Pending, MOST_PENDING};
 use crate::engine::Engine;
 use crate::log::{End, Event, Log};
 use crate::names::Names;
+use crate::questions::Questions;
 use crate::requests::{numbered, parse, BadRequest, Request, Verb, LONGEST_LINE};
 use crate::rules::Rules;
 use crate::settings::Settings;
-use crate::status::Status;
+use crate::status::{Listing, Locks};
 use crate::sums::Sums;
 use std::fmt;
+use std::rc::Rc;
 use std::time::{Duration, Instant};
-use wozgirt_engine::{Answer, Asked, Client, Input, Lock, NotALine, Stats};
+use wozgirt_engine::{Answer, Asked, Client, Input, Lock, NotALine, Stats, Token, NOBODY};
+
+/// After so many lines it is looked what time it is.
+const LINES_BY_CLOCK: u32 = 8;
+/// With so many lines that wait to be put into the log, no more are taken.
+const MOST_FOR_LOG: usize = 10_000;
 
 /// What is left to do after some lines.
 #[derive(Debug, PartialEq, Eq)]
@@ -26,6 +33,10 @@ pub enum Then {
     Clients,
     /// To end this other connection, whose session has come here.
     Moved(Client),
+    /// To end this connection, as an operator said.
+    Kick(Client),
+    /// To end this client's hold of a lock with a token, as an operator said.
+    EndHold(Client, Lock, Token),
     /// To end the server.
     Stop,
 }
@@ -41,9 +52,13 @@ pub struct Desk {
     /// The names of locks.
     pub names: Names,
     /// Who may use them.
-    pub rules: Rules,
+    pub rules: Rc<Rules>,
     /// The engine.
     pub engine: Engine,
+    /// How far it is with what it was asked.
+    pub questions: Questions,
+    /// So much waits for it that nothing more is taken of clients, and nobody is let in.
+    pub is_full: bool,
     /// What it told.
     pub board: Board,
     /// What is counted.
@@ -85,11 +100,15 @@ impl fmt::Display for AnswerLine<'_> {
 }
 
 impl Desk {
-    /// Takes lines of the connection as long as it may say more.
-    pub fn take_lines(&mut self, connection: &mut Connection) -> Then {
+    /// Takes lines of the connection as long as it may say more, but only a few after this time.
+    pub fn take_lines(&mut self, connection: &mut Connection, until: Instant) -> Then {
         let input = connection.take_input();
-        let (mut taken, mut then) = (0, Then::Wait);
-        while then == Then::Wait && connection.takes_more() {
+        let (mut taken, mut count, mut then) = (0, 0, Then::Wait);
+        while then == Then::Wait && connection.takes_more() && self.may_ask(connection) {
+            count += 1;
+            if count % LINES_BY_CLOCK == 0 && Instant::now() >= until {
+                break;
+            }
             let Some(length) = input[taken..].iter().take(LONGEST_LINE).position(|&b| b == b'\n') else { break };
             then = match std::str::from_utf8(&input[taken..taken + length]) {
                 Ok(line) => self.take(connection, line),
@@ -105,6 +124,76 @@ impl Desk {
         then
     }
 
+    /// Whether the connection has a line that may be taken now.
+    pub fn has_work(&mut self, connection: &Connection) -> bool {
+        connection.has_line() && self.may_ask(connection)
+    }
+
+    /// Whether one more line of the connection may wait for the engine. Operators may ask when clients may not.
+    fn may_ask(&mut self, connection: &Connection) -> bool {
+        let (waiting, most) = (self.waiting_lines(), self.most_waiting());
+        self.is_full |= waiting >= most;
+        let is_refused = match connection.door {
+            Door::Operators => waiting >= 2 * most,
+            Door::Clients | Door::Network => self.is_full,
+        };
+        !is_refused && self.questions.permits(connection.asked, MOST_PENDING)
+    }
+
+    /// Whether the engine has done so much that clients may ask again.
+    pub fn is_free_again(&mut self) -> bool {
+        self.is_full && self.waiting_lines() <= self.most_waiting() / 2
+    }
+
+    /// Whether the engine has done nearly all. It is asked, if that is not known.
+    pub fn has_little_to_do(&mut self) -> bool {
+        let is_little = self.waiting_lines() <= self.most_waiting() / 4;
+        if !is_little && self.cluster.is_none() && self.questions.oldest().is_none() {
+            self.mark();
+        }
+        is_little
+    }
+
+    fn most_waiting(&self) -> usize {
+        if self.cluster.is_some() {
+            MOST_FOR_LOG
+        } else {
+            self.questions.most()
+        }
+    }
+
+    /// Asks the engine. Where there is a log, what goes to the engine comes from there.
+    pub fn ask_engine(&mut self, client: Client, input: Input) {
+        self.engine.ask(Asked { client, input });
+        if self.questions.ask() {
+            self.mark();
+        }
+    }
+
+    /// Asks the engine how far it is.
+    pub fn mark(&mut self) {
+        let input = self.questions.mark(self.now);
+        self.engine.ask(Asked { client: NOBODY, input });
+    }
+
+    /// How long the oldest question of the server's own has been unanswered.
+    pub fn engine_silence(&self) -> Duration {
+        self.questions.oldest().map_or(Duration::ZERO, |asked| self.now.saturating_duration_since(asked))
+    }
+
+    /// How many lines may wait for the engine, or for the log that this server has with others.
+    pub fn waiting_lines(&self) -> usize {
+        self.cluster.as_ref().map_or_else(|| self.questions.waiting(), |cluster| cluster.waiting_lines())
+    }
+
+    /// Tells more of the list of all locks, until this time.
+    pub fn tell_listing(&mut self, connection: &mut Connection, until: Instant) {
+        let peer = connection.peer.take();
+        let view = Locks { board: &self.board, names: &self.names, peer: peer.as_ref(), now: self.now };
+        connection.tell_listing(|listing, text, most| listing.go_on(text, &view, most, until));
+        connection.peer = peer;
+    }
+
     fn take(&mut self, connection: &mut Connection, line: &str) -> Then {
         let is_keyed = connection.seat.as_ref().is_some_and(|seat| seat.is_keyed);
         let (number, line) = match if is_keyed { numbered(line) } else { Ok((None, line)) } {
@@ -115,6 +204,7 @@ impl Desk {
             Ok(request) if is_keyed && request.is_input() != number.is_some() => {
                 return self.refuse(connection, &BadRequest::Rest(NotALine::Syntax));
             }
+            Ok(Request::Of(name, Verb::End(token))) => return self.end_hold(connection, name, token),
             Ok(Request::Of(name, verb)) => self.ask(connection, number, name, verb),
             Ok(Request::Leave) if self.cluster.is_some() => self.put_leave(connection, number),
             Ok(Request::Leave) => self.ask_to_leave(connection),
@@ -127,13 +217,16 @@ impl Desk {
                 connection.lease = Some(lease);
                 connection.tell_in_order(format_args!("lease {}", lease.as_millis()));
             }
+            Ok(Request::GivenLease) => {
+                let lease = connection.lease.map_or(0, |lease| lease.as_millis());
+                connection.tell_in_order(format_args!("lease {lease}"));
+            }
             Ok(Request::Status) => {
-                let (peer, is_operator) = (connection.peer.clone(), connection.door == Door::Operators);
-                let is_shown = |lock| is_operator || self.rules.permits(lock, peer.as_ref());
-                let status = Status::new(&self.board, &self.names, self.now, is_shown);
-                connection.tell_in_order(status);
+                let rules = (connection.door != Door::Operators).then(|| self.rules.clone());
+                connection.put_listing(Listing::new(rules));
             }
             Ok(Request::Clients) => return Then::Clients,
+            Ok(Request::Kick(client)) => return Then::Kick(client),
             Ok(Request::Stop) => {
                 connection.tell_in_order("stopping");
                 return Then::Stop;
@@ -173,8 +266,21 @@ impl Desk {
         if self.cluster.is_some() {
             return self.put_input(connection, number, input);
         }
-        self.engine.ask(Asked { client: connection.client, input });
-        connection.pending.push_back(Pending::Asked(input));
+        self.ask_engine(connection.client, input);
+        self.note_asked(connection, Pending::Asked(input));
+    }
+
+    fn note_asked(&mut self, connection: &mut Connection, pending: Pending) {
+        self.questions.askers += usize::from(connection.asked == 0);
+        connection.asked += 1;
+        connection.has_asked = true;
+        connection.pending.push_back(pending);
+    }
+
+    /// One line of the connection is answered.
+    fn note_answered(&mut self, connection: &mut Connection) {
+        connection.asked -= 1;
+        self.questions.askers -= usize::from(connection.asked == 0);
     }
 
     /// The engine's input, or why the server refuses it.
@@ -197,44 +303,80 @@ impl Desk {
             Verb::Stats => Ok(Input::Stats { lock }),
             Verb::Corrupt { .. } if !self.settings.permits_faults => Err("off"),
             Verb::Corrupt { machine, value } => Ok(Input::Corrupt { lock, machine, value }),
+            Verb::End(token) => Ok(Input::Release { lock, token }),
         }
+    }
+
+    /// An operator ends a hold. What servers share a log of is ended with its session.
+    fn end_hold(&mut self, connection: &mut Connection, name: &str, token: Token) -> Then {
+        let lock = self.names.number(name);
+        let holder = lock.and_then(|lock| self.board.lock(lock)).and_then(|sight| sight.holder);
+        let why = match (lock, holder) {
+            _ if self.cluster.is_some() => "cluster",
+            (None, _) => "lock",
+            (Some(lock), Some(holder)) if holder.token == token => {
+                connection.pending.push_back(Pending::Ending);
+                return Then::EndHold(holder.client, lock, token);
+            }
+            _ => "holder",
+        };
+        self.sums.refused(why);
+        connection.tell_in_order(format_args!("refused {why} {name}"));
+        Then::Wait
+    }
+
+    /// Asks the engine to end a client's hold, for this operator.
+    pub fn ask_to_end(&mut self, holder: &mut Connection, operator: Client, lock: Lock, token: Token) {
+        self.ask_engine(holder.client, Input::Release { lock, token });
+        self.note_asked(holder, Pending::Ended(operator, lock, token));
     }
 
     /// The engine does not answer a leave: a question behind it shows when it is done.
     fn ask_to_leave(&mut self, connection: &mut Connection) {
         self.sums.inputs += 1;
         for input in [Input::Leave, Input::Stats { lock: 0 }] {
-            self.engine.ask(Asked { client: connection.client, input });
+            self.ask_engine(connection.client, input);
         }
-        connection.pending.push_back(Pending::Left);
+        self.note_asked(connection, Pending::Left);
     }
 
-    /// Tells the connection an answer of the engine.
-    pub fn tell_answer(&mut self, connection: &mut Connection, answer: Answer) -> Result<(), Unasked> {
+    /// Tells the connection an answer of the engine. If it is about a hold that an operator ends: which operator, and which hold.
+    pub fn tell_answer(
+        &mut self,
+        connection: &mut Connection,
+        answer: Answer,
+    ) -> Result<Option<(Client, Lock, Token)>, Unasked> {
         if let (Answer::Granted { lock, token }, Some(waits_for)) = (&answer, connection.waits_for) {
             if *lock == waits_for {
                 connection.waits_for = None;
                 connection.holds.push(*lock);
                 self.board.granted(*lock, connection.client, *token, None, self.now);
                 self.tell(connection, &answer);
-                return Ok(());
+                return Ok(None);
             }
         }
-        match (connection.pending.pop_front(), &answer) {
-            (Some(Pending::Left), Answer::Stats(_)) => {
+        let pending = connection.take_asked().ok_or(Unasked)?;
+        self.note_answered(connection);
+        let mut ended = None;
+        match (pending, &answer) {
+            (Pending::Ended(operator, lock, token), answer) => {
+                self.note(connection, Input::Release { lock, token }, answer)?;
+                ended = Some((operator, lock, token));
+            }
+            (Pending::Left, Answer::Stats(_)) => {
                 self.forget(connection);
                 connection.tell("left");
             }
             // an engine that refuses every line for a while has not done the leave either
-            (Some(Pending::Left), Answer::Refused { .. }) => self.tell(connection, &answer),
-            (Some(Pending::Asked(input)), _) => {
+            (Pending::Left, Answer::Refused { .. }) => self.tell(connection, &answer),
+            (Pending::Asked(input), _) => {
                 self.note(connection, input, &answer)?;
                 self.tell(connection, &answer);
             }
             _ => return Err(Unasked),
         }
         connection.tell_what_waited();
-        Ok(())
+        Ok(ended)
     }
 
     /// What the answer to an input changes on the board and at the connection.
@@ -306,8 +448,10 @@ impl Desk {
             }
         }
         let held = if self.cluster.is_some() { self.end_seat(connection, end) } else { self.forget(connection) };
-        if !matches!(end, End::Engine | End::Stop) && self.cluster.is_none() {
-            self.engine.ask(Asked { client: connection.client, input: Input::Leave });
+        self.questions.askers -= usize::from(connection.asked > 0);
+        // of one that never asked the engine knows nothing
+        if connection.has_asked && !matches!(end, End::Engine | End::Stop) && self.cluster.is_none() {
+            self.ask_engine(connection.client, Input::Leave);
         }
         self.sums.ended(end);
         let is_wanted = !held.is_empty() || !matches!(end, End::Closed | End::Stop);
@@ -316,11 +460,12 @@ impl Desk {
         }
     }
 
-    /// The lease of a new connection.
+    /// The lease of a new connection. Where servers share a log, the lock of a client that hears nothing of its server is given to
+    /// another by the next server, so each has one.
     pub fn first_lease(&self, door: Door) -> Option<Duration> {
         let has_one = match door {
             Door::Network => true,
-            Door::Clients => self.settings.is_lease_for_all,
+            Door::Clients => self.settings.is_lease_for_all || self.cluster.is_some(),
             Door::Operators => false,
         };
         has_one.then_some(self.settings.longest_lease)

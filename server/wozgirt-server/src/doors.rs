@@ -6,9 +6,10 @@ use std::fmt;
 use std::fs::{self, Permissions};
 use std::io;
 use std::net::{SocketAddr, TcpListener};
-use std::os::unix::fs::{chown, FileTypeExt, PermissionsExt};
+use std::os::unix::fs::{chown, FileTypeExt, MetadataExt, PermissionsExt};
 use std::os::unix::net::{UnixListener, UnixStream};
 use std::path::{Path, PathBuf};
+use std::sync::mpsc::{channel, RecvTimeoutError};
 use std::thread;
 use std::time::Duration;
 
@@ -16,6 +17,8 @@ use std::time::Duration;
 /// listens a moment longer, by that child.
 const TRIES: u32 = 6;
 const PAUSE: Duration = Duration::from_millis(200);
+/// Who does not take a connection in this time listens, but stands still.
+const LONGEST_CONNECT: Duration = Duration::from_secs(1);
 
 /// Why a socket cannot be listened to.
 #[derive(Debug)]
@@ -27,6 +30,7 @@ pub struct CannotListen {
 #[derive(Debug)]
 enum Why {
     InUse,
+    Standing,
     NoSocket,
     Group(String),
     System(io::Error),
@@ -37,7 +41,7 @@ impl Why {
         match self {
             Why::InUse => true,
             Why::System(fault) => fault.kind() == io::ErrorKind::AddrInUse,
-            Why::NoSocket | Why::Group(_) => false,
+            Why::Standing | Why::NoSocket | Why::Group(_) => false,
         }
     }
 }
@@ -58,6 +62,7 @@ impl fmt::Display for CannotListen {
         write!(f, "cannot listen at {}: ", self.place)?;
         match &self.why {
             Why::InUse => f.write_str("somebody listens there"),
+            Why::Standing => f.write_str("somebody listens there, and takes no connection"),
             Why::NoSocket => f.write_str("a file has this name, and is no socket"),
             Why::Group(group) => write!(f, "there is no group {group}"),
             Why::System(fault) => fault.fmt(f),
@@ -72,6 +77,8 @@ pub struct UnixDoor {
     /// The socket.
     pub listener: UnixListener,
     path: PathBuf,
+    /// The file of its name: a later server may have made another one.
+    file: (u64, u64),
 }
 
 impl UnixDoor {
@@ -83,14 +90,21 @@ impl UnixDoor {
             None => None,
             Some(group) => Some(accounts.group(group).ok_or_else(|| cannot(Why::Group(group.clone())))?),
         };
-        let listener = bind(&named.path, named.mode, group).map_err(|fault| cannot(Why::System(fault)))?;
-        Ok(UnixDoor { listener, path: named.path.clone() })
+        let (listener, file) = bind(&named.path, named.mode, group).map_err(|fault| cannot(Why::System(fault)))?;
+        Ok(UnixDoor { listener, path: named.path.clone(), file })
     }
+}
+
+/// What tells a file from all others.
+fn file_at(path: &Path) -> io::Result<(u64, u64)> {
+    fs::symlink_metadata(path).map(|data| (data.dev(), data.ino()))
 }
 
 impl Drop for UnixDoor {
     fn drop(&mut self) {
-        let _ = fs::remove_file(&self.path); // it may be gone
+        if file_at(&self.path).is_ok_and(|file| file == self.file) {
+            let _ = fs::remove_file(&self.path); // it may be gone
+        }
     }
 }
 
@@ -99,27 +113,44 @@ fn is_free(path: &Path) -> Result<(), Why> {
         Err(fault) if fault.kind() == io::ErrorKind::NotFound => Ok(()),
         Err(fault) => Err(Why::System(fault)),
         Ok(data) if !data.file_type().is_socket() => Err(Why::NoSocket),
-        Ok(_) if UnixStream::connect(path).is_ok() => Err(Why::InUse),
-        Ok(_) => Ok(()),
+        Ok(_) => match connect(path) {
+            Ok(()) => Err(Why::InUse),
+            Err(Why::System(fault)) if fault.kind() == io::ErrorKind::ConnectionRefused => Ok(()),
+            Err(why) => Err(why),
+        },
     }
 }
 
-fn bind(path: &Path, mode: u32, group: Option<u32>) -> io::Result<UnixListener> {
+/// Connects to a socket, and closes that again. The system lets one wait for ever whose other end accepts nothing.
+fn connect(path: &Path) -> Result<(), Why> {
+    let (path, (tell, told)) = (path.to_owned(), channel());
+    let connect = move || drop(tell.send(UnixStream::connect(path).map(drop)));
+    thread::Builder::new().name("connect".into()).spawn(connect).map_err(Why::System)?;
+    match told.recv_timeout(LONGEST_CONNECT) {
+        Ok(connected) => connected.map_err(Why::System),
+        Err(RecvTimeoutError::Timeout | RecvTimeoutError::Disconnected) => Err(Why::Standing),
+    }
+}
+
+fn bind(path: &Path, mode: u32, group: Option<u32>) -> io::Result<(UnixListener, (u64, u64))> {
     let mut part = path.as_os_str().to_owned();
     part.push(".part");
     let part = PathBuf::from(part);
     let _ = fs::remove_file(&part); // of a start that was interrupted
     let listener = UnixListener::bind(&part)?;
+    let file = file_at(&part);
     let prepared = fs::set_permissions(&part, Permissions::from_mode(0o600))
         .and_then(|()| group.map_or(Ok(()), |group| chown(&part, None, Some(group))))
         .and_then(|()| fs::set_permissions(&part, Permissions::from_mode(mode)))
         .and_then(|()| fs::rename(&part, path))
         .and_then(|()| listener.set_nonblocking(true));
-    if let Err(fault) = prepared {
-        let _ = fs::remove_file(&part);
-        return Err(fault);
+    match prepared.and(file) {
+        Ok(file) => Ok((listener, file)),
+        Err(fault) => {
+            let _ = fs::remove_file(&part);
+            Err(fault)
+        }
     }
-    Ok(listener)
 }
 
 /// Listens at an address.
@@ -150,6 +181,20 @@ mod tests {
         let again = UnixDoor::open(&named, &accounts).err().unwrap().to_string();
         assert!(again.ends_with("somebody listens there"), "{again}");
         drop(door);
+        assert!(!named.path.exists());
+        fs::remove_dir_all(folder).unwrap();
+    }
+
+    #[test]
+    fn a_name_that_another_has_now_stays() {
+        let folder = folder("another");
+        let named = Named { path: folder.join("s"), mode: 0o600, group: None };
+        let first = UnixDoor::open(&named, &Accounts::default()).unwrap();
+        fs::remove_file(&named.path).unwrap();
+        let second = UnixDoor::open(&named, &Accounts::default()).unwrap();
+        drop(first);
+        assert!(UnixStream::connect(&named.path).is_ok());
+        drop(second);
         assert!(!named.path.exists());
         fs::remove_dir_all(folder).unwrap();
     }

@@ -1,8 +1,10 @@
 //! The engine's process, or another that speaks lines: started, asked, heard, and started again when it ended.
 
+use crate::notify;
 use crate::outbox::Outbox;
 use std::fmt;
 use std::io::{self, ErrorKind, Read};
+use std::os::unix::process::CommandExt;
 use std::process::{Child, ChildStdin, ChildStdout, Command, ExitStatus, Stdio};
 use std::time::{Duration, Instant};
 use wozgirt_engine::{Answered, Asked, NotALine};
@@ -113,6 +115,11 @@ impl Engine {
         }
     }
 
+    /// The words with which it is started next.
+    pub fn set_words(&mut self, words: Vec<String>) {
+        self.words = words;
+    }
+
     /// Whether it takes inputs.
     pub fn is_running(&self) -> bool {
         matches!(self.state, State::Running(..))
@@ -168,6 +175,9 @@ impl Engine {
         }
         let mut command = Command::new(&self.program);
         command.args(&self.words).stdin(Stdio::piped()).stdout(Stdio::piped());
+        // a key of the terminal is for the server alone, which has this one answer what it was asked
+        command.process_group(0);
+        command.env_remove(notify::SOCKET);
         Signals::hear_all(&mut command).map_err(CannotStart::Pipes)?;
         let mut child = command.spawn().map_err(|fault| CannotStart::Program(self.program.clone(), fault))?;
         let (input, Some(output)) = (child.stdin.take(), child.stdout.take()) else { return Ok(None) };

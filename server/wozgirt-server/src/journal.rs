@@ -2,6 +2,38 @@
 
 use std::fs;
 use std::path::Path;
+use std::time::{Duration, Instant};
+
+/// A size that was looked up may be shown for so long, and for so many times as long as the look took: a folder may have many files.
+const FRESH: Duration = Duration::from_secs(1);
+const TIMES: u32 = 100;
+
+/// The size of a journal as it was a short while ago.
+#[derive(Debug)]
+pub struct Journal {
+    size: JournalSize,
+    next_look: Instant,
+}
+
+impl Journal {
+    /// Nothing is known of it.
+    pub fn new(now: Instant) -> Journal {
+        Journal { size: JournalSize::default(), next_look: now }
+    }
+
+    /// Looks it up if it is time.
+    pub fn look(&mut self, path: &Path, now: Instant) {
+        if self.next_look <= now {
+            self.size = JournalSize::of(path);
+            self.next_look = now + FRESH.max(now.elapsed() * TIMES);
+        }
+    }
+
+    /// The size.
+    pub fn size(&self) -> &JournalSize {
+        &self.size
+    }
+}
 
 /// Sizes of a journal, as far as they can be read.
 #[derive(Debug, Default, PartialEq, Eq)]

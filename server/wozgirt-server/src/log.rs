@@ -2,13 +2,18 @@
 
 use std::fmt;
 use std::io::Write;
+use std::sync::atomic::{AtomicUsize, Ordering};
 use std::sync::mpsc::{sync_channel, SyncSender};
+use std::sync::Arc;
 use std::thread::{self, JoinHandle};
-use std::time::{Duration, SystemTime, UNIX_EPOCH};
-use wozgirt_engine::{Client, NotALine};
+use std::time::{Duration, Instant, SystemTime, UNIX_EPOCH};
+use wozgirt_engine::{Client, NotALine, Token};
 
-/// How many lines may wait to be written. The server never waits for its log.
+/// How many lines, and bytes, may wait to be written. The server never waits for its log.
 const ROOM: usize = 4096;
+const MOST_BYTES: usize = 1 << 20;
+/// But at its end it gives the log so long to be written.
+const LAST_LINES: Duration = Duration::from_secs(1);
 
 /// Why a connection ended.
 #[derive(Debug, Clone, Copy, PartialEq, Eq, Hash, PartialOrd, Ord)]
@@ -31,12 +36,24 @@ pub enum End {
     Log,
     /// The session goes on at another connection.
     Moved,
+    /// An operator said so.
+    Kicked,
 }
 
 impl End {
     /// Each of them.
-    pub const ALL: [End; 9] =
-        [End::Closed, End::Lease, End::Deaf, End::Syntax, End::Line, End::Engine, End::Stop, End::Log, End::Moved];
+    pub const ALL: [End; 10] = [
+        End::Closed,
+        End::Lease,
+        End::Deaf,
+        End::Syntax,
+        End::Line,
+        End::Engine,
+        End::Stop,
+        End::Log,
+        End::Moved,
+        End::Kicked,
+    ];
 
     /// One word for it.
     pub fn word(self) -> &'static str {
@@ -50,6 +67,7 @@ impl End {
             End::Stop => "stop",
             End::Log => "log",
             End::Moved => "moved",
+            End::Kicked => "kicked",
         }
     }
 }
@@ -63,7 +81,15 @@ pub enum Event<'a> {
     EngineReady { held: usize },
     EngineEnded { status: String },
     EngineUnreadable { line: String, fault: Option<NotALine> },
+    EngineSilent { time: Duration },
+    EngineAnswers { time: Duration },
+    EngineHangs { time: Duration },
     GraceOver,
+    HoldEnded { by: &'a str, lock: &'a str, token: Token, client: Client },
+    SegmentRemoved { name: &'a str, digest: &'a str },
+    SegmentsStay { fault: &'a std::io::Error },
+    RulesRead,
+    RulesBad { fault: &'a dyn fmt::Display },
     Came { client: Client, who: &'a str },
     Went { client: Client, who: &'a str, end: End, held: &'a str },
     TooMany { who: &'a str },
@@ -76,12 +102,59 @@ pub enum Event<'a> {
     LogEnded { status: String },
     LogUnreadable { line: &'a str },
     LogLeft { why: &'a str },
+    LogFull,
     LogJoined { identity: &'a str, server: &'a dyn fmt::Display, position: u64 },
     ServerOver { server: &'a dyn fmt::Display, position: u64 },
+    MoreLocks { count: usize, own: usize, list: &'a str },
+    SessionRefused { who: &'a str },
     SessionOver { session: Client, held: &'a str },
     Contradiction { name: &'a str, position: u64 },
     HostAway { name: &'a str, seconds: u64 },
     Checkpoint { position: u64, segment: u64 },
+}
+
+impl Event<'_> {
+    /// One word for its kind, which stays the same when texts change.
+    pub fn key(&self) -> &'static str {
+        match self {
+            Event::Started { .. } => "started",
+            Event::Listening { .. } => "listening",
+            Event::EngineStarted { .. } => "engine-started",
+            Event::EngineReady { .. } => "engine-ready",
+            Event::EngineEnded { .. } => "engine-ended",
+            Event::EngineUnreadable { .. } => "engine-unreadable",
+            Event::EngineSilent { .. } => "engine-silent",
+            Event::EngineAnswers { .. } => "engine-answers",
+            Event::EngineHangs { .. } => "engine-hangs",
+            Event::GraceOver => "grace-over",
+            Event::HoldEnded { .. } => "hold-ended",
+            Event::SegmentRemoved { .. } => "segment-removed",
+            Event::SegmentsStay { .. } => "segments-stay",
+            Event::RulesRead => "rules-read",
+            Event::RulesBad { .. } => "rules-bad",
+            Event::Came { .. } => "client-came",
+            Event::Went { .. } => "client-went",
+            Event::TooMany { .. } => "client-refused",
+            Event::Fault { .. } => "fault",
+            Event::Visitor { .. } => "visitor-refused",
+            Event::Stopping { .. } => "stopping",
+            Event::CannotAccept { .. } => "cannot-accept",
+            Event::Stopped => "stopped",
+            Event::LogStarted { .. } => "log-started",
+            Event::LogEnded { .. } => "log-ended",
+            Event::LogUnreadable { .. } => "log-unreadable",
+            Event::LogLeft { .. } => "log-left",
+            Event::LogFull => "log-full",
+            Event::LogJoined { .. } => "log-joined",
+            Event::ServerOver { .. } => "server-over",
+            Event::MoreLocks { .. } => "more-locks",
+            Event::SessionRefused { .. } => "session-refused",
+            Event::SessionOver { .. } => "session-over",
+            Event::Contradiction { .. } => "contradiction",
+            Event::HostAway { .. } => "host-away",
+            Event::Checkpoint { .. } => "checkpoint",
+        }
+    }
 }
 
 impl fmt::Display for Event<'_> {
@@ -98,7 +171,19 @@ impl fmt::Display for Event<'_> {
                 write!(f, "engine said what is no answer ({fault}): {line}")
             }
             Event::EngineUnreadable { line, fault: None } => write!(f, "engine answered what nobody asked: {line}"),
+            Event::EngineSilent { time } => write!(f, "engine has not answered for {:.1} s", time.as_secs_f64()),
+            Event::EngineAnswers { time } => write!(f, "engine answers again, after {:.1} s", time.as_secs_f64()),
+            Event::EngineHangs { time } => {
+                write!(f, "engine has not answered for {:.1} s, and is ended", time.as_secs_f64())
+            }
             Event::GraceOver => f.write_str("grace over: what was held from before is free"),
+            Event::HoldEnded { by, lock, token, client } => {
+                write!(f, "hold of {lock} with token {token} ended by an operator ({by}): client {client} had it")
+            }
+            Event::SegmentRemoved { name, digest } => write!(f, "segment {name} removed; its digest was {digest}"),
+            Event::SegmentsStay { fault } => write!(f, "old segments cannot be removed: {fault}"),
+            Event::RulesRead => f.write_str("rules read again"),
+            Event::RulesBad { fault } => write!(f, "rules not read again, the old ones hold: {fault}"),
             Event::Came { client, who } => write!(f, "client {client} came: {who}"),
             Event::Went { client, who, end, held } => {
                 write!(f, "client {client} went ({}): {who}", end.word())?;
@@ -120,12 +205,18 @@ impl fmt::Display for Event<'_> {
             Event::LogEnded { status } => write!(f, "wozgirt-log ended: {status}"),
             Event::LogUnreadable { line } => write!(f, "wozgirt-log said what it should not: {line}"),
             Event::LogLeft { why } => write!(f, "out of the log ({why}): all connections end"),
+            Event::LogFull => f.write_str("etcd has no room for entries: nothing is granted until it has"),
             Event::LogJoined { identity, server, position } => {
                 write!(f, "in the log {identity} as {server}, behind position {position}")
             }
             Event::ServerOver { server, position } => {
                 write!(f, "server {server} is over at position {position}, with all its sessions")
             }
+            Event::MoreLocks { count, own, list } => {
+                write!(f, "the log has {count} locks, and --locks {own} of them: put them all there: {list}")
+            }
+
+            Event::SessionRefused { who } => write!(f, "refused, the session is somebody else's: {who}"),
             Event::SessionOver { session, held } => write!(f, "session {session} did not come back; it held {held}"),
             Event::Contradiction { name, position } => {
                 write!(f, "CONTRADICTION: server {name} had other answers up to position {position}")
@@ -144,6 +235,8 @@ impl fmt::Display for Event<'_> {
 pub struct Log {
     lines: Option<SyncSender<String>>,
     thread: Option<JoinHandle<()>>,
+    /// How many bytes wait.
+    waiting: Arc<AtomicUsize>,
     lost: u64,
 }
 
@@ -151,34 +244,48 @@ impl Log {
     /// Starts the thread that writes.
     pub fn start() -> std::io::Result<Log> {
         let (lines, written) = sync_channel::<String>(ROOM);
+        let waiting = Arc::new(AtomicUsize::new(0));
+        let left = waiting.clone();
         let write = move || {
             for line in written {
                 let _ = std::io::stderr().write_all(line.as_bytes()); // nobody can be told
+                left.fetch_sub(line.len(), Ordering::Relaxed);
             }
         };
         let thread = thread::Builder::new().name("log".into()).spawn(write)?;
-        Ok(Log { lines: Some(lines), thread: Some(thread), lost: 0 })
+        Ok(Log { lines: Some(lines), thread: Some(thread), waiting, lost: 0 })
     }
 
     /// Logs the event. If the log is far behind, only that something was lost is logged later.
     pub fn say(&mut self, event: &Event<'_>) {
         let time = Utc::now();
-        let Some(lines) = &self.lines else { return };
-        if self.lost > 0 && lines.try_send(format!("{time} {} lines of the log are lost\n", self.lost)).is_ok() {
+        if self.lost > 0 && self.put(format!("{time} lines-lost {} lines of the log are lost\n", self.lost)) {
             self.lost = 0;
         }
-        if lines.try_send(format!("{time} {event}\n")).is_err() {
+        if !self.put(format!("{time} {} {event}\n", event.key())) {
             self.lost += 1;
         }
+    }
+
+    /// Whether there was room for the line.
+    fn put(&mut self, line: String) -> bool {
+        let length = line.len();
+        let is_put = self.waiting.fetch_add(length, Ordering::Relaxed) + length <= MOST_BYTES
+            && self.lines.as_ref().is_some_and(|lines| lines.try_send(line).is_ok());
+        if !is_put {
+            self.waiting.fetch_sub(length, Ordering::Relaxed);
+        }
+        is_put
     }
 }
 
 impl Drop for Log {
-    /// What was said is written first.
+    /// What was said is written first, if standard error takes it in time: a pipe that nobody reads keeps no server from its end.
     fn drop(&mut self) {
         self.lines = None;
-        if let Some(thread) = self.thread.take() {
-            let _ = thread.join();
+        let end = Instant::now() + LAST_LINES;
+        while self.thread.as_ref().is_some_and(|thread| !thread.is_finished()) && Instant::now() < end {
+            thread::sleep(Duration::from_millis(1));
         }
     }
 }

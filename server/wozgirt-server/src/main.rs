@@ -3,14 +3,28 @@
 use std::fmt;
 use std::io::Write;
 use std::process::ExitCode;
+use std::sync::mpsc::channel;
+use std::thread;
+use std::time::Duration;
 use wozgirt_server::settings::{parse, Words, USAGE};
 use wozgirt_server::Server;
 
 /// Wrong words, as `sysexits.h` has it.
 const USAGE_STATUS: u8 = 64;
 
+/// How long standard error may take to be written.
+const LONGEST_COMPLAINT: Duration = Duration::from_secs(1);
+
 fn main() -> ExitCode {
-    let settings = match parse(std::env::args().skip(1)) {
+    let words: Result<Vec<_>, _> = std::env::args_os().skip(1).map(std::ffi::OsString::into_string).collect();
+    let words = match words {
+        Ok(words) => words,
+        Err(word) => {
+            complain(format_args!("{word:?} is no text in UTF-8\nTry --help."));
+            return ExitCode::from(USAGE_STATUS);
+        }
+    };
+    let settings = match parse(words) {
         Ok(Words::Run(settings)) => *settings,
         Ok(Words::Help) => {
             println!("{USAGE}");
@@ -34,8 +48,13 @@ fn main() -> ExitCode {
     }
 }
 
-/// Says why on standard error, in one write: the engine and `wozgirt-log` write there too, and nothing gets between its words.
+/// Says why on standard error, in one write: the engine and `wozgirt-log` write there too, and nothing gets between its words. If
+/// nobody takes it, the program ends all the same.
 fn complain(why: fmt::Arguments<'_>) {
+    let (text, (tell, told)) = (format!("wozgirt-server: {why}\n"), channel());
     // (if it cannot be written, nobody can be told)
-    let _ = std::io::stderr().write_all(format!("wozgirt-server: {why}\n").as_bytes());
+    let write = move || drop(tell.send(std::io::stderr().write_all(text.as_bytes())));
+    if thread::Builder::new().spawn(write).is_ok() {
+        let _ = told.recv_timeout(LONGEST_COMPLAINT);
+    }
 }

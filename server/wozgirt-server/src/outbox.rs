@@ -4,6 +4,8 @@ use std::io::{self, ErrorKind, Write};
 
 /// What is kept of the room for bytes when all are written.
 const KEPT: usize = 16 << 10;
+/// So many bytes that are written are let go at the latest, even if more are not.
+const MOST_WRITTEN: usize = 4 << 10;
 
 /// Bytes that are to be written.
 #[derive(Debug, Default)]
@@ -50,7 +52,7 @@ impl Outbox {
         if self.is_empty() {
             self.clear();
             self.bytes.shrink_to(KEPT);
-        } else if self.written > self.bytes.len() / 2 {
+        } else if self.written > MOST_WRITTEN.min(self.bytes.len() / 2) {
             self.bytes.drain(..self.written);
             self.written = 0;
         }

@@ -2,7 +2,7 @@
 
 use std::fmt;
 use std::time::Duration;
-use wozgirt_engine::{decimal, Label, NotALine, Token};
+use wozgirt_engine::{decimal, Client, Label, NotALine, Token};
 
 /// The longest line, with its end.
 pub const LONGEST_LINE: usize = 256;
@@ -18,6 +18,8 @@ pub enum Request<'a> {
     Ping,
     /// To be taken for dead after such a silence; of 0, the longest that there may be.
     Lease(Duration),
+    /// What lease the connection has.
+    GivenLease,
     /// How all locks are.
     Status,
     /// To go on with the session that has this key.
@@ -26,6 +28,8 @@ pub enum Request<'a> {
     Cluster,
     /// Of an operator: who is connected.
     Clients,
+    /// Of an operator: that this client goes.
+    Kick(Client),
     /// Of an operator: that the server ends.
     Stop,
 }
@@ -43,6 +47,8 @@ pub enum Verb {
     Cancel,
     /// How it is.
     Stats,
+    /// Of an operator: that the hold with this token ends, whosever it is.
+    End(Token),
     /// Of an operator: a fault.
     Corrupt {
         /// The machine.
@@ -89,10 +95,13 @@ pub fn parse(line: &str, is_operator: bool) -> Result<Request<'_>, BadRequest> {
         "ping" => alone(rest, Request::Ping),
         "status" => alone(rest, Request::Status),
         "session" => Ok(Request::Session(decimal(rest.unwrap_or(""))?)),
+        "lease" if rest.is_none() => Ok(Request::GivenLease),
         "lease" => Ok(Request::Lease(Duration::from_millis(decimal(rest.unwrap_or(""))?))),
         "cluster" if is_operator => alone(rest, Request::Cluster),
         "clients" if is_operator => alone(rest, Request::Clients),
         "stop" if is_operator => alone(rest, Request::Stop),
+        "end" if is_operator => of_lock_and_number(rest, Verb::End),
+        "kick" if is_operator => Ok(Request::Kick(decimal(rest.unwrap_or(""))?)),
         "corrupt" if is_operator => {
             let (name, numbers) = rest.and_then(|rest| rest.split_once(' ')).ok_or(NotALine::Syntax)?;
             let (machine, value) = numbers.split_once(' ').ok_or(NotALine::Syntax)?;
@@ -113,7 +122,8 @@ pub fn numbered(line: &str) -> Result<(Option<u64>, &str), BadRequest> {
 impl Request<'_> {
     /// Whether it is one that the history has.
     pub fn is_input(&self) -> bool {
-        matches!(self, Request::Leave) || matches!(self, Request::Of(_, verb) if *verb != Verb::Stats)
+        matches!(self, Request::Leave)
+            || matches!(self, Request::Of(_, verb) if !matches!(verb, Verb::Stats | Verb::End(_)))
     }
 }
 
@@ -145,11 +155,14 @@ mod tests {
             ("leave", Request::Leave),
             ("ping", Request::Ping),
             ("status", Request::Status),
+            ("lease", Request::GivenLease),
             ("lease 1500", Request::Lease(Duration::from_millis(1500))),
             ("session 18446744073709551615", Request::Session(u64::MAX)),
             ("cluster", Request::Cluster),
             ("clients", Request::Clients),
             ("stop", Request::Stop),
+            ("end deploy 7", Request::Of("deploy", Verb::End(7))),
+            ("kick 7", Request::Kick(7)),
             ("corrupt deploy 1 2", Request::Of("deploy", Verb::Corrupt { machine: 1, value: 2 })),
         ];
         for (line, request) in lines {
@@ -173,7 +186,7 @@ mod tests {
 
     #[test]
     fn what_only_operators_say() {
-        for line in ["corrupt deploy 1 2", "clients", "cluster", "stop"] {
+        for line in ["corrupt deploy 1 2", "clients", "cluster", "stop", "end deploy 7", "kick 7"] {
             assert_eq!(parse(line, false), Err(BadRequest::Word));
         }
     }
@@ -190,7 +203,7 @@ mod tests {
             "cancel ",
             "cancel a b",
             "ping 1",
-            "lease",
+            "lease ",
             "lease -1",
             "session",
             "session x",

@@ -93,11 +93,22 @@ impl Rules {
 
     /// May this one use the lock? Nobody is known who comes over TCP.
     pub fn permits(&self, lock: Lock, peer: Option<&Peer>) -> bool {
-        let rule = self.rules.get(&lock).unwrap_or(&self.others);
+        self.rules.get(&lock).unwrap_or(&self.others).permits(peer)
+    }
+
+    /// How many of so many locks this one may use.
+    pub fn count(&self, locks: usize, peer: Option<&Peer>) -> usize {
+        let others = if self.others.permits(peer) { locks - self.rules.len() } else { 0 };
+        others + self.rules.values().filter(|rule| rule.permits(peer)).count()
+    }
+}
+
+impl Rule {
+    fn permits(&self, peer: Option<&Peer>) -> bool {
         let is_named = |peer: &Peer| {
-            rule.users.contains(&peer.user) || peer.groups.iter().any(|group| rule.groups.contains(group))
+            self.users.contains(&peer.user) || peer.groups.iter().any(|group| self.groups.contains(group))
         };
-        rule.is_for_all || peer.is_some_and(is_named)
+        self.is_for_all || peer.is_some_and(is_named)
     }
 }
 
@@ -140,6 +151,7 @@ mod tests {
         assert!(!rules.permits(0, None));
         assert!(rules.permits(1, None));
         assert!(!rules.permits(2, peer(0, &[0]).as_ref()));
+        assert_eq!((rules.count(3, peer(1000, &[1]).as_ref()), rules.count(3, None)), (2, 1));
         assert!(parse("lock deploy: alice").unwrap().permits(2, None));
     }
 

@@ -17,7 +17,9 @@ The engine, which is run as `PROGRAM locks --journal FOLDER [--locks ..] ..`:
   --journal FOLDER         where the engine keeps its journal
   --locks NAME[:N[:K]],..  the locks; without it those of FOLDER
   --segment LINES          how many lines a file of the journal has
+  --keep-segments COUNT    how many of these files are kept; what is removed is noted in FOLDER.removed [all]
   --no-sync                answers do not wait for the disk
+  --engine-patience SECONDS  an engine that leaves a question unanswered for so long is ended, and started again [60]
   --faults                 operators may write faults
 
 Sockets:
@@ -47,7 +49,8 @@ Limits:
   --longest-lease SECONDS  the longest lease of a client, and of each over TCP that asks for none [30]
   --lease-for-all          clients on the Unix socket who ask for none have it too
   --grace SECONDS          how long what was held when the engine, or another server, ended stays held [the longest lease]
-  --connections COUNT      how many clients at once [1000]
+  --connections COUNT      how many clients at once on the Unix socket, and as many over TCP [1000]
+  --memory MIB             how much memory all connections may take together [128, or what COUNT needs]
   --waiters COUNT          how many wait for one lock at once [10000]
   --deaf SECONDS           how long a client may leave its answers unread [30]
 
@@ -77,10 +80,14 @@ pub struct Settings {
     pub locks: Option<String>,
     /// How many lines a segment has, if it is given.
     pub segment: Option<u64>,
+    /// How many segments are kept, if not all.
+    pub keep_segments: Option<usize>,
     /// Whether answers wait for the disk.
     pub is_synced: bool,
     /// Whether operators may write faults.
     pub permits_faults: bool,
+    /// How long the engine may leave a question unanswered.
+    pub engine_patience: Duration,
     /// The socket of clients.
     pub clients: Named,
     /// The socket of operators.
@@ -97,8 +104,10 @@ pub struct Settings {
     pub is_lease_for_all: bool,
     /// How long open holds stay held after the engine started.
     pub grace: Duration,
-    /// How many clients there may be.
+    /// How many clients there may be at each door.
     pub connections: usize,
+    /// How much memory all connections may take together, in MiB, if it is given.
+    pub memory: Option<usize>,
     /// How many may wait for one lock.
     pub waiters: usize,
     /// How long answers may stay unread.
@@ -137,6 +146,8 @@ pub enum BadWords {
     Grace,
     /// This word says nothing without `--etcd`.
     Alone(&'static str),
+    /// This word is not for several servers.
+    NotAlone(&'static str),
 }
 
 impl fmt::Display for BadWords {
@@ -150,6 +161,7 @@ impl fmt::Display for BadWords {
                 write!(f, "{address} can be reached from other machines, and nobody is asked who it is: see --listen-anywhere")
             }
             BadWords::Grace => f.write_str("--grace is shorter than --longest-lease"),
+            BadWords::NotAlone(word) => write!(f, "{word} is for a server that is alone, without --etcd"),
             BadWords::Alone(word) => write!(f, "{word} is for several servers: see --etcd"),
         }
     }
@@ -182,8 +194,10 @@ struct Reading {
     journal: Option<PathBuf>,
     locks: Option<String>,
     segment: Option<u64>,
+    keep_segments: Option<usize>,
     is_not_synced: bool,
     permits_faults: bool,
+    engine_patience: Option<Duration>,
     sockets: [(Option<PathBuf>, Option<u32>, Option<String>); 2],
     tcp: Option<SocketAddr>,
     page: Option<SocketAddr>,
@@ -193,6 +207,7 @@ struct Reading {
     is_lease_for_all: bool,
     grace: Option<Duration>,
     connections: Option<usize>,
+    memory: Option<usize>,
     waiters: Option<usize>,
     deaf: Option<Duration>,
     logs_connections: bool,
@@ -228,6 +243,8 @@ impl Reading {
             "--journal" => self.journal = Some(value.into()),
             "--locks" => self.locks = Some(value.into()),
             "--segment" => self.segment = Some(value.parse().ok().filter(|&lines| lines > 0)?),
+            "--keep-segments" => self.keep_segments = Some(count(value).filter(|&count| count > 1)?),
+            "--engine-patience" => self.engine_patience = Some(seconds(value).filter(|time| !time.is_zero())?),
             "--socket" => self.sockets[0].0 = Some(value.into()),
             "--mode" => self.sockets[0].1 = Some(mode(value)?),
             "--group" => self.sockets[0].2 = Some(value.into()),
@@ -239,7 +256,8 @@ impl Reading {
             "--rules" => self.rules = Some(value.into()),
             "--longest-lease" => self.longest_lease = Some(seconds(value).filter(|time| !time.is_zero())?),
             "--grace" => self.grace = Some(seconds(value)?),
-            "--connections" => self.connections = Some(value.parse().ok().filter(|&count| count > 0)?),
+            "--connections" => self.connections = Some(count(value)?),
+            "--memory" => self.memory = Some(count(value)?),
             "--waiters" => self.waiters = Some(value.parse().ok()?),
             "--deaf" => self.deaf = Some(seconds(value).filter(|time| !time.is_zero())?),
             _ => return self.cluster.put(word, value),
@@ -249,6 +267,9 @@ impl Reading {
 
     fn settings(self) -> Result<Settings, BadWords> {
         let cluster = self.cluster.settings()?;
+        if cluster.is_some() && self.keep_segments.is_some() {
+            return Err(BadWords::NotAlone("--keep-segments"));
+        }
         let longest_lease = self.longest_lease.unwrap_or(Duration::from_secs(30));
         let grace = self.grace.unwrap_or(longest_lease);
         if grace < longest_lease {
@@ -266,8 +287,10 @@ impl Reading {
             journal: self.journal.ok_or(BadWords::Missing("--journal"))?,
             locks: self.locks,
             segment: self.segment,
+            keep_segments: self.keep_segments,
             is_synced: !self.is_not_synced,
             permits_faults: self.permits_faults,
+            engine_patience: self.engine_patience.unwrap_or(Duration::from_secs(60)),
             clients: named(clients.0.unwrap_or_else(|| "/run/wozgirt/lock.sock".into()), clients.1, clients.2),
             operators: operators.0.map(|path| named(path, operators.1, operators.2)),
             tcp: self.tcp,
@@ -277,6 +300,7 @@ impl Reading {
             is_lease_for_all: self.is_lease_for_all,
             grace,
             connections: self.connections.unwrap_or(1000),
+            memory: self.memory,
             waiters: self.waiters.unwrap_or(10_000),
             deaf: self.deaf.unwrap_or(Duration::from_secs(30)),
             logs_connections: self.logs_connections,
@@ -286,11 +310,13 @@ impl Reading {
 }
 
 /// The options that have a value.
-const VALUED: [&str; 27] = [
+const VALUED: [&str; 30] = [
     "--engine",
     "--journal",
     "--locks",
     "--segment",
+    "--keep-segments",
+    "--engine-patience",
     "--socket",
     "--mode",
     "--group",
@@ -303,6 +329,7 @@ const VALUED: [&str; 27] = [
     "--longest-lease",
     "--grace",
     "--connections",
+    "--memory",
     "--waiters",
     "--deaf",
     "--etcd",
@@ -318,6 +345,13 @@ const VALUED: [&str; 27] = [
 
 fn mode(value: &str) -> Option<u32> {
     u32::from_str_radix(value, 8).ok().filter(|&mode| mode <= 0o777)
+}
+
+/// The greatest count of connections, and of MiB.
+const MOST_COUNT: usize = 1_000_000;
+
+fn count(value: &str) -> Option<usize> {
+    value.parse().ok().filter(|count| (1..=MOST_COUNT).contains(count))
 }
 
 /// A time of at most a year.
@@ -384,9 +418,9 @@ mod tests {
     #[test]
     fn all_words() {
         let settings = read(
-            "--engine e --journal j --locks a,b:3 --segment 9 --no-sync --faults --socket s --mode 660 --group g \
+            "--engine e --journal j --locks a,b:3 --segment 9 --no-sync --faults --engine-patience 3 --socket s --mode 660 --group g \
              --operators o --operators-mode 640 --operators-group h --tcp 127.0.0.1:1 --page [::1]:2 --rules r \
-             --longest-lease 0.5 --lease-for-all --grace 2 --connections 7 --waiters 8 --deaf 9 --log-connections",
+             --longest-lease 0.5 --lease-for-all --grace 2 --connections 7 --memory 64 --waiters 8 --deaf 9 --log-connections",
         )
         .unwrap();
         let words = ["locks", "--journal", "j", "--locks", "a,b:3", "--segment", "9", "--no-sync", "--faults"];
@@ -397,6 +431,7 @@ mod tests {
         assert_eq!(settings.page, Some("[::1]:2".parse().unwrap()));
         assert_eq!((settings.longest_lease, settings.grace), (Duration::from_millis(500), Duration::from_secs(2)));
         assert_eq!((settings.connections, settings.waiters, settings.deaf.as_secs()), (7, 8, 9));
+        assert_eq!((settings.memory, settings.engine_patience.as_secs()), (Some(64), 3));
         assert!(settings.is_lease_for_all && settings.logs_connections);
     }
 
@@ -430,6 +465,14 @@ mod tests {
             ("--journal j --grace -1", "--grace: bad value `-1`"),
             ("--journal j --grace inf", "--grace: bad value `inf`"),
             ("--journal j --deaf 0", "--deaf: bad value `0`"),
+            ("--journal j --connections 18446744073709551615", "--connections: bad value `18446744073709551615`"),
+            ("--journal j --connections 1000001", "--connections: bad value `1000001`"),
+            ("--journal j --keep-segments 1", "--keep-segments: bad value `1`"),
+            (
+                "--journal j --keep-segments 2 --etcd e --name a",
+                "--keep-segments is for a server that is alone, without --etcd",
+            ),
+            ("--journal j --memory 0", "--memory: bad value `0`"),
             ("--journal j --etcd e", "--name is missing"),
             ("--journal j --etcd e --name a:b", "--name: bad value `a:b`"),
             ("--journal j --etcd e --name a --host-lease 0.5", "--host-lease: bad value `0.5`"),

@@ -5,53 +5,106 @@
 
 use crate::board::{Board, Sight};
 use crate::names::Names;
-use std::fmt;
+use crate::rules::Rules;
+use std::io::Write;
+use std::rc::Rc;
 use std::time::Instant;
 use wozgirt_engine::{Lock, NOBODY};
+use wozgirt_system::Peer;
 
-/// Some locks, to be told to a client.
-pub struct Status<'a> {
-    locks: Vec<(&'a str, &'a Sight)>,
-    now: Instant,
+/// After so many locks it is looked whether time or room is over.
+const STEP: usize = 32;
+
+/// An answer to `status` that is told in parts: of which locks, and how far it is.
+#[derive(Debug)]
+pub struct Listing {
+    /// Nothing if all locks are shown, else the rules that held at the beginning.
+    rules: Option<Rc<Rules>>,
+    next: Lock,
+    has_begun: bool,
 }
 
-impl<'a> Status<'a> {
-    /// The locks that are shown, of all.
-    pub fn new(board: &'a Board, names: &'a Names, now: Instant, is_shown: impl Fn(Lock) -> bool) -> Status<'a> {
-        let shown = board.locks().iter().enumerate().filter(|(lock, _)| is_shown(*lock));
-        Status { locks: shown.map(|(lock, sight)| (names.name(lock), sight)).collect(), now }
+impl Listing {
+    /// Of all locks, or of those that these rules permit.
+    pub fn new(rules: Option<Rc<Rules>>) -> Listing {
+        Listing { rules, next: 0, has_begun: false }
     }
-}
 
-impl fmt::Display for Status<'_> {
-    fn fmt(&self, f: &mut fmt::Formatter<'_>) -> fmt::Result {
-        write!(f, "status {}", self.locks.len())?;
-        for (name, sight) in &self.locks {
-            write!(f, "\nlock {name}")?;
-            let age = |since: Instant| self.now.saturating_duration_since(since).as_millis();
-            match sight.holder {
-                None => f.write_str(" free - - - -")?,
-                Some(holder) => {
-                    let state = if holder.client == NOBODY { "before" } else { "held" };
-                    write!(f, " {state} {}", holder.client)?;
-                    match holder.label {
-                        None => f.write_str(" -")?,
-                        Some(label) => write!(f, " {label}")?,
-                    }
-                    write!(f, " {} {}", holder.token, age(holder.since))?;
+    /// Whether some of it is told.
+    pub fn has_begun(&self) -> bool {
+        self.has_begun
+    }
+
+    /// Puts the next lines into `text`, until that has so many bytes or it is this time: whether it is done.
+    pub fn go_on(&mut self, text: &mut Vec<u8>, view: &Locks<'_>, most: usize, until: Instant) -> bool {
+        let count = view.board.locks().len();
+        let rules = self.rules.clone();
+        let is_shown = |lock| rules.as_ref().map_or(true, |rules| rules.permits(lock, view.peer));
+        if !std::mem::replace(&mut self.has_begun, true) {
+            let shown = rules.as_ref().map_or(count, |rules| rules.count(count, view.peer));
+            let _ = writeln!(text, "status {shown}"); // a list takes whatever is written
+        }
+        while self.next < count {
+            let end = count.min(self.next + STEP);
+            for lock in (self.next..end).filter(|&lock| is_shown(lock)) {
+                if let Some(sight) = view.board.lock(lock) {
+                    put(text, view.names.name(lock), sight, view.now);
                 }
             }
-            let oldest = sight.line.front().map_or(0, |waiter| age(waiter.since));
-            write!(f, " {} {oldest} {} {}", sight.line.len(), sight.grants, sight.longest_wait.as_millis())?;
+            self.next = end;
+            if text.len() >= most || Instant::now() >= until {
+                break;
+            }
         }
-        Ok(())
+        self.next >= count
     }
+}
+
+/// What is shown, and to whom.
+pub struct Locks<'a> {
+    /// What is known of the locks.
+    pub board: &'a Board,
+    /// Their names.
+    pub names: &'a Names,
+    /// Who asks, if the system knows.
+    pub peer: Option<&'a Peer>,
+    /// The time.
+    pub now: Instant,
+}
+
+fn put(text: &mut Vec<u8>, name: &str, sight: &Sight, now: Instant) {
+    let age = |since: Instant| now.saturating_duration_since(since).as_millis();
+    let _ = match sight.holder {
+        None => write!(text, "lock {name} free - - - -"),
+        Some(holder) => {
+            let state = if holder.client == NOBODY { "before" } else { "held" };
+            let label = holder.label.map_or("-".into(), |label| label.to_string());
+            write!(text, "lock {name} {state} {} {label} {} {}", holder.client, holder.token, age(holder.since))
+        }
+    };
+    let oldest = sight.line.front().map_or(0, |waiter| age(waiter.since));
+    let _ = writeln!(text, " {} {oldest} {} {}", sight.line.len(), sight.grants, sight.longest_wait.as_millis());
 }
 
 #[cfg(test)]
 mod tests {
     use super::*;
+    use crate::accounts::Accounts;
     use std::time::Duration;
+
+    /// The whole text, told in parts of at least so many bytes, and how many parts there were.
+    fn told(view: &Locks<'_>, rules: Option<Rules>, most: usize) -> (String, usize) {
+        let (mut listing, mut whole, mut parts) = (Listing::new(rules.map(Rc::new)), String::new(), 0);
+        loop {
+            let mut text = Vec::new();
+            let is_done = listing.go_on(&mut text, view, most, Instant::now() + Duration::from_secs(60));
+            whole.push_str(&String::from_utf8(text).unwrap());
+            parts += 1;
+            if is_done {
+                return (whole, parts);
+            }
+        }
+    }
 
     #[test]
     fn lines() {
@@ -59,7 +112,21 @@ mod tests {
         board.granted(0, 7, 12, Some(77), start);
         board.waits(0, 8, 1, start + Duration::from_millis(10));
         let names = Names::parse("deploy,gpu,db").unwrap();
-        let status = Status::new(&board, &names, start + Duration::from_millis(25), |lock| lock != 2).to_string();
-        assert_eq!(status, "status 2\nlock deploy held 7 77 12 25 1 15 1 0\nlock gpu free - - - - 0 0 0 0");
+        let rules = Rules::parse("lock db:", &names, &Accounts::default()).unwrap();
+        let view = Locks { board: &board, names: &names, peer: None, now: start + Duration::from_millis(25) };
+        let text = "status 2\nlock deploy held 7 77 12 25 1 15 1 0\nlock gpu free - - - - 0 0 0 0\n";
+        assert_eq!(told(&view, Some(rules), 1000), (text.into(), 1));
+        assert!(told(&view, None, 1000).0.starts_with("status 3\n"));
+    }
+
+    #[test]
+    fn a_list_in_parts_is_the_same_list() {
+        let board = Board::new(100);
+        let names = (0..100).map(|i| format!("n{i}")).collect::<Vec<_>>().join(",");
+        let names = Names::parse(&names).unwrap();
+        let view = Locks { board: &board, names: &names, peer: None, now: Instant::now() };
+        let (whole, parts) = told(&view, None, 1 << 20);
+        assert_eq!((whole.lines().count(), parts), (101, 1));
+        assert_eq!(told(&view, None, 1), (whole, 100usize.div_ceil(STEP)));
     }
 }

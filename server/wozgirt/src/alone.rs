@@ -71,13 +71,12 @@ impl Alone {
         if attempts > 1 && hold.patience == Patience::None {
             thread::sleep(AFTER_OTHERS);
         }
-        let lease = match hold.lease.or(client.is_tcp().then_some(LEASE)) {
-            None => None,
-            Some(asked) => {
-                let heard = Instant::now();
-                Some(Lease { time: client.lease(asked, soon(deadline))?, heard, pinged: None })
-            }
+        let heard = Instant::now();
+        let time = match hold.lease.or(client.is_tcp().then_some(LEASE)) {
+            None => client.given_lease(soon(deadline))?,
+            Some(asked) => Some(client.lease(asked, soon(deadline))?),
         };
+        let lease = time.map(|time| Lease { time, heard, pinged: None });
         Ok(Alone { client, lease, name: hold.name.clone(), closes: hold.closes, poller: Poller::new()? })
     }
 

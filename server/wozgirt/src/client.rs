@@ -196,6 +196,15 @@ impl Client {
         milliseconds.map(Duration::from_millis).ok_or_else(|| unexpected(line))
     }
 
+    /// The lease that the server gives each connection, if it does.
+    pub fn given_lease(&mut self, until: Instant) -> Result<Option<Duration>, Fault> {
+        self.send("lease")?;
+        let line = self.line(Some(until))?;
+        // a server that does not know the question gives none on a Unix socket
+        let milliseconds = line.strip_prefix("lease ").and_then(|word| word.parse().ok()).unwrap_or(0);
+        Ok((milliseconds > 0).then(|| Duration::from_millis(milliseconds)))
+    }
+
     /// The lines behind the one that answers `question`, which begins with its word and tells their number.
     pub fn list(&mut self, question: &str, until: Instant) -> Result<Vec<String>, Fault> {
         self.send(question)?;

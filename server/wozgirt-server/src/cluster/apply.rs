@@ -1,6 +1,8 @@
 //! What an entry of the log means: a function of the log alone, so that the engines of all servers get the same lines.
 
+use super::common::extends;
 use super::entries::{Entry, Key, Line, Server, Session};
+use super::owner::{Owner, Who};
 use std::collections::BTreeMap;
 use std::fmt;
 use std::rc::Rc;
@@ -24,6 +26,8 @@ pub enum Given {
     },
     /// Nothing: here the session has come to the writer of the entry.
     Here(Key, Session),
+    /// Nothing: here it has not come to the writer, since it is somebody else's.
+    Closed(Key),
     /// Nothing: what its client had is given up here.
     Gone(Key),
     /// The session leaves.
@@ -38,7 +42,7 @@ impl fmt::Display for Given {
     fn fmt(&self, f: &mut fmt::Formatter<'_>) -> fmt::Result {
         match self {
             Given::Do { session, number, input, .. } => write!(f, "{session} {number} {session} {input}"),
-            Given::Here(..) | Given::Gone(_) => Ok(()),
+            Given::Here(..) | Given::Closed(_) | Given::Gone(_) => Ok(()),
             Given::Leave(session) => write!(f, "{session} leave"),
             Given::Forget(session, number) => write!(f, "{session} {number} forget"),
             Given::Stats(lock) => write!(f, "0 stats {lock}"),
@@ -55,6 +59,8 @@ pub struct Known {
     pub home: Server,
     /// The number of its last input, if there was one.
     pub last: Option<u64>,
+    /// Whose it is.
+    pub owner: Owner,
 }
 
 /// What the log says of sessions and servers.
@@ -93,6 +99,8 @@ pub struct Step {
     pub moved: Vec<(Key, Server)>,
     /// Whether there is a checkpoint behind it.
     pub is_checkpoint: bool,
+    /// Whether there are more locks behind it.
+    pub has_more_locks: bool,
 }
 
 impl Applied {
@@ -115,13 +123,14 @@ impl Applied {
     pub fn apply(&mut self, position: u64, revision: u64, entry: Option<&Entry>) -> Step {
         let mut step = Step::default();
         (self.position, self.revision) = (position, revision);
-        if let Some(entry) = entry.filter(|entry| self.is_taken(entry)) {
+        if let Some(entry) = entry.filter(|entry| self.is_taken(entry, &mut step)) {
             step.is_taken = true;
             for line in &entry.lines {
                 self.line(&entry.writer, line, &mut step);
             }
             self.lines += entry.lines.len() as u64;
-            if self.lines >= self.most_lines {
+            // the engines of all have more locks from the same entry on
+            if self.lines >= self.most_lines || step.has_more_locks {
                 self.lines = 0;
                 step.is_checkpoint = true;
             }
@@ -134,7 +143,7 @@ impl Applied {
         self.over.get(&server.name).is_some_and(|&last| server.incarnation <= last)
     }
 
-    fn is_taken(&mut self, entry: &Entry) -> bool {
+    fn is_taken(&mut self, entry: &Entry, step: &mut Step) -> bool {
         if self.is_over(&entry.writer) {
             return false;
         }
@@ -143,9 +152,14 @@ impl Applied {
             *last = entry.serial.max(*last);
             return is_later;
         }
-        // a server begins with the settings of all
+        // a server begins with the settings of all, but for the end of the list of locks
         let Some(Line::With(settings)) = entry.lines.first() else { return false };
-        let is_as_all = self.settings.get_or_insert_with(|| settings.clone()) == settings;
+        let of_all = self.settings.get_or_insert_with(|| settings.clone());
+        step.has_more_locks = extends(settings, of_all);
+        if step.has_more_locks {
+            of_all.clone_from(settings);
+        }
+        let is_as_all = settings == of_all || extends(of_all, settings);
         if is_as_all {
             self.servers.insert(entry.writer.clone(), entry.serial);
         }
@@ -155,9 +169,9 @@ impl Applied {
     fn line(&mut self, writer: &Server, line: &Line, step: &mut Step) {
         match line {
             Line::With(_) => {}
-            Line::Here(key) => {
-                let session = self.come(*key, writer, step).session;
-                step.given.push(Given::Here(*key, session));
+            Line::Here(key, who) => {
+                let session = self.come(*key, *who, writer, step);
+                step.given.push(session.map_or(Given::Closed(*key), |session| Given::Here(*key, session)));
             }
             Line::Do(key, number, input) => {
                 // else its client has come to another server, and says there what was not done here; or it has left, and
@@ -184,17 +198,20 @@ impl Applied {
         }
     }
 
-    /// The session is the writer's from here on.
-    fn come(&mut self, key: Key, writer: &Server, step: &mut Step) -> &mut Known {
+    /// The session is the writer's from here on, if it is not somebody else's.
+    fn come(&mut self, key: Key, who: Who, writer: &Server, step: &mut Step) -> Option<Session> {
         let last = &mut self.last_session;
         let known = self.sessions.entry(key).or_insert_with(|| {
             *last += 1;
-            Known { session: *last, home: writer.clone(), last: None }
+            Known { session: *last, home: writer.clone(), last: None, owner: Owner::default() }
         });
+        if !known.owner.admits(who) {
+            return None;
+        }
         if known.home != *writer {
             step.moved.push((key, std::mem::replace(&mut known.home, writer.clone())));
         }
-        known
+        Some(known.session)
     }
 
     fn go(&mut self, key: Key, step: &mut Step) {
@@ -226,6 +243,10 @@ impl Applied {
 mod tests {
     use super::*;
 
+    fn owner_of(user: &str, address: &str) -> Owner {
+        Owner::parse(user, address).unwrap()
+    }
+
     fn entry(writer: &str, incarnation: u64, serial: u64, lines: &[&str]) -> Entry {
         let lines: String = lines.iter().map(|line| format!("\t{line}")).collect();
         format!("by {writer} {incarnation} {serial} 0 {}{lines}", "0".repeat(64)).parse().unwrap()
@@ -247,22 +268,43 @@ mod tests {
         let lines = given(
             &mut applied,
             &[
-                entry("a", 1, 1, &["with s", "here 70", "70 1 acquire 0 5", "here 90", "90 1 acquire 0 6"]),
-                entry("b", 2, 1, &["with s", "here 90", "here 80", "80 4 try 1 0"]),
+                entry("a", 1, 1, &["with s", "here 70 u0", "70 1 acquire 0 5", "here 90 u0", "90 1 acquire 0 6"]),
+                entry("b", 2, 1, &["with s", "here 90 u0", "here 80 u0", "80 4 try 1 0"]),
                 entry("a", 1, 2, &["90 2 cancel 0", "gone 90", "gone 70", "70 1 acquire 0 7"]),
-                entry("a", 1, 3, &["here 70", "70 1 acquire 0 5"]),
+                entry("a", 1, 3, &["here 70 u0", "70 1 acquire 0 5"]),
             ],
         );
         let all =
             ["1 1 1 acquire 0 5", "2 1 2 acquire 0 6", "3 4 3 try 1 0", "1 leave", "1 1 forget", "4 1 4 acquire 0 5"];
         assert_eq!(lines, all);
-        assert_eq!(applied.sessions[&90], Known { session: 2, home: entry("b", 2, 1, &[]).writer, last: Some(1) });
+        assert_eq!(
+            applied.sessions[&90],
+            Known { session: 2, home: entry("b", 2, 1, &[]).writer, last: Some(1), owner: owner_of("u0", "-") }
+        );
+    }
+
+    #[test]
+    fn a_session_is_not_somebody_elses() {
+        let mut applied = Applied::new(100);
+        let lines = given(
+            &mut applied,
+            &[
+                entry("a", 1, 1, &["with s", "here 70 u7", "70 1 acquire 0 5"]),
+                entry("b", 2, 1, &["with s", "here 70 u8", "70 2 release 0 1"]),
+                entry("b", 2, 2, &["here 70 a10.0.0.1", "70 2 release 0 1"]),
+                entry("a", 1, 2, &["here 70 a10.0.0.2", "here 70 -", "70 3 acquire 0 6"]),
+            ],
+        );
+        assert_eq!(lines, ["1 1 1 acquire 0 5", "1 2 1 release 0 1"]);
+        assert_eq!(applied.sessions[&70].owner, owner_of("u7", "a10.0.0.1"));
+        let step = applied.apply(9, 9, Some(&entry("a", 1, 3, &["here 70 u8", "here 70 u7"])));
+        assert_eq!(step.given, [Given::Closed(70), Given::Here(70, 1)]);
     }
 
     #[test]
     fn an_append_that_was_tried_twice_counts_once() {
         let mut applied = Applied::new(100);
-        let first = entry("a", 1, 1, &["with s", "here 70", "70 1 acquire 0 5"]);
+        let first = entry("a", 1, 1, &["with s", "here 70 u0", "70 1 acquire 0 5"]);
         let second = entry("a", 1, 2, &["70 2 release 0 1"]);
         assert_eq!(given(&mut applied, &[first.clone(), second.clone(), first, second]).len(), 2);
         assert_eq!((applied.position, applied.revision), (4, 12));
@@ -271,10 +313,15 @@ mod tests {
     #[test]
     fn a_server_that_is_over_is_heard_no_more() {
         let mut applied = Applied::new(100);
-        let a = entry("a", 4, 1, &["with s", "here 70", "70 1 acquire 0 5", "here 30", "here 90", "90 1 acquire 1 5"]);
-        let b = entry("b", 5, 1, &["with s", "here 90", "90 2 cancel 1", "server a 4", "server a 3"]);
+        let a = entry(
+            "a",
+            4,
+            1,
+            &["with s", "here 70 u0", "70 1 acquire 0 5", "here 30 u0", "here 90 u0", "90 1 acquire 1 5"],
+        );
+        let b = entry("b", 5, 1, &["with s", "here 90 u0", "90 2 cancel 1", "server a 4", "server a 3"]);
         let late = entry("a", 4, 2, &["70 2 release 0 1"]);
-        let again = entry("a", 6, 1, &["with s", "here 70", "70 1 acquire 0 5"]);
+        let again = entry("a", 6, 1, &["with s", "here 70 u0", "70 1 acquire 0 5"]);
         let lines = given(&mut applied, &[a, b, late, again]);
         assert_eq!(lines[3..], ["1 leave", "1 1 forget", "2 leave", "4 1 4 acquire 0 5"]);
         assert_eq!(applied.servers.keys().map(Server::to_string).collect::<Vec<_>>(), ["a 6", "b 5"]);
@@ -292,9 +339,22 @@ mod tests {
     }
 
     #[test]
+    fn more_locks() {
+        let mut applied = Applied::new(100);
+        let mut begin = |name: &str, settings: &str| {
+            let step = applied.apply(applied.position + 1, 1, Some(&entry(name, 1, 1, &[&format!("with {settings}")])));
+            (step.is_taken, step.has_more_locks && step.is_checkpoint, applied.settings.clone().unwrap())
+        };
+        assert_eq!(begin("a", "9 - 0 x:8:8"), (true, false, "9 - 0 x:8:8".into()));
+        assert_eq!(begin("b", "9 - 0 x:8:8,y:8:8"), (true, true, "9 - 0 x:8:8,y:8:8".into()));
+        assert_eq!(begin("c", "9 - 0 x:8:8"), (true, false, "9 - 0 x:8:8,y:8:8".into()));
+        assert_eq!(begin("d", "9 - 0 x:8:8,z:8:8"), (false, false, "9 - 0 x:8:8,y:8:8".into()));
+    }
+
+    #[test]
     fn what_is_not_new_and_what_needs_a_look() {
         let mut applied = Applied::new(5);
-        let lines = ["with s", "here 70", "70 5 acquire 0 5", "70 4 cancel 0"];
+        let lines = ["with s", "here 70 u0", "70 5 acquire 0 5", "70 4 cancel 0"];
         let step = applied.apply(1, 1, Some(&entry("a", 1, 1, &lines)));
         assert!(!step.is_checkpoint);
         assert!(matches!(
@@ -304,7 +364,7 @@ mod tests {
         let step = applied.apply(2, 2, Some(&entry("a", 1, 2, &["70 6 corrupt 3 1 1"])));
         assert!(step.is_checkpoint && applied.lines == 0);
         assert_eq!(step.given[1], Given::Stats(3));
-        let step = applied.apply(3, 3, Some(&entry("a", 1, 3, &["gone 9", "here 9"])));
+        let step = applied.apply(3, 3, Some(&entry("a", 1, 3, &["gone 9", "here 9 u0"])));
         assert_eq!(step.given, [Given::Gone(9), Given::Here(9, 2)]);
     }
 }

@@ -2,6 +2,8 @@
 
 use super::apply::{Applied, Known};
 use super::entries::server;
+use super::owner::Owner;
+use crate::names::Names;
 use std::fmt::Write as _;
 use std::fs::{self, File};
 use std::io::{self, Write as _};
@@ -12,7 +14,7 @@ use wozgirt_engine::decimal;
 use wozgirt_system::{inherit, try_lock};
 
 /// Its first line.
-const FIRST: &str = "wozgirt checkpoint 1";
+const FIRST: &str = "wozgirt checkpoint 2";
 
 /// A checkpoint.
 #[derive(Debug, Clone, PartialEq, Eq)]
@@ -47,9 +49,9 @@ impl Checkpoint {
             let _ = writeln!(text, "over {name} {incarnation}");
         }
         let _ = writeln!(text, "sessions {}", applied.last_session);
-        for (key, Known { session, home, last }) in &applied.sessions {
+        for (key, Known { session, home, last, owner }) in &applied.sessions {
             let last = last.map_or("-".into(), |last| last.to_string());
-            let _ = writeln!(text, "session {session} {key} {home} {last}");
+            let _ = writeln!(text, "session {session} {key} {home} {last} {owner}");
         }
         let _ = writeln!(text, "state {}", state.len());
         for line in state {
@@ -108,10 +110,11 @@ impl Checkpoint {
                 applied.over.insert(it.name, it.incarnation);
             }
             ["sessions", last] => applied.last_session = number(last)?,
-            ["session", session, key, name, incarnation, last] => {
+            ["session", session, key, name, incarnation, last, user, address] => {
                 let last = if last == "-" { None } else { Some(number(last)?) };
+                let owner = Owner::parse(user, address).ok()?;
                 let (session, home) = (number(session)?, server(name, incarnation).ok()?);
-                applied.sessions.insert(number(key)?, Known { session, home, last });
+                applied.sessions.insert(number(key)?, Known { session, home, last, owner });
             }
             _ => return None,
         }
@@ -224,14 +227,16 @@ impl Folder {
     }
 
     /// Puts the journal back to where it was at the checkpoint at this position, with this last segment: the log has what came since.
-    /// Before the first checkpoint there is none.
-    pub fn restore(&self, last: u64, position: u64) -> io::Result<()> {
+    /// Before the first checkpoint there is none, nor a list of locks but this.
+    pub fn restore(&self, last: u64, position: u64, list: &str) -> io::Result<()> {
         let from = last.max(1);
         for number in self.segments()?.into_iter().filter(|&number| number >= from) {
             fs::remove_file(self.segment(number))?;
         }
         if last == 0 {
-            return Ok(());
+            let names = self.journal().join("locks");
+            let is_other = |text: String| Names::parse(&text).map_or(true, |names| names.list() != list);
+            return if fs::read_to_string(&names).is_ok_and(is_other) { fs::remove_file(names) } else { Ok(()) };
         }
         let kept = self.kept(position);
         fs::hard_link(&kept, self.segment(last))
@@ -302,8 +307,11 @@ mod tests {
         applied.servers.insert(server("a", "3").unwrap(), 9);
         applied.over.insert("b".into(), 2);
         applied.last_session = 9;
-        applied.sessions.insert(70, Known { session: 7, home: server("a", "3").unwrap(), last: Some(4) });
-        applied.sessions.insert(80, Known { session: 8, home: server("a", "3").unwrap(), last: None });
+        let owner = Owner::parse("u7", "a10.0.0.1").unwrap();
+        applied.sessions.insert(70, Known { session: 7, home: server("a", "3").unwrap(), last: Some(4), owner });
+        applied
+            .sessions
+            .insert(80, Known { session: 8, home: server("a", "3").unwrap(), last: None, owner: Owner::default() });
         let state = ["hold 0 3 7", "8 acquire 0 1", "7 4 did 7 granted 0 3", "at 12 00"].map(String::from).into();
         Checkpoint { identity: "x".into(), segment: 6, applied, state }
     }
@@ -313,8 +321,9 @@ mod tests {
         let checkpoint = a_checkpoint();
         let text = checkpoint.text();
         assert_eq!(Checkpoint::parse(&text, 5), Ok(checkpoint));
-        assert!(text.contains("\nsessions 9\nsession 7 70 a 3 4\nsession 8 80 a 3 -\nstate 4\nhold 0 3 7\n"));
-        for (wrong, line) in [("", 1), ("wozgirt checkpoint 2\n", 1), (&text[..text.len() - 1], 15), (&text[..60], 5)] {
+        assert!(text
+            .contains("\nsessions 9\nsession 7 70 a 3 4 u7 a10.0.0.1\nsession 8 80 a 3 - - -\nstate 4\nhold 0 3 7\n"));
+        for (wrong, line) in [("", 1), ("wozgirt checkpoint 1\n", 1), (&text[..text.len() - 1], 15), (&text[..60], 5)] {
             assert_eq!(Checkpoint::parse(wrong, 5), Err(BadCheckpoint(line)), "{wrong}");
         }
         assert_eq!(Checkpoint::parse(&text.replace("over b 2", "over b"), 5), Err(BadCheckpoint(6)));
@@ -329,13 +338,14 @@ mod tests {
         for number in 1..=4 {
             fs::write(folder.segment(number), format!("{number}")).unwrap();
         }
-        fs::write(folder.journal().join("locks"), "a 8 8\n").unwrap();
+        let names = folder.journal().join("locks");
+        fs::write(&names, "a 8 8\n").unwrap();
         assert_eq!(folder.sync_from(2).unwrap(), 4);
         folder.keep(2, 70).unwrap();
         fs::remove_file(folder.segment(2)).unwrap();
         fs::write(folder.segment(2), "2, as another start has made it").unwrap();
         for _ in 0..2 {
-            folder.restore(2, 70).unwrap();
+            folder.restore(2, 70, "b:8:8").unwrap();
             assert_eq!(folder.segments().unwrap(), [1, 2]);
             assert_eq!(fs::read_to_string(folder.segment(2)).unwrap(), "2");
         }
@@ -343,8 +353,10 @@ mod tests {
         folder.keep(2, 90).unwrap();
         folder.forget(80, 90).unwrap();
         assert_eq!([70, 80, 90].map(|position| folder.kept(position).exists()), [false, true, true]);
-        folder.restore(0, 0).unwrap();
-        assert_eq!(folder.segments().unwrap(), []);
+        for (list, is_kept) in [("a:8:8", true), ("a:8:8,b:8:8", false)] {
+            folder.restore(0, 0, list).unwrap();
+            assert_eq!((folder.segments().unwrap(), names.exists()), (vec![], is_kept));
+        }
         folder.write(&a_checkpoint().text()).unwrap();
         assert_eq!(Checkpoint::parse(&folder.read().unwrap().unwrap(), 5), Ok(a_checkpoint()));
         assert_eq!(a_checkpoint().holders(), "hold 0 3 7\n");

@@ -32,23 +32,28 @@ impl Desk {
         }
         connection.seat = Some(Seat { key, is_keyed: true, last: 0, has_left: false });
         connection.pending.push_back(Pending::Opening);
-        cluster.put(Line::Here(key));
+        let who = connection.identity();
+        cluster.put(Line::Here(key, who));
         cluster.opening.push_back(connection.client);
-        cluster.owns.come(key, connection.client).map_or(Then::Wait, Then::Moved)
+        if !cluster.owns.admits(key, who) {
+            return Then::Wait; // the log says whose it is
+        }
+        cluster.owns.come(key, who, connection.client).map_or(Then::Wait, Then::Moved)
     }
 
     /// The key of a client that says something for the log. It is drawn if the client gave none. A session that is new, or has
     /// left, begins before that.
     fn key(&mut self, connection: &mut Connection) -> Option<Key> {
         let cluster = self.cluster.as_mut()?;
+        let who = connection.identity();
         if connection.seat.is_none() {
             let key = cluster.draw().ok()?;
             connection.seat = Some(Seat { key, is_keyed: false, last: 0, has_left: true });
-            cluster.owns.come(key, connection.client);
+            cluster.owns.come(key, who, connection.client);
         }
         let seat = connection.seat.as_mut()?;
         if std::mem::take(&mut seat.has_left) {
-            cluster.put(Line::Here(seat.key));
+            cluster.put(Line::Here(seat.key, who));
             cluster.opening.push_back(connection.client);
         }
         Some(seat.key)
@@ -145,6 +150,18 @@ impl Desk {
         connection.tell_what_waited();
     }
 
+    /// The session is somebody else's. The connection goes on without it.
+    pub(crate) fn tell_closed(&mut self, connection: &mut Connection) {
+        if matches!(connection.pending.front(), Some(Pending::Opening)) {
+            connection.pending.pop_front();
+            connection.seat = None;
+            self.sums.refused("session");
+            self.log.say(&Event::SessionRefused { who: &connection.who });
+            connection.tell("refused session");
+            connection.tell_what_waited();
+        }
+    }
+
     /// The session has left.
     pub(crate) fn tell_left(&self, connection: &mut Connection) {
         if let Some(&Pending::Leaving(number)) = connection.pending.front() {
@@ -160,7 +177,7 @@ impl Desk {
         let held = cluster.standing(seat.key).holds;
         let held: Vec<&str> = held.into_iter().map(|(lock, _)| self.names.name(lock)).collect();
         let is_over = !seat.is_keyed && !matches!(end, End::Engine | End::Stop | End::Log | End::Moved);
-        if is_over || end == End::Lease || seat.has_left {
+        if is_over || matches!(end, End::Lease | End::Kicked) || seat.has_left {
             if cluster.owns.go(seat.key, connection.client) && !seat.has_left {
                 cluster.put(Line::Gone(seat.key));
             }

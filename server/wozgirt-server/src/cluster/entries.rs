@@ -3,7 +3,7 @@
 //! ```text
 //! by NAME INCARNATION SERIAL POSITION DIGEST
 //! with SETTINGS
-//! here KEY
+//! here KEY WHO
 //! KEY NUMBER INPUT
 //! gone KEY
 //! server NAME INCARNATION
@@ -11,6 +11,7 @@
 //!
 //! The lines stand one behind the other, with a tab between them. So an entry is one line of printable ASCII.
 
+use super::owner::Who;
 use std::fmt;
 use std::rc::Rc;
 use std::str::FromStr;
@@ -41,8 +42,8 @@ impl fmt::Display for Server {
 pub enum Line {
     /// The settings of the server that begins with this entry: all have the same.
     With(String),
-    /// From here on the session is a client's of this server.
-    Here(Key),
+    /// From here on the session is a client's of this server, if it is not somebody else's.
+    Here(Key, Who),
     /// An input of the session, with its number.
     Do(Key, u64, Input),
     /// The session is over, if it is this server's.
@@ -55,7 +56,7 @@ impl fmt::Display for Line {
     fn fmt(&self, f: &mut fmt::Formatter<'_>) -> fmt::Result {
         match self {
             Line::With(settings) => write!(f, "with {settings}"),
-            Line::Here(key) => write!(f, "here {key}"),
+            Line::Here(key, who) => write!(f, "here {key} {who}"),
             Line::Do(key, number, input) => write!(f, "{key} {number} {input}"),
             Line::Gone(key) => write!(f, "gone {key}"),
             Line::Server(server) => write!(f, "server {server}"),
@@ -136,7 +137,10 @@ fn line(text: &str) -> Result<Line, NoEntry> {
     let (word, rest) = text.split_once(' ').ok_or(NoEntry)?;
     match word {
         "with" => Ok(Line::With(rest.into())),
-        "here" => Ok(Line::Here(number(rest)?)),
+        "here" => {
+            let (key, who) = rest.split_once(' ').ok_or(NoEntry)?;
+            Ok(Line::Here(number(key)?, who.parse().map_err(|_| NoEntry)?))
+        }
         "gone" => Ok(Line::Gone(number(rest)?)),
         "server" => {
             let (name, incarnation) = rest.split_once(' ').ok_or(NoEntry)?;
@@ -161,7 +165,7 @@ mod tests {
     fn an_entry_is_written_and_read() {
         let zeros = "0".repeat(64);
         let text = format!(
-            "by a 3 1 0 {zeros}\twith 100 - 0 a:8:8\there 7\t7 1 acquire 0 5\t7 2 release 0 1\tgone 7\tserver b.c-d 2"
+            "by a 3 1 0 {zeros}\twith 100 - 0 a:8:8\there 7 u0\t7 1 acquire 0 5\t7 2 release 0 1\tgone 7\tserver b.c-d 2"
         );
         let entry: Entry = text.parse().unwrap();
         assert_eq!((&*entry.writer.name, entry.writer.incarnation, entry.serial), ("a", 3, 1));
@@ -188,6 +192,9 @@ mod tests {
         for line in [
             "here",
             "here x",
+            "here 1",
+            "here 1 x",
+            "here 1 u0 u0",
             "gone 1 2",
             "server a",
             "server a b",

@@ -35,6 +35,14 @@ pub enum Told {
         /// For how long.
         seconds: u64,
     },
+    /// etcd has no room for entries.
+    Full,
+    /// It is another log, or an earlier state of it: why.
+    Other(String),
+    /// The log does not reach back to what is wanted: why.
+    Gone(String),
+    /// Another server of this name is alive: this start of it.
+    Taken(u64),
 }
 
 impl FromStr for Told {
@@ -47,6 +55,12 @@ impl FromStr for Told {
             let (position, revision) = (decimal(next()?)?, decimal(next()?)?);
             return Ok(Told::Entry { position, revision, text: next()?.into() });
         }
+        if let Some(why) = line.strip_prefix("lost other ") {
+            return Ok(Told::Other(why.into()));
+        }
+        if let Some(why) = line.strip_prefix("lost gone ") {
+            return Ok(Told::Gone(why.into()));
+        }
         let words: Vec<&str> = line.split(' ').collect();
         match words[..] {
             ["log", identity, incarnation] => {
@@ -56,6 +70,8 @@ impl FromStr for Told {
                 let servers = servers.iter().filter(|word| !word.is_empty());
                 servers.map(|word| one(word)).collect::<Result<_, _>>().map(Told::Alive)
             }
+            ["full"] => Ok(Told::Full),
+            ["taken", incarnation] => Ok(Told::Taken(decimal(incarnation)?)),
             ["kept", number] => Ok(Told::Kept(decimal(number)?)),
             ["away", name, seconds] => Ok(Told::Away { name: name.into(), seconds: decimal(seconds)? }),
             _ => Err(NotALine::Syntax),
@@ -86,7 +102,24 @@ mod tests {
         assert_eq!("alive".parse(), Ok(Told::Alive(BTreeSet::new())));
         assert_eq!("kept 7".parse(), Ok(Told::Kept(7)));
         assert_eq!("away c 60".parse(), Ok(Told::Away { name: "c".into(), seconds: 60 }));
-        for line in ["", "log x", "entry 1 2", "entry 1 x y", "alive a", "alive a:x", "away c", "bye"] {
+        assert_eq!("full".parse(), Ok(Told::Full));
+        assert_eq!("lost other a b".parse(), Ok(Told::Other("a b".into())));
+        assert_eq!("lost gone a b".parse(), Ok(Told::Gone("a b".into())));
+        assert_eq!("taken 9".parse(), Ok(Told::Taken(9)));
+        for line in [
+            "lost",
+            "lost x y",
+            "taken",
+            "full 1",
+            "",
+            "log x",
+            "entry 1 2",
+            "entry 1 x y",
+            "alive a",
+            "alive a:x",
+            "away c",
+            "bye",
+        ] {
             assert_eq!(line.parse::<Told>(), Err(NotALine::Syntax), "{line:?}");
         }
     }

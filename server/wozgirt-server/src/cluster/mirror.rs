@@ -44,6 +44,8 @@ pub enum Effect {
     },
     /// The client's session has come here.
     Here(Key, Session),
+    /// The session is somebody else's, and has not come here.
+    Closed(Key),
     /// What the client had is given up.
     Gone(Key),
     /// The session has left, with this.
@@ -109,7 +111,7 @@ impl Mirror {
 
     /// Nobody is to be told of sessions that come and go.
     pub fn forget_clients(&mut self) {
-        self.items.retain(|item| !matches!(item, Item::Given(Given::Here(..) | Given::Gone(_))));
+        self.items.retain(|item| !matches!(item, Item::Given(Given::Here(..) | Given::Closed(_) | Given::Gone(_))));
     }
 
     /// Nothing was given, and nobody has anything.
@@ -154,6 +156,7 @@ impl Mirror {
         while self.next.is_empty() {
             match self.items.front() {
                 Some(Item::Given(Given::Here(key, session))) => effects.push(Effect::Here(*key, *session)),
+                Some(Item::Given(Given::Closed(key))) => effects.push(Effect::Closed(*key)),
                 Some(Item::Given(Given::Gone(key))) => effects.push(Effect::Gone(*key)),
                 Some(Item::Given(Given::Leave(session))) => {
                     let session = *session;

@@ -5,11 +5,14 @@
 
 mod apply;
 mod checkpoint;
+mod common;
 mod desk;
 mod digests;
 mod entries;
 mod log;
 mod mirror;
+mod owner;
+mod place;
 mod sessions;
 mod words;
 mod writer;
@@ -17,10 +20,13 @@ mod writer;
 pub use apply::Applied;
 use apply::Given;
 pub use checkpoint::{holders, BadCheckpoint, Checkpoint, Folder, NoFolder};
+pub use common::{agrees, list};
 pub use digests::{Digests, Verdict};
 pub use entries::{is_name, Entry, Key, Line, Server, Session};
 pub use log::Told;
 pub use mirror::{Effect, Mirror, Standing};
+pub use owner::Who;
+pub use place::{Other, Place};
 pub use sessions::{draw, Owns};
 pub use words::{OverEtcd, ReadingOverEtcd};
 use writer::Writer;
@@ -77,14 +83,16 @@ pub struct Block {
 
 /// What a server has that is one of several.
 pub struct Cluster {
-    /// The settings that all servers have in common.
+    /// The settings of this server that are those of all; the log may have a longer list of locks.
     pub with: String,
     /// The folder of the checkpoint.
     pub folder: Folder,
     /// The process that speaks to etcd.
     pub log: Engine,
-    /// The log's identity, once it is known.
-    pub identity: Option<String>,
+    /// Which log it is, and how far it was read.
+    pub place: Place,
+    /// Whether etcd has no room for entries.
+    pub is_full: bool,
     /// This server, as long as it is in the log.
     pub me: Option<Server>,
     /// What the log says.
@@ -143,7 +151,8 @@ impl Cluster {
             with: format!("{} {segment} {faults} {list}", words.checkpoint),
             folder: Folder::open(&settings.journal)?,
             log: Engine::new(words.program.clone(), words.words(), LONGEST_LOG_LINE, now),
-            identity: None,
+            place: Place::open(&settings.journal, now)?,
+            is_full: false,
             me: None,
             applied: Applied::new(words.checkpoint),
             mirror: Mirror::default(),
@@ -170,6 +179,11 @@ impl Cluster {
         }))
     }
 
+    /// How many locks this server's own list has.
+    pub fn count(&self) -> usize {
+        list(&self.with).split(',').count()
+    }
+
     /// Whether clients are heard.
     pub fn is_ready(&self) -> bool {
         self.is_restored && self.lease.is_some()
@@ -179,11 +193,17 @@ impl Cluster {
     pub fn view(&self) -> InLog {
         InLog {
             is_in_log: self.is_ready(),
+            is_full: self.is_full,
             position: self.digests.last().0,
             checkpoint: self.saved.1,
             alive: self.alive.as_ref().map_or(0, BTreeSet::len),
             contradictions: self.contradictions,
         }
+    }
+
+    /// How many lines wait to be put into the log.
+    pub fn waiting_lines(&self) -> usize {
+        self.writer.waiting()
     }
 
     /// Whether all that was asked is answered.
@@ -206,6 +226,13 @@ impl Cluster {
     /// What the client with this key has.
     pub fn standing(&self, key: Key) -> Standing {
         self.owns.session(key).map_or_else(Standing::default, |session| self.mirror.standing(session))
+    }
+
+    /// What the process that speaks to etcd is told first.
+    pub fn known(&self) -> String {
+        self.place.known().map_or("known - 0 0 0".into(), |it| {
+            format!("known {} {} {} {}", it.identity, it.position, it.revision, it.incarnation)
+        })
     }
 
     /// This server begins in the log.
@@ -258,8 +285,11 @@ impl Cluster {
         is_first
     }
 
-    /// The next entry, if there is something to say and it is time.
+    /// The next entry, if there is something to say and it is time; not before the log is known to be the one that was read.
     pub fn next_entry(&mut self, now: Instant) -> Option<Entry> {
+        if !self.place.is_right() {
+            return None;
+        }
         self.writer.next(self.me.as_ref()?, &self.digests, now)
     }
 
@@ -281,7 +311,7 @@ impl Cluster {
     /// on its way to this one.
     pub fn give(&mut self, given: Given, is_own: bool) {
         match given {
-            Given::Here(..) | Given::Gone(_) if !is_own => return,
+            Given::Here(..) | Given::Closed(_) | Given::Gone(_) if !is_own => return,
             Given::Here(key, session) | Given::Do { key, session, .. } if is_own => self.owns.name(key, session),
             _ => {}
         }

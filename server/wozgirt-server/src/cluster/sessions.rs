@@ -1,6 +1,7 @@
 //! The sessions of this server's own clients.
 
 use super::entries::{Key, Session};
+use super::owner::Who;
 use std::collections::HashMap;
 use std::fs::File;
 use std::io::{self, Read};
@@ -27,14 +28,22 @@ enum Own {
 #[derive(Debug, Default)]
 pub struct Owns {
     all: HashMap<Key, Own>,
+    /// Who came with the key last.
+    whos: HashMap<Key, Who>,
     /// The number of the client's last session, as soon as the log has given it.
     sessions: HashMap<Key, Session>,
     keys: HashMap<Session, Key>,
 }
 
 impl Owns {
+    /// Whether nobody else has come here with this key.
+    pub fn admits(&self, key: Key, who: Who) -> bool {
+        !self.all.contains_key(&key) || self.whos.get(&key) == Some(&who)
+    }
+
     /// The client is at this connection: the one where it was before.
-    pub fn come(&mut self, key: Key, client: Client) -> Option<Client> {
+    pub fn come(&mut self, key: Key, who: Who, client: Client) -> Option<Client> {
+        self.whos.insert(key, who);
         match self.all.insert(key, Own::Here(client)) {
             Some(Own::Here(before)) => Some(before),
             _ => None,
@@ -81,21 +90,31 @@ impl Owns {
         }
     }
 
+    /// The client's connection is gone since it said that it comes: it may come back until then.
+    pub fn await_gone(&mut self, key: Key, until: Instant) {
+        self.all.entry(key).or_insert(Own::Away(until));
+    }
+
     /// The client is not this server's any more: whether it was, at this connection.
     pub fn go(&mut self, key: Key, client: Client) -> bool {
         let is_here = self.client(key) == Some(client);
         if is_here {
-            self.all.remove(&key);
+            self.remove(key);
         }
         is_here
     }
 
     /// The client has come to another server: the connection where it was.
     pub fn moved(&mut self, key: Key) -> Option<Client> {
-        match self.all.remove(&key) {
+        match self.remove(key) {
             Some(Own::Here(client)) => Some(client),
             _ => None,
         }
+    }
+
+    fn remove(&mut self, key: Key) -> Option<Own> {
+        self.whos.remove(&key);
+        self.all.remove(&key)
     }
 
     /// Takes the clients that have not come back in time.
@@ -104,7 +123,7 @@ impl Owns {
         let mut late: Vec<Key> = self.all.iter().filter(|(_, own)| is_late(own)).map(|(key, _)| *key).collect();
         late.sort_unstable();
         for key in &late {
-            self.all.remove(key);
+            self.remove(*key);
         }
         late
     }
@@ -117,24 +136,30 @@ mod tests {
     #[test]
     fn a_client_comes_and_goes() {
         let (mut owns, start) = (Owns::default(), Instant::now());
+        assert!(owns.admits(7, Who::Unknown));
         let second = std::time::Duration::from_secs(1);
-        assert_eq!((owns.come(7, 1), owns.client(7), owns.client(8)), (None, Some(1), None));
+        assert_eq!((owns.come(7, Who::User(0), 1), owns.client(7), owns.client(8)), (None, Some(1), None));
+        assert!(owns.admits(7, Who::User(0)) && !owns.admits(7, Who::User(1)));
         owns.await_client(7, 1, start + second);
         assert_eq!((owns.client(7), owns.take_late(start)), (None, vec![]));
-        assert_eq!(owns.come(7, 2), None);
-        assert_eq!(owns.come(7, 3), Some(2));
+        assert_eq!(owns.come(7, Who::User(0), 2), None);
+        assert_eq!(owns.come(7, Who::User(0), 3), Some(2));
         owns.await_client(7, 2, start + second); // it is at the other one by now
         assert!(!owns.go(7, 2));
         owns.await_client(7, 3, start + second);
         assert_eq!(owns.take_late(start + second), [7]);
-        owns.come(9, 4);
+        owns.await_gone(8, start + second);
+        owns.await_gone(8, start + second * 2);
+        assert_eq!((owns.take_late(start + second), owns.take_late(start + second * 2)), (vec![8], vec![]));
+        owns.come(9, Who::User(0), 4);
+        owns.await_gone(9, start);
         assert_eq!((owns.moved(9), owns.moved(9)), (Some(4), None));
     }
 
     #[test]
     fn sessions_have_numbers() {
         let mut owns = Owns::default();
-        owns.come(70, 1);
+        owns.come(70, Who::User(0), 1);
         owns.name(70, 5);
         owns.name(70, 6); // it has left, and said more
         assert_eq!((owns.client_of(5), owns.client_of(6), owns.session(70)), (Some(1), Some(1), Some(6)));

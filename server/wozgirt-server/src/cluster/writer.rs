@@ -59,6 +59,11 @@ impl Writer {
         self.batch.push_back(line);
     }
 
+    /// How many lines wait for an entry.
+    pub fn waiting(&self) -> usize {
+        self.batch.len()
+    }
+
     /// Whether all that was put has come back.
     pub fn is_idle(&self) -> bool {
         self.batch.is_empty() && self.serial == self.returned
@@ -140,6 +145,7 @@ impl Writer {
 
 #[cfg(test)]
 mod tests {
+    use super::super::owner::Who;
     use super::*;
 
     fn server(name: &str) -> Server {
@@ -151,13 +157,17 @@ mod tests {
         writer.next(&server(name), &Digests::default(), now)
     }
 
+    fn here(key: u64) -> Line {
+        Line::Here(key, Who::Unknown)
+    }
+
     fn put(writer: &mut Writer, count: u64) {
-        (0..count).for_each(|key| writer.put(Line::Here(key)));
+        (0..count).for_each(|key| writer.put(here(key)));
     }
 
     /// An entry of another server, with so many lines.
     fn other(name: &str, count: u64) -> Entry {
-        let lines = (0..count).map(Line::Here).collect();
+        let lines = (0..count).map(here).collect();
         Entry { writer: server(name), serial: 1, position: 0, digest: String::new(), lines }
     }
 

@@ -23,25 +23,32 @@ td:not(:last-child), th { white-space: nowrap; } td.n, th.n { text-align: right;
 /// How many of a line are named.
 const NAMED: usize = 5;
 
-/// The page. Names of locks need no escapes (see `names.rs`), and everything else is a number.
-pub fn page(view: &View<'_>) -> String {
-    let mut text = String::from(HEAD);
-    summary(&mut text, view);
-    view.in_log.iter().for_each(|it| log(&mut text, it));
+/// What stands above the rows.
+pub fn head(text: &mut String, view: &View<'_>) {
+    text.push_str(HEAD);
+    summary(text, view);
+    view.in_log.iter().for_each(|it| log(text, it));
     text.push_str(
         "<table><thead><tr><th>Lock</th><th>Held by</th><th class=\"n\">Label</th><th class=\"n\">Token</th>\
          <th class=\"n\">For</th><th>Line</th><th class=\"n\">Hand-overs</th><th class=\"n\">Longest wait</th>\
          <th>Last fault</th></tr></thead><tbody>\n",
     );
-    for (lock, sight) in view.board.locks().iter().enumerate() {
-        row(&mut text, view.names.name(lock), sight, view.now);
-    }
-    text.push_str("</tbody></table>\n<p>This page shows what the server was told by the engine. What was granted stands in the journal.</p>\n</body></html>\n");
-    text
 }
 
+/// What stands below them.
+pub const TAIL: &str = "</tbody></table>
+<p>This page shows what the server was told by the engine. What was granted stands in the journal.</p>
+</body></html>
+";
+
 fn summary(text: &mut String, view: &View<'_>) {
-    let engine = if view.is_engine_ready { "answers" } else { "<span class=\"down\">is away</span>" };
+    let engine = match view.is_engine_ready {
+        false => "<span class=\"down\">is away</span>".into(),
+        true if view.is_engine_silent => {
+            format!("<span class=\"down\">has not answered for {}</span>", time(view.engine_silence))
+        }
+        true => String::from("answers"),
+    };
     let held = view.board.locks().iter().filter(|sight| sight.holder.is_some()).count();
     let waiting: usize = view.board.locks().iter().map(|sight| sight.line.len()).sum();
     let _ = writeln!(
@@ -65,6 +72,9 @@ fn log(text: &mut String, it: &InLog) {
         "<p>This server {log} of all servers, of which {} are alive. Position: {}, last checkpoint: {}.",
         it.alive, it.position, it.checkpoint
     );
+    if it.is_full {
+        text.push_str(" <span class=\"down\">etcd has no room for entries.</span>");
+    }
     if it.contradictions > 0 {
         let _ = write!(text, " <span class=\"down\">Another had other answers {} times.</span>", it.contradictions);
     }
@@ -81,7 +91,8 @@ fn escaped(name: &str) -> &str {
     }
 }
 
-fn row(text: &mut String, name: &str, sight: &Sight, now: Instant) {
+/// One lock. Names of locks need no escapes (see `names.rs`), and everything else is a number.
+pub fn row(text: &mut String, name: &str, sight: &Sight, now: Instant) {
     let _ = write!(text, "<tr><td>{name}</td>");
     match sight.holder {
         None => text.push_str("<td class=\"free\">free</td><td></td><td></td><td></td>"),
@@ -138,32 +149,62 @@ mod tests {
     use crate::board::Board;
     use crate::journal::JournalSize;
     use crate::names::Names;
-    use crate::pages::metrics;
+    use crate::pages::http::Wanted;
+    use crate::pages::Telling;
     use crate::sums::Sums;
 
-    fn shown(show: fn(&View<'_>) -> String) -> String {
+    /// The text, told in parts of at least so many bytes.
+    fn shown(wanted: Wanted, most: usize) -> String {
         let (mut board, started, mut sums) = (Board::new(2), Instant::now(), Sums::default());
         board.granted(0, 7, 12, Some(77), started);
         board.waits(0, 8, 78, started + Duration::from_secs(1));
         board.fault(0, 2, 1, 0);
         sums.refused("circle");
-        show(&View {
-            names: &Names::parse("deploy,gpu").unwrap(),
+        let mut telling = Telling::new(wanted);
+        let names = Names::parse("deploy,gpu").unwrap();
+        let view = View {
+            names: &names,
             board: &board,
             sums: &sums,
             connected: 2,
             engine_starts: 1,
             is_engine_ready: true,
-            in_log: Some(InLog { is_in_log: true, position: 40, checkpoint: 30, alive: 3, contradictions: 1 }),
-            journal: JournalSize { bytes: 99, segments: 1, last: "0000000001.ring".into() },
+            engine_silence: Duration::from_millis(500),
+            is_engine_silent: false,
+            waiting_lines: 7,
+            in_log: Some(InLog {
+                is_in_log: true,
+                is_full: false,
+                position: 40,
+                checkpoint: 30,
+                alive: 3,
+                contradictions: 1,
+            }),
+            journal: &JournalSize { bytes: 99, segments: 1, last: "0000000001.ring".into() },
             started,
             now: started + Duration::from_secs(3),
-        })
+        };
+        let mut whole = String::new();
+        loop {
+            let mut part = String::new();
+            let is_done = telling.go_on(&mut part, &view, most, Instant::now() + Duration::from_secs(60));
+            whole.push_str(&part);
+            if is_done {
+                return whole;
+            }
+        }
+    }
+
+    #[test]
+    fn a_text_in_parts_is_the_same_text() {
+        for wanted in [Wanted::Page, Wanted::Metrics] {
+            assert_eq!(shown(wanted, 1), shown(wanted, 1 << 20));
+        }
     }
 
     #[test]
     fn the_page_has_holder_line_and_fault() {
-        let page = shown(page);
+        let page = shown(Wanted::Page, 1 << 20);
         for part in [
             "client 7</td><td class=\"n\">77</td><td class=\"n\">12</td><td class=\"n\">3.0 s</td>",
             "<td>1<br>client 8 label 78 for 2.0 s</td><td class=\"n\">1</td>",
@@ -180,10 +221,17 @@ mod tests {
 
     #[test]
     fn the_metrics_have_a_value_for_each_lock() {
-        let text = shown(metrics::text);
+        let text = shown(Wanted::Metrics, 1 << 20);
         for line in [
             "wozgirt_engine_up 1",
+            "wozgirt_engine_oldest_question_seconds 0.5",
+            "wozgirt_engine_lines_waiting 7",
             "wozgirt_refusals_total{reason=\"circle\"} 1",
+            "# TYPE wozgirt_wait_seconds histogram",
+            "wozgirt_wait_seconds_bucket{le=\"0.001\"} 1",
+            "wozgirt_wait_seconds_bucket{le=\"+Inf\"} 1",
+            "wozgirt_wait_seconds_sum 0",
+            "wozgirt_wait_seconds_count 1",
             "wozgirt_in_log 1",
             "wozgirt_log_position 40",
             "wozgirt_checkpoint_position 30",

@@ -39,28 +39,39 @@ impl Refused {
     }
 }
 
-/// A request: what it wants, and whether it wants more than the head of the answer.
-pub type Request = Result<(Wanted, bool), Refused>;
+/// A request that is answered.
+#[derive(Debug, Clone, Copy, PartialEq, Eq)]
+pub struct Asked {
+    /// What it wants.
+    pub wanted: Wanted,
+    /// Whether it wants more than the head of the answer.
+    pub has_body: bool,
+    /// Whether it knows a body that is told in parts, each with its length; else the end of the connection ends it.
+    pub takes_parts: bool,
+}
+
+/// A request, or why there is no answer to it.
+pub type Request = Result<Asked, Refused>;
 
 /// The request whose head is there, or nothing as long as it is not.
 pub fn request(bytes: &[u8]) -> Option<Request> {
     let end = bytes.windows(4).position(|window| window == b"\r\n\r\n");
     match end {
-        Some(end) => Some(std::str::from_utf8(&bytes[..end]).map_err(|_| Refused::Bad).and_then(head)),
+        Some(end) => Some(std::str::from_utf8(&bytes[..end]).map_err(|_| Refused::Bad).and_then(read_head)),
         None if bytes.len() >= LONGEST_HEAD => Some(Err(Refused::Bad)),
         None => None,
     }
 }
 
-fn head(head: &str) -> Request {
+fn read_head(head: &str) -> Request {
     let mut lines = head.split("\r\n");
     let words: Vec<&str> = lines.next().unwrap_or("").split(' ').collect();
     let [method, target, version] = words[..] else { return Err(Refused::Bad) };
     if !version.starts_with("HTTP/1.") {
         return Err(Refused::Bad);
     }
-    let host = lines.filter_map(|line| line.split_once(':')).find(|(name, _)| name.eq_ignore_ascii_case("host"));
-    if host.is_some_and(|(_, host)| !is_of_this_machine(host.trim())) {
+    let mut hosts = lines.filter_map(|line| line.split_once(':')).filter(|(name, _)| name.eq_ignore_ascii_case("host"));
+    if hosts.any(|(_, host)| !is_of_this_machine(host.trim())) {
         return Err(Refused::Host);
     }
     let has_body = match method {
@@ -68,11 +79,12 @@ fn head(head: &str) -> Request {
         "HEAD" => false,
         _ => return Err(Refused::Method),
     };
-    match target.split('?').next() {
-        Some("/") => Ok((Wanted::Page, has_body)),
-        Some("/metrics") => Ok((Wanted::Metrics, has_body)),
-        _ => Err(Refused::NotFound),
-    }
+    let wanted = match target.split('?').next() {
+        Some("/") => Wanted::Page,
+        Some("/metrics") => Wanted::Metrics,
+        _ => return Err(Refused::NotFound),
+    };
+    Ok(Asked { wanted, has_body, takes_parts: version != "HTTP/1.0" })
 }
 
 /// An address, or `localhost`: no name that somebody else can have point here.
@@ -86,18 +98,37 @@ fn is_of_this_machine(host: &str) -> bool {
     name.eq_ignore_ascii_case("localhost") || name.parse::<IpAddr>().is_ok()
 }
 
-/// An answer.
-pub fn answer(status: &str, kind: &str, body: &str, has_body: bool) -> Vec<u8> {
-    let length = body.len();
-    let mut text = format!(
-        "HTTP/1.1 {status}\r\nContent-Type: {kind}\r\nContent-Length: {length}\r\nConnection: close\r\n\
-         Cache-Control: no-store\r\nX-Content-Type-Options: nosniff\r\n\
-         Content-Security-Policy: default-src 'none'; style-src 'unsafe-inline'; frame-ancestors 'none'\r\n\r\n"
-    );
-    if has_body {
-        text.push_str(body);
+/// What every answer has in its head.
+const HEADERS: &str = "Connection: close\r\nCache-Control: no-store\r\nX-Content-Type-Options: nosniff\r\n\
+    Content-Security-Policy: default-src 'none'; style-src 'unsafe-inline'; frame-ancestors 'none'\r\n";
+
+/// The head of an answer that is told in parts.
+pub fn head(asked: Asked) -> String {
+    let kind = match asked.wanted {
+        Wanted::Page => "text/html",
+        Wanted::Metrics => "text/plain; version=0.0.4",
+    };
+    let parts = if asked.takes_parts { "Transfer-Encoding: chunked\r\n" } else { "" };
+    format!("HTTP/1.1 200 OK\r\nContent-Type: {kind}; charset=utf-8\r\n{parts}{HEADERS}\r\n")
+}
+
+/// A part of an answer, with its length if the request takes that; the last one with the end.
+pub fn part(asked: Asked, text: &str, is_last: bool) -> String {
+    let end = if is_last { "0\r\n\r\n" } else { "" };
+    match asked.takes_parts {
+        true if text.is_empty() => end.into(),
+        true => format!("{:x}\r\n{text}\r\n{end}", text.len()),
+        false => text.into(),
     }
-    text.into_bytes()
+}
+
+/// The answer to what is refused.
+pub fn refusal(refused: Refused) -> String {
+    let status = refused.status();
+    let length = status.len() + 1;
+    format!(
+        "HTTP/1.1 {status}\r\nContent-Type: text/plain; charset=utf-8\r\nContent-Length: {length}\r\n{HEADERS}\r\n{status}\n"
+    )
 }
 
 #[cfg(test)]
@@ -108,14 +139,18 @@ mod tests {
         request(text.replace('\n', "\r\n").as_bytes())
     }
 
+    fn right(wanted: Wanted, has_body: bool, takes_parts: bool) -> Option<Request> {
+        Some(Ok(Asked { wanted, has_body, takes_parts }))
+    }
+
     #[test]
     fn requests() {
-        assert_eq!(asked("GET / HTTP/1.1\nHost: 127.0.0.1:9100\n\n"), Some(Ok((Wanted::Page, true))));
-        assert_eq!(asked("HEAD /metrics?x HTTP/1.0\n\n"), Some(Ok((Wanted::Metrics, false))));
-        assert_eq!(asked("GET /metrics HTTP/1.1\nhost: [::1]:9100\n\nmore"), Some(Ok((Wanted::Metrics, true))));
+        assert_eq!(asked("GET / HTTP/1.1\nHost: 127.0.0.1:9100\n\n"), right(Wanted::Page, true, true));
+        assert_eq!(asked("HEAD /metrics?x HTTP/1.0\n\n"), right(Wanted::Metrics, false, false));
+        assert_eq!(asked("GET /metrics HTTP/1.1\nhost: [::1]:9100\n\nmore"), right(Wanted::Metrics, true, true));
         assert_eq!(asked("GET /metrics HTTP/1.1\nHost: local"), None);
         for host in ["localhost", "LOCALHOST:80", "10.1.2.3", "::1", "[::1]"] {
-            assert_eq!(asked(&format!("GET / HTTP/1.1\nHost: {host}\n\n")), Some(Ok((Wanted::Page, true))), "{host}");
+            assert_eq!(asked(&format!("GET / HTTP/1.1\nHost: {host}\n\n")), right(Wanted::Page, true, true), "{host}");
         }
     }
 
@@ -127,6 +162,7 @@ mod tests {
             ("GET /\n\n", Refused::Bad),
             ("GET / SPDY/3\n\n", Refused::Bad),
             ("GET / HTTP/1.1\nHost: evil.example:9100\n\n", Refused::Host),
+            ("GET / HTTP/1.1\nHost: localhost\nHost: evil.example\n\n", Refused::Host),
         ];
         for (text, why) in texts {
             assert_eq!(asked(text), Some(Err(why)), "{text}");
@@ -136,12 +172,12 @@ mod tests {
     }
 
     #[test]
-    fn a_head_has_the_length_of_the_body() {
-        let text = String::from_utf8(answer("200 OK", "text/plain", "four", false)).unwrap();
-        assert!(
-            text.starts_with("HTTP/1.1 200 OK\r\n")
-                && text.contains("Content-Length: 4\r\n")
-                && text.ends_with("\r\n\r\n")
-        );
+    fn parts_have_their_length_and_the_last_one_the_end() {
+        let Some(Ok(new)) = asked("GET / HTTP/1.1\n\n") else { panic!() };
+        assert_eq!(part(new, "0123456789abcdef", false), "10\r\n0123456789abcdef\r\n");
+        assert_eq!((part(new, "", false), part(new, "x", true)), (String::new(), "1\r\nx\r\n0\r\n\r\n".into()));
+        let Some(Ok(old)) = asked("GET / HTTP/1.0\n\n") else { panic!() };
+        assert_eq!((part(old, "x", true), head(old).contains("chunked")), ("x".into(), false));
+        assert!(refusal(Refused::NotFound).ends_with("\r\n\r\n404 Not Found\n"));
     }
 }

@@ -1,9 +1,10 @@
 //! `GET /metrics`: the text format of Prometheus.
 
 use super::{InLog, View};
-use crate::board::Sight;
+use crate::board::{Sight, Waits, WAITS};
 use crate::log::End;
 use std::fmt::{Display, Write};
+use wozgirt_engine::Lock;
 
 /// A family of values, with its help and type in front.
 struct Family<'a> {
@@ -21,26 +22,48 @@ impl<'a> Family<'a> {
         let _ = writeln!(self.text, "{} {value}", self.name);
     }
 
+    fn end_of_range(&mut self, end: &str, count: u64) {
+        let _ = writeln!(self.text, "{}_bucket{{le=\"{end}\"}} {count}", self.name);
+    }
+
     /// Names of locks and reasons need no escapes: see `names.rs` and `answers.rs`.
     fn labelled(&mut self, label: &str, of: &str, value: impl Display) {
         let _ = writeln!(self.text, "{}{{{label}=\"{of}\"}} {value}", self.name);
     }
 }
 
-/// The text.
-pub fn text(view: &View<'_>) -> String {
-    let mut text = String::new();
-    server(&mut text, view);
-    view.in_log.iter().for_each(|it| log(&mut text, it));
-    each_lock(&mut text, view);
-    text
+/// What is not of one lock.
+pub fn head(text: &mut String, view: &View<'_>) {
+    server(text, view);
+    waits(text, view.board.all_waits());
+    view.in_log.iter().for_each(|it| log(text, it));
+}
+
+fn waits(text: &mut String, waits: &Waits) {
+    let mut family =
+        Family::new(text, "wozgirt_wait_seconds", "histogram", "How long grants were waited for, of all locks.");
+    let mut count = 0;
+    for (i, of_range) in waits.counts.iter().enumerate() {
+        count += of_range;
+        family.end_of_range(WAITS.get(i).map_or("+Inf".into(), f64::to_string).as_str(), count);
+    }
+    let _ = writeln!(family.text, "{0}_sum {1}\n{0}_count {count}", family.name, waits.sum.as_secs_f64());
 }
 
 fn server(text: &mut String, view: &View<'_>) {
     let uptime = view.now.saturating_duration_since(view.started).as_secs_f64();
-    let values: [(&str, &str, &str, &dyn Display); 9] = [
+    let is_up = u8::from(view.is_engine_ready && !view.is_engine_silent);
+    let silence = view.engine_silence.as_secs_f64();
+    let values: [(&str, &str, &str, &dyn Display); 11] = [
         ("wozgirt_uptime_seconds", "gauge", "Seconds since the server started.", &uptime),
-        ("wozgirt_engine_up", "gauge", "1 if the engine answers.", &u8::from(view.is_engine_ready)),
+        ("wozgirt_engine_up", "gauge", "1 if the engine answers.", &is_up),
+        (
+            "wozgirt_engine_oldest_question_seconds",
+            "gauge",
+            "Age of the oldest question that the engine has not answered; it is asked one each second.",
+            &silence,
+        ),
+        ("wozgirt_engine_lines_waiting", "gauge", "Lines that the engine may not have done.", &view.waiting_lines),
         ("wozgirt_engine_starts_total", "counter", "How often the engine was started.", &view.engine_starts),
         ("wozgirt_connections", "gauge", "Open connections.", &view.connected),
         ("wozgirt_connections_total", "counter", "Connections that were let in.", &view.sums.connections),
@@ -64,8 +87,9 @@ fn server(text: &mut String, view: &View<'_>) {
 }
 
 fn log(text: &mut String, it: &InLog) {
-    let values: [(&str, &str, &str, &dyn Display); 5] = [
+    let values: [(&str, &str, &str, &dyn Display); 6] = [
         ("wozgirt_in_log", "gauge", "1 if this server is in the log of all servers.", &u8::from(it.is_in_log)),
+        ("wozgirt_log_full", "gauge", "1 if etcd has no room for entries.", &u8::from(it.is_full)),
         ("wozgirt_log_position", "gauge", "The last entry of the log that the engine has done.", &it.position),
         ("wozgirt_checkpoint_position", "gauge", "The entry of the last checkpoint.", &it.checkpoint),
         ("wozgirt_servers_alive", "gauge", "Servers whose lease in etcd lives.", &it.alive),
@@ -76,32 +100,29 @@ fn log(text: &mut String, it: &InLog) {
     }
 }
 
-/// One value of each lock.
-type Value = fn(&Sight, &View<'_>) -> f64;
+/// A family with a value of each lock: its name, kind and help, and the value.
+type OfLock = (&'static str, &'static str, &'static str, fn(&Sight, &View<'_>) -> f64);
 
-fn each_lock(text: &mut String, view: &View<'_>) {
-    let families: [(&str, &str, &str, Value); 8] = [
-        ("wozgirt_held", "gauge", "1 if the lock is held.", |it, _| f64::from(u8::from(it.holder.is_some()))),
-        ("wozgirt_held_seconds", "gauge", "Age of the hold.", |it, view| {
-            it.holder.map_or(0.0, |holder| view.now.saturating_duration_since(holder.since).as_secs_f64())
-        }),
-        ("wozgirt_waiting", "gauge", "Clients that wait.", |it, _| it.line.len() as f64),
-        ("wozgirt_oldest_wait_seconds", "gauge", "How long the first of the line has waited.", |it, view| {
-            it.line.front().map_or(0.0, |waiter| view.now.saturating_duration_since(waiter.since).as_secs_f64())
-        }),
-        ("wozgirt_grants_total", "counter", "Grants.", |it, _| it.grants as f64),
-        ("wozgirt_waited_seconds_total", "counter", "Time that was waited for grants.", |it, _| {
-            it.waited.as_secs_f64()
-        }),
-        ("wozgirt_longest_wait_seconds", "gauge", "The longest wait for a grant.", |it, _| {
-            it.longest_wait.as_secs_f64()
-        }),
-        ("wozgirt_faults_total", "counter", "Faults that were written.", |it, _| it.faults as f64),
-    ];
-    for (name, kind, help, value) in families {
-        let mut family = Family::new(text, name, kind, help);
-        for (lock, sight) in view.board.locks().iter().enumerate() {
-            family.labelled("lock", view.names.name(lock), value(sight, view));
-        }
+/// All of them.
+pub const OF_LOCKS: [OfLock; 8] = [
+    ("wozgirt_held", "gauge", "1 if the lock is held.", |it, _| f64::from(u8::from(it.holder.is_some()))),
+    ("wozgirt_held_seconds", "gauge", "Age of the hold.", |it, view| {
+        it.holder.map_or(0.0, |holder| view.now.saturating_duration_since(holder.since).as_secs_f64())
+    }),
+    ("wozgirt_waiting", "gauge", "Clients that wait.", |it, _| it.line.len() as f64),
+    ("wozgirt_oldest_wait_seconds", "gauge", "How long the first of the line has waited.", |it, view| {
+        it.line.front().map_or(0.0, |waiter| view.now.saturating_duration_since(waiter.since).as_secs_f64())
+    }),
+    ("wozgirt_grants_total", "counter", "Grants.", |it, _| it.grants as f64),
+    ("wozgirt_waited_seconds_total", "counter", "Time that was waited for grants.", |it, _| it.waited.as_secs_f64()),
+    ("wozgirt_longest_wait_seconds", "gauge", "The longest wait for a grant.", |it, _| it.longest_wait.as_secs_f64()),
+    ("wozgirt_faults_total", "counter", "Faults that were written.", |it, _| it.faults as f64),
+];
+
+/// The value of one lock, behind the head of its family if it is the first.
+pub fn of_lock(text: &mut String, view: &View<'_>, (name, kind, help, value): &OfLock, lock: Lock) {
+    let mut family = if lock == 0 { Family::new(text, name, kind, help) } else { Family { text, name } };
+    if let Some(sight) = view.board.lock(lock) {
+        family.labelled("lock", view.names.name(lock), value(sight, view));
     }
 }

@@ -3,20 +3,24 @@
 mod html;
 mod http;
 mod metrics;
+mod telling;
 mod visitor;
 
+use telling::Telling;
 pub use visitor::{Next, Visitor};
 
 use crate::board::Board;
 use crate::journal::JournalSize;
 use crate::names::Names;
 use crate::sums::Sums;
-use std::time::Instant;
+use std::time::{Duration, Instant};
 
 /// What there is to show of a server that is one of several.
 pub struct InLog {
     /// Whether it is in the log now.
     pub is_in_log: bool,
+    /// Whether etcd has no room for entries.
+    pub is_full: bool,
     /// The last entry that its engine has done.
     pub position: u64,
     /// The entry of the last checkpoint.
@@ -37,14 +41,20 @@ pub struct View<'a> {
     pub sums: &'a Sums,
     /// How many are connected.
     pub connected: usize,
-    /// How often the engine was started, and whether it answers.
+    /// How often the engine was started.
     pub engine_starts: u64,
     /// Whether it answers.
     pub is_engine_ready: bool,
+    /// How long it has left a question unanswered, and whether that is long.
+    pub engine_silence: Duration,
+    /// Whether that is long.
+    pub is_engine_silent: bool,
+    /// How many lines may wait for it.
+    pub waiting_lines: usize,
     /// The log that it has with others, if it has one.
     pub in_log: Option<InLog>,
     /// Its journal.
-    pub journal: JournalSize,
+    pub journal: &'a JournalSize,
     /// When the server started.
     pub started: Instant,
     /// The time.

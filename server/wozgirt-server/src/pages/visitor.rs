@@ -1,15 +1,21 @@
 //! One visitor of the page.
 
-use super::http::{answer, request, Refused, Wanted};
-use super::{html, metrics, View};
+use super::http::{head, part, refusal, request, Asked};
+use super::{Telling, View};
 use crate::outbox::Outbox;
 use crate::stream::Stream;
 use std::io::{self, ErrorKind, Read};
 use std::time::{Duration, Instant};
 use wozgirt_system::Interest;
 
-/// How long a visit lasts at most.
+/// How long a visit lasts at most, and how much of that a visitor has to say what it wants.
 const LONGEST_VISIT: Duration = Duration::from_secs(10);
+const LONGEST_ASKING: Duration = Duration::from_secs(3);
+/// A visitor that has been here for so long may have to go for one that comes.
+const SHORTEST_VISIT: Duration = Duration::from_secs(1);
+/// How many bytes of an answer wait to be written.
+const MOST_AHEAD: usize = 16 << 10;
+const READ: usize = 2048;
 
 /// A visitor: it asks once, and is answered once.
 pub struct Visitor {
@@ -17,7 +23,9 @@ pub struct Visitor {
     since: Instant,
     input: Vec<u8>,
     outbox: Outbox,
-    is_answered: bool,
+    has_asked: bool,
+    /// What is still to be told.
+    telling: Option<(Asked, Telling)>,
 }
 
 /// What is to be done with a visitor.
@@ -32,7 +40,7 @@ pub enum Next {
 impl Visitor {
     /// A new visitor.
     pub fn new(stream: Stream, now: Instant) -> Visitor {
-        Visitor { stream, since: now, input: Vec::new(), outbox: Outbox::default(), is_answered: false }
+        Visitor { stream, since: now, input: Vec::new(), outbox: Outbox::default(), has_asked: false, telling: None }
     }
 
     /// Its socket.
@@ -40,45 +48,78 @@ impl Visitor {
         &self.stream
     }
 
-    /// Whether it takes too long.
-    pub fn is_late(&self, now: Instant) -> bool {
-        now.saturating_duration_since(self.since) > LONGEST_VISIT
+    /// When it has taken too long.
+    pub fn deadline(&self) -> Instant {
+        self.since + if self.has_asked { LONGEST_VISIT } else { LONGEST_ASKING }
     }
 
-    /// Reads and writes what can be; `view` is asked for when it is needed.
-    pub fn go_on<'a>(&mut self, view: impl FnOnce() -> View<'a>) -> Next {
-        self.try_to_go_on(view).unwrap_or(Next::Close)
+    /// Who goes first where there are too many: the smaller it is, the sooner. Nothing if it stays.
+    pub fn turn_to_go(&self, now: Instant) -> Option<(bool, Instant)> {
+        let may_go = !self.has_asked || now.saturating_duration_since(self.since) > SHORTEST_VISIT;
+        may_go.then_some((self.has_asked, self.since))
     }
 
-    fn try_to_go_on<'a>(&mut self, view: impl FnOnce() -> View<'a>) -> io::Result<Next> {
-        if !self.is_answered {
-            let mut bytes = [0; 2048];
-            match self.stream.read(&mut bytes) {
-                Ok(0) => return Ok(Next::Close),
-                Ok(count) => self.input.extend_from_slice(&bytes[..count]),
-                Err(fault) if matches!(fault.kind(), ErrorKind::WouldBlock | ErrorKind::Interrupted) => {}
-                Err(fault) => return Err(fault),
-            }
-            let Some(request) = request(&self.input) else { return Ok(Next::Wait(Interest::READS)) };
-            let text = match request {
-                Ok((Wanted::Page, has_body)) => {
-                    answer("200 OK", "text/html; charset=utf-8", &html::page(&view()), has_body)
-                }
-                Ok((Wanted::Metrics, has_body)) => {
-                    answer("200 OK", "text/plain; version=0.0.4; charset=utf-8", &metrics::text(&view()), has_body)
-                }
-                Err(refused) => refusal(refused),
-            };
-            self.outbox.bytes().extend_from_slice(&text);
-            self.is_answered = true;
+    /// Reads and writes what can be until this time.
+    pub fn go_on(&mut self, view: &View<'_>, until: Instant) -> Next {
+        self.try_to_go_on(view, until).unwrap_or(Next::Close)
+    }
+
+    fn try_to_go_on(&mut self, view: &View<'_>, until: Instant) -> io::Result<Next> {
+        if !self.has_asked && !self.hear()? {
+            return Ok(Next::Wait(Interest::READS));
         }
-        self.outbox.write_to(&mut self.stream)?;
-        let writes = Interest { reads: false, writes: true };
-        Ok(if self.outbox.is_empty() { Next::Close } else { Next::Wait(writes) })
+        loop {
+            self.tell(view, until);
+            self.outbox.write_to(&mut self.stream)?;
+            if self.telling.is_none() && self.outbox.is_empty() {
+                self.drain();
+                return Ok(Next::Close);
+            }
+            if !self.outbox.is_empty() || Instant::now() >= until {
+                return Ok(Next::Wait(Interest { reads: false, writes: true }));
+            }
+        }
     }
-}
 
-fn refusal(refused: Refused) -> Vec<u8> {
-    let status = refused.status();
-    answer(status, "text/plain; charset=utf-8", &format!("{status}\n"), true)
+    /// Whether it has said what it wants.
+    fn hear(&mut self) -> io::Result<bool> {
+        let mut bytes = [0; READ];
+        match self.stream.read(&mut bytes) {
+            Ok(0) => return Err(ErrorKind::UnexpectedEof.into()),
+            Ok(count) => self.input.extend_from_slice(&bytes[..count]),
+            Err(fault) if matches!(fault.kind(), ErrorKind::WouldBlock | ErrorKind::Interrupted) => {}
+            Err(fault) => return Err(fault),
+        }
+        let Some(request) = request(&self.input) else { return Ok(false) };
+        self.has_asked = true;
+        self.input = Vec::new();
+        let text = match request {
+            Ok(asked) => {
+                self.telling = asked.has_body.then(|| (asked, Telling::new(asked.wanted)));
+                head(asked)
+            }
+            Err(refused) => refusal(refused),
+        };
+        self.outbox.bytes().extend_from_slice(text.as_bytes());
+        Ok(true)
+    }
+
+    fn tell(&mut self, view: &View<'_>, until: Instant) {
+        let Some((asked, telling)) = self.telling.as_mut().filter(|_| self.outbox.len() < MOST_AHEAD) else { return };
+        let mut text = String::new();
+        let is_last = telling.go_on(&mut text, view, MOST_AHEAD, until);
+        self.outbox.bytes().extend_from_slice(part(*asked, &text, is_last).as_bytes());
+        if is_last {
+            self.telling = None;
+        }
+    }
+
+    /// Reads a little of what it still says: a socket that is closed with something unread takes back the answer.
+    fn drain(&mut self) {
+        for _ in 0..8 {
+            if !matches!(self.stream.read(&mut [0; READ]), Ok(count) if count > 0) {
+                return;
+            }
+        }
+    }
 }

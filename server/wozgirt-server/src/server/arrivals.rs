@@ -1,18 +1,19 @@
 //! Who comes: clients, operators, and visitors of the page.
 
 use super::{Server, CLIENTS, CONNECTIONS, NETWORK, OPERATORS, PAGE, VISITORS};
-use super::{MOST_COMERS, MOST_VISITORS, PLACES_OF_OPERATORS, SHUT};
+use super::{LATE, MOST_COMERS, MOST_VISITORS, SHORTEST_TURN, SHUT};
 use crate::accounts::Accounts;
-use crate::connection::{Connection, Door};
+use crate::connection::{Connection, Door, Visit};
 use crate::doors::{open_tcp, UnixDoor};
-use crate::journal::JournalSize;
 use crate::log::{Event, Log};
 use crate::pages::{Next, View, Visitor};
+use crate::places::Guest;
 use crate::settings::Settings;
 use crate::stream::Stream;
 use crate::CannotServe;
 use std::io;
-use std::net::TcpListener;
+use std::net::{SocketAddr, TcpListener};
+use std::time::Instant;
 use wozgirt_system::{peer_of, Interest, Poller};
 
 /// The sockets that are listened to.
@@ -47,11 +48,11 @@ impl Doors {
         Ok(doors)
     }
 
-    /// Who comes in at this door, if somebody does.
-    fn accept(&self, key: u64) -> io::Result<Option<(Stream, String)>> {
+    /// Who comes in at this door, and from which address, if somebody does.
+    fn accept(&self, key: u64) -> io::Result<Option<(Stream, Option<SocketAddr>)>> {
         let unix = |door: &Option<UnixDoor>| {
             let Some(door) = door else { return Ok(None) };
-            door.listener.accept().and_then(|(stream, _)| Ok(Some((Stream::unix(stream)?, String::new()))))
+            door.listener.accept().and_then(|(stream, _)| Ok(Some((Stream::unix(stream)?, None))))
         };
         let accepted = match key {
             CLIENTS => unix(&self.clients),
@@ -59,7 +60,7 @@ impl Doors {
             _ => match if key == NETWORK { &self.tcp } else { &self.page } {
                 None => Ok(None),
                 Some(listener) => {
-                    listener.accept().and_then(|(stream, from)| Ok(Some((Stream::tcp(stream)?, from.to_string()))))
+                    listener.accept().and_then(|(stream, from)| Ok(Some((Stream::tcp(stream)?, Some(from)))))
                 }
             },
         };
@@ -74,32 +75,35 @@ impl Doors {
 
 impl Server {
     pub(super) fn let_in(&mut self, key: u64) {
+        let door = match key {
+            CLIENTS => Door::Clients,
+            OPERATORS => Door::Operators,
+            _ => Door::Network,
+        };
         for _ in 0..MOST_COMERS {
             let (stream, from) = match self.doors.accept(key) {
                 Ok(Some(come)) => come,
                 Ok(None) => return,
                 Err(fault) => return self.shut_doors(&fault),
             };
-            let door = match key {
-                CLIENTS => Door::Clients,
-                OPERATORS => Door::Operators,
-                _ => Door::Network,
-            };
             let peer = if door == Door::Network { None } else { peer_of(&stream).ok() };
-            let who = match &peer {
-                Some(peer) => format!("{}, process {}", self.accounts.user_name(peer.user), peer.process),
-                None => from,
+            let who = match (&peer, from) {
+                (Some(peer), _) => format!("{}, process {}", self.accounts.user_name(peer.user), peer.process),
+                (None, Some(from)) => from.to_string(),
+                (None, None) => "nobody knows who".into(),
             };
+            let guest = from.map_or(Guest::User(peer.as_ref().map(|peer| peer.user)), |from| Guest::at(from.ip()));
             self.last_client += 1;
-            let mut connection = Connection::new(self.last_client, door, peer, who, stream, self.desk.now);
+            let visit = Visit { stream, peer, who, guest };
+            let mut connection = Connection::new(self.last_client, door, visit, self.most_unread, self.desk.now);
             connection.lease = self.desk.first_lease(door);
             self.welcome(connection);
         }
     }
 
     pub(super) fn welcome(&mut self, mut connection: Connection) {
-        let extra = if connection.door == Door::Operators { PLACES_OF_OPERATORS } else { 0 };
-        if self.connections.len() >= self.desk.settings.connections + extra || self.stopping.is_some() {
+        let (door, guest) = (connection.door, connection.guest);
+        if self.stopping.is_some() || !self.places.take(door, guest) {
             connection.tell("refused connections");
             let _ = connection.write(self.desk.now); // it is told if it takes it at once
             self.desk.sums.turned_away += 1;
@@ -108,32 +112,39 @@ impl Server {
         }
         let client = connection.client;
         if self.poller.add(connection.stream(), CONNECTIONS + client, Interest::READS).is_err() {
-            return; // no memory: the connection is closed
+            return self.places.give_back(door, guest); // no memory: the connection is closed
         }
         self.desk.sums.connections += 1;
         if self.desk.settings.logs_connections {
             self.desk.log.say(&Event::Came { client, who: &connection.who });
         }
         self.connections.insert(client, connection);
+        self.desk.questions.clients = self.connections.len();
+        self.note_deadline(client);
         self.touch(client);
     }
 
     /// The system has no place for one more: others have to close first, and the door would tell of it without an end.
     pub(super) fn shut_doors(&mut self, fault: &io::Error) {
         self.desk.log.say(&Event::CannotAccept { fault });
-        self.set_doors(false);
         self.shut_until = Some(self.desk.now + SHUT);
+        self.set_doors();
     }
 
-    pub(super) fn set_doors(&self, reads: bool) {
-        let interest = Interest { reads, writes: false };
+    /// Has those doors listened to at which somebody may come in now.
+    pub(super) fn set_doors(&self) {
+        let is_open = self.shut_until.is_none();
+        let interest = |key| {
+            let is_of_clients = key == CLIENTS || key == NETWORK;
+            Interest { reads: is_open && !(is_of_clients && self.keeps_out), writes: false }
+        };
         let unix = [(&self.doors.clients, CLIENTS), (&self.doors.operators, OPERATORS)];
         for (door, key) in unix.into_iter().filter_map(|(door, key)| Some((door.as_ref()?, key))) {
-            let _ = self.poller.change(&door.listener, key, interest); // it was added, and is open
+            let _ = self.poller.change(&door.listener, key, interest(key)); // it was added, and is open
         }
         let tcp = [(&self.doors.tcp, NETWORK), (&self.doors.page, PAGE)];
         for (door, key) in tcp.into_iter().filter_map(|(door, key)| Some((door.as_ref()?, key))) {
-            let _ = self.poller.change(door, key, interest); // the same
+            let _ = self.poller.change(door, key, interest(key)); // the same
         }
     }
 
@@ -144,7 +155,8 @@ impl Server {
                 Ok(None) => return,
                 Err(fault) => return self.shut_doors(&fault),
             };
-            if self.visitors.len() >= MOST_VISITORS {
+            if self.visitors.len() >= MOST_VISITORS && !self.send_visitor_away() {
+                let address = address.map_or(String::new(), |address| address.to_string());
                 self.desk.log.say(&Event::Visitor { address: &address, why: "there are too many" });
                 continue;
             }
@@ -152,14 +164,26 @@ impl Server {
             let key = VISITORS + self.last_visitor;
             let visitor = Visitor::new(stream, self.desk.now);
             if self.poller.add(visitor.stream(), key, Interest::READS).is_ok() {
+                self.next_sweep = self.next_sweep.min(visitor.deadline() + LATE);
                 self.visitors.insert(key, visitor);
+                self.visit(key); // mostly it has said by now what it wants
             }
         }
     }
 
+    /// One who has said nothing, or has been here long, makes room for another: whether there is one.
+    fn send_visitor_away(&mut self) -> bool {
+        let now = self.desk.now;
+        let turns = self.visitors.iter().filter_map(|(key, visitor)| Some((visitor.turn_to_go(now)?, *key)));
+        let Some((_, key)) = turns.min() else { return false };
+        self.visitors.remove(&key).is_some()
+    }
+
     pub(super) fn visit(&mut self, key: u64) {
         let Some(mut visitor) = self.visitors.remove(&key) else { return };
-        if let Next::Wait(interest) = visitor.go_on(|| self.view()) {
+        self.journal.look(&self.desk.settings.engine_journal(), self.desk.now);
+        let until = Instant::now() + SHORTEST_TURN;
+        if let Next::Wait(interest) = visitor.go_on(&self.view(), until) {
             if self.poller.change(visitor.stream(), key, interest).is_ok() {
                 self.visitors.insert(key, visitor);
             }
@@ -174,8 +198,11 @@ impl Server {
             connected: self.connections.len(),
             engine_starts: self.desk.engine.starts,
             is_engine_ready: self.is_engine_ready(),
+            engine_silence: self.desk.engine_silence(),
+            is_engine_silent: self.is_engine_silent(),
+            waiting_lines: self.desk.waiting_lines(),
             in_log: self.desk.cluster.as_ref().map(|cluster| cluster.view()),
-            journal: JournalSize::of(&self.desk.settings.engine_journal()),
+            journal: self.journal.size(),
             started: self.started,
             now: self.desk.now,
         }

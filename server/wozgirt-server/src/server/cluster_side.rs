@@ -1,58 +1,20 @@
 //! One of several servers: the log is read, the engine does what it says, and clients are told.
 
+use super::checkpoints::check_settings;
 use super::{Server, ENGINE, ENGINE_INPUT};
-use crate::board::Board;
-use crate::cluster::{
-    holders, Applied, BadCheckpoint, Block, Checkpoint, Cluster, Effect, Key, Phase, Read, Server as LogServer, Verdict,
-};
+use crate::cluster::{list, Block, Effect, Key, Phase, Read, Server as LogServer, Verdict};
 use crate::engine::{Outcome, Unheard};
 use crate::log::{End, Event};
 use crate::CannotServe;
 use std::mem;
 use std::process::ExitStatus;
-use std::time::Instant;
-use wozgirt_engine::{decimal, Answer, Answered, Client, Input, NOBODY};
+use wozgirt_engine::{Answer, Answered, Client, Input, NOBODY};
 use wozgirt_system::Interest;
 
 /// The status with which the process that speaks to etcd says that the log is not the one that is asked for.
 const LOST: i32 = 4;
 
-/// What the engine's state is before the first entry.
-fn first_state() -> Vec<String> {
-    vec![format!("at 0 {}", "0".repeat(64))]
-}
-
 impl Server {
-    /// Reads the checkpoint, and prepares the engine's folder for it.
-    pub(super) fn begin_cluster(&mut self) -> Result<(), CannotServe> {
-        let now = self.desk.now;
-        let desk = &mut self.desk;
-        let Some(cluster) = &mut desk.cluster else { return Ok(()) };
-        let (applied, state, segment) = match cluster.folder.read()? {
-            None => (Applied::new(cluster.applied.most_lines), first_state(), 0),
-            Some(text) => {
-                let found = Checkpoint::parse(&text, cluster.applied.most_lines);
-                let Checkpoint { identity, segment, applied, state } =
-                    found.map_err(|BadCheckpoint(line)| CannotServe::Checkpoint(cluster.folder.checkpoint(), line))?;
-                cluster.identity = Some(identity);
-                (applied, state, segment)
-            }
-        };
-        cluster.folder.restore(segment, applied.position)?;
-        cluster.folder.write_holders(&holders(&state))?;
-        cluster.saved = (segment, applied.position);
-        cluster.applied = applied;
-        cluster.phase = Phase::Restoring(Vec::new());
-        cluster.is_restored = false;
-        cluster.blocks.clear();
-        cluster.unread.clear();
-        cluster.mirror.forget();
-        desk.board.forget();
-        put_state(cluster, &mut desk.board, &state, now);
-        cluster.state = state;
-        check_settings(cluster)
-    }
-
     /// Both processes: whether they have ended, and whether they are to be started.
     pub(super) fn look_at_cluster(&mut self) -> Result<(), CannotServe> {
         let (now, is_stopping) = (self.desk.now, self.stopping.is_some());
@@ -97,31 +59,6 @@ impl Server {
                 }
             }
         }
-        Ok(())
-    }
-
-    /// The engine has told its state and ended: that is the checkpoint, from which it starts again.
-    fn save(&mut self) -> Result<(), CannotServe> {
-        let now = self.desk.now;
-        let Some(cluster) = &mut self.desk.cluster else { return Ok(()) };
-        let Phase::Ending(state) = mem::replace(&mut cluster.phase, Phase::Restoring(Vec::new())) else {
-            return Ok(());
-        };
-        let segment = cluster.folder.sync_from(cluster.saved.0)?;
-        let (position, revision) = (cluster.applied.position, cluster.applied.revision);
-        cluster.folder.keep(segment, position)?;
-        let identity = cluster.identity.clone().unwrap_or_default();
-        let checkpoint = Checkpoint { identity, segment, applied: cluster.applied.clone(), state };
-        cluster.folder.write(&checkpoint.text())?;
-        cluster.folder.write_holders(&checkpoint.holders())?;
-        cluster.folder.forget(cluster.saved.1, position)?;
-        cluster.saved = (segment, position);
-        cluster.state = checkpoint.state;
-        if cluster.me.is_some() {
-            cluster.log.ask_line(format_args!("checkpoint {position} {revision}"));
-        }
-        self.desk.log.say(&Event::Checkpoint { position, segment });
-        self.desk.engine.start_at_once(now);
         Ok(())
     }
 
@@ -248,6 +185,7 @@ impl Server {
         }
         if let Some(digest) = cluster.state.last().and_then(|line| line.rsplit(' ').next()) {
             if !cluster.is_restored {
+                cluster.place.done(cluster.applied.position, digest)?;
                 cluster.digests.note(cluster.applied.position, digest.into());
             }
         }
@@ -281,12 +219,14 @@ impl Server {
         }
     }
 
-    /// Gives the engine what is there of the log.
+    /// Gives the engine what is there of the log. How far that was read is written before anybody is told what comes of it.
     pub(super) fn pump(&mut self) -> Result<(), CannotServe> {
         loop {
             let waiting = self.desk.engine.waiting();
+            let now = self.desk.now;
             let Some(cluster) = &mut self.desk.cluster else { return Ok(()) };
-            let Some(read) = cluster.next_read(waiting) else { return Ok(()) };
+            let Some(read) = cluster.next_read(waiting) else { return Ok(cluster.place.write(now)?) };
+            cluster.place.read(read.position, read.revision)?;
             self.give(read)?;
         }
     }
@@ -296,8 +236,16 @@ impl Server {
         let desk = &mut self.desk;
         let Some(cluster) = &mut desk.cluster else { return Ok(()) };
         let Read { position, revision, entry } = read;
+        let is_first = cluster.applied.settings.is_none();
         let step = cluster.applied.apply(position, revision, entry.as_ref());
-        check_settings(cluster)?;
+        if let (true, Some(settings)) = (is_first, cluster.applied.settings.clone()) {
+            check_settings(cluster, &settings)?;
+            cluster.place.note_settings(&settings)?;
+            if list(&settings) != desk.names.list() {
+                self.lose_engine_of_cluster(false); // it begins again, with the list of the log
+                return Ok(());
+            }
+        }
         let is_own = entry.as_ref().is_some_and(|entry| Some(&entry.writer) == cluster.me.as_ref());
         for given in step.given {
             let line = given.to_string();
@@ -347,8 +295,15 @@ impl Server {
                 cluster.owns.forget(*session);
                 return Ok(());
             }
-            // a client may have come twice, and is told what it has where it came last
-            Effect::Here(..) => cluster.opening.pop_front(),
+            Effect::Here(key, _) => {
+                let key = *key;
+                return self.opened(key, effect);
+            }
+            Effect::Closed(key) => {
+                let client = cluster.opening.pop_front();
+                client.map(|client| cluster.owns.go(*key, client));
+                client
+            }
             Effect::Gone(key) => cluster.owns.client(*key),
             Effect::Granted { session, .. } => cluster.owns.client_of(*session),
             Effect::Answered { session, input, answer, .. } => {
@@ -363,15 +318,39 @@ impl Server {
         match effect {
             Effect::Answered { number, answer, .. } => desk.tell_numbered(connection, number, &answer),
             Effect::Granted { lock, token, .. } => desk.tell_grant(connection, lock, token),
-            Effect::Here(_, session) => desk.tell_here(connection, session),
+            Effect::Closed(_) => desk.tell_closed(connection),
             Effect::Gone(_) => desk.tell_left(connection),
-            Effect::Left(..) | Effect::Done { .. } => {}
+            Effect::Here(..) | Effect::Left(..) | Effect::Done { .. } => {}
         }
         let client = connection.client;
-        if connection.has_line() {
-            self.backlog.push_back(client);
-        }
+        self.go_on(client);
+        Ok(())
+    }
+
+    /// The connection was told something, and may say more.
+    fn go_on(&mut self, client: Client) {
+        self.queue(client);
         self.touch(client);
+    }
+
+    /// The session has come here. A client may have come twice, and is told what it has where it came last.
+    fn opened(&mut self, key: Key, effect: Effect) -> Result<(), CannotServe> {
+        let (now, lease) = (self.desk.now, self.desk.settings.longest_lease);
+        let Some(cluster) = &mut self.desk.cluster else { return Ok(()) };
+        let (Some(client), Effect::Here(_, session)) = (cluster.opening.pop_front(), effect) else { return Ok(()) };
+        let Some(connection) = self.connections.get_mut(&client) else {
+            cluster.owns.await_gone(key, now + lease);
+            return Ok(());
+        };
+        if !connection.is_opening() {
+            return Ok(()); // it has left before, and begins again
+        }
+        let before = cluster.owns.come(key, connection.identity(), client);
+        self.desk.tell_here(connection, session);
+        if let Some(before) = before.filter(|before| *before != client) {
+            self.part(before, End::Moved);
+        }
+        self.go_on(client);
         Ok(())
     }
 
@@ -379,6 +358,7 @@ impl Server {
     fn done(&mut self, position: u64, digest: String) -> Result<(), CannotServe> {
         let desk = &mut self.desk;
         let Some(cluster) = &mut desk.cluster else { return Ok(()) };
+        cluster.place.done(position, &digest)?;
         cluster.digests.note(position, digest);
         let Some(block) = cluster.blocks.pop_front() else { return Ok(()) };
         if block.is_checkpoint {
@@ -406,36 +386,5 @@ impl Server {
             cluster.log.end();
             self.desk.engine.end();
         }
-    }
-}
-
-/// Who holds and who waits in a state.
-fn put_state(cluster: &mut Cluster, board: &mut Board, state: &[String], now: Instant) {
-    for line in state {
-        let words: Vec<&str> = line.split(' ').collect();
-        let number = |i: usize| words.get(i).and_then(|word| decimal(word).ok()).unwrap_or(0);
-        match words[..] {
-            ["hold", ..] => {
-                let (lock, token, session) = (number(1) as usize, number(2), number(3));
-                cluster.mirror.put_hold(session, lock, token);
-                board.holds(lock, session, token, now);
-            }
-            [_, "acquire", ..] => {
-                let (session, lock, label) = (number(0), number(2) as usize, number(3));
-                cluster.mirror.put_wait(session, lock);
-                board.waits(lock, session, label, now);
-            }
-            _ => {}
-        }
-    }
-}
-
-/// The settings of this server are those of the log.
-fn check_settings(cluster: &Cluster) -> Result<(), CannotServe> {
-    match &cluster.applied.settings {
-        Some(settings) if *settings != cluster.with => {
-            Err(CannotServe::Settings { log: settings.clone(), own: cluster.with.clone() })
-        }
-        _ => Ok(()),
     }
 }

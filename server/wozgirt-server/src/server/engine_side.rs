@@ -3,9 +3,16 @@
 use super::{Server, ENGINE, ENGINE_INPUT};
 use crate::engine::{Outcome, Unheard};
 use crate::log::{End, Event};
+use crate::questions::Own;
 use crate::CannotServe;
-use wozgirt_engine::{Answer, Answered, Asked, Input, NOBODY};
+use std::time::{Duration, Instant};
+use wozgirt_engine::{Answer, Answered, Asked, Client, Input, Lock, Token, NOBODY};
 use wozgirt_system::Interest;
+
+/// An engine that leaves a question unanswered for so long is called silent.
+const SILENCE: Duration = Duration::from_secs(2);
+/// How many times longer it may take to answer when it starts.
+const TIMES_AT_START: u32 = 10;
 
 impl Server {
     pub(super) fn hear_engine(&mut self) {
@@ -37,10 +44,11 @@ impl Server {
             let Some(connection) = self.connections.get_mut(&client) else { return true };
             let kept = answer.clone();
             match self.desk.tell_answer(connection, answer) {
-                Ok(()) => {
-                    if connection.has_line() {
-                        self.backlog.push_back(client);
+                Ok(ended) => {
+                    if let Some((operator, lock, token)) = ended {
+                        self.tell_ended(operator, client, lock, token, &kept);
                     }
+                    self.queue(client);
                     self.touch(client);
                     return true;
                 }
@@ -53,21 +61,95 @@ impl Server {
         false
     }
 
-    /// How a lock is, which was asked when the engine started.
-    pub(super) fn answer_own(&mut self, answer: &Answer) -> bool {
-        let Answer::Stats(stats) = answer else { return false };
-        if self.own.pop_front() != Some(stats.lock) {
-            return false;
-        }
-        if self.desk.board.begin(stats, self.desk.now) {
-            self.held_before.push(stats.lock);
-        }
-        if self.own.is_empty() {
-            self.desk.engine.note_ready();
-            self.desk.log.say(&Event::EngineReady { held: self.held_before.len() });
-            self.touch_all();
+    /// The answer to a question of the server's own. False if it is none.
+    fn answer_own(&mut self, answer: &Answer) -> bool {
+        let Some(own) = self.desk.questions.answered(answer, self.desk.now) else { return false };
+        if let Own::End(operator, lock, token) = own {
+            if matches!(answer, Answer::Released { .. }) {
+                self.held_before.retain(|held| *held != lock);
+                self.desk.board.released(lock, NOBODY);
+            }
+            self.tell_ended(operator, NOBODY, lock, token, answer);
+        } else if let (Own::Begin(lock), Answer::Stats(stats)) = (own, answer) {
+            if self.desk.board.begin(stats, self.desk.now) {
+                self.held_before.push(lock);
+            }
+            if self.desk.questions.has_begun() {
+                self.is_begun = true;
+                self.desk.engine.note_ready();
+                self.desk.log.say(&Event::EngineReady { held: self.held_before.len() });
+                self.touch_all();
+            }
         }
         true
+    }
+
+    /// An operator has a hold end: of a client that is connected, or of one from before the engine's start.
+    pub(super) fn end_hold(&mut self, operator: Client, holder: Client, lock: Lock, token: Token) {
+        if holder == NOBODY {
+            self.desk.questions.put(Own::End(operator, lock, token));
+            self.desk.engine.ask(Asked { client: NOBODY, input: Input::Release { lock, token } });
+        } else if let Some(connection) = self.connections.get_mut(&holder) {
+            self.desk.ask_to_end(connection, operator, lock, token);
+        }
+    }
+
+    /// Tells the operator what came of that.
+    pub(super) fn tell_ended(&mut self, operator: Client, holder: Client, lock: Lock, token: Token, answer: &Answer) {
+        let is_ended = matches!(answer, Answer::Released { .. });
+        let name = self.desk.names.name(lock);
+        let by = self.connections.get(&operator).map_or("who is gone", |connection| &connection.who);
+        if is_ended {
+            self.desk.log.say(&Event::HoldEnded { by, lock: name, token, client: holder });
+        }
+        if let Some(connection) = self.connections.get_mut(&operator) {
+            let word = if is_ended { "ended" } else { "refused holder" };
+            connection.tell_ending(format_args!("{word} {name}"));
+            self.queue(operator);
+            self.touch(operator);
+        }
+    }
+
+    /// Asks the engine each second whether it is there. One that leaves that unanswered for too long is ended. `seen`: all that it
+    /// had answered by then was heard.
+    pub(super) fn watch_engine(&mut self, seen: Option<Instant>) {
+        let now = self.desk.now;
+        let Some(seen) = seen else { return };
+        if self.desk.cluster.is_some() || self.stopping.is_some() || !self.desk.engine.is_running() {
+            return;
+        }
+        let patience = self.desk.settings.engine_patience;
+        if !self.is_begun {
+            // it reads its journal first
+            return self.end_engine_after(TIMES_AT_START * patience, self.engine_since, seen);
+        }
+        if self.desk.questions.next_mark().is_some_and(|due| due <= now) {
+            self.desk.mark();
+        }
+        let oldest = self.desk.questions.oldest();
+        if let Some(since) = self.silent_since.filter(|since| Some(*since) != oldest) {
+            let time = now.saturating_duration_since(since);
+            self.desk.log.say(&Event::EngineAnswers { time });
+            self.silent_since = None;
+        }
+        let Some(asked) = oldest else { return };
+        if self.is_engine_silent() && self.silent_since.replace(asked).is_none() {
+            self.desk.log.say(&Event::EngineSilent { time: self.desk.engine_silence() });
+        }
+        self.end_engine_after(patience, asked, seen);
+    }
+
+    fn end_engine_after(&mut self, patience: Duration, since: Instant, seen: Instant) {
+        let time = seen.saturating_duration_since(since);
+        if time > patience {
+            self.desk.log.say(&Event::EngineHangs { time });
+            self.lose_engine(false);
+        }
+    }
+
+    /// Whether the engine has left a question unanswered for a while.
+    pub(super) fn is_engine_silent(&self) -> bool {
+        self.desk.engine_silence() > SILENCE
     }
 
     /// The engine ended, or has to: all that was held is its past, and every connection hears that by its end.
@@ -79,7 +161,9 @@ impl Server {
         self.desk.engine.give_up(is_ended, self.desk.now);
         self.part_all(if self.stopping.is_some() { End::Stop } else { End::Engine });
         self.desk.board.forget();
-        self.own.clear();
+        self.desk.questions.forget(self.desk.now);
+        self.is_begun = false;
+        self.silent_since = None;
         self.held_before.clear();
         self.grace_until = None;
     }
@@ -107,9 +191,10 @@ impl Server {
             self.poller.add(output, ENGINE, Interest::READS)?;
             self.poller.add(input, ENGINE_INPUT, Interest { reads: false, writes: false })?;
         }
+        self.engine_since = now;
         self.grace_until = Some(now + grace);
         for lock in 0..self.desk.names.count() {
-            self.own.push_back(lock);
+            self.desk.questions.put(Own::Begin(lock));
             self.desk.engine.ask(Asked { client: NOBODY, input: Input::Stats { lock } });
         }
         Ok(())
@@ -118,7 +203,7 @@ impl Server {
     /// Who held a lock when the engine ended has heard by now that it lost it, or its lease is over.
     pub(super) fn end_grace(&mut self) {
         self.grace_until = None;
-        self.desk.engine.ask(Asked { client: NOBODY, input: Input::Leave });
+        self.desk.ask_engine(NOBODY, Input::Leave);
         for lock in std::mem::take(&mut self.held_before) {
             self.desk.board.left(lock, NOBODY);
         }

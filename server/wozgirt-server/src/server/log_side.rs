@@ -15,6 +15,7 @@ impl Server {
         let Some(cluster) = desk.cluster.as_mut().filter(|cluster| cluster.is_restored) else { return Ok(()) };
         let Some(process) = cluster.log.start(desk.now).map_err(CannotServe::Log)? else { return Ok(()) };
         desk.log.say(&Event::LogStarted { process });
+        cluster.log.ask_line(cluster.known());
         if let (Some(input), Some(output)) = (cluster.log.input(), cluster.log.output()) {
             self.poller.add(output, LOG, Interest::READS)?;
             self.poller.add(input, LOG_INPUT, Interest { reads: false, writes: false })?;
@@ -86,6 +87,10 @@ impl Server {
                 }
                 return Ok(true);
             }
+            Ok(Told::Other(why)) => return Err(CannotServe::OtherLog(why)),
+            Ok(Told::Gone(why)) => return Err(CannotServe::LogGone(why)),
+            Ok(Told::Taken(incarnation)) => return Err(CannotServe::NameTaken(incarnation)),
+            Ok(Told::Full) => return Ok(self.fill_log()),
             Ok(Told::Away { name, seconds }) => {
                 desk.log.say(&Event::HostAway { name: &name, seconds });
                 true
@@ -102,18 +107,29 @@ impl Server {
     fn join_log(&mut self, identity: String, incarnation: u64) -> Result<(), CannotServe> {
         let desk = &mut self.desk;
         let (Some(cluster), Some(words)) = (&mut desk.cluster, &desk.settings.cluster) else { return Ok(()) };
-        if cluster.identity.as_ref().is_some_and(|known| *known != identity) {
-            return Err(CannotServe::OtherLog(identity));
-        }
+        cluster.place.join(&identity, incarnation)??;
+        cluster.is_full = false;
         let (position, revision) = (cluster.applied.position, cluster.applied.revision);
         let server = crate::cluster::Server { name: words.name.as_str().into(), incarnation };
         desk.log.say(&Event::LogJoined { identity: &identity, server: &server, position });
-        cluster.identity = Some(identity);
         cluster.log.note_ready();
         cluster.log.ask_line(format_args!("follow {position} {revision}"));
         cluster.join(server);
         cluster.say_alive(desk.now);
         Ok(())
+    }
+
+    /// etcd has no room for entries, so nothing can be put into the log until an operator makes some. False: nothing more is heard of it.
+    fn fill_log(&mut self) -> bool {
+        let Some(cluster) = &mut self.desk.cluster else { return false };
+        if !mem::replace(&mut cluster.is_full, true) {
+            self.desk.log.say(&Event::LogFull);
+        }
+        let is_in_log = self.desk.cluster.as_ref().is_some_and(|cluster| cluster.me.is_some());
+        if is_in_log {
+            self.lose_log("etcd has no room", false);
+        }
+        !is_in_log
     }
 
     /// What time brings to one of several servers.

@@ -1,6 +1,7 @@
 //! The loop: rounds of what happened, and what time brings.
 
 mod arrivals;
+mod checkpoints;
 mod cluster_side;
 mod engine_side;
 mod log_side;
@@ -15,13 +16,21 @@ use crate::cluster::Cluster;
 use crate::connection::{Connection, SHARE};
 use crate::desk::Desk;
 use crate::engine::{Engine, ROOM};
+use crate::journal::Journal;
 use crate::log::{End, Event, Log};
+use crate::memory::most_unread;
+use crate::notify::Notify;
 use crate::pages::Visitor;
+use crate::places::Places;
+use crate::questions::Questions;
+use crate::retention::{self, Removal};
 use crate::settings::Settings;
 use crate::sums::Sums;
 use arrivals::Doors;
 use opening::{check_files, read_names, read_rules};
 use std::collections::{HashMap, VecDeque};
+use std::rc::Rc;
+use std::sync::mpsc::Receiver;
 use std::time::{Duration, Instant};
 use wozgirt_engine::{Client, Lock, NOBODY};
 use wozgirt_system::{Event as Ready, Interest, Poller, Signal, Signals};
@@ -41,14 +50,22 @@ const VISITORS: u64 = 1 << 63;
 
 /// How many come in at one door in one round.
 const MOST_COMERS: usize = 64;
-/// Operators are let in even if the clients have taken all places.
-const PLACES_OF_OPERATORS: usize = 16;
 /// How many visitors the page has at once.
-const MOST_VISITORS: usize = 16;
+const MOST_VISITORS: usize = 32;
 /// Files that are open besides connections.
 const OTHER_FILES: usize = 32;
-/// How long an end in good order may take.
+/// How long an end in good order may take; and how long after that the server waits for its processes to be gone.
 const LONGEST_STOP: Duration = Duration::from_secs(10);
+const LONGEST_KILL: Duration = Duration::from_secs(2);
+/// How long lines are taken in a round, of those who have just spoken, and then of those whose turn comes again: each has its part
+/// of that.
+const TURNS: Duration = Duration::from_millis(2);
+const SHORTEST_TURN: Duration = Duration::from_micros(20);
+const LONGEST_TURN: Duration = Duration::from_micros(500);
+/// How long after its deadline a connection is looked at, and the time between such looks.
+const LATE: Duration = Duration::from_millis(1);
+const LEAST_PAUSE: Duration = Duration::from_millis(5);
+const LONGEST_PAUSE: Duration = Duration::from_millis(250);
 /// How long a door is shut when the system has no place for a connection.
 const SHUT: Duration = Duration::from_millis(50);
 
@@ -60,23 +77,37 @@ pub struct Server {
     doors: Doors,
     accounts: Accounts,
     connections: HashMap<Client, Connection>,
+    places: Places,
+    /// How much a connection may leave unread.
+    most_unread: usize,
     visitors: HashMap<u64, Visitor>,
+    journal: Journal,
+    notify: Notify,
+    /// What becomes of old segments, if not all are kept.
+    removals: Option<Receiver<Removal>>,
     last_client: Client,
     last_visitor: u64,
     /// Who is told something at the end of this round.
     dirty: Vec<Client>,
-    /// Who has said more than was taken.
+    /// Who has just spoken, and who has said more than was taken in its turn.
+    fresh: VecDeque<Client>,
     backlog: VecDeque<Client>,
-    /// What the server itself asked the engine, as client 0: how each lock is.
-    own: VecDeque<Lock>,
     /// The locks that were held when the engine started.
     held_before: Vec<Lock>,
     /// When these are given up.
     grace_until: Option<Instant>,
+    /// Whether the engine has answered how all locks are since it started.
+    is_begun: bool,
+    /// When it was started, and since when it leaves a question unanswered, if the log says so.
+    engine_since: Instant,
+    silent_since: Option<Instant>,
     /// When connections are looked through for those who are silent or deaf.
     next_sweep: Instant,
-    /// Until when doors are shut, since the system has no place.
+    /// Until when doors are shut, since the system has no place; and whether clients' are, since the engine has enough to do.
     shut_until: Option<Instant>,
+    keeps_out: bool,
+    /// Whether clients were not heard in the last round, for the same reason.
+    was_full: bool,
     /// Whether more is read of the log that this server has with others.
     reads_log: bool,
     /// Until when an end in good order has to be done.
@@ -92,8 +123,10 @@ impl Server {
         let mut log = Log::start()?;
         let accounts = Accounts::of_the_system();
         let names = read_names(&settings)?;
-        let rules = read_rules(&settings, &names, &accounts)?;
+        let rules = Rc::new(read_rules(&settings, &names, &accounts)?);
         check_files(&settings)?;
+        let most_unread = most_unread(&settings).map_err(CannotServe::Memory)?;
+        let places = Places::new(settings.connections);
         log.say(&Event::Started { version: env!("CARGO_PKG_VERSION"), locks: names.count() });
         let poller = Poller::new()?;
         poller.add(&signals, SIGNALS, Interest::READS)?;
@@ -102,8 +135,11 @@ impl Server {
         let cluster = Cluster::new(&settings, &names, now)
             .map_err(|fault| CannotServe::Folder(settings.journal.clone(), fault))?
             .map(Box::new);
+        let kept = settings.keep_segments;
+        let removals = kept.map(|kept| retention::start(settings.engine_journal(), kept)).transpose()?;
         let board = Board::new(names.count());
-        let desk = Desk { settings, names, rules, engine, board, sums: Sums::default(), log, cluster, now };
+        let (questions, sums, is_full) = (Questions::new(now), Sums::default(), false);
+        let desk = Desk { settings, names, rules, engine, questions, is_full, board, sums, log, cluster, now };
         Ok(Server {
             desk,
             poller,
@@ -111,16 +147,26 @@ impl Server {
             doors,
             accounts,
             connections: HashMap::new(),
+            places,
+            most_unread,
             visitors: HashMap::new(),
+            journal: Journal::new(now),
+            notify: Notify::from_environment(now),
+            removals,
             last_client: NOBODY,
             last_visitor: 0,
             dirty: Vec::new(),
+            fresh: VecDeque::new(),
             backlog: VecDeque::new(),
-            own: VecDeque::new(),
             held_before: Vec::new(),
             grace_until: None,
+            is_begun: false,
+            engine_since: now,
+            silent_since: None,
             next_sweep: now,
             shut_until: None,
+            keeps_out: false,
+            was_full: false,
             reads_log: true,
             stopping: None,
             started: now,
@@ -133,7 +179,7 @@ impl Server {
         let mut buffer = [0; SHARE];
         self.begin_cluster()?;
         self.look_at_engine()?;
-        while !self.is_over() {
+        while !self.is_over() && !self.is_late() {
             let before = Instant::now();
             let is_all = self.poller.wait(Some(self.next_time()), &mut events)?;
             self.desk.now = Instant::now();
@@ -141,8 +187,8 @@ impl Server {
             for event in &events {
                 self.happened(event, &mut buffer)?;
             }
-            self.take_backlog();
-            self.pass_time(is_all.then_some(before))?;
+            self.take_turns();
+            self.pass_time(is_all.then_some(before), &mut buffer)?;
             self.write_all(&mut buffer)?;
         }
         self.desk.log.say(&Event::Stopped);
@@ -173,10 +219,15 @@ impl Server {
         self.desk.engine.is_over() && self.desk.cluster.as_ref().map_or(true, |cluster| cluster.log.is_over())
     }
 
+    /// Whether the server was to end long ago: a process may stand still in the system, where nothing ends it.
+    fn is_late(&self) -> bool {
+        self.stopping.is_some_and(|until| until + LONGEST_KILL <= self.desk.now)
+    }
+
     /// Whether the engine has answered how all locks are, or this server is in the log that it has with others.
     fn is_engine_ready(&self) -> bool {
         match &self.desk.cluster {
-            None => self.desk.engine.is_running() && self.own.is_empty(),
+            None => self.desk.engine.is_running() && self.is_begun,
             Some(cluster) => cluster.is_ready(),
         }
     }
@@ -196,7 +247,7 @@ impl Server {
     }
 
     fn next_time(&self) -> Duration {
-        if !self.backlog.is_empty() {
+        if !self.fresh.is_empty() || !self.backlog.is_empty() {
             return Duration::ZERO;
         }
         let now = self.desk.now;
@@ -211,7 +262,7 @@ impl Server {
 
     /// `seen`: everything that had come by then was seen. This server may have been stopped since, so nothing else tells who
     /// is silent.
-    fn pass_time(&mut self, seen: Option<Instant>) -> Result<(), CannotServe> {
+    fn pass_time(&mut self, seen: Option<Instant>, buffer: &mut [u8; SHARE]) -> Result<(), CannotServe> {
         let now = self.desk.now;
         self.look_at_engine()?;
         self.pump()?;
@@ -220,44 +271,85 @@ impl Server {
         }
         if self.shut_until.is_some_and(|until| until <= now) {
             self.shut_until = None;
-            self.set_doors(true);
+            self.set_doors();
         }
+        self.watch_engine(seen);
+        if self.is_engine_ready() {
+            self.notify.note_ready();
+        }
+        self.notify.note_round(now);
         if let Some(seen) = seen.filter(|_| self.next_sweep <= now) {
-            self.sweep(seen);
+            self.sweep(seen, buffer);
         }
         self.go_on_stopping();
         Ok(())
     }
 
     /// Lets those go who are silent for longer than their lease, or do not read.
-    fn sweep(&mut self, seen: Instant) {
+    fn sweep(&mut self, seen: Instant, buffer: &mut [u8; SHARE]) {
         let now = self.desk.now;
         let deaf = self.desk.settings.deaf;
+        let host_lease = self.desk.settings.cluster.as_ref().map_or(deaf, |words| words.host_lease);
+        let shortest = self.desk.settings.longest_lease.min(deaf).min(host_lease);
+        let mut next = now + (shortest / 20).clamp(LEAST_PAUSE, LONGEST_PAUSE);
         let mut gone = Vec::new();
         for (client, connection) in &mut self.connections {
-            connection.excuse(now);
-            if connection.is_silent(seen) {
+            // the system tells late of a little room at a socket: who reads slowly would look deaf
+            if connection.is_stuck() && connection.write(now).is_err() {
+                gone.push((*client, End::Closed));
+            } else if connection.is_silent(seen) && connection.is_silent_for_sure(buffer, now) {
                 gone.push((*client, End::Lease));
             } else if connection.is_deaf(seen, deaf) {
                 gone.push((*client, End::Deaf));
+            } else if let Some(deadline) = connection.deadline(deaf) {
+                next = next.min(deadline + LATE);
             }
         }
         for (client, end) in gone {
             self.part(client, end);
         }
+        for removal in self.removals.iter().flat_map(Receiver::try_iter) {
+            match &removal {
+                Ok((name, digest)) => self.desk.log.say(&Event::SegmentRemoved { name, digest }),
+                Err(fault) => self.desk.log.say(&Event::SegmentsStay { fault }),
+            }
+        }
         self.sweep_cluster();
-        self.visitors.retain(|_, visitor| !visitor.is_late(now));
-        let host_lease = self.desk.settings.cluster.as_ref().map_or(deaf, |words| words.host_lease);
-        let shortest = self.desk.settings.longest_lease.min(deaf).min(host_lease);
-        self.next_sweep = now + (shortest / 20).clamp(Duration::from_millis(5), Duration::from_millis(250));
+        self.visitors.retain(|_, visitor| visitor.deadline() > now);
+        next = self.visitors.values().map(|visitor| visitor.deadline() + LATE).fold(next, Instant::min);
+        self.next_sweep = next.max(now + LEAST_PAUSE);
+    }
+
+    /// A connection has a deadline that may be earlier than the next look at all.
+    fn note_deadline(&mut self, client: Client) {
+        let deaf = self.desk.settings.deaf;
+        let deadline = self.connections.get(&client).and_then(|connection| connection.deadline(deaf));
+        if let Some(deadline) = deadline {
+            self.next_sweep = self.next_sweep.min(deadline + LATE);
+        }
     }
 
     fn hear(&mut self, signal: Signal) {
         match signal {
             Signal::Terminate => self.stop("SIGTERM"),
             Signal::Interrupt => self.stop("SIGINT"),
-            _ => {} // the terminal is gone, which changes nothing
+            _ => self.read_rules_again(),
         }
+    }
+
+    /// Rules hold for what is asked from now on. If they are wrong, the old ones go on.
+    fn read_rules_again(&mut self) {
+        let accounts = Accounts::of_the_system();
+        if self.desk.settings.rules.is_some() {
+            match read_rules(&self.desk.settings, &self.desk.names, &accounts) {
+                Ok(rules) => {
+                    self.desk.rules = Rc::new(rules);
+                    self.desk.log.say(&Event::RulesRead);
+                }
+                Err(fault) => self.desk.log.say(&Event::RulesBad { fault: &fault }),
+            }
+        }
+        self.accounts = accounts;
     }
 
     /// From now on nobody is let in and nothing is read; what was asked is answered.
@@ -266,9 +358,9 @@ impl Server {
             return;
         }
         self.desk.log.say(&Event::Stopping { why });
+        self.notify.note_stopping();
         self.stopping = Some(self.desk.now + LONGEST_STOP);
         self.doors = Doors::default();
-        self.backlog.clear();
         self.touch_all();
         if !self.desk.engine.is_running() && self.desk.cluster.is_none() {
             self.part_all(End::Stop);

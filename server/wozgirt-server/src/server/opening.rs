@@ -1,11 +1,12 @@
 //! What is read and checked before the server serves.
 
-use super::{MOST_VISITORS, OTHER_FILES, PLACES_OF_OPERATORS};
+use super::{MOST_VISITORS, OTHER_FILES};
 use crate::accounts::Accounts;
-use crate::cluster::{NoFolder, LONGEST_LIST};
+use crate::cluster::{NoFolder, Other, LONGEST_LIST};
 use crate::doors::CannotListen;
 use crate::engine::CannotStart;
 use crate::names::{BadNames, Names};
+use crate::places::Places;
 use crate::rules::{BadRule, Rules};
 use crate::settings::Settings;
 use std::fmt;
@@ -33,6 +34,8 @@ pub enum CannotServe {
         /// How many are needed.
         needed: u64,
     },
+    /// Each connection needs some memory: so many MiB for all.
+    Memory(usize),
     /// A socket cannot be listened to.
     Listen(CannotListen),
     /// There is no engine.
@@ -54,10 +57,14 @@ pub enum CannotServe {
         /// Those of this server.
         own: String,
     },
-    /// The checkpoint is not of this log.
+    /// etcd has another log than this server has read, or an earlier state of it: how that is known.
     OtherLog(String),
-    /// The log is not there as far as it is needed.
+    /// The log does not reach back to the checkpoint: how that is known.
+    LogGone(String),
+    /// One of the two, and it is not known which.
     LogLost,
+    /// Another server of this name is alive: this start of it.
+    NameTaken(u64),
     /// The engine has not come back to the state of the checkpoint.
     Restored,
     /// Two other servers had other answers.
@@ -79,6 +86,9 @@ impl fmt::Display for CannotServe {
                     "{limit} files may be open, and {needed} are needed: raise that limit, or lower --connections"
                 )
             }
+            CannotServe::Memory(needed) => {
+                write!(f, "so many connections need --memory {needed} at least: raise that, or lower --connections")
+            }
             CannotServe::Listen(fault) => fault.fmt(f),
             CannotServe::Engine(fault) => fault.fmt(f),
             CannotServe::Folder(path, NoFolder::InUse) => write!(f, "{}: another server has this folder", path.display()),
@@ -98,12 +108,23 @@ impl fmt::Display for CannotServe {
                 f,
                 "--checkpoint, --segment, --faults and --locks are the same for all servers; in the log they are `{log}`, here `{own}`"
             ),
-            CannotServe::OtherLog(identity) => write!(
+            CannotServe::OtherLog(why) => write!(
                 f,
-                "the checkpoint is of another log than {identity}: was etcd replaced? Begin again with the folder of a server of this log"
+                "etcd has another log than this server has read, or an earlier state of it ({why}): it was wiped, restored or replaced. \
+                 Tokens would be given twice, so nothing is served. Stop all servers, and do what CLUSTER says of an etcd that was lost or restored"
+            ),
+            CannotServe::LogGone(why) => write!(
+                f,
+                "the log does not reach back to this server's checkpoint ({why}): begin again with another server's folder, as CLUSTER says of a \
+                 host that is replaced"
             ),
             CannotServe::LogLost => f.write_str(
-                "the log is another one, or does not reach back to the checkpoint: begin again with another server's folder",
+                "the log is another one, or does not reach back to the checkpoint: do what CLUSTER says of an etcd that was restored, or of a \
+                 host that is replaced",
+            ),
+            CannotServe::NameTaken(incarnation) => write!(
+                f,
+                "--name: another server of this name is in the log, as start {incarnation}, and is alive: each server has a name of its own"
             ),
             CannotServe::Restored => f.write_str(
                 "the engine does not come back to the state of the checkpoint: keep the folder for an inquiry, and begin again with another server's",
@@ -125,7 +146,7 @@ impl CannotServe {
     pub fn status(&self) -> u8 {
         match self {
             CannotServe::Restored | CannotServe::Contradicted(_) => 3,
-            CannotServe::OtherLog(_) | CannotServe::LogLost => 4,
+            CannotServe::OtherLog(_) | CannotServe::LogGone(_) | CannotServe::LogLost => 4,
             _ => 1,
         }
     }
@@ -134,6 +155,12 @@ impl CannotServe {
 impl From<io::Error> for CannotServe {
     fn from(fault: io::Error) -> CannotServe {
         CannotServe::System(fault)
+    }
+}
+
+impl From<Other> for CannotServe {
+    fn from(Other(why): Other) -> CannotServe {
+        CannotServe::OtherLog(why)
     }
 }
 
@@ -162,7 +189,7 @@ pub(super) fn read_rules(settings: &Settings, names: &Names, accounts: &Accounts
 
 /// The system's limit of open files, which is raised as far as it may be.
 pub(super) fn check_files(settings: &Settings) -> Result<(), CannotServe> {
-    let needed = (settings.connections + PLACES_OF_OPERATORS + MOST_VISITORS + OTHER_FILES) as u64;
+    let needed = (Places::count(settings) + MOST_VISITORS + OTHER_FILES) as u64;
     let limit = permit_files(needed)?;
     if limit < needed {
         return Err(CannotServe::Files { limit, needed });

@@ -1,35 +1,61 @@
 //! Connections: read, written, ended.
 
-use super::{Server, CONNECTIONS, ENGINE_INPUT};
-use crate::connection::{Connection, Reading, SHARE};
+use super::{Server, CONNECTIONS, ENGINE_INPUT, LONGEST_TURN, SHORTEST_TURN, TURNS};
+use crate::connection::{Connection, Door, Reading, SHARE};
 use crate::desk::Then;
 use crate::log::End;
 use crate::CannotServe;
-use wozgirt_engine::{Client, Lock};
+use std::collections::VecDeque;
+use std::time::Instant;
+use wozgirt_engine::{Answer, Client, Lock};
 use wozgirt_system::Event as Ready;
 
 impl Server {
     pub(super) fn read(&mut self, client: Client, event: &Ready, buffer: &mut [u8; SHARE]) {
-        let is_ready = self.is_engine_ready() && self.stopping.is_none();
         self.touch(client);
-        let Some(connection) = self.connections.get_mut(&client) else { return };
-        let is_read = event.is_readable && is_ready && connection.takes_more();
-        if !is_read && !event.is_gone {
-            return;
-        }
-        match connection.read(buffer, self.desk.now) {
-            Ok(Reading::Open) => self.take_lines(client),
+        let Some(connection) = self.connections.get(&client) else { return };
+        let is_open = connection.takes_more() && !connection.is_read_enough();
+        // of a client that is gone nothing more is read: nobody hears the answers, and all that it would hold is free
+        let is_of_use = !event.is_gone || connection.door == Door::Operators;
+        let is_read = event.is_readable && is_open && is_of_use && self.hears(connection.door);
+        let now = self.desk.now;
+        let Some(connection) = self.connections.get_mut(&client).filter(|_| is_read) else {
+            return if event.is_gone {
+                self.part(client, End::Closed)
+            };
+        };
+        match connection.read(buffer, now) {
+            Ok(Reading::Open) => {
+                if self.has_turn(client) {
+                    self.fresh.push_back(client);
+                }
+            }
             Ok(Reading::Ended) if !event.is_gone => connection.has_said_all = true,
             Ok(Reading::Ended) | Err(_) => self.part(client, End::Closed),
         }
     }
 
-    pub(super) fn take_lines(&mut self, client: Client) {
-        if !self.is_engine_ready() || self.stopping.is_some() {
-            return;
-        }
+    /// Whether anything is read of connections of this door.
+    fn hears(&self, door: Door) -> bool {
+        let has_room = door == Door::Operators || !self.desk.is_full;
+        self.is_engine_ready() && self.stopping.is_none() && has_room
+    }
+
+    fn take_lines(&mut self, client: Client, until: Instant) {
+        let Some(door) = self.connections.get(&client).map(|connection| connection.door) else { return };
+        let hears = self.hears(door);
         let Some(connection) = self.connections.get_mut(&client) else { return };
-        match self.desk.take_lines(connection) {
+        let mut then = Then::Wait;
+        loop {
+            self.desk.tell_listing(connection, until);
+            if hears {
+                then = self.desk.take_lines(connection, until);
+            }
+            if then != Then::Wait || !connection.is_listing() || Instant::now() >= until {
+                break;
+            }
+        }
+        match then {
             Then::Wait => {}
             Then::End(end) => {
                 connection.ending = Some(end);
@@ -41,19 +67,77 @@ impl Server {
                 }
             }
             Then::Moved(before) => self.part(before, End::Moved),
+            Then::Kick(number) => self.kick(client, number),
+            Then::EndHold(holder, lock, token) => self.end_hold(client, holder, lock, token),
             Then::Stop => self.stop("an operator said so"),
         }
-        let has_more = self.connections.get(&client).is_some_and(Connection::has_line);
-        if has_more {
-            self.backlog.push_back(client);
-        }
+        self.note_deadline(client);
+        self.queue(client);
         self.touch(client);
     }
 
-    /// Lines that were read in earlier rounds, and may be taken now.
-    pub(super) fn take_backlog(&mut self) {
-        for client in std::mem::take(&mut self.backlog) {
-            self.take_lines(client);
+    /// Has the connection's turn come again, if it has more lines that may be taken, or more is to be told to it.
+    pub(super) fn queue(&mut self, client: Client) {
+        if self.has_turn(client) {
+            self.backlog.push_back(client);
+        }
+    }
+
+    /// Whether the connection gets a turn that it did not have yet.
+    fn has_turn(&mut self, client: Client) -> bool {
+        let is_ready = self.is_engine_ready() && self.stopping.is_none();
+        let Some(connection) = self.connections.get_mut(&client).filter(|it| !it.is_queued) else { return false };
+        let hears = is_ready && (connection.door == Door::Operators || !self.desk.is_full);
+        connection.is_queued = connection.is_listing() || hears && self.desk.has_work(connection);
+        connection.is_queued
+    }
+
+    /// Takes lines of those who have just spoken, and then of those who have said more; each time for a while.
+    pub(super) fn take_turns(&mut self) {
+        let fresh = std::mem::take(&mut self.fresh);
+        self.fresh = self.take_some(fresh);
+        let backlog = std::mem::take(&mut self.backlog);
+        let mut rest = self.take_some(backlog);
+        rest.append(&mut self.backlog);
+        self.backlog = rest;
+    }
+
+    /// Those who had no turn.
+    fn take_some(&mut self, mut line: VecDeque<Client>) -> VecDeque<Client> {
+        if line.is_empty() {
+            return line;
+        }
+        let turn = TURNS / u32::try_from(line.len()).unwrap_or(u32::MAX);
+        let turn = turn.clamp(SHORTEST_TURN, LONGEST_TURN);
+        let begun = Instant::now();
+        let mut now = begun;
+        while now < begun + TURNS {
+            let Some(client) = line.pop_front() else { break };
+            if let Some(connection) = self.connections.get_mut(&client) {
+                connection.is_queued = false;
+                self.take_lines(client, now + turn);
+            }
+            now = Instant::now();
+        }
+        line
+    }
+
+    /// Whether the engine has got too much to do, or has done enough: then nobody is heard, or all are again.
+    fn note_full(&mut self) {
+        if self.desk.is_free_again() {
+            self.desk.is_full = false;
+        }
+        // who is here has a turn before others come in
+        let keeps_out = self.desk.is_full || self.keeps_out && !self.desk.has_little_to_do();
+        if std::mem::replace(&mut self.keeps_out, keeps_out) != keeps_out {
+            self.set_doors();
+        }
+        if std::mem::replace(&mut self.was_full, self.desk.is_full) == self.desk.is_full {
+            return;
+        }
+        for client in self.connections.keys().copied().collect::<Vec<_>>() {
+            self.queue(client);
+            self.touch(client);
         }
     }
 
@@ -71,6 +155,24 @@ impl Server {
             text.push_str(&format!("\nclient {client} {lease} {holds} {waits} {}", it.who));
         }
         text
+    }
+
+    /// An operator has this client go, by the number by which it is shown.
+    fn kick(&mut self, operator: Client, number: Client) {
+        let shown = |connection: &&Connection| number > 0 && self.number(connection) == number;
+        let found = self.connections.values().find(shown).map(|connection| connection.client);
+        if let Some(connection) = self.connections.get_mut(&operator) {
+            match found {
+                None => connection.tell_in_order(format_args!("refused client {number}")),
+                Some(_) => connection.tell_in_order(format_args!("kicked {number}")),
+            }
+            if found == Some(operator) {
+                connection.ending = Some(End::Kicked); // when it has heard that
+            }
+        }
+        if let Some(client) = found.filter(|client| *client != operator) {
+            self.part(client, End::Kicked);
+        }
     }
 
     /// The number by which a client is shown: that of its session, where the log gives numbers.
@@ -94,6 +196,12 @@ impl Server {
 
     pub(super) fn part(&mut self, client: Client, end: End) {
         if let Some(mut connection) = self.connections.remove(&client) {
+            self.places.give_back(connection.door, connection.guest);
+            self.desk.questions.clients = self.connections.len();
+            for (operator, lock, token) in connection.ended() {
+                self.tell_ended(operator, client, lock, token, &Answer::Released { lock });
+                // it leaves all
+            }
             self.desk.part(&mut connection, end);
         }
     }
@@ -105,33 +213,38 @@ impl Server {
     }
 
     pub(super) fn write_all(&mut self, buffer: &mut [u8; SHARE]) -> Result<(), CannotServe> {
-        let is_ready = self.is_engine_ready() && self.stopping.is_none();
+        self.note_full();
         for client in std::mem::take(&mut self.dirty) {
-            let Some(connection) = self.connections.get_mut(&client) else { continue };
-            connection.is_dirty = false;
-            if connection.write(self.desk.now).is_err() {
-                self.part(client, End::Closed);
-                continue;
-            }
-            if connection.has_line() {
-                self.backlog.push_back(client); // it may say more, since it has read what it was told
-            }
-            if let Some(end) = connection.is_over() {
-                connection.drain(buffer);
-                self.part(client, end);
-                continue;
-            }
-            if let Some(interest) = connection.new_interest(is_ready) {
-                let changed = self.poller.change(connection.stream(), CONNECTIONS + client, interest);
-                if changed.is_err() {
-                    self.part(client, End::Closed);
-                }
-            }
+            self.write(client, buffer);
         }
         self.desk.engine.write();
         if let Some((input, interest)) = self.desk.engine.awaited_input() {
             self.poller.change(input, ENGINE_INPUT, interest)?;
         }
         self.write_log()
+    }
+
+    fn write(&mut self, client: Client, buffer: &mut [u8; SHARE]) {
+        let Some(connection) = self.connections.get_mut(&client) else { return };
+        connection.is_dirty = false;
+        if connection.write(self.desk.now).is_err() {
+            return self.part(client, End::Closed);
+        }
+        if let Some(end) = connection.is_over() {
+            connection.drain(buffer);
+            return self.part(client, end);
+        }
+        if connection.is_stuck() {
+            self.note_deadline(client);
+        }
+        self.queue(client); // it may say more, since it has read what it was told
+        let hears = self.connections.get(&client).is_some_and(|connection| self.hears(connection.door));
+        let Some(connection) = self.connections.get_mut(&client) else { return };
+        if let Some(interest) = connection.new_interest(hears) {
+            let changed = self.poller.change(connection.stream(), CONNECTIONS + client, interest);
+            if changed.is_err() {
+                self.part(client, End::Closed);
+            }
+        }
     }
 }

@@ -1,0 +1,75 @@
+#!/usr/bin/env python3
+"""flood.py SOCKET KIND CLIENTS: so many clients say all that the server takes of them, until this process is ended. It says `up` when
+they have been answered for the first time. KIND is one of KINDS; clients of an odd number read nothing in those that end in `deaf`."""
+
+import select
+import socket
+import sys
+
+KINDS = {
+    "ping": b"ping\n" * 800,
+    "try": b"try a 1\n" * 400,
+    "stats": b"stats a\n" * 400,
+    "status": b"status\n" * 500,
+    "untold": b"stats a\n" + b"status\n" * 500,
+    "untold-deaf": b"stats a\n" + b"status\n" * 500,
+    "mixed": b"try a 1\nping\nstatus\nlease 0\nstats b\nleave\n" * 50,
+    "come": b"try a 1\n" * 128,
+}
+
+
+def connect(path):
+    sock = socket.socket(socket.AF_UNIX)
+    sock.connect(path)
+    sock.setblocking(False)
+    return sock
+
+
+def pour(path, kind, clients):
+    text = KINDS[kind]
+    poller, socks, left = select.poll(), {}, {}
+    for number in range(clients):
+        sock = connect(path)
+        is_deaf = kind.endswith("deaf") and number % 2
+        socks[sock.fileno()], left[sock.fileno()] = sock, b""
+        poller.register(sock, select.POLLOUT | (0 if is_deaf else select.POLLIN))
+    is_up = False
+    while True:
+        for number, event in poller.poll():
+            sock = socks[number]
+            try:
+                if event & select.POLLIN:
+                    sock.recv(1 << 18)
+                    if not is_up:
+                        is_up = True
+                        print("up", flush=True)
+                if event & select.POLLOUT:
+                    # the server is sent whole lines, wherever it stops
+                    some = left[number] or text
+                    left[number] = some[sock.send(some):]
+            except BlockingIOError:
+                pass
+            except OSError:
+                poller.unregister(number)
+                sock.close()
+
+
+def come_and_go(path, clients):
+    print("up", flush=True)
+    while True:
+        socks = []
+        for _ in range(clients):
+            try:
+                socks.append(connect(path))
+                socks[-1].send(KINDS["come"])
+            except OSError:
+                pass
+        for sock in socks:
+            sock.close()
+
+
+if __name__ == "__main__":
+    if sys.argv[2] == "come":
+        come_and_go(sys.argv[1], int(sys.argv[3]))
+    else:
+        pour(sys.argv[1], sys.argv[2], int(sys.argv[3]))

@@ -1,0 +1,438 @@
+"""Clients that ask for all they can: the server's memory stays within its bound, leases end on time, and others have their places and
+turns."""
+
+import http.client
+import os
+import select
+import signal
+import socket
+import subprocess
+import sys
+import threading
+import time
+import unittest
+
+from harness import ENGINE, PATIENCE, Server, by_the_clock, needs_loopback, needs_programs, read_lines, say, wait_until
+
+MANY = "a,b," + ",".join(f"n{i}" for i in range(998))
+MIB = 1 << 20
+# so much more than at its start the server may have at any time in these tests: each is far below what --memory permits it
+MOST_GROWTH = 24 * MIB
+
+
+def memory(server):
+    """How many bytes of memory the server has."""
+    with open(f"/proc/{server.process.pid}/statm", encoding="ascii") as file:
+        return int(file.read().split()[1]) * os.sysconf("SC_PAGESIZE")
+
+
+class Growth:
+    """Watches the memory of a server; ends that before it has taken all of the machine's."""
+
+    def __init__(self, server):
+        self.server, self.first, self.most = server, memory(server), 0
+        self.is_over, self.thread = threading.Event(), threading.Thread(target=self.watch)
+
+    def watch(self):
+        while not self.is_over.wait(0.02):
+            try:
+                self.most = max(self.most, memory(self.server) - self.first)
+            except OSError:
+                return
+            if self.most > 20 * MOST_GROWTH:
+                self.server.process.kill()
+
+    def __enter__(self):
+        self.thread.start()
+        return self
+
+    def __exit__(self, *_):
+        self.is_over.set()
+        self.thread.join()
+
+
+class Stopped:
+    """An engine that stands still for a while."""
+
+    def __init__(self, server):
+        self.engine = server.engine_number()
+
+    def __enter__(self):
+        os.kill(self.engine, signal.SIGSTOP)
+
+    def __exit__(self, *_):
+        os.kill(self.engine, signal.SIGCONT)
+
+
+class Flood:
+    """Clients in a process of their own: see flood.py."""
+
+    def __init__(self, server, kind, clients):
+        words = [sys.executable, os.path.join(os.path.dirname(os.path.abspath(__file__)), "flood.py"), server.path, kind, str(clients)]
+        self.process = subprocess.Popen(words, stdout=subprocess.PIPE, stderr=subprocess.DEVNULL)
+        self.process.stdout.readline()
+
+    def __enter__(self):
+        return self
+
+    def __exit__(self, *_):
+        self.process.kill()
+        self.process.communicate()
+
+
+def pour(socks, text, seconds):
+    """Says it again and again, whole lines, on all of these connections, and reads nothing."""
+    poller, by_number = select.poll(), {}
+    for sock in socks:
+        sock.setblocking(False)
+        by_number[sock.fileno()] = [sock, b""]
+        poller.register(sock, select.POLLOUT)
+    end = time.monotonic() + seconds
+    while time.monotonic() < end:
+        for number, _ in poller.poll(50):
+            sock, left = by_number[number]
+            left = left or text
+            try:
+                by_number[number][1] = left[sock.send(left):]
+            except BlockingIOError:
+                pass
+            except OSError:
+                poller.unregister(number)
+
+
+@needs_programs
+class Memory(unittest.TestCase):
+    """The bound holds for whatever is kept for a client, whether the engine runs or not."""
+
+    def check(self, growth):
+        self.assertLess(growth.most, MOST_GROWTH)
+
+    def pour_and_check(self, text, count, stopped, **more):
+        with Server(locks=MANY, **more) as server:
+            socks = [server.raw() for _ in range(count)]
+            with Growth(server) as growth:
+                if stopped:
+                    with Stopped(server):
+                        pour(socks, text, 2)
+                else:
+                    pour(socks, text, 2)
+            [sock.close() for sock in socks]
+            self.assertIsNone(server.process.poll())
+            self.check(growth)
+            self.assertEqual(server.operate("ping"), "pong")
+
+    def test_answers_behind_one_that_the_engine_owes(self):
+        self.pour_and_check(b"acquire a 1\n" + b"status\n" * 5000, 1, True)
+
+    def test_short_answers_behind_one_that_the_engine_owes(self):
+        self.pour_and_check(b"acquire a 1\n" + b"lease 10000\nping\n" * 5000, 40, True)
+
+    def test_answers_that_nobody_reads(self):
+        self.pour_and_check(b"stats a\n" + b"status\n" * 500, 40, False)
+
+    def test_questions_that_wait(self):
+        self.pour_and_check(b"try a 18446744073709551615\n" * 500, 100, True)
+
+    def test_half_lines(self):
+        self.pour_and_check(b"x" * 255, 500, False)
+
+    def come_and_go(self, server, seconds):
+        end = time.monotonic() + seconds
+        while time.monotonic() < end:
+            socks = []
+            for _ in range(50):
+                sock = socket.socket(socket.AF_UNIX)
+                sock.setblocking(False)
+                try:
+                    sock.connect(server.path)
+                    sock.send(b"try a 1\n" * 128)
+                except OSError:
+                    time.sleep(0.001)
+                socks.append(sock)
+            [sock.close() for sock in socks]
+
+    def test_connections_that_come_and_go(self):
+        with Server() as server, Growth(server) as growth:
+            self.come_and_go(server, 3)
+            begun = time.monotonic()
+            server.operate("stats b")
+            self.assertLess(time.monotonic() - begun, 2)
+            self.check(growth)
+
+    def test_connections_that_come_and_go_while_the_engine_stands_still(self):
+        with Server() as server, Growth(server) as growth:
+            with Stopped(server):
+                self.come_and_go(server, 3)
+            self.check(growth)
+            with server.raw() as sock:
+                self.assertEqual(say(sock, "acquire b 1\n"), ["granted b 1"])
+
+    @needs_loopback
+    def test_visitors_who_read_nothing(self):
+        locks = ",".join(f"n{i}" for i in range(20000))
+        with Server("--page", "127.0.0.1:0", locks=locks) as server, Growth(server) as growth:
+            port, socks = server.port("page"), []
+            for target in ("/", "/metrics") * 20:
+                sock = socket.socket()
+                sock.setsockopt(socket.SOL_SOCKET, socket.SO_RCVBUF, 4096)
+                sock.connect(("127.0.0.1", port))
+                sock.sendall(f"GET {target} HTTP/1.1\r\n\r\n".encode())
+                socks.append(sock)
+            time.sleep(1)
+            [sock.close() for sock in socks]
+            self.check(growth)
+
+    def test_a_log_that_nobody_reads(self):
+        locks = ",".join("n" * 60 + str(i) for i in range(300))
+        with Server(locks=locks) as server:
+            reader, writer = os.pipe()
+            words = [word.replace(server.folder, server.folder + "/2") for word in server.words]
+            os.makedirs(server.folder + "/2/journal")
+            process = subprocess.Popen([*words, "--log-connections"], stderr=writer)
+            os.close(writer)
+            server.wait_until_it_answers(server.process)
+            path = server.folder + "/2/lock.sock"
+            wait_until(lambda: os.path.exists(path))
+            second = type("Second", (), {"process": process})
+            text = "".join(f"acquire {name} 1\n" for name in locks.split(","))
+            with Growth(second) as growth:
+                for _ in range(250):
+                    with socket.socket(socket.AF_UNIX) as sock:
+                        sock.connect(path)
+                        sock.settimeout(PATIENCE)
+                        sender = threading.Thread(target=sock.sendall, args=(text.encode(),))
+                        sender.start()
+                        read_lines(sock, 290)
+                        sender.join()
+            process.kill()
+            process.wait()
+            os.close(reader)
+            self.assertLess(growth.most, 3 * MIB)  # what is logged of each names 290 locks or more, in some 18 KB
+
+    def test_all_answers_come_if_they_are_read_late(self):
+        with Server(locks=MANY) as server, server.raw() as sock:
+            sent = threading.Thread(target=sock.sendall, args=(b"try a 1\nstatus\nping\n" * 60,))
+            sent.start()
+            time.sleep(0.5)
+            got = read_lines(sock, 60 * 1003)
+            sent.join()
+            self.assertEqual((len(got), got[0], got[1], got[1002]), (60 * 1003, "granted a 1", "status 1000", "pong"))
+            self.assertEqual(got.count("status 1000"), 60)
+            self.assertEqual(sum(line.startswith("lock ") for line in got), 60000)
+
+    def test_a_grant_does_not_come_between_the_lines_of_a_list(self):
+        with Server(locks=MANY) as server, server.raw() as holder, server.raw() as sock:
+            say(holder, "acquire a 1\n")
+            self.assertEqual(say(sock, "acquire a 1\n"), ["waiting a 0"])
+            sock.setsockopt(socket.SOL_SOCKET, socket.SO_RCVBUF, 4096)
+            sock.sendall(b"status\n" * 30)
+            time.sleep(0.3)
+            say(holder, "release a 1\n")
+            got = read_lines(sock, 30 * 1001 + 1)
+            place = got.index("granted a 2")
+            self.assertEqual(place % 1001, 0)
+            del got[place]
+            self.assertEqual([got[i * 1001] for i in range(30)], ["status 1000"] * 30)
+
+    def test_too_little_memory_is_refused(self):
+        with Server() as server:
+            it = subprocess.run([*server.words, "--connections", "10000", "--memory", "16"], capture_output=True, text=True,
+                                timeout=PATIENCE, check=False)
+            self.assertEqual(it.returncode, 1)
+            self.assertIn("so many connections need --memory ", it.stderr)
+
+
+@needs_programs
+class OnTime(unittest.TestCase):
+    """A lease ends within a twentieth of its length, or 50 ms, whatever the others do."""
+
+    def lateness(self, server, lease):
+        """How late the lock of a silent client is free."""
+        with server.raw() as silent, server.raw() as other:
+            self.assertEqual(say(silent, f"lease {int(lease * 1000)}\n"), [f"lease {int(lease * 1000)}"])
+            silent.sendall(b"acquire b 1\n")
+            begun = time.monotonic()
+            token = int(read_lines(silent, 1)[0].split()[2])
+            self.assertEqual(say(other, "acquire b 1\n"), ["waiting b 0"])
+            self.assertEqual(read_lines(other, 1), [f"granted b {token + 1}"])
+            late = time.monotonic() - begun - lease
+            self.assertGreater(late, -0.01)
+            return late
+
+    def on_time(self, server, lease, longer):
+        late = min(self.lateness(server, lease) for _ in range(3))
+        self.assertLess(late, max(lease / 20, 0.05) * min(longer, 4))
+
+    @by_the_clock
+    def test_short_leases_beside_a_long_one(self, longer):
+        with Server(lease="30") as server:
+            worst = max(self.lateness(server, lease) for lease in (0.05, 0.1, 0.2, 0.4) * 3)
+            self.assertLess(worst, 0.05 * min(longer, 2))
+
+    @by_the_clock
+    def test_while_hundreds_of_clients_are_busy(self, longer):
+        with Server(locks=MANY) as server, Flood(server, "ping", 600):
+            self.on_time(server, 1, longer)
+
+    @by_the_clock
+    def test_while_hundreds_of_clients_look_at_all_locks(self, longer):
+        with Server(locks=MANY) as server, Flood(server, "status", 400), Flood(server, "status", 400):
+            self.on_time(server, 1, longer)
+
+    @by_the_clock
+    def test_while_hundreds_of_clients_ask_the_engine(self, longer):
+        with Server() as server, Flood(server, "try", 300):
+            self.on_time(server, 1, longer)
+
+    @by_the_clock
+    def test_a_client_that_reads_slowly_is_not_deaf(self, _):
+        with Server("--deaf", "3", locks=MANY) as server, server.raw() as slow:
+            slow.sendall(b"status\n" * 60)
+            end = time.monotonic() + 5
+            while time.monotonic() < end:
+                slow.recv(4096)  # some, all the time, but not much
+                time.sleep(0.2)
+            self.assertNotIn("went (deaf)", server.text_of_log())
+
+    @by_the_clock
+    def test_a_deaf_client_goes_on_time(self, longer):
+        with Server("--deaf", "1", locks=MANY) as server, Flood(server, "status", 300), server.raw() as deaf:
+            begun = time.monotonic()
+            pour([deaf], b"status\n" * 100, 0.3)
+            wait_until(lambda: "went (deaf)" in server.text_of_log())
+            self.assertLess(time.monotonic() - begun, 1.3 + 0.1 * longer)
+
+
+@needs_programs
+class Turns(unittest.TestCase):
+    def latency(self, server, seconds):
+        """The time in which 99 of 100 acquires are answered."""
+        times, end = [], time.monotonic() + seconds
+        with server.raw() as sock:
+            while time.monotonic() < end:
+                begun = time.monotonic()
+                token = say(sock, "acquire b 1\n")[0].split()[2]
+                times.append(time.monotonic() - begun)
+                self.assertEqual(say(sock, f"release b {token}\n"), ["released b"])
+        times.sort()
+        return times[len(times) * 99 // 100]
+
+    def check(self, kind, longer):
+        with Server(locks=MANY) as server, Flood(server, kind, 20):
+            time.sleep(0.5)
+            self.assertLess(min(self.latency(server, 1.5) for _ in range(3)), 0.02 * min(longer, 2))
+
+    @by_the_clock
+    def test_beside_long_answers(self, longer):
+        self.check("status", longer)
+
+    @by_the_clock
+    def test_beside_long_answers_that_are_not_read(self, longer):
+        self.check("untold-deaf", longer)
+
+    @by_the_clock
+    def test_beside_short_answers(self, longer):
+        self.check("ping", longer)
+
+    @by_the_clock
+    def test_beside_questions_for_the_engine(self, longer):
+        self.check("try", longer)
+
+    @by_the_clock
+    def test_beside_all_of_that(self, longer):
+        self.check("mixed", longer)
+
+    @by_the_clock
+    def test_beside_connections_that_come_and_go(self, longer):
+        self.check("come", longer)
+
+    def test_who_never_asked_costs_the_engine_nothing(self):
+        with Server() as server:
+            engine = server.folder + "/engine"
+            with open(engine, "w", encoding="ascii") as file:
+                file.write(f'#!/bin/sh\ntee {server.folder}/asked | {ENGINE} "$@"\n')
+            os.chmod(engine, 0o755)
+            server.stop()
+            words = [engine if word == ENGINE else word for word in server.words]
+            process = subprocess.Popen(words, stderr=subprocess.DEVNULL)
+            server.wait_until_it_answers(process)
+            for _ in range(50):
+                with server.raw() as sock:
+                    say(sock, "ping\n")
+            with server.raw() as sock:
+                say(sock, "try a 1\n")
+            with server.raw() as sock:
+                say(sock, "try b 1\n")
+            process.terminate()
+            self.assertEqual(process.wait(PATIENCE), 0)
+            with open(server.folder + "/asked", encoding="ascii") as file:
+                left = [line for line in file.read().splitlines() if line.endswith(" leave")]
+            self.assertIn(len(left), (1, 2))  # the last one may have been closed at the end
+
+
+@needs_programs
+class Places(unittest.TestCase):
+    @needs_loopback
+    def test_clients_over_tcp_keep_nobody_from_the_unix_socket(self):
+        with Server("--connections", "20", "--tcp", "127.0.0.1:0") as server:
+            port = server.port("clients")
+            socks = [socket.create_connection(("127.0.0.1", port), PATIENCE) for _ in range(40)]
+            told = []
+            for sock in socks:
+                sock.settimeout(PATIENCE)
+                try:
+                    told.append(say(sock, "ping\n"))
+                except OSError:
+                    told.append(["refused connections"])
+            self.assertEqual(told.count(["pong"]), 20)
+            with server.raw() as sock:
+                self.assertEqual(say(sock, "acquire a 1\n"), ["granted a 1"])
+            [sock.close() for sock in socks]
+
+    @unittest.skipUnless(os.getuid() == 0 and os.access("/usr/bin/python3", os.X_OK), "only root can be another user")
+    def test_a_user_keeps_no_other_user_out(self):
+        with Server("--connections", "20", "--mode", "666") as server:
+            os.chmod(server.folder, 0o755)
+            code = ("import socket, sys\nsocks = []\nfor _ in range(40):\n  s = socket.socket(socket.AF_UNIX)\n  s.connect(sys.argv[1])\n"
+                    "  try:\n    s.sendall(b'ping\\n')\n  except OSError:\n    pass\n  socks.append(s)\n"
+                    "print(sum(s.recv(99) == b'pong\\n' for s in socks), flush=True)\nsys.stdin.read()")
+            try:
+                process = subprocess.Popen(["/usr/bin/python3", "-c", code, server.path], user=65534, group=65534, extra_groups=[],
+                                           stdin=subprocess.PIPE, stdout=subprocess.PIPE, text=True)
+            except OSError as fault:
+                self.skipTest(f"this root cannot be another user: {fault}")
+            self.assertEqual(process.stdout.readline(), "20\n")
+            with server.raw() as sock:
+                self.assertEqual(say(sock, "acquire a 1\n"), ["granted a 1"])
+            process.communicate()
+
+    @needs_loopback
+    def test_half_requests_keep_no_visitor_out(self):
+        with Server("--page", "127.0.0.1:0") as server:
+            port = server.port("page")
+            socks = []
+            for _ in range(5):
+                for _ in range(40):
+                    socks.append(socket.create_connection(("127.0.0.1", port), PATIENCE))
+                    socks[-1].sendall(b"GET /metrics HTTP/1.1\r\n")
+                begun = time.monotonic()
+                connection = http.client.HTTPConnection("127.0.0.1", port, timeout=PATIENCE)
+                connection.request("GET", "/metrics")
+                self.assertIn(b"wozgirt_engine_up 1", connection.getresponse().read())
+                self.assertLess(time.monotonic() - begun, 2)
+                connection.close()
+            [sock.close() for sock in socks]
+
+    @needs_loopback
+    @by_the_clock
+    def test_half_requests_end_on_time(self, longer):
+        with Server("--page", "127.0.0.1:0", locks=MANY) as server, Flood(server, "status", 300):
+            with socket.create_connection(("127.0.0.1", server.port("page")), PATIENCE) as sock:
+                begun = time.monotonic()
+                sock.sendall(b"GET / HTTP/1.1\r\n")
+                self.assertEqual(sock.recv(100), b"")
+                self.assertLess(time.monotonic() - begun, 3 + 0.15 * longer)
+
+
+if __name__ == "__main__":
+    unittest.main()

@@ -1,0 +1,239 @@
+"""What operators do: a hold that they end, a client that they send away, rules that are read again; and what systemd is told."""
+
+import hashlib
+import os
+import re
+import signal
+import socket
+import subprocess
+import tempfile
+import time
+import unittest
+
+from harness import ENGINE, FOLDER, IS_DOUBLE, PATIENCE, TOP, Server, needs_programs, read_lines, say, wait_until
+
+
+def number_of(server, client):
+    """The number of the client of two that holds these locks, as operators see it."""
+    return int(re.search(rf"^client (\d+) \d+ {client}", server.operate("clients", 4), re.MULTILINE)[1])
+
+
+@needs_programs
+class EndOfHolds(unittest.TestCase):
+    def test_the_next_in_the_line_has_it(self):
+        with Server(locks="a,b") as server, server.raw() as holder, server.raw() as waiter, server.raw(True) as operator:
+            self.assertEqual(say(holder, "acquire a 7\nacquire b 7\n", 2), ["granted a 1", "granted b 1"])
+            self.assertEqual(say(waiter, "acquire a 8\n"), ["waiting a 0"])
+            self.assertEqual(say(operator, "end a 2\nend a 1\nping\nend a 1\nend x 1\n", 5),
+                             ["refused holder a", "ended a", "pong", "refused holder a", "refused lock x"])
+            self.assertEqual(read_lines(waiter, 1), ["granted a 2"])
+            # who held it hears so when it asks; what else it holds stays
+            self.assertEqual(say(holder, "release a 1\nrelease b 1\nping\n", 3), ["refused holder a", "released b", "pong"])
+            wait_until(lambda: "hold-ended" in server.text_of_log())
+            self.assertRegex(server.text_of_log(), r"hold-ended hold of a with token 1 ended by an operator \(\S+, process \d+\)")
+            self.assertEqual(server.calls(0)[1].split()[1:3], ["s", "1"])  # as a release is
+
+    def test_many_at_once_and_in_order(self):
+        with Server(locks=",".join(f"n{i}" for i in range(300))) as server, server.raw() as holder, server.raw(True) as operator:
+            say(holder, "".join(f"acquire n{i} 1\n" for i in range(300)), 300)
+            self.assertEqual(say(operator, "".join(f"end n{i} 1\nstats n{i}\n" for i in range(300)), 600)[::2],
+                             [f"ended n{i}" for i in range(300)])
+            self.assertEqual(server.operate("clients", 2).split("\n")[1].split()[3], "-")
+            self.assertEqual(say(holder, "status\n", 301)[1:], [f"lock n{i} free - - - - 0 0 1 0" for i in range(300)])
+
+    def test_a_hold_of_its_own_and_one_of_a_client_that_goes(self):
+        with Server(locks="a,b") as server, server.raw() as holder, server.raw(True) as operator:
+            self.assertEqual(say(operator, "acquire a 1\n"), ["granted a 1"])
+            self.assertEqual(say(operator, "end a 1\nrelease a 1\n", 2), ["ended a", "refused holder a"])
+            say(holder, "acquire b 1\n")
+            engine = server.engine_number()
+            os.kill(engine, signal.SIGSTOP)
+            operator.sendall(b"end b 1\n")
+            time.sleep(0.2)
+            holder.close()
+            self.assertEqual(read_lines(operator, 1), ["ended b"])
+            os.kill(engine, signal.SIGCONT)
+            self.assertEqual(say(operator, "acquire b 1\n"), ["granted b 2"])
+
+    def test_a_hold_from_before_the_engine_started(self):
+        with Server(lease="30") as server:
+            with server.raw() as holder:
+                self.assertEqual(say(holder, "acquire a 1\nacquire b 1\n", 2), ["granted a 1", "granted b 1"])
+                server.kill_engine()
+                self.assertEqual(holder.recv(10), b"")
+            wait_until(lambda: server.text_of_log().count("engine ready") == 2)
+            with server.raw() as sock:
+                self.assertEqual(say(sock, "acquire a 2\n"), ["waiting a 0"])
+                self.assertEqual(server.operate("end a 1"), "ended a")
+                self.assertEqual(read_lines(sock, 1), ["granted a 2"])
+                self.assertEqual(server.operate("end b 9"), "refused holder b")
+                self.assertIn("lock b before 0 - 1 ", "\n".join(say(sock, "status\n", 4)))
+
+    def test_while_all_locks_are_told(self):
+        with Server(locks=",".join(["a"] + [f"n{i}" for i in range(2000)])) as server, server.raw() as holder:
+            say(holder, "acquire a 1\n")
+            holder.sendall(b"status\n" * 20)
+            time.sleep(0.3)  # it is told in part, since nobody reads it
+            self.assertEqual(server.operate("end a 1"), "ended a")
+            lines = read_lines(holder, 20 * 2002)
+            self.assertEqual([lines[i * 2002] for i in range(20)], ["status 2001"] * 20)
+            self.assertEqual(say(holder, "release a 1\n"), ["refused holder a"])
+
+    def test_clients_cannot(self):
+        with Server() as server:
+            for line in ("end a 1\n", "kick 1\n"):
+                with server.raw() as sock:
+                    self.assertEqual(say(sock, line), ["refused syntax"])
+
+
+@needs_programs
+class Kicks(unittest.TestCase):
+    def test_a_client_goes_with_all_that_it_held(self):
+        with Server() as server, server.raw() as holder, server.raw() as waiter:
+            say(holder, "acquire a 1\nacquire b 1\n", 2)
+            say(waiter, "acquire a 2\n")
+            number = number_of(server, "a,b")
+            self.assertEqual(server.operate(f"kick {number}"), f"kicked {number}")
+            self.assertEqual(holder.recv(10), b"")
+            self.assertEqual(read_lines(waiter, 1), ["granted a 2"])
+            self.assertEqual(server.operate(f"kick {number}"), f"refused client {number}")
+            wait_until(lambda: f"client-went client {number} went (kicked)" in server.text_of_log())
+
+    def test_oneself(self):
+        with Server() as server, server.raw(True) as operator:
+            number = int(say(operator, "clients\n", 2)[1].split()[1])
+            self.assertEqual(say(operator, f"kick {number}\n", 2), [f"kicked {number}"])
+
+
+@needs_programs
+class Rules(unittest.TestCase):
+    def test_they_are_read_again(self):
+        with tempfile.TemporaryDirectory(dir=FOLDER) as folder:
+            rules, user = folder + "/rules", os.getuid()
+
+            def write(text):
+                with open(rules, "w", encoding="ascii") as file:
+                    file.write(text)
+
+            write(f"lock a: {user}\nlock *:\n")
+            with Server("--rules", rules) as server, server.raw() as sock:
+                self.assertEqual(say(sock, "acquire a 1\ntry b 1\n", 2), ["granted a 1", "refused permission b"])
+                write(f"lock b: {user}\nlock *:\n")
+                server.process.send_signal(signal.SIGHUP)
+                wait_until(lambda: "rules read again\n" in server.text_of_log())
+                self.assertEqual(say(sock, "try b 1\ntry a 1\nstatus\n", 4)[:3], ["granted b 1", "refused permission a", "status 1"])
+                write("lock b: nobody-has-this-name\n")
+                server.process.send_signal(signal.SIGHUP)
+                wait_until(lambda: "rules-bad rules not read again, the old ones hold: " in server.text_of_log())
+                self.assertIn("line 1: there is no user nobody-has-this-name", server.text_of_log())
+                self.assertEqual(say(sock, "release b 1\ntry b 1\n", 2), ["released b", "granted b 2"])
+
+
+@needs_programs
+class Systemd(unittest.TestCase):
+    def test_it_is_told(self):
+        with Server() as server, socket.socket(socket.AF_UNIX, socket.SOCK_DGRAM) as told:
+            server.stop()
+            told.bind(server.folder + "/notify")
+            told.settimeout(PATIENCE)
+            more = {"NOTIFY_SOCKET": server.folder + "/notify", "WATCHDOG_USEC": "600000"}
+            process = subprocess.Popen(server.words, stderr=subprocess.DEVNULL, env={**os.environ, **more})
+            try:
+                while (first := told.recv(100)) == b"WATCHDOG=1":
+                    pass
+                self.assertEqual(first, b"READY=1\nSTATUS=serves")
+                with server.raw() as sock:
+                    self.assertEqual(say(sock, "try a 1\n"), ["granted a 1"])
+                for _ in range(3):
+                    self.assertEqual(told.recv(100), b"WATCHDOG=1")
+                with open(f"/proc/{next(self.children(process.pid))}/environ", "rb") as file:
+                    self.assertNotIn(b"NOTIFY_SOCKET", file.read())
+                process.terminate()
+                while (last := told.recv(100)) == b"WATCHDOG=1":
+                    pass
+                self.assertEqual(last, b"STOPPING=1")
+                self.assertEqual(process.wait(PATIENCE), 0)
+            finally:
+                process.kill()
+                process.wait()
+
+    def children(self, parent):
+        for number in filter(str.isdigit, os.listdir("/proc")):
+            try:
+                with open(f"/proc/{number}/stat", encoding="utf-8", errors="replace") as file:
+                    if int(file.read().rpartition(")")[2].split()[1]) == parent:
+                        yield number
+            except OSError:
+                continue
+
+
+@needs_programs
+class Retention(unittest.TestCase):
+    def segments(self, server):
+        return sorted(name for name in os.listdir(server.journal) if name.endswith(".ring"))
+
+    def test_old_segments_go_and_their_digests_stay(self):
+        with Server("--segment", "400", "--keep-segments", "2") as server:
+            kept = {}
+            with server.raw() as sock:
+                for token in range(1, 2001):
+                    say(sock, f"acquire a 1\nrelease a {token}\n", 2)
+                    if token % 100 == 0:  # what may be removed soon
+                        for name in self.segments(server)[:-1]:
+                            with open(os.path.join(server.journal, name), "rb") as file:
+                                kept[name] = hashlib.sha256(file.read()).hexdigest()
+                wait_until(lambda: len(self.segments(server)) == 2)
+                with open(server.journal + ".removed", encoding="ascii") as file:
+                    removed = dict(line.split() for line in file)
+                self.assertGreater(len(removed), 2)
+                self.assertEqual(len(set(removed) & set(self.segments(server))), 0)
+                if not IS_DOUBLE:
+                    self.assertEqual({name: digest for name, digest in kept.items() if name in removed}, removed)
+                wait_until(lambda: server.text_of_log().count("segment-removed segment ") == len(removed))
+                self.assertEqual(say(sock, "acquire b 1\n"), ["granted b 1"])
+
+    @unittest.skipIf(IS_DOUBLE, "the engine's double needs its first segment")
+    def test_the_rest_is_a_chain_that_goes_on(self):
+        with Server("--segment", "400", "--keep-segments", "2", lease="1") as server:
+            with server.raw() as sock:
+                for token in range(1, 1001):
+                    say(sock, f"acquire a 1\nrelease a {token}\n", 2)
+            wait_until(lambda: len(self.segments(server)) == 2)
+            server.kill_engine()
+            wait_until(lambda: server.text_of_log().count("engine ready") == 2)
+            with server.raw() as sock:
+                self.assertEqual(say(sock, "acquire a 1\n"), ["granted a 1001"])
+            server.stop()
+            check = subprocess.run([ENGINE, "check", server.journal], capture_output=True, text=True, check=False, timeout=PATIENCE)
+            self.assertRegex(check.stdout, r"^legal segments \d+ from \d+ ")
+
+
+@needs_programs
+class LogOfEvents(unittest.TestCase):
+    def test_each_line_has_a_time_and_a_key(self):
+        with Server("--log-connections") as server:
+            with server.raw() as sock:
+                say(sock, "acquire a 1\n")
+            server.stop()
+            keys = []
+            for line in server.text_of_log().splitlines():
+                if line.startswith("total "):
+                    continue  # that is the engine's own
+                match = re.match(r"\d{4}-\d\d-\d\dT\d\d:\d\d:\d\dZ ([a-z-]+) \S", line)
+                self.assertIsNotNone(match, line)
+                keys.append(match[1])
+            for key in ("started", "listening", "engine-started", "engine-ready", "client-came", "client-went", "stopping", "stopped"):
+                self.assertIn(key, keys)
+
+
+    def test_each_key_stands_in_the_page(self):
+        with open(os.path.join(TOP, "server", "wozgirt-server", "src", "log.rs"), encoding="utf-8") as file:
+            keys = re.findall(r'Event::\w+(?: \{ \.\. \})? => "([a-z-]+)"', file.read()) + ["lines-lost"]
+        with open(os.path.join(TOP, "docs", "OPERATING.md"), encoding="utf-8") as file:
+            page = file.read()
+        self.assertGreater(len(keys), 30)
+        self.assertEqual([key for key in keys if f"`{key}`" not in page], [])
+
+
+if __name__ == "__main__":
+    unittest.main()

@@ -1,0 +1,139 @@
+//! Where one of several servers begins: at its checkpoint, with the settings of the log.
+
+use super::opening::read_rules;
+use super::Server;
+use crate::board::Board;
+use crate::cluster::{agrees, holders, list, Applied, BadCheckpoint, Checkpoint, Cluster, Phase};
+use crate::log::Event;
+use crate::names::Names;
+use crate::CannotServe;
+use std::mem;
+use std::rc::Rc;
+use std::time::Instant;
+use wozgirt_engine::decimal;
+
+/// What the engine's state is before the first entry.
+fn first_state() -> Vec<String> {
+    vec![format!("at 0 {}", "0".repeat(64))]
+}
+
+impl Server {
+    /// Reads the checkpoint, and prepares the engine's folder for it.
+    pub(super) fn begin_cluster(&mut self) -> Result<(), CannotServe> {
+        let now = self.desk.now;
+        let Some(cluster) = &mut self.desk.cluster else { return Ok(()) };
+        let (applied, state, segment) = match cluster.folder.read()? {
+            None => (Applied::new(cluster.applied.most_lines), first_state(), 0),
+            Some(text) => {
+                let found = Checkpoint::parse(&text, cluster.applied.most_lines);
+                let Checkpoint { identity, segment, applied, state } =
+                    found.map_err(|BadCheckpoint(line)| CannotServe::Checkpoint(cluster.folder.checkpoint(), line))?;
+                cluster.place.raise(&identity, applied.position, applied.revision)?;
+                (applied, state, segment)
+            }
+        };
+        let settings = applied.settings.clone().or_else(|| cluster.place.known().and_then(|it| it.settings.clone()));
+        let settings = settings.unwrap_or_else(|| cluster.with.clone());
+        check_settings(cluster, &settings)?;
+        self.take_list(list(&settings))?;
+        let desk = &mut self.desk;
+        let Some(cluster) = &mut desk.cluster else { return Ok(()) };
+        cluster.place.begin(applied.position);
+        cluster.folder.restore(segment, applied.position, list(&settings))?;
+        cluster.folder.write_holders(&holders(&state))?;
+        cluster.saved = (segment, applied.position);
+        cluster.applied = applied;
+        cluster.phase = Phase::Restoring(Vec::new());
+        cluster.is_restored = false;
+        cluster.blocks.clear();
+        cluster.unread.clear();
+        cluster.mirror.forget();
+        desk.board.forget();
+        put_state(cluster, &mut desk.board, &state, now);
+        cluster.state = state;
+        Ok(())
+    }
+
+    /// The log has this list of locks, which may be longer or shorter than this server's.
+    pub(super) fn take_list(&mut self, list: &str) -> Result<(), CannotServe> {
+        let desk = &mut self.desk;
+        if list == desk.names.list() && desk.settings.locks.is_some() {
+            return Ok(());
+        }
+        let names = Names::parse(list).map_err(CannotServe::Names)?;
+        if names.count() > desk.names.count() {
+            match read_rules(&desk.settings, &names, &self.accounts) {
+                Ok(rules) => desk.rules = Rc::new(rules),
+                Err(fault) => desk.log.say(&Event::RulesBad { fault: &fault }),
+            }
+        }
+        desk.board.resize(names.count());
+        desk.names = names;
+        desk.settings.locks = Some(list.into());
+        desk.engine.set_words(desk.settings.engine_words());
+        let (count, own) = (desk.names.count(), desk.cluster.as_ref().map_or(0, |cluster| cluster.count()));
+        if count > own {
+            desk.log.say(&Event::MoreLocks { count, own, list });
+        }
+        Ok(())
+    }
+
+    /// The engine has told its state and ended: that is the checkpoint, from which it starts again.
+    pub(super) fn save(&mut self) -> Result<(), CannotServe> {
+        let now = self.desk.now;
+        let Some(cluster) = &mut self.desk.cluster else { return Ok(()) };
+        let Phase::Ending(state) = mem::replace(&mut cluster.phase, Phase::Restoring(Vec::new())) else {
+            return Ok(());
+        };
+        let segment = cluster.folder.sync_from(cluster.saved.0)?;
+        let (position, revision) = (cluster.applied.position, cluster.applied.revision);
+        cluster.folder.keep(segment, position)?;
+        let identity = cluster.place.known().map(|known| known.identity.clone()).unwrap_or_default();
+        let checkpoint = Checkpoint { identity, segment, applied: cluster.applied.clone(), state };
+        cluster.folder.write(&checkpoint.text())?;
+        cluster.place.rewrite()?;
+        cluster.folder.write_holders(&checkpoint.holders())?;
+        cluster.folder.forget(cluster.saved.1, position)?;
+        cluster.saved = (segment, position);
+        cluster.state = checkpoint.state;
+        let settings = cluster.applied.settings.clone();
+        if cluster.me.is_some() {
+            cluster.log.ask_line(format_args!("checkpoint {position} {revision}"));
+        }
+        self.desk.log.say(&Event::Checkpoint { position, segment });
+        if let Some(settings) = settings {
+            self.take_list(list(&settings))?;
+        }
+        self.desk.engine.start_at_once(now);
+        Ok(())
+    }
+}
+
+/// Who holds and who waits in a state.
+fn put_state(cluster: &mut Cluster, board: &mut Board, state: &[String], now: Instant) {
+    for line in state {
+        let words: Vec<&str> = line.split(' ').collect();
+        let number = |i: usize| words.get(i).and_then(|word| decimal(word).ok()).unwrap_or(0);
+        match words[..] {
+            ["hold", ..] => {
+                let (lock, token, session) = (number(1) as usize, number(2), number(3));
+                cluster.mirror.put_hold(session, lock, token);
+                board.holds(lock, session, token, now);
+            }
+            [_, "acquire", ..] => {
+                let (session, lock, label) = (number(0), number(2) as usize, number(3));
+                cluster.mirror.put_wait(session, lock);
+                board.waits(lock, session, label, now);
+            }
+            _ => {}
+        }
+    }
+}
+
+/// The settings of this server are those of the log, but for the end of the list of locks.
+pub(super) fn check_settings(cluster: &Cluster, log: &str) -> Result<(), CannotServe> {
+    if agrees(&cluster.with, log) {
+        return Ok(());
+    }
+    Err(CannotServe::Settings { log: log.into(), own: cluster.with.clone() })
+}
