@@ -2,7 +2,7 @@ use Rattle.std.proofs.Common.{ap, refl, List, ℕ, Option}
 use Rattle.folder_commands.specs.JoinedFolder.{IsJoinAnswer, IsJoinRefusal}
 use Rattle.tool_parts.specs.Worlds.{world}
 use Rattle.tool_parts.specs.declared.faults.ToolError.{ToolError}
-use Rattle.ring_tool.proofs.Asked.{told, refused, told_with, refused_with, kept_anyhow}
+use Rattle.ring_tool.proofs.Requested.{told, refused, told_with, refused_with, kept_anyhow}
 use Rattle.ring_tool.proofs.requests.answer.Goals as goal
 
 pub returns-in-Step : goal.returns-in-Step
