@@ -1,12 +1,12 @@
 //! The line of each fault, also of those that no command line causes, and the words of the checker's answers.
 
 use ring_check::{CheckError, Kind};
-use ring_commands::endings::tell;
-use ring_commands::faults::ToolError;
 use ring_journal::RecoverError;
 use ring_segments::SegmentError;
 use ring_settings::{Field, RingCause};
 use std::test::Fail;
+use tool_parts::endings::tell;
+use tool_parts::faults::ToolError;
 
 #[test]
 fn each_fault_has_its_line(rt: HostRuntime) {

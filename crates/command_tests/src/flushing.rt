@@ -3,17 +3,19 @@
 use crate::files::memory::{bytes_of, make_folder, no_files, put};
 use crate::reading::Giver;
 use disks::MemoryDisk;
+use folder_commands::recover;
 use lock_commands::locks;
 use ring_check::Kind;
-use ring_commands::check_all::check_all_bytes;
-use ring_commands::endings::finish;
-use ring_commands::faults::ToolError;
-use ring_commands::{picture, recover, serve};
 use ring_requests::{LocksWords, PictureWords, RecoverWords, ServeWords};
+use serve_commands::serve;
 use std::alloc::Global;
 use std::io::{self, ErrorKind, Write};
 use std::process::Abort;
 use std::test::Fail;
+use text_commands::check_all::check_all_bytes;
+use text_commands::picture;
+use tool_parts::endings::finish;
+use tool_parts::faults::ToolError;
 
 /// A writer into memory, which can be flushed so often, and then no more.
 #[derive(Drop)]

@@ -1,9 +1,9 @@
 //! A list as `step` reads it, with the greatest number, and a history with as many events as one can have.
 
-use ring_commands::faults::ToolError;
-use ring_commands::lists::read_list;
 use ring_commands::step::step_lines;
 use std::test::Fail;
+use tool_parts::faults::ToolError;
+use tool_parts::lists::read_list;
 
 #[test]
 fn a_list_has_its_numbers(rt: HostRuntime) {

@@ -1,9 +1,9 @@
 //! Reading up to a limit, from readers that give little, too much, or fail.
 
-use ring_commands::reading::{ReadFault, read_limited};
 use std::io::{self, ErrorKind, Read};
 use std::process::Abort;
 use std::test::Fail;
+use tool_parts::reading::{ReadFault, read_limited};
 
 /// A reader that gives at most `at_most` bytes a call, and then no more, or the error if it has one.
 #[derive(Drop)]

@@ -2,14 +2,14 @@
 
 use crate::files::memory::{bytes_of, no_files, put};
 use disks::{Disk, FolderEntry, MemoryDisk};
-use ring_commands::faults::ToolError;
-use ring_commands::serve::run;
 use ring_requests::ServeWords;
+use serve_commands::serve::run;
 use std::alloc::Global;
 use std::cell::Cell;
 use std::io::{self, Cursor, ErrorKind, Read, Write};
 use std::process::Abort;
 use std::test::Fail;
+use tool_parts::faults::ToolError;
 
 /// A journal that tells no call.
 const BEGUN: &str = "ringjournal 1\nringfarm 2\nring 0 3 3\nstart 0 0 0\nend 0\ndone 1\n";

@@ -12,9 +12,9 @@ use Rattle.ring_segments.specs.Chain as segments
 use Rattle.ring_segments.proofs.Adding.{chained, led_on}
 use Rattle.ring_holds.specs.Chains.{HoldsSoFar, IsHeldWith}
 use Rattle.ring_holds.proofs.Files.{told_on}
-use Rattle.ring_commands.specs.declared.faults.ToolError.{ToolError}
-use Rattle.ring_commands.specs.Named.{IsHeld}
-use Rattle.ring_commands.proofs.Leads.{led_sums, sums_more, held_more, held_at}
+use Rattle.tool_parts.specs.declared.faults.ToolError.{ToolError}
+use Rattle.tool_parts.specs.Named.{IsHeld}
+use Rattle.tool_parts.proofs.Leads.{led_sums, sums_more, held_more, held_at}
 use Rattle.lock_commands.specs.HoldsAnswer.{IsUnheld, IsFileUnheld}
 use Rattle.lock_commands.specs.HoldSteps.{HoldLeads, HoldEnds}
 

@@ -21,10 +21,10 @@ use Rattle.lock_folder.specs.declared.faults.StartFault.TheVariants as start
 use Rattle.lock_folder.specs.Folders.{Place, IsFileRefusal, IsListless, IsPlaceFault, IsHandingFault, IsStartRefusal, AreUnstarted}
 use Rattle.lock_folder.specs.Rings.{IsRingFault, AreRingsRefused}
 use Rattle.ring_requests.specs.declared.requests.LocksWords.{LocksWords}
-use Rattle.ring_commands.specs.Chained.{IsFolderFault}
-use Rattle.ring_commands.specs.Worlds.{World}
-use Rattle.ring_commands.specs.declared.faults.ToolError.{ToolError}
-use Rattle.ring_commands.specs.declared.faults.ToolError.TheVariants as tool
+use Rattle.tool_parts.specs.Chained.{IsFolderFault}
+use Rattle.tool_parts.specs.Worlds.{World}
+use Rattle.tool_parts.specs.declared.faults.ToolError.{ToolError}
+use Rattle.tool_parts.specs.declared.faults.ToolError.TheVariants as tool
 use Rattle.lock_commands.specs.Refusals.{fault_of_list, IsStartName, IsBeginName, IsLoopName, IsListIf}
 use Rattle.lock_commands.specs.HoldersFile.{holders_word, name_of, HasNoHolders}
 use Rattle.lock_commands.specs.Locks.{folder_of, list_of, IsUnbegun, IsRunRefused, IsStartRefused, IsRefusedIn, IsRefusedWith, IsLocksRefusal}

@@ -4,7 +4,7 @@ use Rattle.disks.specs.Held.{Held}
 use Rattle.ring_segments.specs.Files.{File, AreChained}
 use Rattle.ring_segments.specs.Chain as segments
 use Rattle.ring_holds.specs.Chains.{HoldsSoFar, LeadTo}
-use Rattle.ring_commands.specs.Chained.{sums_of, AreHeldFrom}
+use Rattle.tool_parts.specs.Chained.{sums_of, AreHeldFrom}
 
 -- files of a folder from this number on, up to the next one, whose holds were read
 pub record HoldLeads (files : Option Held) (name : List ℕ) (first next : ℕ) (l : HoldsSoFar) :

@@ -5,9 +5,9 @@ use Rattle.disks.specs.Held.{Held}
 use Rattle.ring_locks.specs.declared.handing.Handover.{Handover}
 use Rattle.lock_holders.specs.Holders.{AreHolders, IsBadLine}
 use Rattle.ring_requests.specs.declared.requests.LocksWords.{LocksWords}
-use Rattle.ring_commands.specs.Named.{IsHeld, IsFileRefusal}
-use Rattle.ring_commands.specs.declared.faults.ToolError.{ToolError}
-use Rattle.ring_commands.specs.declared.faults.ToolError.TheVariants as tool
+use Rattle.tool_parts.specs.Named.{IsHeld, IsFileRefusal}
+use Rattle.tool_parts.specs.declared.faults.ToolError.{ToolError}
+use Rattle.tool_parts.specs.declared.faults.ToolError.TheVariants as tool
 
 -- its name, by the words
 abbrev pub holders_word : LocksWords → Option (List ℕ)

@@ -23,14 +23,14 @@ use Rattle.ring_holds.specs.ChainSteps.{AreBlocksHeld}
 use Rattle.ring_holds.specs.Lines.{all_lines}
 use Rattle.ring_holds.specs.Labels.{all_chosen, AreCounted, label_line}
 use Rattle.ring_requests.specs.declared.requests.HoldsWords.{HoldsWords}
-use Rattle.ring_commands.specs.Chained.{AreHeldFrom, IsChainIn, IsFolder, IsAddRefusal, IsNamedWrong, AreNamesRefused}
-use Rattle.ring_commands.specs.Checked.{IsLegalSavedText, IsSavedTextRefusal}
-use Rattle.ring_commands.specs.Named.{IsHeld, IsNamed, IsNamedRefusal}
-use Rattle.ring_commands.specs.Reading.{names_stream}
-use Rattle.ring_commands.specs.Worlds.{World}
-use Rattle.ring_commands.specs.Written.{AppendsFront}
-use Rattle.ring_commands.specs.declared.faults.ToolError.{ToolError}
-use Rattle.ring_commands.specs.declared.faults.ToolError.TheVariants as tool
+use Rattle.tool_parts.specs.Chained.{AreHeldFrom, IsChainIn, IsFolder, IsAddRefusal, IsNamedWrong, AreNamesRefused}
+use Rattle.tool_parts.specs.Checked.{IsLegalSavedText, IsSavedTextRefusal}
+use Rattle.tool_parts.specs.Named.{IsHeld, IsNamed, IsNamedRefusal}
+use Rattle.tool_parts.specs.Reading.{names_stream}
+use Rattle.tool_parts.specs.Worlds.{World}
+use Rattle.tool_parts.specs.Written.{AppendsFront}
+use Rattle.tool_parts.specs.declared.faults.ToolError.{ToolError}
+use Rattle.tool_parts.specs.declared.faults.ToolError.TheVariants as tool
 
 -- ---- what is printed
 

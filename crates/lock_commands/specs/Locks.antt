@@ -31,11 +31,11 @@ use Rattle.line_replica.specs.Segmented as around
 use Rattle.line_replica.specs.Restoring as behind
 use Rattle.line_replica.specs.State.{lines_of, IsRestorable}
 use Rattle.ring_requests.specs.declared.requests.LocksWords.{LocksWords}
-use Rattle.ring_commands.specs.declared.faults.ToolError.{ToolError}
-use Rattle.ring_commands.specs.declared.faults.ToolError.TheVariants as tool
-use Rattle.ring_commands.specs.Served.{IsUnserved}
-use Rattle.ring_commands.specs.ServedFolder.{IsLocked, IsLockLeft, IsUnkeptFolder}
-use Rattle.ring_commands.specs.Worlds.{World}
+use Rattle.tool_parts.specs.declared.faults.ToolError.{ToolError}
+use Rattle.tool_parts.specs.declared.faults.ToolError.TheVariants as tool
+use Rattle.tool_parts.specs.Worlds.{IsUnserved}
+use Rattle.tool_parts.specs.Locking.{IsLocked, IsLockLeft, IsUnkeptFolder}
+use Rattle.tool_parts.specs.Worlds.{World}
 use Rattle.lock_commands.specs.Refusals.{IsStartName, IsBeginName, IsLoopName, IsListIf, IsNoListFor}
 use Rattle.lock_commands.specs.HoldersFile.{holders_word, name_of, AreHoldersOf, HasNoHolders}
 use Rattle.lock_commands.specs.Totals.{total_line, IsUntold}

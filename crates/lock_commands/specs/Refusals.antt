@@ -13,9 +13,9 @@ use Rattle.lock_folder.specs.declared.faults.StartFault.{StartFault}
 use Rattle.lock_folder.specs.declared.faults.StartFault.TheVariants as start
 use Rattle.segment_loop.specs.declared.segmented.EndFault.{EndFault}
 use Rattle.segment_loop.specs.declared.segmented.EndFault.TheVariants as end
-use Rattle.ring_commands.specs.declared.faults.ToolError.{ToolError}
-use Rattle.ring_commands.specs.declared.faults.ToolError.TheVariants as tool
-use Rattle.ring_commands.specs.Chained.{IsFolderFault}
+use Rattle.tool_parts.specs.declared.faults.ToolError.{ToolError}
+use Rattle.tool_parts.specs.declared.faults.ToolError.TheVariants as tool
+use Rattle.tool_parts.specs.Chained.{IsFolderFault}
 
 -- the fault of a size
 abbrev pub cause_of : ParamsError → RingCause

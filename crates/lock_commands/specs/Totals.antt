@@ -3,9 +3,9 @@ use Rattle.std.specs.Prelude.{◌≡◌, ℕ, ◌+◌, ◌^◌, ◌≤◌, List,
 use Rattle.std.specs.List.{sum_by}
 use Rattle.ring_endless.specs.Endless.{EndlessView}
 use Rattle.ring_locks.specs.Kept.{LockView}
-use Rattle.ring_commands.specs.Written.{AppendsFront}
-use Rattle.ring_commands.specs.declared.faults.ToolError.{ToolError}
-use Rattle.ring_commands.specs.declared.faults.ToolError.TheVariants as tool
+use Rattle.tool_parts.specs.Written.{AppendsFront}
+use Rattle.tool_parts.specs.declared.faults.ToolError.{ToolError}
+use Rattle.tool_parts.specs.declared.faults.ToolError.TheVariants as tool
 use Rattle.lock_commands.specs.declared.totals.Sums.{Sums}
 
 -- the events and the grants of a ring, over all its segments

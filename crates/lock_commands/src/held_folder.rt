@@ -3,18 +3,18 @@
 ghost use Rattle.std.specs.Prelude.{◌≡◌, ◌≤◌, List, ℕ, map, IfOk, IfErr};
 ghost use Rattle.segment_folder.specs.Names.{segment_file};
 ghost use Rattle.ring_holds.specs.Chains.{IsHeldWith};
-ghost use Rattle.ring_commands.specs.Chained.{IsFolder};
-ghost use Rattle.ring_commands.specs.Named.{IsHeld};
+ghost use Rattle.tool_parts.specs.Chained.{IsFolder};
+ghost use Rattle.tool_parts.specs.Named.{IsHeld};
 ghost use Rattle.lock_commands.specs.HoldsAnswer.{AreFilesHolds, AreFolderHolds, IsUnheld, IsFileUnheld, AreFilesUnheld, IsFolderUnheld};
 ghost use Rattle.lock_commands.specs.HoldSteps.{HoldLeads, HoldEnds};
 
 use disks::{Disk, FolderEntry};
-use ring_commands::chain::{folder_numbers, segment_bytes};
-use ring_commands::faults::ToolError;
 use ring_holds::{ChainHoldError, Hold, HoldChain};
 use ring_segments::SegmentError;
 use segment_folder::SegmentNumbers;
 use std::alloc::Global;
+use tool_parts::chain::{folder_numbers, segment_bytes};
+use tool_parts::faults::ToolError;
 
 /// Reads the holds of the file of a segment, which may be the last one, after those before it.
 ///

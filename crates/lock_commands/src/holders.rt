@@ -7,10 +7,10 @@ ghost use Rattle.lock_holders.specs.Holders.{AreHolders};
 
 use disks::Disk;
 use lock_holders::{HoldersError, read_holders};
-use ring_commands::faults::ToolError;
-use ring_commands::reading::read_file;
 use ring_locks::Handover;
 use std::alloc::Global;
+use tool_parts::faults::ToolError;
+use tool_parts::reading::read_file;
 
 /// The name of the file that a refusal tells.
 pub(crate) fn name_of<'a>(file: Option<&'a str>) -> &'a str

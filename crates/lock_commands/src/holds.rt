@@ -1,21 +1,22 @@
 //! `holds`: who held the locks whose histories are a saved text, or the segments of a folder.
 
 ghost use Rattle.std.specs.Prelude.{true, false, ◌≡◌, ◌≢◌, None, map, OnOk, IfOk, IfErr};
-ghost use Rattle.ring_commands.specs.Reading.{names_stream};
-ghost use Rattle.ring_commands.specs.Worlds.{world};
+ghost use Rattle.tool_parts.specs.Reading.{names_stream};
+ghost use Rattle.tool_parts.specs.Worlds.{world};
 ghost use Rattle.lock_commands.specs.HoldsAnswer.{choice_of, AreHoldsTold, AreHoldsUntold, AreTextHolds, IsTextUnheld, AreNamedHolds, IsNamedUnheld, IsHoldsAnswer, IsHoldsRefusal};
 
 use crate::held_folder::folder_holds;
 use disks::Disk;
-use ring_commands::check::{entries_of, legal_saved};
-use ring_commands::faults::ToolError;
-use ring_commands::reading::read_named;
 use ring_holds::{
     ChainHoldError, Choice, Hold, count_labels, holds_of_saved, put_holds, put_labels,
 };
 use ring_requests::HoldsWords;
 use std::alloc::Global;
 use std::io::{Read, Write};
+use tool_parts::chain::entries_of;
+use tool_parts::faults::ToolError;
+use tool_parts::legal::legal_saved;
+use tool_parts::reading::read_named;
 
 /// Which holds are wanted.
 fn choice_of(words: &HoldsWords<'_>) -> Choice

@@ -4,7 +4,7 @@ ghost use Rattle.std.specs.Prelude.{◌≡◌, ◌<◌, OnOk, IfOk, IfErr};
 ghost use Rattle.std.specs.Option.{option_map};
 ghost use Rattle.ring_segments.specs.Spelling.{DigestFits};
 ghost use Rattle.lock_folder.specs.Folders.{place_of};
-ghost use Rattle.ring_commands.specs.Worlds.{world};
+ghost use Rattle.tool_parts.specs.Worlds.{world};
 ghost use Rattle.lock_commands.specs.Refusals.{IsListIf, IsNoListFor};
 ghost use Rattle.lock_commands.specs.Locks.{terms_of, BeginsWith, IsRun, IsServedIn, IsLocksAnswer, IsRunRefused, IsRefusedIn, IsLocksRefusal};
 
@@ -16,13 +16,13 @@ use line_replica::{Replica, Restorable};
 use lock_folder::{Start, start_locks};
 use lock_lists::read_list_word;
 use lock_serve::{LockService, Terms};
-use ring_commands::faults::ToolError;
-use ring_commands::serve_folder::lock_folder;
 use ring_locks::{Handover, Locks};
 use ring_requests::LocksWords;
 use segment_loop::{SegmentRules, begin_segment, close_segment, serve_segments};
 use std::alloc::Global;
 use std::io::{Read, Write};
+use tool_parts::faults::ToolError;
+use tool_parts::locking::lock_folder;
 
 /// The terms on which lines are answered.
 fn terms_of(words: &LocksWords<'_>) -> Terms

@@ -6,11 +6,11 @@ ghost use Rattle.text_lines.specs.Writing.{Writes};
 ghost use Rattle.lock_commands.specs.Totals.{sums_of, with_ring, AreTooLarge, sums_line, total_line, IsUntold};
 
 use itoa::Buffer;
-use ring_commands::faults::ToolError;
 use ring_endless::EndlessRing;
 use ring_locks::Locks;
 use std::io::Write;
 use text_lines::{WriteFault, put_all};
+use tool_parts::faults::ToolError;
 
 /// The events and the grants of rings, over all their segments.
 #[derive(Clone, Copy)]

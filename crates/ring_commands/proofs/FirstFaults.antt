@@ -10,9 +10,9 @@ use Rattle.ring_state.specs.Sizes.{IsRingState}
 use Rattle.ring_state.specs.StateFault.{IsFaultOf}
 use Rattle.ring_state.specs.declared.states.StateError.{StateError}
 use Rattle.ring_state.specs.declared.states.StateError.TheVariants as state
-use Rattle.ring_commands.specs.declared.faults.ToolError.{ToolError}
-use Rattle.ring_commands.specs.declared.faults.ToolError.TheVariants as tool
-use Rattle.ring_commands.specs.Faults.{size_fault, choice_fault, start_fault, fault_of, fault_of_state, IsRefusalOver}
+use Rattle.tool_parts.specs.declared.faults.ToolError.{ToolError}
+use Rattle.tool_parts.specs.declared.faults.ToolError.TheVariants as tool
+use Rattle.tool_parts.specs.Faults.{size_fault, choice_fault, start_fault, fault_of, fault_of_state, IsRefusalOver}
 
 -- the first place that passes is the answer of a search from the front
 first_from : (p : ℕ → Bool) (xs : List ℕ) (k i : ℕ) → i < length xs → p (get_or xs i 0) ≡ true → ((j : ℕ) → j < i → p (get_or xs j 0) ≡ false) → position_from p k xs ≡ Some (k + i)

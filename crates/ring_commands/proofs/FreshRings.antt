@@ -10,8 +10,8 @@ use Rattle.ring_saved.specs.declared.saved.SavedRing.{SavedRing}
 use Rattle.ring_requests.specs.declared.requests.RingSize.{RingSize}
 use Rattle.ring_commands.specs.Fresh.{fresh_block, fresh_blocks}
 use Rattle.ring_commands.specs.New.{size_given, IsRingRefusal, IsSizesRefusal}
-use Rattle.ring_commands.specs.declared.faults.ToolError.{ToolError}
-use Rattle.ring_commands.specs.declared.faults.ToolError.TheVariants as tool
+use Rattle.tool_parts.specs.declared.faults.ToolError.{ToolError}
+use Rattle.tool_parts.specs.declared.faults.ToolError.TheVariants as tool
 
 -- of the first sizes the blocks are made, and these sizes are allowed
 pub record Made (sizes : List RingSize) (place : ℕ) (blocks : List Block) : Type 0 where

@@ -11,21 +11,8 @@ use Rattle.ring_book.specs.IdleWorks.{idle}
 use Rattle.ring_book.specs.declared.resources.Idle.{Idle}
 use Rattle.text_lines.specs.declared.write.WriteFault.{WriteFault}
 use Rattle.text_lines.specs.Writing.{Wrote, Writes}
+use Rattle.tool_parts.proofs.Buffers.{appends_nil, appends_then, wrote_none}
 use Rattle.ring_commands.specs.StepText.{reply_line, refused_line, lines_from}
-
-appends_nil : (a : Option (List ℕ)) → Appends a a []
-appends_nil None = tt
-appends_nil (Some x) = sym (append-nil x)
-
-appends_then : (a b c : Option (List ℕ)) (xs ys : List ℕ) → Appends a b xs → Appends b c ys → Appends a c (xs ++ ys)
-appends_then None b c xs ys p q = tt
-appends_then (Some x) None c xs ys p q = absurd p
-appends_then (Some x) (Some y) None xs ys p q = absurd q
-appends_then (Some x) (Some y) (Some z) xs ys p q = rw (q, p) (append_assoc x xs ys)
-
--- nothing is written yet
-pub wrote_none : (a : Option (List ℕ)) (text left : List ℕ) → text ≡ left → Wrote a a text left
-wrote_none a text left e = ([], e, appends_nil a)
 
 -- one piece more is written
 pub wrote_piece : (a b c : Option (List ℕ)) (text before piece left : List ℕ) → before ≡ piece ++ left → Wrote a b text before → Appends b c piece → Wrote a c text left

@@ -7,11 +7,11 @@ use Rattle.ring_settings.specs.declared.faults.RingCause.{RingCause}
 use Rattle.ring_state.specs.Sizes.{Size, IsSize}
 use Rattle.ring_saved.specs.Spelling.{text}
 use Rattle.ring_commands.specs.Fresh.{AreSizes, IsFreshHistory, fresh}
-use Rattle.ring_commands.specs.Written.{AppendsFront}
+use Rattle.tool_parts.specs.Written.{AppendsFront}
 use Rattle.ring_requests.specs.declared.requests.NewWords.{NewWords}
 use Rattle.ring_requests.specs.declared.requests.RingSize.{RingSize}
-use Rattle.ring_commands.specs.declared.faults.ToolError.{ToolError}
-use Rattle.ring_commands.specs.declared.faults.ToolError.TheVariants as tool
+use Rattle.tool_parts.specs.declared.faults.ToolError.{ToolError}
+use Rattle.tool_parts.specs.declared.faults.ToolError.TheVariants as tool
 
 -- a size, as it was given
 abbrev pub size_given : RingSize → Size

@@ -10,14 +10,24 @@ use Rattle.ring_text.specs.Report.{farm_line, report}
 use Rattle.ring_text.specs.SavedOf.{saved_of}
 use Rattle.ring_saved.specs.Spelling.{text}
 use Rattle.disks.specs.Held.{Held}
-use Rattle.ring_commands.specs.Faults.{fault_of_settings}
-use Rattle.ring_commands.specs.Handed.{IsHandOutRefusal}
-use Rattle.ring_commands.specs.Named.{IsNamed, IsNamedRefusal, IsApart, IsApartRefusal}
-use Rattle.ring_commands.specs.Reading.{names_stream}
-use Rattle.ring_commands.specs.Worlds.{World}
+use Rattle.tool_parts.specs.Faults.{fault_of_settings}
+use Rattle.tool_parts.specs.Handed.{IsHandOutRefusal, file_of}
+use Rattle.tool_parts.specs.Named.{IsNamed, IsNamedRefusal, IsApart, IsApartRefusal}
+use Rattle.tool_parts.specs.Reading.{names_stream}
+use Rattle.tool_parts.specs.Worlds.{World}
 use Rattle.ring_requests.specs.declared.requests.RunWords.{RunWords}
-use Rattle.ring_commands.specs.declared.faults.ToolError.{ToolError}
-use Rattle.ring_commands.specs.declared.faults.ToolError.TheVariants as tool
+use Rattle.tool_parts.specs.declared.faults.ToolError.{ToolError}
+use Rattle.tool_parts.specs.declared.faults.ToolError.TheVariants as tool
+use Rattle.ring_farm.specs.declared.faults.FarmError.{FarmError}
+use Rattle.ring_farm.specs.declared.faults.FarmError.TheVariants as farm
+
+abbrev pub fault_of_farm : FarmError → ToolError
+fault_of_farm farm.Spawn = tool.Spawn
+fault_of_farm farm.GateShut = tool.GateShut
+fault_of_farm farm.NoSeat = tool.NoSeat
+fault_of_farm farm.HistoryFull = tool.HistoryFull
+fault_of_farm farm.Mismatch = tool.Mismatch
+fault_of_farm farm.OutOfMemory = tool.OutOfMemory
 
 -- the bytes are settings, and the outcome is one of their farm
 abbrev pub IsFarmOn : List ℕ → Outcome → Type 0
@@ -56,17 +66,6 @@ abbrev pub output_text : RunWords → Outcome → List ℕ
 output_text words o =
     cond (is_printed (option_map (λ word. word.now) words.history)) (text (saved_of o))
     (report_text words.quiet o)
-
--- the file of this name cannot be made or written, or there is no memory
-abbrev pub IsSaveRefusal : List ℕ → ToolError → Type 0
-IsSaveRefusal file (tool.Save named) = named.now ≡ file
-IsSaveRefusal file tool.OutOfMemory = Unit {0}
-IsSaveRefusal file _ = ⊥
-
--- the file that a word names, if any: the dash names none
-abbrev pub file_of : Option (List ℕ) → Option (List ℕ)
-file_of None = None
-file_of (Some word) = cond (names_stream word) None (Some word)
 
 -- the file for the history, if one is named
 abbrev pub history_file : RunWords → Option (List ℕ)

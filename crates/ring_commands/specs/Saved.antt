@@ -10,10 +10,10 @@ use Rattle.ring_saved.specs.Meaning.{IsRightRead, IsReadAs}
 use Rattle.ring_text.specs.SavedOf.{saved_of}
 use Rattle.ring_saved.specs.Spelling.{text}
 use Rattle.ring_check.specs.Legal.{IsLegalText, summary_of}
-use Rattle.ring_commands.specs.Checked.{IsLegalSavedText}
-use Rattle.ring_commands.specs.Named.{IsStored}
+use Rattle.tool_parts.specs.Checked.{IsLegalSavedText}
+use Rattle.tool_parts.specs.Named.{IsStored}
 use Rattle.ring_commands.specs.Ran.{output_text, history_file, IsFarmNamed}
-use Rattle.ring_commands.specs.Worlds.{World}
+use Rattle.tool_parts.specs.Worlds.{World}
 use Rattle.ring_requests.specs.declared.requests.RunWords.{RunWords}
 
 -- The saved text of an outcome is legal, in the subject's words with the outcome's sums, and by the

@@ -3,12 +3,12 @@ use Rattle.std.specs.Prelude.{◌≡◌, ℕ, List, [], Option, None, Some, ◌�
 use Rattle.std.specs.Io.KnownBytes.{Appends}
 use Rattle.std.specs.Option.{option_map}
 use Rattle.ring_model.specs.Ring.{ring_with}
-use Rattle.ring_commands.specs.Faults.{IsListRefusal, IsStepRefusal}
-use Rattle.ring_commands.specs.ListWords.{IsListText}
+use Rattle.tool_parts.specs.Faults.{IsListRefusal, IsStepRefusal}
+use Rattle.tool_parts.specs.ListWords.{IsListText}
 use Rattle.ring_commands.specs.StepText.{step_text}
-use Rattle.ring_commands.specs.Written.{AppendsFront}
+use Rattle.tool_parts.specs.Written.{AppendsFront}
 use Rattle.ring_requests.specs.declared.requests.StepWords.{StepWords}
-use Rattle.ring_commands.specs.declared.faults.ToolError.{ToolError}
+use Rattle.tool_parts.specs.declared.faults.ToolError.{ToolError}
 
 -- the word, where there is one, is the text of the choices; where there is none, there are no
 -- choices

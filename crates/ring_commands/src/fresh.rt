@@ -7,7 +7,6 @@ ghost use Rattle.ring_saved.specs.Content.{block_of, content};
 ghost use Rattle.ring_commands.specs.Fresh.{fresh_block, fresh_blocks, fresh, AreSizes, FreshIsSettled};
 ghost use Rattle.ring_commands.specs.New.{size_given, IsRingRefusal, IsSizesRefusal, IsNewAnswer, IsNewRefusal};
 
-use crate::faults::ToolError;
 use ring_check::legal_as_defined;
 use ring_requests::{NewWords, RingSize};
 use ring_saved::{LATEST_VERSION, Saved, SavedRing, write_saved};
@@ -15,6 +14,7 @@ use ring_settings::RingCause;
 use ring_state::{Params, ParamsError};
 use std::alloc::{AllocError, Global};
 use std::io::Write;
+use tool_parts::faults::ToolError;
 
 /// Rings of sizes that are allowed are settled from the start, and their history without events is legal.
 pub fn fresh_is_settled()

@@ -9,18 +9,16 @@ ghost use Rattle.ring_text.specs.SavedOf.{saved_of};
 ghost use Rattle.ring_saved.specs.Spelling.{text};
 ghost use Rattle.text_lines.specs.Writing.{Writes};
 ghost use Rattle.disks.specs.Held.{Replaces};
-ghost use Rattle.ring_commands.specs.Handed.{IsHandOutRefusal};
-ghost use Rattle.ring_commands.specs.Named.{IsApart, IsApartRefusal, IsStored};
-ghost use Rattle.ring_commands.specs.Ran.{report_text, output_text, history_file, IsFarmOn, IsFarmRefusal, IsFarmNamed, IsFarmNamedRefusal, IsSaveRefusal, IsOutcomeRefusal, IsRunRefusal};
-ghost use Rattle.ring_commands.specs.Reading.{names_stream};
+ghost use Rattle.tool_parts.specs.Handed.{IsHandOutRefusal};
+ghost use Rattle.tool_parts.specs.Named.{IsApart, IsApartRefusal, IsStored};
+ghost use Rattle.ring_commands.specs.Ran.{fault_of_farm, report_text, output_text, history_file, IsFarmOn, IsFarmRefusal, IsFarmNamed, IsFarmNamedRefusal, IsOutcomeRefusal, IsRunRefusal};
+ghost use Rattle.tool_parts.specs.Handed.{IsSaveRefusal};
+ghost use Rattle.tool_parts.specs.Reading.{names_stream};
 ghost use Rattle.ring_commands.specs.Saved.{IsLegalOfFarm, IsRunAnswer};
-ghost use Rattle.ring_commands.specs.Worlds.{world};
+ghost use Rattle.tool_parts.specs.Worlds.{world};
 
-use crate::faults::ToolError;
-use crate::handing::save_fault;
-use crate::reading::{keep_apart, names_stream, read_named};
 use disks::{Contents, ContentsFault, Disk, replace};
-use ring_farm::{Open, Outcome, run_farm};
+use ring_farm::{FarmError, Open, Outcome, run_farm};
 use ring_requests::RunWords;
 use ring_saved::texts_read_back;
 use ring_settings::read_settings;
@@ -30,6 +28,23 @@ use std::io::{Read, Write};
 use std::sync::Wait;
 use std::thread::Threads;
 use text_lines::WriteFault;
+use tool_parts::faults::ToolError;
+use tool_parts::handing::save_fault;
+use tool_parts::reading::{keep_apart, names_stream, read_named};
+
+/// The refusal of the program for one of a farm.
+fn farm_fault(fault: FarmError) -> ToolError<'static>
+    ensures { result ≡ fault_of_farm fault }
+{
+    match fault {
+        FarmError::Spawn => ToolError::Spawn,
+        FarmError::GateShut => ToolError::GateShut,
+        FarmError::NoSeat => ToolError::NoSeat,
+        FarmError::HistoryFull => ToolError::HistoryFull,
+        FarmError::Mismatch => ToolError::Mismatch,
+        FarmError::OutOfMemory => ToolError::OutOfMemory,
+    }
+}
 
 /// Returns the outcome of the farm whose settings the bytes are.
 ///
@@ -46,8 +61,10 @@ pub fn run_settings<R: Threads + Wait + Sync>(
 {
     let settings = read_settings(alloc, bytes.as_slice())?;
     drop(bytes);
-    let outcome = run_farm(rt, alloc, &settings, &Open)?;
-    Ok(outcome)
+    match run_farm(rt, alloc, &settings, &Open) {
+        Ok(outcome) => Ok(outcome),
+        Err(fault) => Err(farm_fault(fault)),
+    }
 }
 
 /// Checks that the file for the history, if one is named, is not the one that the settings were read from, and can be made.

@@ -7,14 +7,12 @@ ghost use Rattle.ring_model.specs.Ring.{ring_with};
 ghost use Rattle.ring_book.specs.BookView.{IsFresh};
 ghost use Rattle.ring_model.specs.Limits.{event_limit};
 ghost use Rattle.ring_commands.specs.Stepped.{AreChoices, IsChoicesRefusal, IsStepAnswer, IsStepWordsRefusal};
-ghost use Rattle.ring_commands.specs.Faults.{size_fault, start_fault, fault_of, IsRefusalOver, IsOpeningRefusal, IsStepRefusal};
+ghost use Rattle.tool_parts.specs.Faults.{size_fault, start_fault, fault_of, IsRefusalOver, IsOpeningRefusal, IsStepRefusal};
 ghost use Rattle.ring_commands.specs.StepText.{granted_line, refused_line, reply_line, end_lines, step_text};
-ghost use Rattle.ring_commands.specs.Written.{AppendsFront};
+ghost use Rattle.tool_parts.specs.Written.{AppendsFront};
 ghost use Rattle.text_lines.specs.Spelling.{list_text};
 ghost use Rattle.text_lines.specs.Writing.{Writes};
 
-use crate::faults::ToolError;
-use crate::lists::read_list;
 use itoa::Buffer;
 use ring_book::{Book, Idle, Reply};
 use ring_requests::StepWords;
@@ -22,6 +20,8 @@ use ring_state::{Params, RingState};
 use std::alloc::Global;
 use std::io::Write;
 use text_lines::{WriteFault, put, put_all, put_list};
+use tool_parts::faults::ToolError;
+use tool_parts::lists::read_list;
 
 /// The line of a granted pass: the machine, and the number of the grant.
 fn put_granted<W: Write>(out: &mut W, machine: u32, number: u64) -> Result<(), WriteFault>

@@ -1,7 +1,13 @@
-//! The program: it reads its words, does a command and prints what the command answers.
+//! The program: `ring_cli` reads its words, and it does the command that they ask for and prints what the command answers.
 #![tactic(auto)]
 
-use ring_program::run_process;
+mod asked;
+mod ends;
+mod process;
+mod program;
+mod requests;
+
+use crate::process::run_process;
 use std::process::ExitCode;
 
 fn main(rt: HostRuntime) -> ExitCode {

@@ -13,10 +13,10 @@ use Rattle.ring_check.specs.Lines.{lines}
 use Rattle.ring_check.specs.Legal.{IsLegalText, IsFirstBad, summary_of}
 use Rattle.ring_check.proofs.Meanings.{legal_means}
 use Rattle.ring_check.proofs.Scans.{at_most_one}
-use Rattle.ring_commands.specs.Checked.{IsLegalSavedText, IsBadSavedText, IsSavedTextRefusal, IsCheckRefusal}
-use Rattle.ring_commands.specs.declared.faults.ToolError.{ToolError}
-use Rattle.ring_commands.specs.declared.faults.ToolError.TheVariants as tool
-use Rattle.ring_commands.specs.CheckText.{legal_line}
+use Rattle.tool_parts.specs.Checked.{IsLegalSavedText, IsBadSavedText, IsSavedTextRefusal, IsCheckRefusal}
+use Rattle.tool_parts.specs.declared.faults.ToolError.{ToolError}
+use Rattle.tool_parts.specs.declared.faults.ToolError.TheVariants as tool
+use Rattle.tool_parts.specs.CheckText.{legal_line}
 use Rattle.wrong_commands.proofs.Written.{one_value, not_twice}
 
 -- a value that fits has its starts

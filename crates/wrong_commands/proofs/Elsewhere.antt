@@ -7,15 +7,15 @@ use Rattle.disks.specs.declared.disk.FolderEntry.{FolderEntry}
 use Rattle.segment_folder.specs.declared.errors.FolderError.{FolderError}
 use Rattle.segment_folder.specs.declared.errors.FolderError.TheVariants as names
 use Rattle.segment_folder.specs.declared.numbers.SegmentNumbers.{SegmentNumbers}
-use Rattle.ring_commands.specs.Chained.{IsFolderFault, AreNamesRefused}
-use Rattle.ring_commands.specs.Handed.{IsHandRefusal}
-use Rattle.ring_commands.specs.JoinedFolder.{AreUnjoined, IsJoinRefusal}
-use Rattle.ring_commands.specs.Outside.{LiesIn, LiesElsewhere, IsOutsideRefusal}
-use Rattle.ring_commands.specs.Ran.{file_of}
-use Rattle.ring_commands.specs.Reading.{names_stream}
-use Rattle.ring_commands.specs.Worlds.{World}
-use Rattle.ring_commands.specs.declared.faults.ToolError.{ToolError}
-use Rattle.ring_commands.specs.declared.faults.ToolError.TheVariants as tool
+use Rattle.tool_parts.specs.Chained.{IsFolderFault, AreNamesRefused}
+use Rattle.tool_parts.specs.Handed.{IsHandRefusal}
+use Rattle.folder_commands.specs.JoinedFolder.{AreUnjoined, IsJoinRefusal}
+use Rattle.tool_parts.specs.Outside.{LiesIn, LiesElsewhere, IsOutsideRefusal}
+use Rattle.tool_parts.specs.Handed.{file_of}
+use Rattle.tool_parts.specs.Reading.{names_stream}
+use Rattle.tool_parts.specs.Worlds.{World}
+use Rattle.tool_parts.specs.declared.faults.ToolError.{ToolError}
+use Rattle.tool_parts.specs.declared.faults.ToolError.TheVariants as tool
 use Rattle.ring_requests.specs.declared.requests.JoinWords.{JoinWords}
 use Rattle.std.specs.Borrow.{Bor}
 

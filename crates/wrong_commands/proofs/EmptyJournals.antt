@@ -13,11 +13,11 @@ use Rattle.ring_serve.specs.declared.permits.Permits.{Permits}
 use Rattle.ring_serve.specs.Standings.{Standing}
 use Rattle.ring_serve.specs.Saved.{content_of}
 use Rattle.ring_requests.specs.declared.requests.ServeWords.{ServeWords}
-use Rattle.ring_commands.specs.declared.faults.ToolError.{ToolError}
-use Rattle.ring_commands.specs.Served.{journal_of, permits_of, IsUntouched, IsBrokenOff, IsRefusedFrom, IsServedNoted, IsServed, IsServedFrom}
-use Rattle.ring_commands.specs.ServeAnswer.{IsServedTo, IsRefusedTo, IsServeRefusal}
-use Rattle.ring_commands.specs.Worlds.{World}
-use Rattle.ring_commands.proofs.Folders.{held_no_folder}
+use Rattle.tool_parts.specs.declared.faults.ToolError.{ToolError}
+use Rattle.serve_commands.specs.Served.{journal_of, permits_of, IsUntouched, IsBrokenOff, IsRefusedFrom, IsServedNoted, IsServed, IsServedFrom}
+use Rattle.serve_commands.specs.ServeAnswer.{IsServedTo, IsRefusedTo, IsServeRefusal}
+use Rattle.tool_parts.specs.Worlds.{World}
+use Rattle.tool_parts.proofs.Folders.{held_no_folder}
 use Rattle.wrong_commands.proofs.Places.{replaced_known, answers_known, one_name}
 
 -- the text of a journal has a byte

@@ -12,7 +12,7 @@ use Rattle.segment_folder.specs.Names.{IsSegmentName, IsOtherName}
 use Rattle.segment_folder.specs.Numbers.{has_segment, AreFrom, IsGap, IsForeign, IsRightEntry, IsRightNumbers}
 use Rattle.ring_segments.specs.declared.sums.ChainSums.{ChainSums}
 use Rattle.ring_segments.specs.Files.{File}
-use Rattle.ring_commands.specs.Chained.{IsChainIn, sums_of}
+use Rattle.tool_parts.specs.Chained.{IsChainIn, sums_of}
 
 -- numbers with a gap are not all from one to another
 no_range : (has : ℕ → Bool) (n first last : ℕ) → IsGap has n → AreFrom has first last → ⊥

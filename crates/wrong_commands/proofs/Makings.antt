@@ -6,9 +6,9 @@ use Rattle.std.proofs.lemmas.Bool.{false≢true}
 use Rattle.disks.specs.Held.{Held, bytes_of, Creates, Discards, Grows, Starts, Replaces}
 use Rattle.ring_saved.specs.Content.{Content}
 use Rattle.ring_check.specs.declared.answers.Summary.{Summary}
-use Rattle.ring_commands.specs.Named.{IsHeld, IsNamed, IsApart}
-use Rattle.ring_commands.specs.Reading.{names_stream}
-use Rattle.ring_commands.specs.Upgraded.{IsUpgradeOf}
+use Rattle.tool_parts.specs.Named.{IsHeld, IsNamed, IsApart}
+use Rattle.tool_parts.specs.Reading.{names_stream}
+use Rattle.text_commands.specs.Upgraded.{IsUpgradeOf}
 
 -- where there is no upgrade, the report is the other case
 pub only_left : {A : Type 0} (word : List ℕ) (files mid : Option Held) (from left : Option (List ℕ)) → mid ≡ files →

@@ -7,7 +7,7 @@ use Rattle.ring_saved.specs.Content.{Content}
 use Rattle.ring_check.specs.Legal.{summary_of}
 use Rattle.ring_text.specs.Report.{total_line}
 use Rattle.ring_report.specs.SavedReport.{block_lines, totals, report_of}
-use Rattle.ring_commands.specs.Reported.{IsReportOf}
+use Rattle.text_commands.specs.Reported.{IsReportOf}
 use Rattle.wrong_commands.proofs.Written.{one_value, not_twice}
 
 pub one_report : (bytes a b : List ℕ) → IsReportOf bytes a → IsReportOf bytes b → a ≡ b

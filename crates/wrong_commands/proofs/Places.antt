@@ -21,9 +21,10 @@ use Rattle.chain_serve.specs.Texts.{segment_text}
 use Rattle.chain_serve.specs.Service.{part_terms, Part, IsPart, AreParts}
 use Rattle.chain_serve.specs.Beginning.{HasBegun}
 use Rattle.ring_requests.specs.declared.requests.ServeWords.{ServeWords}
-use Rattle.ring_commands.specs.Served.{journal_of, permits_of, IsNoted, BeginsAt, IsServedNoted, IsServed, IsServedFrom}
-use Rattle.ring_commands.specs.ServedFolder.{Place, IsRun, IsLocked, IsServedIn}
-use Rattle.ring_commands.specs.ServeAnswer.{IsServedTo}
+use Rattle.serve_commands.specs.Served.{journal_of, permits_of, IsNoted, BeginsAt, IsServedNoted, IsServed, IsServedFrom}
+use Rattle.serve_commands.specs.ServedFolder.{Place, IsRun, IsServedIn}
+use Rattle.tool_parts.specs.Locking.{IsLocked}
+use Rattle.serve_commands.specs.ServeAnswer.{IsServedTo}
 use Rattle.wrong_commands.proofs.Cuts.{known_after, if_some}
 
 -- ---- files that are known stay known, and so does what a journal holds

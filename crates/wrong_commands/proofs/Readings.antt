@@ -3,7 +3,7 @@ use Rattle.std.proofs.Common.{◌≡◌, ℕ, ◌+◌, List, [], length, Option,
 use Rattle.std.specs.Prelude.{IsSome}
 use Rattle.std.proofs.lemmas.Bool.{false≢true}
 use Rattle.std.specs.Io.KnownBytes.{Consumes}
-use Rattle.ring_commands.specs.Reading.{IsWithin, IsOver}
+use Rattle.tool_parts.specs.Reading.{IsWithin, IsOver}
 
 -- of one length
 pub one_length : (o n : Option (List ℕ)) (x y : List ℕ) → IsSome o → Consumes o n x → Consumes o n y → length x ≡ length y

@@ -11,26 +11,27 @@ ghost use Rattle.ring_saved.specs.Spelling.{text};
 ghost use Rattle.ring_check.specs.Legal.{IsLegalText};
 ghost use Rattle.ring_text.specs.Report.{entries_in};
 ghost use Rattle.ring_text.specs.SavedOf.{saved_of};
-ghost use Rattle.ring_commands.specs.CheckText.{legal_line};
-ghost use Rattle.ring_commands.specs.Checked.{IsLegalSavedText, IsCheckRefusal};
-ghost use Rattle.ring_commands.specs.Faults.{status_of, end_status};
-ghost use Rattle.ring_commands.specs.Named.{IsHeld, IsApart};
+ghost use Rattle.tool_parts.specs.CheckText.{legal_line};
+ghost use Rattle.tool_parts.specs.Checked.{IsLegalSavedText, IsCheckRefusal};
+ghost use Rattle.tool_parts.specs.Faults.{status_of, end_status};
+ghost use Rattle.tool_parts.specs.Named.{IsHeld, IsApart};
 ghost use Rattle.ring_commands.specs.Ran.{report_text};
-ghost use Rattle.ring_commands.specs.Reading.{most_bytes, names_stream, IsAllOf, IsWithin, IsOver};
+ghost use Rattle.tool_parts.specs.Reading.{most_bytes, names_stream, IsAllOf, IsWithin, IsOver};
 
 use disks::Disk;
 use ring_check::{Kind, Summary};
-use ring_commands::check::{check_bytes, legal_saved, tell_sums};
-use ring_commands::endings::{finish, tell};
-use ring_commands::faults::ToolError;
-use ring_commands::reading::{ReadFault, names_stream, read_limited, read_whole};
 use ring_commands::run::save_and_report;
 use ring_farm::Outcome;
 use ring_saved::Saved;
 use ring_text::write_report;
 use std::alloc::Global;
 use std::io::{self, Read, Write};
+use text_commands::check::check_bytes;
 use text_lines::WriteFault;
+use tool_parts::endings::{finish, tell};
+use tool_parts::faults::ToolError;
+use tool_parts::legal::{legal_saved, tell_sums};
+use tool_parts::reading::{ReadFault, names_stream, read_limited, read_whole};
 
 /// A text passes the check only where it is legal: one with a bad line passes.
 pub fn bad_text_that_passes<W: Write>(

@@ -8,27 +8,28 @@ ghost use Rattle.ring_check.specs.declared.answers.Summary.{Summary};
 ghost use Rattle.ring_saved.specs.Spelling.{text};
 ghost use Rattle.ring_text.specs.Report.{entries_in};
 ghost use Rattle.ring_text.specs.SavedOf.{saved_of};
-ghost use Rattle.ring_commands.specs.CheckText.{legal_line};
-ghost use Rattle.ring_commands.specs.Checked.{IsLegalSavedText, IsTextChecked};
-ghost use Rattle.ring_commands.specs.Handed.{IsHanded};
-ghost use Rattle.ring_commands.specs.Named.{IsHeld, IsApart};
-ghost use Rattle.ring_commands.specs.Pictured.{IsDrawing, IsPictureApart, picture_of};
+ghost use Rattle.tool_parts.specs.CheckText.{legal_line};
+ghost use Rattle.tool_parts.specs.Checked.{IsLegalSavedText, IsTextChecked};
+ghost use Rattle.tool_parts.specs.Handed.{IsHanded};
+ghost use Rattle.tool_parts.specs.Named.{IsHeld, IsApart};
+ghost use Rattle.text_commands.specs.Pictured.{IsDrawing, IsPictureApart, picture_of};
 ghost use Rattle.ring_commands.specs.Ran.{report_text, history_file};
-ghost use Rattle.ring_commands.specs.Reading.{names_stream};
+ghost use Rattle.tool_parts.specs.Reading.{names_stream};
 ghost use Rattle.ring_commands.specs.Saved.{IsRunAnswer};
-ghost use Rattle.ring_commands.specs.Worlds.{world};
+ghost use Rattle.tool_parts.specs.Worlds.{world};
 
 use disks::Disk;
-use ring_commands::check::{check_bytes, tell_sums};
-use ring_commands::faults::ToolError;
-use ring_commands::picture::{Drawing, hand_over};
 use ring_commands::run::save_and_report;
 use ring_farm::Outcome;
 use ring_requests::{CheckWords, PictureWords, RunWords};
 use ring_text::write_report;
 use std::alloc::Global;
 use std::io::Write;
+use text_commands::check::check_bytes;
+use text_commands::picture::{Drawing, hand_over};
 use text_lines::WriteFault;
+use tool_parts::faults::ToolError;
+use tool_parts::legal::tell_sums;
 
 /// The history of a farm holds the saved text of its outcome: only the report is written, and the file stays as it was.
 pub fn history_that_is_not_saved<D: Disk, W: Write>(

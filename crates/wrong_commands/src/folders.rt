@@ -4,18 +4,18 @@ ghost use Rattle.std.specs.Prelude.{◌≡◌, ◌≤◌, ◌+◌, ℕ, List, Op
 ghost use Rattle.ring_segments.specs.Spelling.{no_digest};
 ghost use Rattle.ring_segments.specs.Files.{File};
 ghost use Rattle.segment_folder.specs.Numbers.{IsRightNumbers};
-ghost use Rattle.ring_commands.specs.Chained.{IsChainIn, sums_of, last_digest};
-ghost use Rattle.ring_commands.specs.JoinedFolder.{IsJoinRefusal};
-ghost use Rattle.ring_commands.specs.Outside.{LiesElsewhere};
-ghost use Rattle.ring_commands.specs.Worlds.{world};
+ghost use Rattle.tool_parts.specs.Chained.{IsChainIn, sums_of, last_digest};
+ghost use Rattle.folder_commands.specs.JoinedFolder.{IsJoinRefusal};
+ghost use Rattle.tool_parts.specs.Outside.{LiesElsewhere};
+ghost use Rattle.tool_parts.specs.Worlds.{world};
 
 use disks::{Disk, FolderEntry};
-use ring_commands::chain::chain_in;
-use ring_commands::faults::ToolError;
 use ring_requests::JoinWords;
 use ring_segments::{ChainSums, DIGEST_DIGITS};
 use segment_folder::{FolderError, SegmentNumbers, numbers_among};
 use std::alloc::Global;
+use tool_parts::chain::chain_in;
+use tool_parts::faults::ToolError;
 
 /// Between two segments none is missing: here a gap is accepted, whichever the first and the last are said to be.
 pub fn accepts_a_gap(

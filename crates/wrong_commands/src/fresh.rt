@@ -8,7 +8,6 @@ ghost use Rattle.ring_saved.specs.Content.{Block, content};
 ghost use Rattle.ring_saved.specs.Versions.{latest_version};
 ghost use Rattle.ring_commands.specs.New.{IsNewAnswer};
 
-use ring_commands::faults::ToolError;
 use ring_commands::fresh;
 use ring_requests::NewWords;
 use ring_saved::put_lines::put_first_line;
@@ -16,6 +15,7 @@ use ring_saved::{LATEST_VERSION, Saved, write_saved};
 use ring_text::WriteFault;
 use std::alloc::Global;
 use std::io::Write;
+use tool_parts::faults::ToolError;
 
 /// Each ring of the printed history is settled: one is printed in which not every ring is.
 pub fn history_that_is_not_settled<W: Write>(saved: &Saved, out: &mut W) -> Result<(), WriteFault>

@@ -7,19 +7,19 @@ ghost use Rattle.segment_folder.specs.Names.{segment_file};
 ghost use Rattle.ring_saved.specs.declared.saved.Saved.{Saved};
 ghost use Rattle.ring_segments.specs.Spelling.{DigestFits};
 ghost use Rattle.ring_serve.specs.Standings.{Standing};
-ghost use Rattle.ring_commands.specs.Served.{journal_of};
-ghost use Rattle.ring_commands.specs.ServeAnswer.{IsServedTo, IsServeRefusal};
-ghost use Rattle.ring_commands.specs.Worlds.{world};
+ghost use Rattle.serve_commands.specs.Served.{journal_of};
+ghost use Rattle.serve_commands.specs.ServeAnswer.{IsServedTo, IsServeRefusal};
+ghost use Rattle.tool_parts.specs.Worlds.{world};
 
 use chain_serve::{SegmentRules, begin_segment, close_segment};
 use disks::{Contents, ContentsFault, Disk, MemoryDisk, ReplaceFault, replace};
-use ring_commands::faults::ToolError;
-use ring_commands::serve::run;
 use ring_requests::ServeWords;
 use ring_segments::DIGEST_DIGITS;
 use ring_serve::{Refusal, Served};
+use serve_commands::serve::run;
 use std::alloc::Global;
 use std::io::{Read, Write};
+use tool_parts::faults::ToolError;
 
 /// A journal is kept in segments only if its name is a folder's: here it is, where there was nothing.
 pub fn serves_a_new_name_as_a_folder<D: Disk>(

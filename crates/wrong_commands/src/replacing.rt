@@ -2,7 +2,7 @@
 
 ghost use Rattle.std.specs.Prelude.{◌≡◌, ◌≢◌, IsSome, IfSome, None, Some, IfOk, OnOk};
 ghost use Rattle.disks.specs.Held.{bytes_of, Creates, Discards, Replaces};
-ghost use Rattle.ring_commands.specs.Named.{IsHeld};
+ghost use Rattle.tool_parts.specs.Named.{IsHeld};
 
 use disks::{Contents, Disk, ReplaceFault, replace};
 use std::alloc::Global;

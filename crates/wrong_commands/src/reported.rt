@@ -2,12 +2,12 @@
 
 ghost use Rattle.std.specs.Prelude.{◌≡◌, ◌≢◌, ℕ, List, IsSome, OnOk};
 ghost use Rattle.std.specs.Io.KnownBytes.{Appends};
-ghost use Rattle.ring_commands.specs.Reported.{IsReportOf};
+ghost use Rattle.text_commands.specs.Reported.{IsReportOf};
 
-use ring_commands::faults::ToolError;
-use ring_commands::report::print_report;
 use std::alloc::Global;
 use std::io::Write;
+use text_commands::report::print_report;
+use tool_parts::faults::ToolError;
 
 /// The report of a text is that of its own history: that of another text is printed.
 pub fn report_of_another_text<W: Write>(

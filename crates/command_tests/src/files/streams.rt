@@ -2,9 +2,9 @@
 
 use crate::files::memory::no_files;
 use disks::{Disk, FolderEntry, MemoryDisk};
-use ring_commands::faults::ToolError;
-use ring_commands::reading::keep_apart;
 use std::io::{self, Cursor, ErrorKind};
+use tool_parts::faults::ToolError;
+use tool_parts::reading::keep_apart;
 
 /// Files in memory. The answers about standard descriptors are the same for each name.
 #[derive(Drop)]

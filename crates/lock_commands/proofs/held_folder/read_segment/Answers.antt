@@ -1,6 +1,6 @@
 use Rattle.std.proofs.Common.{List, ℕ, refl, sym, subst}
 use Rattle.segment_folder.specs.Names.{segment_file}
-use Rattle.ring_commands.specs.Named.{IsHeld}
+use Rattle.tool_parts.specs.Named.{IsHeld}
 use Rattle.lock_commands.proofs.held_folder.read_segment.Goals as goal
 
 pub returns-in-Err-Segment-clause-err : goal.returns-in-Err-Segment-clause-err

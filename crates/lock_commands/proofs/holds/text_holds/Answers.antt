@@ -1,7 +1,7 @@
 use Rattle.std.proofs.Common.{List, ℕ, map, inl, inr, refl, sym, subst}
 use Rattle.ring_saved.specs.Content.{Content}
 use Rattle.ring_holds.specs.ChainSteps.{AreBlocksHeld, AreBlocksRefused}
-use Rattle.ring_commands.specs.Named.{IsNamed}
+use Rattle.tool_parts.specs.Named.{IsNamed}
 use Rattle.ring_holds.specs.declared.errors.ChainHoldError.TheVariants.{NoHold}
 use Rattle.lock_commands.proofs.holds.text_holds.Goals as goal
 

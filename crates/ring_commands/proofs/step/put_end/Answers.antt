@@ -4,7 +4,8 @@ use Rattle.std.proofs.lemmas.Result.{err_from_is_err_and}
 use Rattle.ring_model.specs.Ring.{privileged_count, first_privileged}
 use Rattle.text_lines.specs.Spelling.{list_text}
 use Rattle.ring_commands.specs.StepText.{end_lines}
-use Rattle.ring_commands.proofs.StepLemmas.{wrote_none, wrote_piece, wrote_cut, wrote_last}
+use Rattle.tool_parts.proofs.Buffers.{wrote_none}
+use Rattle.ring_commands.proofs.StepLemmas.{wrote_piece, wrote_cut, wrote_last}
 use Rattle.ring_commands.proofs.step.put_end.Goals as goal
 
 -- the text after the values

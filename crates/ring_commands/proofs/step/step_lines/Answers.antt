@@ -7,7 +7,8 @@ use Rattle.ring_state.specs.Sizes.{Size}
 use Rattle.ring_book.specs.declared.resources.Idle.{Idle}
 use Rattle.ring_commands.specs.StepText.{step_text, step_opening, lines_from, end_lines}
 use Rattle.ring_commands.proofs.FirstFaults.{choices_allowed}
-use Rattle.ring_commands.proofs.StepLemmas.{wrote_none, wrote_piece, wrote_cut, wrote_last, lines-step, lines-some}
+use Rattle.tool_parts.proofs.Buffers.{wrote_none}
+use Rattle.ring_commands.proofs.StepLemmas.{wrote_piece, wrote_cut, wrote_last, lines-step, lines-some}
 use Rattle.ring_commands.proofs.step.step_lines.Goals as goal
 
 pub returns-in_err-book-clause-front : goal.returns-in_err-book-clause-front

@@ -1,4 +1,4 @@
-use Rattle.ring_commands.specs.CheckText.{legal_line}
+use Rattle.tool_parts.specs.CheckText.{legal_line}
 use Rattle.wrong_commands.proofs.Written.{one_text}
 use Rattle.wrong_commands.proofs.commands.sums_of_another_text.Goals as goal
 

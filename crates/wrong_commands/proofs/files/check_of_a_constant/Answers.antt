@@ -1,5 +1,5 @@
 use Rattle.std.proofs.Common.{ℕ, List, subst}
-use Rattle.ring_commands.specs.Checked.{IsLegalSavedText}
+use Rattle.tool_parts.specs.Checked.{IsLegalSavedText}
 use Rattle.wrong_commands.proofs.Makings.{one_file_holds}
 use Rattle.wrong_commands.proofs.files.check_of_a_constant.Goals as goal
 

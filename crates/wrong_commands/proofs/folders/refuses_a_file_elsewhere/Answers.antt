@@ -1,4 +1,4 @@
-use Rattle.ring_commands.specs.Worlds.{world}
+use Rattle.tool_parts.specs.Worlds.{world}
 use Rattle.wrong_commands.proofs.Elsewhere.{not_in_folder}
 use Rattle.wrong_commands.proofs.folders.refuses_a_file_elsewhere.Goals as goal
 

@@ -1,6 +1,6 @@
 use Rattle.std.proofs.Common.{ap, ◌∙◌, sym, subst, arith, Option}
 use Rattle.disks.specs.Held.{Held}
-use Rattle.ring_commands.specs.JoinedFolder.{IsJoinable}
+use Rattle.folder_commands.specs.JoinedFolder.{IsJoinable}
 use Rattle.wrong_commands.proofs.Makings.{other_case}
 use Rattle.wrong_commands.proofs.upgrades.file_that_is_made_before_the_join.Goals as goal
 

@@ -1,0 +1,5 @@
+pub mod Keeping
+pub mod PlacesFound
+pub mod JoinedLeads
+pub mod Recoveries
+pub mod SegmentLines

@@ -1,0 +1,4 @@
+pub mod JoinedFolder
+pub mod JoinSteps
+pub mod Recovered
+pub mod SegmentRecovered

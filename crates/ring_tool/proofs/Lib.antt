@@ -1,0 +1,3 @@
+pub mod Requested
+pub mod CutTexts
+pub mod Endings

@@ -1,0 +1,50 @@
+-- How a run of the program ends, by what its words ask for: the world that it met, and the one that
+-- it leaves.
+use Rattle.std.specs.Prelude.{◌≡◌, ◌≤◌, ◌⊎◌, ℕ, Bool, Result, Ok, Err, string_bytes}
+use Rattle.std.specs.Io.KnownBytes.{append_known}
+use Rattle.clap.specs.Values.{kind_of}
+use Rattle.clap.specs.declared.error.Error.{Error}
+use Rattle.clap.specs.declared.error.kind.ErrorKind.TheVariants as kind
+use Rattle.ring_requests.specs.declared.requests.Request.{Request}
+use Rattle.tool_parts.specs.Worlds.{World}
+use Rattle.tool_parts.specs.declared.faults.ToolError.TheVariants as tool
+use Rattle.ring_tool.specs.Ended.{HasEnded}
+use Rattle.ring_tool.specs.Left.{HasFront, HasText, HasLine, HasEndedAnswered}
+use Rattle.ring_tool.specs.declared.asked.Asked.{Asked}
+use Rattle.ring_tool.specs.declared.asked.Asked.TheVariants as asked
+
+-- the reading of words is the text of the help or of the version
+abbrev pub IsShown : Error → Type 0
+IsShown e = (kind_of e ≡ kind.DisplayHelp) ⊎ (kind_of e ≡ kind.DisplayVersion)
+
+-- what the words ask for, by how they read: where memory is short, nothing is known
+abbrev pub IsAskedBy : Result Request Error → Asked → Type 0
+IsAskedBy (Ok request) (asked.Command named) = named ≡ request
+IsAskedBy (Ok request) _ = ⊥
+IsAskedBy (Err e) (asked.Command named) = ⊥
+IsAskedBy (Err e) (asked.Text text) = IsShown e
+IsAskedBy (Err e) (asked.Unread text) = (IsShown e → ⊥) × (kind_of e ≡ kind.OutOfMemory → ⊥)
+IsAskedBy (Err e) asked.OutOfMemory = Unit {0}
+
+-- no file was changed, and nothing was read
+abbrev pub IsIdle : World → World → Type 0
+IsIdle was is = (is.files ≡ was.files) × (is.input ≡ was.input)
+
+-- A request ends as that command does. The help and the version are printed. Words that cannot be
+-- read have status 2, and standard error has the text.
+abbrev pub HasRun : Asked → ℕ → Bool → World → World → Type 0
+HasRun (asked.Command request) status told was is = HasEnded request status told was is
+HasRun (asked.Text text) status told was is =
+    (status ≤ 1)
+    × HasEndedAnswered status told (append_known was.out (string_bytes text)) is.out was.err is.err
+    × IsIdle was is
+HasRun (asked.Unread text) status told was is =
+    (status ≡ 2)
+    × HasText (string_bytes text) told was.err is.err
+    × HasFront was.out is.out
+    × IsIdle was is
+HasRun asked.OutOfMemory status told was is =
+    (status ≡ 1)
+    × HasLine tool.OutOfMemory told was.err is.err
+    × HasFront was.out is.out
+    × IsIdle was is

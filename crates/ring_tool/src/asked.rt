@@ -1,0 +1,48 @@
+//! What words ask of the program.
+
+ghost use Rattle.ring_tool.specs.Run.{IsAskedBy};
+
+use clap::Error;
+use clap::error::ErrorKind;
+use ring_cli::read_words;
+use ring_requests::Request;
+use std::alloc::Global;
+
+/// What words ask of the program.
+#[derive(Drop)]
+pub enum Asked<'a> {
+    /// A command.
+    Command(Request<'a>),
+    /// The help or the version: this text.
+    Text(String),
+    /// They cannot be read, as this text tells.
+    Unread(String),
+    /// There is no memory to read them.
+    OutOfMemory,
+}
+
+/// What words ask for, by the answer of `clap`.
+fn asked_by<'a>(alloc: Global, read: Result<Request<'a>, Error>) -> Asked<'a>
+    ensures { IsAskedBy read.entry result }
+{
+    let error = match read {
+        Ok(request) => return Asked::Command(request),
+        Err(error) => error,
+    };
+    if error.kind() == ErrorKind::OutOfMemory {
+        return Asked::OutOfMemory;
+    }
+    let Ok(text) = format!(in alloc; "{error}") else {
+        return Asked::OutOfMemory;
+    };
+    if error.use_stderr() {
+        Asked::Unread(text)
+    } else {
+        Asked::Text(text)
+    }
+}
+
+/// What these words ask for. The program's name is not among them.
+pub fn read_asked<'a>(alloc: Global, words: &'a [String]) -> Asked<'a> {
+    asked_by(alloc, read_words(alloc, words))
+}

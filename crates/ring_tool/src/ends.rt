@@ -1,0 +1,136 @@
+//! How a run ends: its status, what has left of its output, and what standard error was told.
+
+ghost use Rattle.std.specs.Prelude.{◌≡◌, ◌≤◌, IfSome};
+ghost use Rattle.std.specs.Io.Buffered.{writer_contents};
+ghost use Rattle.std.specs.Io.KnownBytes.{append_known};
+ghost use Rattle.tool_parts.specs.Faults.{status_of};
+ghost use Rattle.ring_tool.specs.Left.{HasLeft, HasFront, HasText, HasLine, IsLineOf, HasEndedAnswered};
+
+use std::alloc::Global;
+use std::io::{BufWriter, Write};
+use text_lines::put;
+use tool_parts::faults::ToolError;
+
+/// How a run has ended.
+#[derive(Drop)]
+pub struct Ending<O> {
+    /// The exit status.
+    pub status: u8,
+    /// Whether the text for standard error, if there is one, is known to be written with every byte.
+    pub told: bool,
+    /// The writer below the buffer of standard output.
+    pub out: O,
+}
+
+/// Ends a buffered output: returns the writer below, and whether all bytes have left for it.
+pub fn emptied<O: Write + Drop>(out: BufWriter<O>) -> (O, bool)
+    ensures left { HasLeft (writer_contents O.contents out) (O.contents result.0) result.1 }
+{
+    match out.into_inner() {
+        Ok(below) => (below, true),
+        Err(fault) => {
+            let (below, rest) = fault.into_inner().into_parts();
+            let has_left = rest.is_empty();
+            (below, has_left)
+        }
+    }
+}
+
+/// The line of a refusal, with its end; `None` if there is no memory for it.
+fn line_of(alloc: Global, fault: &ToolError<'_>) -> Option<Vec<u8>>
+    ensures { IfSome result (λ text. IsLineOf fault.now text.items) }
+{
+    let mut text = Vec::new(alloc);
+    if write!(text, "{fault}").is_err() || text.push(b'\n').is_err() {
+        return None;
+    }
+    Some(text)
+}
+
+/// Writes the line of a refusal, and returns whether it is known to be written: not if there is no memory to write it first.
+fn tell<E: Write>(alloc: Global, fault: &ToolError<'_>, err: &mut E) -> bool
+    ensures { HasLine fault.now result (E.contents err.old) (E.contents err.new) }
+{
+    match line_of(alloc, fault) {
+        Some(text) => put(err, text.as_slice()).is_ok(),
+        None => {
+            let _ = writeln!(err, "{fault}");
+            false
+        }
+    }
+}
+
+/// Ends a run that was refused: what was printed leaves, and standard error is told why. Its status is that of the refusal.
+pub fn fail<O: Write + Drop, E: Write>(
+    alloc: Global,
+    fault: &ToolError<'_>,
+    out: BufWriter<O>,
+    err: &mut E,
+) -> Ending<O>
+    ensures status { result.status ≡ status_of fault.now }
+    ensures told { HasLine fault.now result.told (E.contents err.old) (E.contents err.new) }
+    ensures front { HasFront (writer_contents O.contents out) (O.contents result.out) }
+{
+    let (below, _) = emptied(out);
+    let told = tell(alloc, fault, err);
+    Ending {
+        status: fault.status(),
+        told,
+        out: below,
+    }
+}
+
+/// Ends a run that was answered: what was printed leaves. Its status is 0, or 1 if a byte could not leave, which standard
+/// error is told.
+pub fn done<O: Write + Drop, E: Write>(alloc: Global, out: BufWriter<O>, err: &mut E) -> Ending<O>
+    ensures status { result.status ≤ 1 }
+    ensures ended { HasEndedAnswered result.status result.told
+        (writer_contents O.contents out) (O.contents result.out)
+        (E.contents err.old) (E.contents err.new) }
+{
+    let (below, has_left) = emptied(out);
+    let (status, told) = if has_left {
+        (0, true)
+    } else {
+        (1, tell(alloc, &ToolError::Write, err))
+    };
+    Ending {
+        status,
+        told,
+        out: below,
+    }
+}
+
+/// Prints a text that was asked for, and ends the run: its status is 0, or 1 if a byte could not leave, which standard
+/// error is told.
+pub fn show<O: Write + Drop, E: Write>(
+    alloc: Global,
+    text: &str,
+    mut out: BufWriter<O>,
+    err: &mut E,
+) -> Ending<O>
+    ensures status { result.status ≤ 1 }
+    ensures ended { HasEndedAnswered result.status result.told
+        (append_known (writer_contents O.contents out) text.now) (O.contents result.out)
+        (E.contents err.old) (E.contents err.new) }
+{
+    match put(&mut out, text.as_bytes()) {
+        Ok(()) => done(alloc, out, err),
+        Err(_) => fail(alloc, &ToolError::Write, out, err),
+    }
+}
+
+/// Ends a run whose words cannot be read: standard error is told so by a text. Its status is 2.
+pub fn refuse<O: Write + Drop, E: Write>(text: &str, out: BufWriter<O>, err: &mut E) -> Ending<O>
+    ensures status { result.status ≡ 2 }
+    ensures told { HasText text.now result.told (E.contents err.old) (E.contents err.new) }
+    ensures front { HasFront (writer_contents O.contents out) (O.contents result.out) }
+{
+    let (below, _) = emptied(out);
+    let told = put(err, text.as_bytes()).is_ok();
+    Ending {
+        status: 2,
+        told,
+        out: below,
+    }
+}

@@ -1,0 +1,4 @@
+pub mod JournalStarts
+pub mod Making
+pub mod ServeRefusals
+pub mod StillThere

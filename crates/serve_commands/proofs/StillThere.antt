@@ -1,0 +1,78 @@
+-- What the journal's file holds while lines are served: no line replaces it.
+use Rattle.std.proofs.Common.{◌≡◌, ◌∙◌, ℕ, List, [], ◌∷◌, Option, None, Some, refl, sym, subst, inl, inr}
+use Rattle.std.specs.Prelude.{IfSome, ⊤}
+use Rattle.disks.specs.Held.{Held, bytes_of, Replaces}
+use Rattle.line_loop.specs.Loop.{Written}
+use Rattle.ring_serve.specs.declared.answers.Answer.{Answer}
+use Rattle.ring_serve.specs.declared.answers.Answer.TheVariants as answer
+use Rattle.ring_serve.specs.Permits.{Terms}
+use Rattle.ring_serve.specs.Standings.{Standing}
+use Rattle.ring_serve.specs.Serving.{IsNoJournal, IsSaved, IsSaveGiven, IsGiven, Answers, Stops, name_in}
+use Rattle.tool_parts.specs.Named.{IsHeld}
+use Rattle.serve_commands.specs.Served.{IsServedPart}
+
+-- the file of this name has the content that it had, where that is known
+abbrev HoldsStill : Option Held → Option Held → List ℕ → Type 0
+HoldsStill None is name = ⊤
+HoldsStill (Some was) None name = ⊥
+HoldsStill (Some was) (Some is) name = bytes_of is name ≡ bytes_of was name
+
+as_it_was : (files : Option Held) (name : List ℕ) → HoldsStill files files name
+as_it_was None name = tt
+as_it_was (Some held) name = refl
+
+same : (was is : Option Held) (name : List ℕ) → is ≡ was → HoldsStill was is name
+same was is name e = subst (λ (x : Option Held). HoldsStill was x name) (sym e) (as_it_was was name)
+
+both : (was mid is : Option Held) (name : List ℕ) → HoldsStill was mid name → HoldsStill mid is name → HoldsStill was is name
+both None mid is name h k = tt
+both (Some was) None is name h k = absurd h
+both (Some was) (Some mid) None name h k = absurd k
+both (Some was) (Some mid) (Some is) name h k = k ∙ h
+
+replaced : (was is : Option Held) (name file bytes : List ℕ) → IsNoJournal was (Some name) file → Replaces was is file (Some bytes) → HoldsStill was is name
+replaced None is name file bytes apart r = tt
+replaced (Some was) None name file bytes apart r = absurd r
+replaced (Some was) (Some is) name file bytes apart r = r.others name (λ one. apart (sym one))
+
+module _ (journal : Option (List ℕ)) (name : List ℕ) (named : journal ≡ Some name) where
+  saved : (was is : Option Held) (file : List ℕ) (rings : List Standing) (given : Answer) → IsSaved journal was is file rings given → HoldsStill was is name
+  saved was is file rings given (inl h) = replaced was is name file _ (subst (λ (j : Option (List ℕ)). IsNoJournal was j file) named h.3) h.1
+  saved was is file rings given (inr h) = same was is name h.1
+
+  save : (saves : Option (List ℕ)) (was is : Option Held) (file : List ℕ) (rings : List Standing) (given : Answer) → IsSaveGiven journal saves was is file rings given → HoldsStill was is name
+  save None was is file rings given h = same was is name h.1
+  save (Some folder) was is file rings given (inl h) = saved was is _ rings given h.1
+  save (Some folder) was is file rings given (inr h) = same was is name h.2
+
+  given_still : (saves : Option (List ℕ)) (was is : Option Held) (file : List ℕ) (rings : List Standing) (asked given : Answer) → IsGiven journal saves was is file rings asked given → HoldsStill was is name
+  given_still saves was is file rings answer.Saved given h = save saves was is file rings given h
+  given_still saves was is file rings (answer.Granted number result) given h = same was is name h.1
+  given_still saves was is file rings answer.Waits given h = same was is name h.1
+  given_still saves was is file rings (answer.Corrupted old) given h = same was is name h.1
+  given_still saves was is file rings (answer.Survey survey) given h = same was is name h.1
+  given_still saves was is file rings (answer.Block first count) given h = same was is name h.1
+  given_still saves was is file rings (answer.Refused why) given h = same was is name h.1
+
+answers_still : (terms : Terms) (name : List ℕ) (old new : List Standing) (was is : Option Held) (lines : List (List ℕ)) (said noted : List ℕ) → terms.journal ≡ Some name → Answers terms old was lines said noted new is → HoldsStill was is name
+answers_still terms name old new was is [] said noted named h = same was is name h.3
+answers_still terms name old new was is (line ∷ lines) said noted named h =
+    both was h.1 is name (given_still terms.journal name named terms.saves was h.1 (name_in line) h.0 h.6.turn.answer h.6.given h.6.gives) (answers_still terms name h.0 new h.1 is lines h.3 h.5 named h.9)
+
+stops_still : (terms : Terms) (name : List ℕ) (old new : List Standing) (was is : Option Held) (before after : Written) (bytes : List ℕ) → terms.journal ≡ Some name → Stops terms old was before after bytes new is → HoldsStill was is name
+stops_still terms name old new was is before after bytes named h =
+    both was h.between is name (answers_still terms name old h.mid was h.between h.told.lines h.said h.noted named h.told.answers)
+    (answers_still terms name h.mid new h.between is h.untold.lines h.unsaid _ named h.untold.answers)
+
+-- what was put there is there still
+put_still : (before begun after : Option Held) (name bytes : List ℕ) → Replaces before begun name (Some bytes) → HoldsStill begun after name → IfSome before (λ _. IsHeld after name bytes)
+put_still None begun after name bytes put h = tt
+put_still (Some was) None after name bytes put h = absurd put
+put_still (Some was) (Some begun) None name bytes put h = absurd h
+put_still (Some was) (Some begun) (Some is) name bytes put h = h ∙ put.here name refl
+
+-- so it is after some of the lines, or all of them
+pub part_still : (terms : Terms) (name : List ℕ) (start : List Standing) (before begun after : Option Held) (first was is old new : Option (List ℕ)) (bytes : List ℕ) → Replaces before begun name (Some bytes) → terms.journal ≡ Some name →
+    IsServedPart terms start begun after first was is old new → IfSome before (λ _. IsHeld after name bytes)
+part_still terms name start before begun after first was is old new bytes put named h =
+    put_still before begun after name bytes put (stops_still terms name start h.end begun after _ _ h.served.bytes named h.served.ended)

@@ -1,0 +1,53 @@
+use Rattle.std.proofs.Common.{◌≡◌, ◌⊎◌, ℕ, List, Option, Some, refl, sym, subst, inl, inr}
+use Rattle.disks.specs.Held.{Held, Grows, Replaces}
+use Rattle.ring_journal.specs.Spelling.{head_text}
+use Rattle.ring_serve.specs.declared.permits.Permits.{Permits}
+use Rattle.ring_serve.specs.Permits.{terms_of}
+use Rattle.ring_serve.specs.Standings.{Standing}
+use Rattle.ring_serve.specs.Saved.{content_of}
+use Rattle.tool_parts.specs.declared.faults.ToolError.{ToolError}
+use Rattle.serve_commands.specs.Served.{permits_of, IsServedOn, IsServedNoted, IsServingFault, IsServedPart, IsBrokenOff}
+use Rattle.tool_parts.specs.Worlds.{IsUnserved}
+use Rattle.tool_parts.specs.Locking.{IsUnopenedJournal}
+use Rattle.serve_commands.proofs.StillThere.{part_still}
+use Rattle.serve_commands.proofs.serve.run_with_journal.Goals as goal
+
+noted : (permits : Permits) (name : List ℕ) (start end : List Standing) (before begun after : Option Held) (was is old new : Option (List ℕ)) → Replaces before begun name (Some (head_text (content_of start))) →
+    (first : Option (List ℕ)) × Grows begun name first × IsServedOn permits name start end begun after first was is old new → IsServedNoted permits name start end before after was is old new
+noted permits name start end before begun after was is old new put h = record {
+  begun = begun;
+  ended = h.2.ended;
+  first = h.0;
+  last = h.2.last;
+  put = put;
+  opened = h.1;
+  served = h.2.served;
+  settled = h.2.settled;
+}
+
+broken : (permits : Permits) (name : List ℕ) (start : List Standing) (before begun after : Option Held) (was is old new : Option (List ℕ)) (e : ToolError) → Replaces before begun name (Some (head_text (content_of start))) →
+    (IsUnserved was is old new × IsUnopenedJournal name e × (after ≡ begun))
+    ⊎ (IsServingFault (Some name) e × (first : Option (List ℕ)) × Grows begun name first × IsServedPart (terms_of (Some name) permits) start begun after first was is old new) →
+    IsBrokenOff permits name start before after was is old new e
+broken permits name start before begun after was is old new e put (inl h) = inl (h.0, h.1, subst (λ (x : Option Held). Replaces before x name (Some (head_text (content_of start)))) (sym h.2) put)
+broken permits name start before begun after was is old new e put (inr h) = inr (
+  h.0,
+  record {
+    begun = begun;
+    first = h.1;
+    put = put;
+    opened = h.2;
+    part = h.3;
+    kept = part_still (terms_of (Some name) permits) name start before begun after h.1 was is old new _ put refl h.3;
+  },
+)
+
+pub returns-in-Ok-ended-clause-ok : goal.returns-in-Ok-ended-clause-ok
+returns-in-Ok-ended-clause-ok g c =
+    let b = c.in-Ok.ensures.ok in
+    (b.0, b.1, _, b.2, noted (permits_of c.args.words.now) c.args.name.now _ _ (g.D.Disk.holds c.args.disk.now) _ _ _ _ _ _ b.3 c.in-Ok-ended.ensures.ok)
+
+pub returns-clause-err : goal.returns-clause-err
+returns-clause-err g c =
+    let b = c.in-Ok.ensures.ok in
+    inr (b.0, b.1, _, b.2, broken (permits_of c.args.words.now) c.args.name.now _ (g.D.Disk.holds c.args.disk.now) _ _ _ _ _ _ c.in-Err-ended.fault b.3 c.in-Err-ended.ensures.err)

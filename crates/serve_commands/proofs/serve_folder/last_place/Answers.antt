@@ -1,0 +1,15 @@
+use Rattle.std.proofs.Common.{ℕ, List, Ok, refl, subst}
+use Rattle.ring_segments.specs.Last.{IsRightLast}
+use Rattle.serve_commands.proofs.serve_folder.last_place.Goals as goal
+
+pub returns-in-Ok-resume_last-clause-ok : goal.returns-in-Ok-resume_last-clause-ok
+returns-in-Ok-resume_last-clause-ok g c = record {
+  bytes = c.in-Ok.bytes.items;
+  held = c.in-Ok.ensures.ok;
+  segment = c.in-Ok-last_segment.last;
+  right = subst (λ (b : List ℕ). IsRightLast b (Ok c.in-Ok-last_segment.last)) c.as_slice.ensures.value c.in-Ok-last_segment.ensures.ok;
+  named = c.in-Ok-last_segment.ensures.named;
+  resumed = c.in-Ok-resume_last.ensures.ok;
+  number = refl;
+  behind = refl;
+}

@@ -1,0 +1,3 @@
+pub mod Served
+pub mod ServedFolder
+pub mod ServeAnswer

@@ -1,0 +1,217 @@
+-- `serve` with a journal that is a folder of segments.
+use Rattle.std.specs.Prelude.{◌≡◌, ◌≢◌, ℕ, ◌⊎◌, max, List, Bool, true, false, Option, None, Some, IfSome, Ok, Err, codes}
+use Rattle.disks.specs.Held.{Held, IsOneFile, Creates}
+use Rattle.disks.specs.Folders.{Lists, is_among, names_of, path_in}
+use Rattle.disks.specs.declared.disk.FolderEntry.{FolderEntry}
+use Rattle.segment_folder.specs.Names.{list_name, segment_file}
+use Rattle.segment_folder.specs.Numbers.{IsRightNumbers, shown}
+use Rattle.segment_folder.specs.declared.errors.FolderError.{FolderError}
+use Rattle.segment_folder.specs.declared.errors.FolderError.TheVariants as names
+use Rattle.segment_folder.specs.declared.numbers.SegmentNumbers.{SegmentNumbers}
+use Rattle.ring_saved.specs.declared.saved.Saved.{Saved}
+use Rattle.ring_segments.specs.Spelling.{no_digest}
+use Rattle.ring_segments.specs.Last.{IsRightLast}
+use Rattle.ring_segments.specs.declared.last.LastSegment.{LastSegment}
+use Rattle.ring_segments.specs.declared.errors.SegmentError.TheVariants as segment
+use Rattle.ring_serve.specs.Standings.{Standing}
+use Rattle.ring_serve.specs.Starting.{AreResumed, AreResumedAfter}
+use Rattle.chain_serve.specs.declared.segments.SegmentRules.{SegmentRules}
+use Rattle.chain_serve.specs.Segments.{Moment}
+use Rattle.chain_serve.specs.Beginning.{HasBegun, IsLeftUnbegun, IsSettled}
+use Rattle.chain_serve.specs.Service.{ServesSegments, ServesSomeSegments}
+use Rattle.chain_serve.specs.Recovered.{AnsweredCallsAreRecovered}
+use Rattle.ring_requests.specs.declared.requests.ServeWords.{ServeWords}
+use Rattle.serve_commands.specs.declared.serve_folder.Start.{Start}
+use Rattle.tool_parts.specs.declared.faults.ToolError.{ToolError}
+use Rattle.tool_parts.specs.declared.faults.ToolError.TheVariants as tool
+use Rattle.tool_parts.specs.Named.{IsHeld}
+use Rattle.tool_parts.specs.Chained.{IsUnreadSegment, IsFolderFault}
+use Rattle.serve_commands.specs.Served.{IsFirstRefusal, IsServingFault, permits_of}
+use Rattle.tool_parts.specs.Locking.{IsLocked, IsLockLeft, IsUnkeptFolder}
+use Rattle.tool_parts.specs.Worlds.{IsUnserved}
+
+-- ---- where the rings stand
+
+-- where served rings are when they begin: the rings, the number of the segment that they are in, and
+-- the digest of the file before it
+pub record Place : Type 0 where
+  pub rings : List Standing
+  pub number : ℕ
+  pub behind : List ℕ
+
+-- the content of the program's own type
+abbrev pub place_of : Start → Place
+place_of s = record { rings = s.served; number = s.number; behind = s.behind }
+
+-- as the history has them, in the first segment of all
+pub record IsFirst (saved : Option Saved) (p : Place) : Type 0 where
+  pub from : Saved
+  pub given : saved ≡ Some from
+  pub resumed : AreResumed p.rings from.rings.items
+  pub number : p.number ≡ 1
+  pub behind : p.behind ≡ no_digest
+
+-- where the segment of this number ends, whose file says that number
+pub record IsLast (files : Option Held) (folder : List ℕ) (last : ℕ) (p : Place) : Type 0 where
+  pub bytes : List ℕ
+  pub held : IsHeld files (segment_file folder last) bytes
+  pub segment : LastSegment
+  pub right : IsRightLast bytes (Ok segment)
+  pub named : segment.head.number ≡ last
+  pub resumed : AreResumedAfter segment.head.bases.items p.rings segment.saved.rings.items
+  pub number : p.number ≡ last
+  pub behind : p.behind ≡ segment.head.behind
+
+-- where the last of the segments in a folder with these entries ends; as the history has them, if
+-- there is none
+abbrev pub StandsAmong : Option Held → List ℕ → List FolderEntry → Option Saved → Place → Type 0
+StandsAmong files folder entries saved p =
+    (IsRightNumbers entries (Ok None) × IsFirst saved p)
+    ⊎ ((r : SegmentNumbers)
+    × IsRightNumbers entries (Ok (Some r))
+    × IsLast files folder r.last p)
+
+-- the same, of the folder, which is none of locks
+pub record StandsIn (files : Option Held) (folder : List ℕ) (saved : Option Saved) (p : Place) :
+    Type 0 where
+  pub entries : List FolderEntry
+  pub listed : Lists files folder (names_of entries)
+  pub plain : is_among (names_of entries) list_name ≡ false
+  pub stands : StandsAmong files folder entries saved p
+
+-- ---- the answer
+
+-- how lines are served in this folder: a segment has one line at least
+abbrev pub AreRules : SegmentRules → ServeWords → List ℕ → Type 0
+AreRules s words folder =
+    (s.folder.now ≡ folder)
+    × (s.limit ≡ max words.segment 1)
+    × (s.synced ≡ words.synced)
+    × (s.permits ≡ permits_of words)
+
+-- The lines were served from a place on: the file of its segment was put there with the rings, each
+-- call was noted in the segment that was being written before it was answered, and in the end the
+-- file of the last one holds all of that.
+pub record IsRun (s : SegmentRules) (start : Place) (first last : Moment) (end : List Standing)
+    (before after : Option Held) (was is old new : Option (List ℕ)) : Type 0 where
+  pub begun : HasBegun s start.rings start.number start.behind before first
+  pub served : ServesSegments s first last was is old new
+  pub rings : end ≡ last.rings
+  pub settled : IsSettled s last after
+
+-- the folder that lines may save in, if there is one, is not this one
+abbrev pub SavesApart : ServeWords → List ℕ → Option Held → Type 0
+SavesApart words folder files =
+    IfSome words.saves
+    (λ saves. IfSome files (λ held. IsOneFile held folder saves.now → ⊥))
+
+-- The lines were served from where the rings stand, behind the lock.
+pub record IsServedIn (words : ServeWords) (folder : List ℕ) (saved : Option Saved)
+    (end : List Standing) (before after : Option Held) (was is old new : Option (List ℕ)) : Type 0
+  where
+    pub rules : SegmentRules
+    pub by_words : AreRules rules words folder
+    pub apart : SavesApart words folder before
+    pub there : Option Held
+    pub locked : IsLocked before there folder
+    pub start : Place
+    pub stands : StandsIn there folder saved start
+    pub first : Moment
+    pub last : Moment
+    pub run : IsRun rules start first last end there after was is old new
+
+-- ---- refusals
+
+-- these bytes are no segment to go on from, or not the one of this number
+abbrev pub IsLastFault : List ℕ → ℕ → List ℕ → ToolError → Type 0
+IsLastFault folder last bytes (tool.Segment named number error) =
+    (named.now ≡ folder)
+    × (number ≡ last)
+    × (IsRightLast bytes (Err error)
+    ⊎ ((error ≡ segment.Number)
+    × ((s : LastSegment) × IsRightLast bytes (Ok s) × (s.head.number ≢ last))))
+IsLastFault folder last bytes tool.OutOfMemory = Unit {0}
+IsLastFault folder last bytes _ = ⊥
+
+-- the segment of this number cannot be read, or its bytes are refused
+abbrev pub IsLastRefusal : Option Held → List ℕ → ℕ → ToolError → Type 0
+IsLastRefusal files folder last e =
+    IsUnreadSegment files folder last e
+    ⊎ ((bytes : List ℕ)
+    × IsHeld files (segment_file folder last) bytes
+    × IsLastFault folder last bytes e)
+
+-- it is not known where the rings stand: a name among these in the folder is refused, the last
+-- segment is, or, where there is none, the history
+abbrev pub IsUnknownAmong : Option Held → List ℕ → List FolderEntry → Option Saved → ToolError
+    → Type 0
+IsUnknownAmong files folder entries saved e =
+    ((error : FolderError) × IsRightNumbers entries (Err error) × IsFolderFault folder error e)
+    ⊎ ((IsRightNumbers entries (Ok None) × IsFirstRefusal saved e)
+    ⊎ ((r : SegmentNumbers)
+    × IsRightNumbers entries (Ok (Some r))
+    × IsLastRefusal files folder r.last e))
+
+-- a name is refused: that of the file that a folder of locks has
+abbrev pub IsListFault : List ℕ → ToolError → Type 0
+IsListFault folder (tool.Foreign named name) = (named.now ≡ folder) × (shown name ≡ list_name)
+IsListFault folder _ = ⊥
+
+-- the same, or the folder cannot be listed, or is one of locks
+abbrev pub IsUnknown : Option Held → List ℕ → Option Saved → ToolError → Type 0
+IsUnknown files folder saved e =
+    IsFolderFault folder names.Unlisted e
+    ⊎ ((entries : List FolderEntry)
+    × Lists files folder (names_of entries)
+    × (((is_among (names_of entries) list_name ≡ true) × IsListFault folder e)
+    ⊎ IsUnknownAmong files folder entries saved e))
+
+-- the folder that lines may save in is that of the journal
+abbrev pub IsSavesRefusal : ServeWords → ToolError → Type 0
+IsSavesRefusal words (tool.SavesInJournal named) = words.saves ≡ Some named
+IsSavesRefusal words _ = ⊥
+
+-- The folder is not locked: lines may save in it, and no file has changed; or its lock is not had.
+abbrev pub IsUnlocked : ServeWords → List ℕ → Option Held → Option Held → ToolError → Type 0
+IsUnlocked words folder before after e =
+    ((after ≡ before) × IsSavesRefusal words e)
+    ⊎ (IsLockLeft before after folder × IsUnkeptFolder folder e)
+
+-- From a place on some lines were told, or all of them. The file of the segment that was being
+-- written has the notes of each told line in it, and the rings that are recovered of it have its
+-- call.
+pub record IsRunPart (s : SegmentRules) (start : Place) (before after : Option Held)
+    (was is old new : Option (List ℕ)) : Type 0 where
+  pub first : Moment
+  pub begun : HasBegun s start.rings start.number start.behind before first
+  pub end : List Standing
+  pub journal : Option (List ℕ)
+  pub recovered : AnsweredCallsAreRecovered s first end was is old new journal
+  pub served : ServesSomeSegments s first end after was is old new
+      ⊎ ((last : Moment) × ServesSegments s first last was is old new × (after ≡ last.files))
+
+-- The segment with which they began cannot be begun, and no line is read: the files are as they
+-- were, or its whole file was put there. Or serving was broken off.
+abbrev pub IsRunRefused : SegmentRules → Place → Option Held → Option Held → Option (List ℕ)
+    → Option (List ℕ) → Option (List ℕ) → Option (List ℕ) → ToolError → Type 0
+IsRunRefused s start before after was is old new e =
+    (IsUnserved was is old new
+    × IsLeftUnbegun s start.rings start.number start.behind before after
+    × IsUnkeptFolder s.folder.now e)
+    ⊎ (IsServingFault (Some s.folder.now) e × IsRunPart s start before after was is old new)
+
+-- The folder is not locked, and no line is read. Or it is, no line is read, and no other file has
+-- changed, since it is not known where the rings stand. Or the rings began where they stand, and
+-- that was broken off.
+abbrev pub IsRefusedIn : ServeWords → List ℕ → Option Saved → Option Held → Option Held
+    → Option (List ℕ) → Option (List ℕ) → Option (List ℕ) → Option (List ℕ) → ToolError → Type 0
+IsRefusedIn words folder saved before after was is old new e =
+    (IsUnserved was is old new × IsUnlocked words folder before after e)
+    ⊎ ((there : Option Held)
+    × IsLocked before there folder
+    × ((IsUnserved was is old new × (after ≡ there) × IsUnknown there folder saved e)
+    ⊎ ((rules : SegmentRules)
+    × (start : Place)
+    × AreRules rules words folder
+    × StandsIn there folder saved start
+    × IsRunRefused rules start there after was is old new e)))

@@ -1,0 +1,380 @@
+//! `serve`: rings that resume from a saved text, driven by the lines of standard input.
+
+ghost use Rattle.std.specs.Prelude.{◌≡◌, ℕ, List, None, Some, Option, OnOk, IfOk, IfErr, length, ◌⊎◌};
+ghost use Rattle.std.specs.Option.{option_map};
+ghost use Rattle.std.specs.Io.KnownBytes.{Appends};
+ghost use Rattle.disks.specs.Held.{Grows};
+ghost use Rattle.ring_saved.specs.declared.saved.Saved.{Saved};
+ghost use Rattle.ring_serve.specs.Standings.{Standing};
+ghost use Rattle.ring_serve.specs.Permits.{terms_of};
+ghost use Rattle.ring_serve.specs.Starting.{AreResumed};
+ghost use Rattle.ring_serve.specs.Totals.{totals_of};
+ghost use Rattle.ring_text.specs.Report.{total_line};
+ghost use Rattle.serve_commands.specs.Served.{permits_of, CanBeginWith, IsNoted, IsServedPlain, IsServedOn, IsServedNoted, journal_of, IsStartRefusal, IsServingFault, IsServedPart, IsPlainPart, IsRefusedFrom};
+ghost use Rattle.tool_parts.specs.Worlds.{IsUnserved};
+ghost use Rattle.tool_parts.specs.Locking.{IsUnopenedJournal};
+ghost use Rattle.serve_commands.specs.ServeAnswer.{IsServedTo, IsServeAnswer, IsRefusedTo, IsUntold, IsServeRefusal};
+ghost use Rattle.tool_parts.specs.Worlds.{world};
+
+use crate::beginning::begin_journal;
+use crate::resuming::{given_history, needed, resume_rings};
+use crate::serve_folder::run_in_folder;
+use disks::Disk;
+use line_loop::LoopFault;
+use ring_requests::ServeWords;
+use ring_saved::Saved;
+use ring_serve::{Journal, Permits, Served, serve};
+use ring_text::put_total_line;
+use std::alloc::Global;
+use std::io::{Read, Sink, Write};
+use tool_parts::faults::ToolError;
+use tool_parts::locking::open_journal;
+use tool_parts::reading::names_stream;
+
+/// Returns the refusal for a fault while lines were served.
+pub(crate) fn serving_refusal<'a>(fault: LoopFault, journal: Option<&'a str>) -> ToolError<'a>
+    ensures { IsServingFault (option_map (λ name. name.now) journal.entry) result }
+{
+    match (fault, journal) {
+        (LoopFault::Read, _) => ToolError::Read("-"),
+        (LoopFault::TooLong, _) => ToolError::TooLarge("-"),
+        (LoopFault::OutOfMemory, _) => ToolError::OutOfMemory,
+        (LoopFault::Journal, Some(name)) => ToolError::Save(name),
+        // without a journal none fails
+        (LoopFault::Journal | LoopFault::Write, _) => ToolError::Write,
+    }
+}
+
+/// Writes the line of the sums over the rings.
+fn tell_totals<W: Write>(served: &Served, err: &mut W) -> Result<(), ToolError<'static>>
+    ensures ok { OnOk result (Appends (W.contents err.old) (W.contents err.new)
+        (total_line (length served.now) (totals_of served.now))) }
+    ensures err { IfErr result
+        (λ e. IsUntold served.now (W.contents err.old) (W.contents err.new) e) }
+{
+    let Ok(count) = u32::try_from(served.count()) else {
+        return Err(ToolError::TotalsTooLarge);
+    };
+    let Some(totals) = served.totals() else {
+        return Err(ToolError::TotalsTooLarge);
+    };
+    put_total_line(err, count, totals)?;
+    Ok(())
+}
+
+/// What a line may do beside calling the rings.
+pub(crate) fn permits_of<'a>(words: &ServeWords<'a>) -> Permits<'a>
+    ensures { result ≡ permits_of words.now }
+{
+    Permits {
+        faults: words.faults,
+        saves: words.saves,
+        strict: words.strict,
+    }
+}
+
+/// Serves without a journal.
+fn serve_plain<D: Disk, I: Read, W: Write>(
+    alloc: Global,
+    disk: &mut D,
+    served: &mut Served,
+    permits: Permits<'_>,
+    input: &mut I,
+    out: &mut W,
+) -> Result<(), ToolError<'static>>
+    ensures ok { OnOk result (IsServedPlain permits.entry served.old served.new (D.holds disk.old)
+        (D.holds disk.new) (I.remaining input.old) (I.remaining input.new) (W.contents out.old)
+        (W.contents out.new)) }
+    ensures err { IfErr result (λ e. IsPlainPart permits.entry served.old (D.holds disk.old)
+        (D.holds disk.new) (I.remaining input.old) (I.remaining input.new) (W.contents out.old)
+        (W.contents out.new) e) }
+{
+    let mut journal: Option<Journal<'_, Sink>> = None;
+    match serve(alloc, served, disk, &mut journal, permits, input, out) {
+        Ok(()) => Ok(()),
+        Err(fault) => Err(serving_refusal(fault, None)),
+    }
+}
+
+/// Serves with a journal in the file of this name, which has been begun.
+fn serve_with_journal<'a, D: Disk, I: Read, W: Write>(
+    alloc: Global,
+    disk: &mut D,
+    served: &mut Served,
+    name: &'a str,
+    journal: D::Grown,
+    permits: Permits<'_>,
+    input: &mut I,
+    out: &mut W,
+) -> Result<(), ToolError<'a>>
+    ensures ok { OnOk result (IsServedOn permits.entry name.now served.old served.new
+        (D.holds disk.old) (D.holds disk.new) (D.Grown.contents journal) (I.remaining input.old)
+        (I.remaining input.new) (W.contents out.old) (W.contents out.new)) }
+    ensures err { IfErr result (λ e. IsServingFault (Some name.now) e
+        × IsServedPart (terms_of (Some name.now) permits.entry) served.old (D.holds disk.old)
+        (D.holds disk.new) (D.Grown.contents journal) (I.remaining input.old)
+        (I.remaining input.new) (W.contents out.old) (W.contents out.new)) }
+{
+    let mut kept = Some(Journal {
+        name,
+        writer: journal,
+    });
+    match serve(alloc, served, disk, &mut kept, permits, input, out) {
+        Ok(()) => {}
+        Err(fault) => return Err(serving_refusal(fault, Some(name))),
+    }
+    let Some(Journal { writer, .. }) = kept else {
+        unreachable!()
+    };
+    match disk.close_synced(writer, name) {
+        Ok(()) => Ok(()),
+        Err(_) => Err(ToolError::Save(name)),
+    }
+}
+
+/// Serves with the journal in the file of this name, which holds just the start of a journal of the rings.
+fn serve_begun<'a, D: Disk, I: Read, W: Write>(
+    alloc: Global,
+    disk: &mut D,
+    served: &mut Served,
+    name: &'a str,
+    words: &ServeWords<'a>,
+    input: &mut I,
+    out: &mut W,
+) -> Result<(), ToolError<'a>>
+    ensures ok { OnOk result ((first : Option (List ℕ))
+        × Grows (D.holds disk.old) name.now first
+        × IsServedOn (permits_of words.now) name.now served.old served.new (D.holds disk.old)
+        (D.holds disk.new) first (I.remaining input.old) (I.remaining input.new)
+        (W.contents out.old) (W.contents out.new)) }
+    ensures err { IfErr result (λ e. (IsUnserved (I.remaining input.old) (I.remaining input.new)
+        (W.contents out.old) (W.contents out.new)
+        × IsUnopenedJournal name.now e
+        × (D.holds disk.new ≡ D.holds disk.old))
+        ⊎ (IsServingFault (Some name.now) e
+        × (first : Option (List ℕ))
+        × Grows (D.holds disk.old) name.now first
+        × IsServedPart (terms_of (Some name.now) (permits_of words.now)) served.old
+        (D.holds disk.old) (D.holds disk.new) first (I.remaining input.old)
+        (I.remaining input.new) (W.contents out.old) (W.contents out.new))) }
+{
+    let journal = match open_journal(disk, name, words.synced) {
+        Ok(journal) => journal,
+        Err(fault) => return Err(fault),
+    };
+    match serve_with_journal(
+        alloc,
+        disk,
+        served,
+        name,
+        journal,
+        permits_of(words),
+        input,
+        out,
+    ) {
+        Ok(()) => Ok(()),
+        Err(fault) => Err(fault),
+    }
+}
+
+/// The rings of a value that are served without a journal, when all lines have been.
+fn run_plain<D: Disk, I: Read, W: Write>(
+    alloc: Global,
+    disk: &mut D,
+    saved: &Saved,
+    permits: Permits<'_>,
+    input: &mut I,
+    out: &mut W,
+) -> Result<Served, ToolError<'static>>
+    ensures ok { IfOk result (λ end. (start : List Standing)
+        × AreResumed start saved.now.rings.items
+        × IsServedPlain permits.entry start end (D.holds disk.old) (D.holds disk.new)
+        (I.remaining input.old) (I.remaining input.new) (W.contents out.old) (W.contents out.new)) }
+    ensures err { IfErr result (λ e. (IsUnserved (I.remaining input.old) (I.remaining input.new)
+        (W.contents out.old) (W.contents out.new)
+        × (D.holds disk.new ≡ D.holds disk.old)
+        × IsStartRefusal saved.now.rings.items e)
+        ⊎ ((start : List Standing)
+        × AreResumed start saved.now.rings.items
+        × IsPlainPart permits.entry start (D.holds disk.old) (D.holds disk.new)
+        (I.remaining input.old) (I.remaining input.new) (W.contents out.old) (W.contents out.new)
+        e)) }
+{
+    let mut served = match resume_rings(alloc, saved) {
+        Ok(served) => served,
+        Err(fault) => return Err(fault),
+    };
+    match serve_plain(alloc, disk, &mut served, permits, input, out) {
+        Ok(()) => Ok(served),
+        Err(fault) => Err(fault),
+    }
+}
+
+/// The given rings that are served without a journal, when all lines have been.
+fn run_without<D: Disk, I: Read, W: Write>(
+    alloc: Global,
+    disk: &mut D,
+    saved: Option<Saved>,
+    permits: Permits<'_>,
+    input: &mut I,
+    out: &mut W,
+) -> Result<Served, ToolError<'static>>
+    ensures ok { IfOk result (λ end. (from : Saved)
+        × (saved ≡ Some from)
+        × (start : List Standing)
+        × AreResumed start from.rings.items
+        × IsServedPlain permits.entry start end (D.holds disk.old) (D.holds disk.new)
+        (I.remaining input.old) (I.remaining input.new) (W.contents out.old) (W.contents out.new)) }
+    ensures err { IfErr result (λ e.
+        IsRefusedFrom permits.entry (D.holds disk.old) (D.holds disk.new) None saved
+        (I.remaining input.old) (I.remaining input.new) (W.contents out.old) (W.contents out.new)
+        e) }
+{
+    let saved = match needed(saved) {
+        Ok(saved) => saved,
+        Err(fault) => return Err(fault),
+    };
+    match run_plain(alloc, disk, &saved, permits, input, out) {
+        Ok(end) => Ok(end),
+        Err(fault) => Err(fault),
+    }
+}
+
+/// The rings that are served with a journal in the file of this name, when all lines have been. That is locked until then.
+fn run_with_journal<'a, D: Disk, I: Read, W: Write>(
+    alloc: Global,
+    disk: &mut D,
+    saved: Option<Saved>,
+    name: &'a str,
+    words: &ServeWords<'a>,
+    input: &mut I,
+    out: &mut W,
+) -> Result<Served, ToolError<'a>>
+    requires rings { CanBeginWith saved }
+    ensures ok { IfOk result (λ end. (from : Saved)
+        × IsNoted (D.holds disk.old) name.now saved from
+        × (start : List Standing)
+        × AreResumed start from.rings.items
+        × IsServedNoted (permits_of words.now) name.now start end (D.holds disk.old)
+        (D.holds disk.new) (I.remaining input.old) (I.remaining input.new) (W.contents out.old)
+        (W.contents out.new)) }
+    ensures err { IfErr result (λ e.
+        IsRefusedFrom (permits_of words.now) (D.holds disk.old) (D.holds disk.new) (Some name.now)
+        saved (I.remaining input.old) (I.remaining input.new) (W.contents out.old)
+        (W.contents out.new) e) }
+{
+    let (lock, mut served) = match begin_journal(alloc, disk, saved, name) {
+        Ok(begun) => begun,
+        Err(fault) => return Err(fault),
+    };
+    let ended = serve_begun(alloc, disk, &mut served, name, words, input, out);
+    drop(lock);
+    match ended {
+        Ok(()) => Ok(served),
+        Err(fault) => Err(fault),
+    }
+}
+
+/// The rings that are served with a journal, when all lines have been: in the segments of a folder, if the name leads to one.
+fn run_kept<'a, D: Disk, I: Read, W: Write>(
+    alloc: Global,
+    disk: &mut D,
+    words: &ServeWords<'a>,
+    name: &'a str,
+    saved: Option<Saved>,
+    input: &mut I,
+    out: &mut W,
+) -> Result<Served, ToolError<'a>>
+    requires rings { CanBeginWith saved }
+    requires named { journal_of words.now ≡ Some name.now }
+    ensures ok { IfOk result (λ end.
+        IsServedTo words.now saved end (D.holds disk.old) (D.holds disk.new)
+        (I.remaining input.old) (I.remaining input.new) (W.contents out.old) (W.contents out.new)) }
+    ensures err { IfErr result (λ e.
+        IsRefusedTo words.now (D.holds disk.old) (D.holds disk.new) saved (I.remaining input.old)
+        (I.remaining input.new) (W.contents out.old) (W.contents out.new) e) }
+{
+    if names_stream(name) {
+        return Err(ToolError::Save(name));
+    }
+    if disk.list(name).is_ok() {
+        return match run_in_folder(alloc, disk, words, name, saved, input, out) {
+            Ok(end) => Ok(end),
+            Err(fault) => Err(fault),
+        };
+    }
+    match run_with_journal(alloc, disk, saved, name, words, input, out) {
+        Ok(end) => Ok(end),
+        Err(fault) => Err(fault),
+    }
+}
+
+/// The rings that are served, when all lines have been, with a journal if one is kept.
+fn run_on<'a, D: Disk, I: Read, W: Write>(
+    alloc: Global,
+    disk: &mut D,
+    words: &ServeWords<'a>,
+    saved: Option<Saved>,
+    input: &mut I,
+    out: &mut W,
+) -> Result<Served, ToolError<'a>>
+    requires rings { CanBeginWith saved }
+    ensures ok { IfOk result (λ end.
+        IsServedTo words.now saved end (D.holds disk.old) (D.holds disk.new)
+        (I.remaining input.old) (I.remaining input.new) (W.contents out.old) (W.contents out.new)) }
+    ensures err { IfErr result (λ e.
+        IsRefusedTo words.now (D.holds disk.old) (D.holds disk.new) saved (I.remaining input.old)
+        (I.remaining input.new) (W.contents out.old) (W.contents out.new) e) }
+{
+    match words.journal {
+        None => match run_without(alloc, disk, saved, permits_of(words), input, out) {
+            Ok(end) => Ok(end),
+            Err(fault) => Err(fault),
+        },
+        Some(name) => match run_kept(alloc, disk, words, name, saved, input, out) {
+            Ok(end) => Ok(end),
+            Err(fault) => Err(fault),
+        },
+    }
+}
+
+/// `serve`, from its words: the rings of the history, or of the journal if that tells something, answer the lines of `input` on
+/// `out`; when all have been, the sums over the rings are reported on `err`.
+///
+/// # Errors
+///
+/// Those of reading the history, and its faults; `NoHistory` if none is given and no journal tells something; `InUse` if the journal is kept by another process, `Save` if it
+/// cannot be opened, begun or written, `Journal` if nothing is recovered of it; `Full`, `OutOfMemory`: no line was read then,
+/// unless memory or the journal's file failed while lines were served. `Read` if standard input fails, `Write` if standard output
+/// does. `Write` if standard error fails, and `TotalsTooLarge`, when all lines have been served.
+pub fn run<'a, D: Disk, I: Read, W: Write, E: Write>(
+    alloc: Global,
+    disk: &mut D,
+    words: &ServeWords<'a>,
+    input: &mut I,
+    out: &mut W,
+    err: &mut E,
+) -> Result<(), ToolError<'a>>
+    ensures ok { OnOk result (IsServeAnswer words.now
+        (world (D.holds disk.old) (I.remaining input.old) (W.contents out.old) (E.contents err.old))
+        (world (D.holds disk.new) (I.remaining input.new) (W.contents out.new)
+        (E.contents err.new))) }
+    ensures err { IfErr result (λ e.
+        IsServeRefusal words.now
+        (world (D.holds disk.old) (I.remaining input.old) (W.contents out.old) (E.contents err.old))
+        (world (D.holds disk.new) (I.remaining input.new) (W.contents out.new)
+        (E.contents err.new)) e) }
+{
+    let saved = match given_history(alloc, disk, words.history) {
+        Ok(saved) => saved,
+        Err(fault) => return Err(fault),
+    };
+    let end = match run_on(alloc, disk, words, saved, input, out) {
+        Ok(end) => end,
+        Err(fault) => return Err(fault),
+    };
+    match tell_totals(&end, err) {
+        Ok(()) => Ok(()),
+        Err(fault) => Err(fault),
+    }
+}

@@ -1,0 +1,4 @@
+pub mod CheckedAll
+pub mod Pictured
+pub mod Reported
+pub mod Upgraded

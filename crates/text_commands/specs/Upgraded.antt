@@ -1,0 +1,46 @@
+-- The answer of `upgrade`.
+use Rattle.std.specs.Prelude.{◌≡◌, ℕ, List, ◌⊎◌}
+use Rattle.ring_saved.specs.Content.{Content, upgraded}
+use Rattle.ring_saved.specs.Spelling.{Fits, text}
+use Rattle.ring_check.specs.declared.answers.Summary.{Summary}
+use Rattle.ring_check.specs.Legal.{IsLegalText, summary_of}
+use Rattle.tool_parts.specs.CheckText.{legal_line}
+use Rattle.tool_parts.specs.Checked.{IsLegalSavedText, IsSavedTextRefusal}
+use Rattle.tool_parts.specs.Handed.{IsHanded, IsHandRefusal}
+use Rattle.tool_parts.specs.Named.{IsNamed, IsNamedRefusal}
+use Rattle.tool_parts.specs.Worlds.{World}
+use Rattle.ring_requests.specs.declared.requests.UpgradeWords.{UpgradeWords}
+use Rattle.tool_parts.specs.declared.faults.ToolError.{ToolError}
+
+-- These bytes are a legal saved text with these sums, and this content is that of their value in
+-- the latest version: it has a text, and it is legal too, with the same sums.
+pub record IsUpgradeOf (bytes : List ℕ) (new : Content) (sums : Summary) : Type 0 where
+  pub legal : IsLegalSavedText bytes sums
+  pub upgrade : new ≡ upgraded legal.content
+  pub fits : Fits new
+  pub still : IsLegalText new
+  pub sums_still : sums ≡ summary_of new
+
+-- The source that the word FILE names gave bytes that have an upgrade; its text and the line of its
+-- sums went where the word NEW says.
+abbrev pub IsUpgradeAnswer : UpgradeWords → World → World → Type 0
+IsUpgradeAnswer words was is =
+    (bytes : List ℕ)
+    × (c : Content)
+    × (sums : Summary)
+    × IsNamed words.file.now was.files was.input is.input bytes
+    × IsUpgradeOf bytes c sums
+    × IsHanded words.new.now (text c) (legal_line sums) was is
+
+-- Which refusals `upgrade` may meet: those of reading what its word names, those of `check` of the
+-- bytes that it gave, and those of handing out their upgrade.
+abbrev pub IsUpgradeRefusal : UpgradeWords → World → World → ToolError → Type 0
+IsUpgradeRefusal words was is e =
+    IsNamedRefusal words.file.now was.files was.input is.input e
+    ⊎ ((bytes : List ℕ)
+    × IsNamed words.file.now was.files was.input is.input bytes
+    × (IsSavedTextRefusal bytes e
+    ⊎ ((c : Content)
+    × (sums : Summary)
+    × IsUpgradeOf bytes c sums
+    × IsHandRefusal words.new.now (text c) (legal_line sums) was is e)))

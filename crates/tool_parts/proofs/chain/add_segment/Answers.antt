@@ -1,0 +1,16 @@
+use Rattle.std.proofs.Common.{List, ℕ, refl, sym, subst}
+use Rattle.segment_folder.specs.Names.{segment_file}
+use Rattle.tool_parts.specs.Named.{IsHeld}
+use Rattle.tool_parts.proofs.chain.add_segment.Goals as goal
+
+pub returns : goal.returns
+returns g c = record {
+  ok = tt;
+  err = (
+    c.deref.result.now,
+    refl,
+    refl,
+    subst (λ (t : List ℕ). IsHeld (g.D.Disk.holds c.args.disk.now) (segment_file c.args.folder.now c.args.number) t) (sym c.deref.ensures.value) c.in-Ok.ensures.ok,
+    c.in-Err-add.ensures.1,
+  );
+}

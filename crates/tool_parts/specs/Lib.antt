@@ -1,0 +1,16 @@
+pub mod ChainSteps
+pub mod Chained
+pub mod CheckText
+pub mod Checked
+pub mod FaultLines
+pub mod Faults
+pub mod Handed
+pub mod Kept
+pub mod LastPlace
+pub mod ListWords
+pub mod Named
+pub mod Outside
+pub mod Reading
+pub mod Worlds
+pub mod Written
+pub mod Locking

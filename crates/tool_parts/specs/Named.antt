@@ -1,0 +1,60 @@
+-- The files that a command read and made, by their names.
+use Rattle.std.specs.Prelude.{◌≡◌, ℕ, List, true, false, Option, None, Some, ◌⊎◌, ⊤}
+use Rattle.disks.specs.Held.{Held, IsOneFile, bytes_of, Opens, Replaces}
+use Rattle.tool_parts.specs.Faults.{IsReadRefusal}
+use Rattle.tool_parts.specs.Reading.{most_bytes, names_stream, IsAllOf}
+use Rattle.tool_parts.specs.declared.faults.ToolError.{ToolError}
+use Rattle.tool_parts.specs.declared.faults.ToolError.TheVariants as tool
+
+-- the file of this name held just these bytes, if the content of files is known
+abbrev pub IsHeld : Option Held → List ℕ → List ℕ → Type 0
+IsHeld None name bytes = ⊤
+IsHeld (Some held) name bytes = bytes_of held name ≡ Some bytes
+
+-- The source that a word names gave just these bytes: the dash all that standard input had left,
+-- each other word the file of its name, which held them.
+pub record IsNamed (word : List ℕ) (files : Option Held) (was is : Option (List ℕ)) (bytes : List ℕ)
+    : Type 0 where
+  pub of_input : names_stream word ≡ true → IsAllOf most_bytes was is bytes
+  pub of_file : names_stream word ≡ false → IsHeld files word bytes
+
+-- the file of this name cannot be opened
+abbrev pub IsUnopened : List ℕ → ToolError → Type 0
+IsUnopened name (tool.Read named) = named.now ≡ name
+IsUnopened name _ = ⊥
+
+-- Which refusals the reading of the file of this name may meet: it cannot be opened, or its reader,
+-- which had just its bytes left, met one.
+abbrev pub IsFileRefusal : Option Held → List ℕ → ToolError → Type 0
+IsFileRefusal files name e =
+    IsUnopened name e
+    ⊎ ((from : Option (List ℕ))
+    × (left : Option (List ℕ))
+    × Opens files name from
+    × IsReadRefusal name from left e)
+
+-- Which refusals the reading of the source that a word names may meet.
+pub record IsNamedRefusal (word : List ℕ) (files : Option Held) (was is : Option (List ℕ))
+    (e : ToolError) : Type 0 where
+  pub of_input : names_stream word ≡ true → IsReadRefusal word was is e
+  pub of_file : names_stream word ≡ false → IsFileRefusal files word e
+
+-- A file that is to be made is not the one that is read, if it is known where names lead.
+abbrev pub IsApart : Option Held → List ℕ → Option (List ℕ) → Type 0
+IsApart files read None = ⊤
+IsApart None read (Some made) = ⊤
+IsApart (Some held) read (Some made) = names_stream read ≡ false → IsOneFile held read made → ⊥
+
+-- It is that one, or is read or written by a standard descriptor; or this cannot be decided, since
+-- its name cannot be looked at; or it cannot be made.
+abbrev pub IsApartRefusal : Option (List ℕ) → ToolError → Type 0
+IsApartRefusal made (tool.SameFile named) = Some named.now ≡ made
+IsApartRefusal made (tool.Stream named) = Some named.now ≡ made
+IsApartRefusal made (tool.Save named) = Some named.now ≡ made
+IsApartRefusal made _ = ⊥
+
+-- The file of this name, if one is named, was replaced by one with these bytes; else no file has
+-- changed.
+abbrev pub IsStored : Option (List ℕ) → Option Held → Option Held → List ℕ → Type 0
+IsStored None before after bytes = after ≡ before
+IsStored (Some name) before after bytes = Replaces before after name (Some bytes)

@@ -1,0 +1,54 @@
+-- A file that is to be made lies outside of a folder.
+use Rattle.std.specs.Prelude.{◌≡◌, ◌==◌, if◌then◌else◌, ℕ, List, length, codes, Option, None, Some, string_bytes, ⊤}
+use Rattle.std.specs.List.{All}
+use Rattle.std.specs.Path.{rsplit_once}
+use Rattle.disks.specs.Held.{Held, IsOneFile}
+use Rattle.disks.specs.Folders.{path_in}
+use Rattle.disks.specs.declared.disk.FolderEntry.{FolderEntry}
+use Rattle.tool_parts.specs.Named.{IsApart}
+use Rattle.tool_parts.specs.declared.faults.ToolError.{ToolError}
+use Rattle.tool_parts.specs.declared.faults.ToolError.TheVariants as tool
+
+-- what stands before a slash, as the name of a folder
+abbrev pub before_slash : List ℕ → List ℕ
+before_slash front = if length front == 0 then codes "/" else front
+
+-- the same of a name that is split at its last slash, if it has one
+abbrev pub parent_in : Option (List ℕ × List ℕ) → List ℕ
+parent_in None = codes "."
+parent_in (Some split) = before_slash split.0
+
+-- the name of the folder that a file of this name lies in
+abbrev pub parent_of : List ℕ → List ℕ
+parent_of name = parent_in (rsplit_once 47 name)
+
+-- by its name the file lies in this folder, where it is known where names lead
+abbrev pub LiesIn : Option Held → List ℕ → List ℕ → Type 0
+LiesIn None folder made = ⊤
+LiesIn (Some held) folder made = IsOneFile held folder (parent_of made)
+
+-- by its name it does not, if one is named
+abbrev pub LiesElsewhere : Option Held → List ℕ → Option (List ℕ) → Type 0
+LiesElsewhere files folder None = ⊤
+LiesElsewhere None folder (Some made) = ⊤
+LiesElsewhere (Some held) folder (Some made) = IsOneFile held folder (parent_of made) → ⊥
+
+-- it is none of the files that have these names in the folder
+abbrev pub IsNoneOf : Option Held → List ℕ → List FolderEntry → Option (List ℕ) → Type 0
+IsNoneOf files folder entries made =
+    All (λ (e : FolderEntry). IsApart files (path_in folder (string_bytes e.name)) made) entries
+
+-- it does not lie in the folder, by its name or by those of the files there, if one is named
+abbrev pub IsOutside : Option Held → List ℕ → List FolderEntry → Option (List ℕ) → Type 0
+IsOutside files folder entries made =
+    LiesElsewhere files folder made × IsNoneOf files folder entries made
+
+-- By its name it lies in the folder; or it is one of the files there by another name; or this cannot
+-- be decided, or it cannot be made; or there is no memory.
+abbrev pub IsOutsideRefusal : Option Held → List ℕ → Option (List ℕ) → ToolError → Type 0
+IsOutsideRefusal files folder made (tool.InFolder named) =
+    (Some named.now ≡ made) × LiesIn files folder named.now
+IsOutsideRefusal files folder made (tool.SameFile named) = Some named.now ≡ made
+IsOutsideRefusal files folder made (tool.Save named) = Some named.now ≡ made
+IsOutsideRefusal files folder made tool.OutOfMemory = Unit {0}
+IsOutsideRefusal files folder made _ = ⊥

@@ -1,0 +1,406 @@
+//! The refusals of the program, and the line that it prints for each.
+
+use crate::one_line::OneLine;
+use ring_book::BookError;
+use ring_check::{CheckError, Kind};
+use ring_journal::RecoverError;
+use ring_saved::ReadError;
+use ring_segments::SegmentError;
+use ring_settings::{Field, RingCause, SettingsError};
+use ring_state::{ParamsError, StateError};
+use segment_folder::EntryName;
+use std::error::Error;
+use std::fmt;
+use text_lines::WriteFault;
+
+/// Why the program refuses a command. Its `Display` is the line on standard error.
+///
+/// A fault of a file has the file's name as it was given, with its control characters escaped.
+#[derive(Clone, Copy)]
+pub enum ToolError<'a> {
+    /// A list is not one or more canonical decimals below 2 to the power 32, separated by commas.
+    BadList,
+    TooFew,
+    TooMany,
+    FewValues,
+    ManyValues,
+    Length,
+    /// The index of the first start value that is not below K.
+    Value(usize),
+    /// The index of the first choice that is not below n.
+    Choice(usize),
+    /// The settings have no reading as JSON.
+    Json,
+    Shape(Field),
+    Limit(Field),
+    /// A ring of the settings, by its place, and its fault.
+    Ring(usize, RingCause),
+    /// A seat of the settings, and the place in its script of the first entry that is not an action.
+    Script(usize, usize),
+    Spawn,
+    GateShut,
+    /// No place is left for a seat to look at its ring from.
+    NoSeat,
+    HistoryFull,
+    /// A seat's log does not fit its ring's history.
+    Mismatch,
+    /// The first line, from 1, that cannot be in a saved text.
+    Syntax(u64),
+    /// A saved text ends too early.
+    Truncated,
+    /// The first bad line of a saved text, from 1, and its fault.
+    Bad(u64, Kind),
+    /// A file cannot be opened or read.
+    Read(&'a str),
+    /// A file has more bytes than are read.
+    TooLarge(&'a str),
+    /// A file cannot be made, written or put in its place.
+    Save(&'a str),
+    /// A file that is to be made is the one that is read.
+    SameFile(&'a str),
+    /// A file that is to be made is one that the process reads or writes by a standard descriptor.
+    Stream(&'a str),
+    /// Standard output failed, or took no byte.
+    Write,
+    OutOfMemory,
+    /// A saved text has no ring at this place.
+    NoRing(u32),
+    /// The ring that is to be drawn has fewer events.
+    NoPlace(u32),
+    /// More events are to be drawn than a picture may have.
+    ManyDrawn,
+    /// No history is given, and no journal tells where the rings stand.
+    NoHistory,
+    /// A journal's file is kept by another process.
+    InUse(&'a str),
+    /// The ring at this place has more events than a ring can resume.
+    Full(u64),
+    /// Nothing is recovered of the journal in this file.
+    Journal(&'a str, RecoverError),
+    /// The sums over the rings that were served do not fit into 64 bits, or the number of rings does not fit into 32.
+    TotalsTooLarge,
+    /// The folder that lines may save in is that of the journal.
+    SavesInJournal(&'a str),
+    /// A folder has no segment.
+    NoSegment(&'a str),
+    /// A name in a folder of segments has no place there.
+    Foreign(&'a str, EntryName),
+    /// The segment of this number in a folder is no regular file.
+    Irregular(&'a str, u64),
+    /// The segment of this number is missing in a folder, between two that are there.
+    Missing(&'a str, u64),
+    /// The file of the segment of this number in a folder cannot be opened or read.
+    UnreadSegment(&'a str, u64),
+    /// It has more bytes than are read.
+    LargeSegment(&'a str, u64),
+    /// It does not follow in the chain of the folder's segments, or is none.
+    Segment(&'a str, u64, SegmentError),
+    /// The first segment of a folder has this number, so what came before it is gone.
+    Begins(&'a str, u64),
+    /// A file that is to be made lies in the folder that is read.
+    InFolder(&'a str),
+    /// A list has more locks than there may be.
+    ManyLocks,
+    /// The lock at this place of a list has the name of one before it.
+    Twice(usize),
+    /// No locks are named, and a folder has no file of locks.
+    NoLocks(&'a str),
+    /// A folder has segments, but no file of locks.
+    NoLocksFile(&'a str),
+    /// The file of locks in a folder cannot be read.
+    UnreadLocks(&'a str),
+    /// It is not the text of a list of locks.
+    BadLocks(&'a str),
+    /// The lock at this place in a folder is not the one that is named, or none is named there.
+    OtherLock(&'a str, usize),
+    /// The ring at this place in a folder is not of the size of its lock, or there is no such lock.
+    OtherRing(&'a str, usize),
+    /// The line of this number, from 1, of a file of holders is not that of an open hold.
+    NoOpenHold(&'a str, u64),
+    /// The history of the lock of this number, in a file or a folder of segments, is not that of a lock after this many events.
+    NoHold(&'a str, u64, u64),
+}
+
+impl ToolError<'_> {
+    ghost use Rattle.std.specs.Prelude.{◌≡◌};
+    ghost use Rattle.tool_parts.specs.Faults.{status_of};
+
+    /// The program's exit status: 2 for a list that is not well written, as for other words that
+    /// cannot be read, and 1 for each other refusal.
+    pub fn status(&self) -> u8
+        ensures { result ≡ status_of self.now }
+    {
+        match self {
+            ToolError::BadList => 2,
+            _ => 1,
+        }
+    }
+}
+
+impl ToolError<'_> {
+    ghost use Rattle.std.specs.Prelude.{◌≡◌};
+    ghost use Rattle.std.specs.Option.{option_map};
+    ghost use Rattle.tool_parts.specs.FaultLines.{fixed_line};
+
+    /// The line of a refusal that has no value.
+    fn fixed_line(&self) -> Option<&'static str>
+        ensures { option_map (λ line. line.now) result ≡ fixed_line self.now }
+    {
+        match self {
+            ToolError::BadList => Some("bad list"),
+            ToolError::TooFew => Some("n is less than 2"),
+            ToolError::TooMany => Some("n is more than 1024"),
+            ToolError::FewValues => Some("k is less than n"),
+            ToolError::ManyValues => Some("k is more than 65536"),
+            ToolError::Length => Some("start does not have n values"),
+            ToolError::Json => Some("settings are not JSON"),
+            ToolError::Spawn => Some("a thread could not be started"),
+            ToolError::GateShut => Some("the gate was shut"),
+            ToolError::NoSeat => Some("no reader place"),
+            ToolError::HistoryFull => Some("a history is full"),
+            ToolError::Mismatch => Some("logs and history differ"),
+            ToolError::Truncated => Some("text is truncated"),
+            ToolError::Write => Some("cannot write"),
+            ToolError::OutOfMemory => Some("out of memory"),
+            ToolError::ManyDrawn => Some("a picture has at most 20000 events"),
+            ToolError::TotalsTooLarge => Some("the totals are too large"),
+            ToolError::NoHistory => Some("no history is given, and no journal tells of rings"),
+            ToolError::ManyLocks => Some("there are more than 1000000 locks"),
+            _ => None,
+        }
+    }
+
+    /// Writes the line of a refusal of words or settings, which has values, or of another with values.
+    fn put_words_refusal<W: fmt::Write>(&self, f: &mut W) -> fmt::Result {
+        match self {
+            ToolError::Value(place) => write!(f, "start value {place} is not below k"),
+            ToolError::Choice(place) => write!(f, "choice {place} is not below n"),
+            ToolError::Shape(field) => write!(
+                f,
+                "settings: {field} is missing or has the wrong shape"
+            ),
+            ToolError::Limit(field) => write!(f, "settings: {field} is out of limits"),
+            ToolError::Ring(place, cause) => write!(f, "ring {place}: {cause}"),
+            ToolError::Script(seat, place) => write!(
+                f,
+                "seat {seat}, action {place}: not an action"
+            ),
+            ToolError::Syntax(line) => write!(f, "line {line}: syntax"),
+            _ => self.put_file_refusal(f),
+        }
+    }
+
+    /// Writes the line of a refusal of locks.
+    fn put_locks_refusal<W: fmt::Write>(&self, f: &mut W) -> fmt::Result {
+        match self {
+            ToolError::Twice(place) => write!(f, "lock {place} has the name of a lock before it"),
+            ToolError::NoLocks(folder) => write!(f, "no locks are named, and {folder} has none"),
+            ToolError::NoLocksFile(folder) => {
+                write!(f, "{folder} has segments, but no file `locks`")
+            }
+            ToolError::UnreadLocks(folder) => write!(f, "cannot read {folder}/locks"),
+            ToolError::BadLocks(folder) => write!(f, "{folder}/locks is not a list of locks"),
+            ToolError::OtherLock(folder, place) => {
+                write!(f, "lock {place} in {folder}/locks is another one")
+            }
+            ToolError::OtherRing(folder, place) => {
+                write!(
+                    f,
+                    "ring {place} in {folder} is not of the size in {folder}/locks"
+                )
+            }
+            ToolError::NoOpenHold(name, line) => write!(f, "{name}: line {line}: no open hold"),
+            ToolError::NoHold(name, lock, at) => {
+                write!(f, "{name}: lock {lock}: not the history of a lock at {at}")
+            }
+            // the lines of the others are written before
+            _ => Ok(()),
+        }
+    }
+
+    /// Writes the line of a refusal of a folder of segments.
+    fn put_folder_refusal<W: fmt::Write>(&self, f: &mut W) -> fmt::Result {
+        match self {
+            ToolError::SavesInJournal(name) => write!(f, "{name} is the folder of the journal"),
+            ToolError::NoSegment(folder) => write!(f, "{folder} has no segments"),
+            ToolError::Foreign(folder, name) => write!(f, "{folder}/{name}: foreign"),
+            ToolError::Irregular(folder, number) => {
+                write!(f, "{folder}/{number:010}.ring: not a regular file")
+            }
+            ToolError::Missing(folder, number) => {
+                write!(f, "{folder}/{number:010}.ring: missing")
+            }
+            ToolError::UnreadSegment(folder, number) => {
+                write!(f, "cannot read {folder}/{number:010}.ring")
+            }
+            ToolError::LargeSegment(folder, number) => {
+                write!(f, "{folder}/{number:010}.ring is too large")
+            }
+            ToolError::Segment(folder, number, error) => {
+                write!(f, "{folder}/{number:010}.ring: {error}")
+            }
+            ToolError::Begins(folder, number) => write!(f, "{folder} begins at segment {number}"),
+            ToolError::InFolder(name) => write!(f, "{name} is in the folder that is read"),
+            _ => self.put_locks_refusal(f),
+        }
+    }
+
+    /// Writes the line of a refusal of a file or a saved text, which has values.
+    fn put_file_refusal<W: fmt::Write>(&self, f: &mut W) -> fmt::Result {
+        match self {
+            ToolError::Bad(line, kind) => write!(f, "line {line}: {kind}"),
+            ToolError::Read(name) => write!(f, "cannot read {name}"),
+            ToolError::TooLarge(name) => write!(f, "{name} is too large"),
+            ToolError::Save(name) => write!(f, "cannot write {name}"),
+            ToolError::SameFile(name) => write!(f, "{name} is the file that is read"),
+            ToolError::Stream(name) => write!(f, "{name} is the file of a standard stream"),
+            ToolError::NoRing(place) => write!(f, "there is no ring {place}"),
+            ToolError::InUse(name) => write!(f, "{name} is in use"),
+            ToolError::Journal(name, error) => write!(f, "{name}: {error}"),
+            ToolError::Full(place) => write!(f, "ring {place}: the history is full"),
+            ToolError::NoPlace(place) => write!(f, "the ring has fewer than {place} events"),
+            _ => self.put_folder_refusal(f),
+        }
+    }
+}
+
+impl fmt::Display for ToolError<'_> {
+    ghost use Rattle.tool_parts.specs.FaultLines.{fixed_line};
+
+    ghost output = { λ e. fixed_line e };
+
+    fn fmt<W: fmt::Write>(&self, f: &mut fmt::Formatter<W>) -> fmt::Result {
+        match self.fixed_line() {
+            Some(line) => f.write_str(line),
+            None => self.put_words_refusal(&mut OneLine { out: f }),
+        }
+    }
+}
+
+/// The same line: a derived form would be proved for 50 variants and shown only by tests.
+impl fmt::Debug for ToolError<'_> {
+    fn fmt<W: fmt::Write>(&self, f: &mut fmt::Formatter<W>) -> fmt::Result {
+        fmt::Display::fmt(self, f)
+    }
+}
+
+impl Error for ToolError<'_> {}
+
+impl From<ParamsError> for ToolError<'_> {
+    ghost use Rattle.std.specs.Prelude.{◌≡◌};
+    ghost use Rattle.tool_parts.specs.Faults.{fault_of_params};
+
+    ghost from_gives = { λ p e. e ≡ fault_of_params p };
+
+    fn from(error: ParamsError) -> Self {
+        match error {
+            ParamsError::TooFew => ToolError::TooFew,
+            ParamsError::TooMany => ToolError::TooMany,
+            ParamsError::FewValues => ToolError::FewValues,
+            ParamsError::ManyValues => ToolError::ManyValues,
+        }
+    }
+}
+
+impl From<StateError> for ToolError<'_> {
+    ghost use Rattle.std.specs.Prelude.{◌≡◌};
+    ghost use Rattle.tool_parts.specs.Faults.{fault_of_state};
+
+    ghost from_gives = { λ p e. e ≡ fault_of_state p };
+
+    fn from(error: StateError) -> Self {
+        match error {
+            StateError::Length => ToolError::Length,
+            StateError::Value(index) => ToolError::Value(index),
+            StateError::OutOfMemory => ToolError::OutOfMemory,
+        }
+    }
+}
+
+impl From<BookError> for ToolError<'_> {
+    ghost use Rattle.std.specs.Prelude.{◌≡◌};
+    ghost use Rattle.tool_parts.specs.Faults.{fault_of_book};
+
+    ghost from_gives = { λ p e. e ≡ fault_of_book p };
+
+    fn from(error: BookError) -> Self {
+        match error {
+            BookError::HistoryFull => ToolError::HistoryFull,
+            BookError::OutOfMemory => ToolError::OutOfMemory,
+        }
+    }
+}
+
+impl From<SettingsError> for ToolError<'_> {
+    ghost use Rattle.std.specs.Prelude.{◌≡◌};
+    ghost use Rattle.tool_parts.specs.Faults.{fault_of_settings};
+
+    ghost from_gives = { λ p e. e ≡ fault_of_settings p };
+
+    fn from(error: SettingsError) -> Self {
+        match error {
+            SettingsError::Json => ToolError::Json,
+            SettingsError::Shape(field) => ToolError::Shape(field),
+            SettingsError::Limit(field) => ToolError::Limit(field),
+            SettingsError::Ring(place, cause) => ToolError::Ring(place, cause),
+            SettingsError::Script(seat, place) => ToolError::Script(seat, place),
+            SettingsError::OutOfMemory => ToolError::OutOfMemory,
+        }
+    }
+}
+
+impl From<ReadError> for ToolError<'_> {
+    ghost use Rattle.std.specs.Prelude.{◌≡◌};
+    ghost use Rattle.tool_parts.specs.Faults.{fault_of_read};
+
+    ghost from_gives = { λ p e. e ≡ fault_of_read p };
+
+    fn from(error: ReadError) -> Self {
+        match error {
+            ReadError::Syntax(line) => ToolError::Syntax(line),
+            ReadError::Truncated => ToolError::Truncated,
+            ReadError::OutOfMemory => ToolError::OutOfMemory,
+        }
+    }
+}
+
+impl From<CheckError> for ToolError<'_> {
+    ghost use Rattle.std.specs.Prelude.{◌≡◌};
+    ghost use Rattle.tool_parts.specs.Faults.{fault_of_check};
+
+    ghost from_gives = { λ p e. e ≡ fault_of_check p };
+
+    fn from(error: CheckError) -> Self {
+        match error {
+            CheckError::Bad { line, kind } => ToolError::Bad(line, kind),
+            CheckError::OutOfMemory => ToolError::OutOfMemory,
+        }
+    }
+}
+
+impl From<RecoverError> for ToolError<'_> {
+    ghost use Rattle.std.specs.Prelude.{◌≡◌};
+    ghost use Rattle.tool_parts.specs.Faults.{fault_of_recovery};
+
+    ghost from_gives = { λ p e. e ≡ fault_of_recovery p };
+
+    fn from(error: RecoverError) -> Self {
+        match error {
+            RecoverError::Truncated => ToolError::Truncated,
+            RecoverError::Syntax(line) => ToolError::Syntax(line),
+            RecoverError::Bad { line, kind } => ToolError::Bad(line, kind),
+            RecoverError::OutOfMemory => ToolError::OutOfMemory,
+        }
+    }
+}
+
+impl From<WriteFault> for ToolError<'_> {
+    ghost use Rattle.std.specs.Prelude.{◌≡◌};
+    ghost use Rattle.tool_parts.specs.declared.faults.ToolError.TheVariants.{Write};
+
+    ghost from_gives = { λ _ e. e ≡ Write };
+
+    fn from(_fault: WriteFault) -> Self {
+        ToolError::Write
+    }
+}

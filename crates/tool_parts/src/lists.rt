@@ -1,0 +1,62 @@
+//! Lists of numbers, as `step` takes them.
+
+ghost use Rattle.std.specs.Prelude.{◌≡◌, ◌≢◌, ℕ, [], ◌∷◌, ◌++◌, ◌<◌, ◌^◌, decimal, IsNone, IfSome, OnOk, IfOk, IfErr};
+ghost use Rattle.tool_parts.specs.Faults.{IsPieceRefusal, IsListRefusal};
+ghost use Rattle.tool_parts.specs.ListWords.{IsListText};
+
+use crate::faults::ToolError;
+use itoa::Buffer;
+use std::alloc::Global;
+
+/// The number that a text spells with no sign and no leading zero, below 2 to the power 32.
+fn read_decimal(text: &str) -> Option<u32>
+    ensures some { IfSome result (λ n. decimal n ≡ text.now) }
+    ensures none { IsNone result → (n : ℕ) → n < 2 ^ 32 → decimal n ≢ text.now }
+{
+    let Ok(number) = text.parse::<u32>() else {
+        return None;
+    };
+    // `parse` takes a plus and leading zeros too: only the number's own spelling is well written.
+    let mut buffer = Buffer::new();
+    if buffer.format(number) == text {
+        Some(number)
+    } else {
+        None
+    }
+}
+
+/// Adds the number that a piece of a list spells.
+fn add_number(numbers: &mut Vec<u32>, piece: &str) -> Result<(), ToolError<'static>>
+    ensures ok { OnOk result ((n : ℕ)
+        × (n < 2 ^ 32)
+        × (decimal n ≡ piece.now)
+        × (numbers.new.items ≡ numbers.old.items ++ n ∷ [])) }
+    ensures err { IfErr result (λ e. IsPieceRefusal piece.now e) }
+{
+    let Some(number) = read_decimal(piece) else {
+        return Err(ToolError::BadList);
+    };
+    if numbers.push(number).is_err() {
+        return Err(ToolError::OutOfMemory);
+    }
+    Ok(())
+}
+
+/// The numbers of a list: one or more, separated by single commas.
+///
+/// # Errors
+///
+/// `BadList` where the text is not such a list, and `OutOfMemory`.
+pub fn read_list(alloc: Global, text: &str) -> Result<Vec<u32>, ToolError<'static>>
+    ensures ok { IfOk result (λ numbers. IsListText text.now numbers.items) }
+    ensures err { IfErr result (λ e. IsListRefusal text.now e) }
+{
+    let mut numbers = Vec::new(alloc);
+    let mut rest = text;
+    while let Some((piece, more)) = rest.split_once(',') {
+        add_number(&mut numbers, piece)?;
+        rest = more;
+    }
+    add_number(&mut numbers, rest)?;
+    Ok(numbers)
+}

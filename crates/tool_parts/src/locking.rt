@@ -1,0 +1,66 @@
+//! The lock of a folder, and files that one process at a time writes at their end.
+
+ghost use Rattle.std.specs.Prelude.{◌≡◌, OnOk, OnErr, IfOk, IfErr, string_bytes, codes};
+ghost use Rattle.disks.specs.Held.{Grows};
+ghost use Rattle.disks.specs.Folders.{path_in};
+ghost use Rattle.tool_parts.specs.Locking.{IsUnopenedJournal, IsLocked, IsLockLeft, IsUnkeptFolder};
+
+use crate::faults::ToolError;
+use disks::Disk;
+use std::alloc::{AllocError, Global};
+use std::io::ErrorKind;
+
+/// Opens the journal's file to write at its end.
+pub fn open_journal<'a, D: Disk>(
+    disk: &mut D,
+    name: &'a str,
+    synced: bool,
+) -> Result<D::Grown, ToolError<'a>>
+    ensures ok { IfOk result (λ grown. Grows (D.holds disk.old) name.now (D.Grown.contents grown)) }
+    ensures kept { D.holds disk.new ≡ D.holds disk.old }
+    ensures err { IfErr result (λ e. IsUnopenedJournal name.now e) }
+{
+    match disk.grow(name, synced) {
+        Ok(grown) => Ok(grown),
+        Err(error) => match error.kind() {
+            ErrorKind::WouldBlock => Err(ToolError::InUse(name)),
+            _ => Err(ToolError::Save(name)),
+        },
+    }
+}
+
+/// The lock of a folder, which one process has at a time. Its file is made, if it is not there.
+///
+/// # Errors
+///
+/// `InUse` if another has it, `Save` if it cannot be had, and `OutOfMemory`.
+pub fn lock_folder<'a, D: Disk>(
+    alloc: Global,
+    disk: &mut D,
+    folder: &'a str,
+) -> Result<D::Grown, ToolError<'a>>
+    ensures locked { OnOk result (IsLocked (D.holds disk.old) (D.holds disk.new) folder.now) }
+    ensures left { OnErr result (IsLockLeft (D.holds disk.old) (D.holds disk.new) folder.now) }
+    ensures err { IfErr result (λ e. IsUnkeptFolder folder.now e) }
+{
+    let Ok(name) = lock_file(alloc, folder) else {
+        return Err(ToolError::OutOfMemory);
+    };
+    let Ok(_) = disk.create(name.as_str()) else {
+        return Err(ToolError::Save(folder));
+    };
+    match open_journal(disk, name.as_str(), false) {
+        Ok(lock) => Ok(lock),
+        Err(ToolError::InUse(_)) => Err(ToolError::InUse(folder)),
+        Err(_) => Err(ToolError::Save(folder)),
+    }
+}
+
+/// The name of the lock of a folder.
+fn lock_file(alloc: Global, folder: &str) -> Result<String, AllocError>
+    ensures { IfOk result (λ name. string_bytes name ≡ path_in folder.now (codes "lock")) }
+{
+    let mut name = String::from_str(alloc, folder)?;
+    name.push_str("/lock")?;
+    Ok(name)
+}
