@@ -200,8 +200,11 @@ impl Client {
     pub fn given_lease(&mut self, until: Instant) -> Result<Option<Duration>, Fault> {
         self.send("lease")?;
         let line = self.line(Some(until))?;
-        // a server that does not know the question gives none on a Unix socket
-        let milliseconds = line.strip_prefix("lease ").and_then(|word| word.parse().ok()).unwrap_or(0);
+        if line == "refused syntax" {
+            return Ok(None); // a server that does not know the question gives none on a Unix socket
+        }
+        let milliseconds = line.strip_prefix("lease ").and_then(|word| word.parse().ok());
+        let milliseconds: u64 = milliseconds.ok_or_else(|| unexpected(line))?;
         Ok((milliseconds > 0).then(|| Duration::from_millis(milliseconds)))
     }
 
