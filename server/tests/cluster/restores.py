@@ -233,7 +233,7 @@ class Restores(unittest.TestCase):
         self.members.start()
         self.members.wait_for_leader()
         self.members.etcdctl("alarm", "disarm")
-        wait_until(lambda: server.text_of_log().count("Z in the log ") == 2)
+        wait_until(lambda: server.text_of_log().count("Z log-joined ") == 2)
         with server.raw() as sock:
             self.assertEqual(say(sock, "acquire a 1\n")[0].split()[:2], ["granted", "a"])
 
