@@ -77,7 +77,7 @@ class Play:
 
 
 def main():
-    reason = next((f"{it} is not installed" for it in ("etcd", "socat", "ps") if not shutil.which(it)), None)
+    reason = next((f"{it} is not installed" for it in ("etcd", "ps") if not shutil.which(it)), None)
     if reason is not None:
         print(f"skipped: page: {reason}\n0 passed, 0 failed")
         return 0
