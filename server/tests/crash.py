@@ -30,7 +30,9 @@ NAMES, MACHINES, CLIENTS, LEASE, LINES = "ab", 5, 8, "0.3", "20000"
 def start(folder):
     """A server in this folder."""
     locks = ",".join(f"{name}:{MACHINES}" for name in NAMES)
-    return Server("--segment", LINES, folder=folder, locks=locks, lease=LEASE)
+    # (the double counts grants over all its segments, where each is to be judged by itself)
+    words = [] if IS_DOUBLE else ["--segment", LINES]
+    return Server(*words, folder=folder, locks=locks, lease=LEASE)
 
 
 class Trial:
